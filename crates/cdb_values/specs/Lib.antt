@@ -1,0 +1,4 @@
+pub mod Good
+pub mod Order
+pub mod Rows
+pub mod Tables
