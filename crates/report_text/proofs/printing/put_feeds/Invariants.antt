@@ -1,0 +1,9 @@
+use Rattle.std.proofs.Common.{◌≡◌, ◌++◌, length}
+use Rattle.report_text.specs.Text.{feeds_text}
+use Rattle.report_text.proofs.printing.put_feeds.Given as goal
+
+abbrev pub invariant-feeds : goal.invariant-feeds
+invariant-feeds l = l.out.items ++ feeds_text l.rest ≡ l.initial.out.items ++ feeds_text l.feeds
+
+abbrev pub decreases-feeds : goal.decreases-feeds
+decreases-feeds l = length l.rest

@@ -1,0 +1,9 @@
+use Rattle.std.proofs.Common.{◌≡◌, ◌++◌, length}
+use Rattle.report_text.specs.Text.{more_values}
+use Rattle.report_text.proofs.printing.put_more_values.Given as goal
+
+abbrev pub invariant-values : goal.invariant-values
+invariant-values l = l.out.items ++ more_values l.rest ≡ l.initial.out.items ++ more_values l.values
+
+abbrev pub decreases-values : goal.decreases-values
+decreases-values l = length l.rest
