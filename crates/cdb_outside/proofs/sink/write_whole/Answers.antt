@@ -1,0 +1,12 @@
+use Rattle.std.proofs.Common.{rules}
+use Rattle.cdb_outside.proofs.Turns.{writes_more}
+use Rattle.cdb_outside.proofs.sink.write_whole.Goals as goal
+
+pub loop-written-preserved : goal.loop-written-preserved
+loop-written-preserved g c =
+    let (within, later, appended) = c.loop-written.invariant in
+    let write = c.in_ok-written.ensures in (
+      search rules,
+      search rules,
+      writes_more _ _ _ _ _ _ appended write.bytes,
+    )

@@ -1,0 +1,25 @@
+-- What contracts see of the objects in memory and of the adapters over std's readers and writers.
+use Rattle.std.specs.Prelude.{ℕ, List}
+use Rattle.cdb_outside.specs.Plans.{Planned}
+
+-- a source in memory: the bytes that it has left to give
+pub record HeldSource : Type 0 where
+  pub unread : List ℕ
+  pub plan : Planned
+
+-- a sink in memory: the bytes that it took
+pub record HeldSink : Type 0 where
+  pub written : List ℕ
+  pub plan : Planned
+
+-- a store in memory: its bytes, and how many pending bytes a stop keeps
+pub record HeldStore : Type 0 where
+  pub durable : List ℕ
+  pub waiting : List ℕ
+  pub keeps : ℕ
+  pub failures : ℕ
+
+-- a reader or a writer of std, and how many of its calls failed
+pub record Counted (T : Type 0) : Type 0 where
+  pub inner : T
+  pub failures : ℕ

@@ -1,0 +1,56 @@
+//! The outside world of the database, as traits with a written meaning: where bytes come from and go
+//! to, where a node keeps its log, and who is told of changed rows.
+//!
+//! An object of a trait means what it holds or has left. Where it stands for the real world it may
+//! not know, and then tells nothing (`None`); a store always tells.
+//!
+//! | Trait | It means | Its calls | After a failed call |
+//! |---|---|---|---|
+//! | `Source` | the bytes that are left | `read` takes some off the front, and none exactly at the end | as before |
+//! | `Sink` | the bytes that it took | `write` takes a front of the bytes, at least one | as before |
+//! | `LogStore` | the synced and the pending bytes | `append` adds pending bytes, `sync` makes them synced, `read` gives synced ones, `cut` leaves a front of them, `halt` keeps some front of the pending ones | never fewer synced bytes, but by `cut`; a front of what was or was to be pending |
+//! | `Consumer` | the events that it took | `offer` adds one | as before |
+//!
+//! Each object counts its faults. **The count never falls, and a call fails only where it rose in that
+//! call.** It is a u64 that stands still at its last value, so a count that has this value after a call
+//! counts as one that rose (`Rose`, `HasCause`). An answer above that blames the outside can so be
+//! traced to an object that was handed in.
+//!
+//! Where bytes are kept, at the calls of a store that held "ab" synced and keeps one pending byte:
+//!
+//! | Call | Synced | Pending |
+//! |---|---|---|
+//! | | `ab` | |
+//! | `append("cd")` | `ab` | `cd` |
+//! | `sync()` | `abcd` | |
+//! | `append("ef")` | `abcd` | `ef` |
+//! | `halt()` | `abcde` | |
+//! | `cut(1)` | `a` | |
+//!
+//! The objects in memory fail as they are told: `fails` lists the numbers of the calls that fail, from
+//! 1 over the calls of the trait that can fail. Otherwise they fail only where they find no memory for
+//! their own bytes. `ReadSource` and `WriteSink` stand over a reader and a writer of std.
+#![tactic(auto)]
+
+mod adapters;
+mod consumer;
+mod faults;
+mod fronts;
+mod mem_sink;
+mod mem_source;
+mod mem_store;
+mod sink;
+mod source;
+mod store;
+#[cfg(test)]
+mod tests;
+
+pub use adapters::{ReadSource, WriteSink};
+pub use consumer::{Consumer, RowEvent, Taken};
+pub use faults::Failed;
+pub use mem_sink::MemSink;
+pub use mem_source::MemSource;
+pub use mem_store::MemStore;
+pub use sink::{Sink, write_whole};
+pub use source::{ReadStop, Source, read_up_to};
+pub use store::LogStore;
