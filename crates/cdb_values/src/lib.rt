@@ -16,6 +16,8 @@ mod lists;
 mod rows;
 mod schemas;
 mod tables;
+#[cfg(test)]
+mod tests;
 mod values;
 
 pub use lists::{Bytes, List, Name, Text};

@@ -1,0 +1,9 @@
+pub mod Basics
+pub mod Finds
+pub mod ValueLemmas
+pub mod WordLaws
+pub mod ValueLaws
+pub mod SignLaws
+pub mod NextLaws
+pub mod ListLaws
+pub mod SpotLemmas

@@ -1,0 +1,9 @@
+pub mod Letters
+pub mod Words
+pub mod Values
+pub mod Signs
+pub mod Token
+pub mod Spot
+pub mod Tokens
+pub mod Laws
+pub mod Reading
