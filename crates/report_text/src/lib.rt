@@ -1,8 +1,76 @@
-//! The report of a run, its one spelling, and what makes it lawful.
+//! The report of a run: its one spelling, its printer, and what makes a report lawful.
+//!
+//! A report is what a run tells: the lines of its sessions and nodes in the order in which they came
+//! about, then the base, the committed history after it, the feeds, and the length of the history.
+//! Each line ends with LF, its words stand apart by one space, and a number is decimal without
+//! leading zeros. So a report has one spelling.
+//!
+//! | Line | What it tells |
+//! |---|---|
+//! | `SESSION TXN REPLY` | what a session was answered in its transaction of that number, 0 outside one |
+//! | `down COUNT NODE fault`, `down COUNT NODE stop` | a node went down |
+//! | `up NODE` | a node came up |
+//! | `barrier` | all earlier lines of the script were done |
+//! | `fed POSITION` | the feeds were offered the changes up to a position |
+//! | `base POSITION` | the length of the history before the run; no line where it is 0 |
+//! | `entry POSITION schema` | the schema stands at that position |
+//! | `entry POSITION SESSION TXN BEGIN LEVEL` | that transaction stands there; it began at `BEGIN` |
+//! | `feed PLACE TABLE TAKEN DROPPED` | what a feed place took, and how many consumers it lost |
+//! | `end POSITION` | the length of the history |
+//!
+//! | Reply | What it tells |
+//! |---|---|
+//! | `begin POSITION` | the transaction sees the rows at that position |
+//! | `row VALUE\|VALUE` | a row of a select |
+//! | `done ROWS`, `changed ROWS` | how many rows a select gave, and how many a write changed |
+//! | `error CAUSE`, `error syntax AT` | a statement was refused |
+//! | `level LEVEL` | `snapshot` or `serializable` from the next transaction on |
+//! | `rolledback` | the transaction was given up |
+//! | `committed POSITION` | it stands there in the history; it began there if it changed nothing |
+//! | `conflict POSITION genid TABLE GENID`, `conflict POSITION range TABLE KEY` | a later commit changed what it used or read |
+//! | `duplicate POSITION TABLE KEY` | its writes break that key at that position |
+//! | `lost NODE DOWN`, `nomajority UP NODES`, `nomemory` | its node went down, too few are up, want of memory |
+//!
+//! A value is `null`, an integer, a text between quotes where each quote of it stands twice, or a
+//! blob as `x'` and lower-case hexadecimal digits. The row of NULL, -5, the text `it's` and the
+//! bytes 0 and 175 has the reply `row null|-5|'it''s'|x'00af'`.
+//!
+//! An insert and a select of the session `a` give
+//!
+//! ```text
+//! a 1 begin 1
+//! a 1 changed 1
+//! a 1 committed 2
+//! a 2 begin 2
+//! a 2 row 1|10
+//! a 2 done 1
+//! a 2 committed 2
+//! entry 1 schema
+//! entry 2 a 1 1 snapshot
+//! end 2
+//! ```
+//!
+//! whose last line is the bytes `65 6e 64 20 32 0a`.
+//!
+//! | Notion | Code | Definition |
+//! |---|---|---|
+//! | the text of a report | `print` | `specs/Text.antt` |
+//! | the answer of a statement, a transaction run alone | | `specs/Answer.antt` |
+//! | the work of a session: its transactions | | `specs/Work.antt` |
+//! | the history, and the rows at its positions | | `specs/History.antt` |
+//! | what a session is told | | `specs/Told.antt` |
+//! | the right outcome of a transaction | | `specs/Outcome.antt` |
+//! | a lawful report | | `specs/Lawful.antt` |
+//! | the order of play | | `specs/Play.antt` |
+//! | worked examples | `the_worked_report_is_lawful`, `the_duplicate_report_is_lawful` | `specs/Worked.antt` |
 #![tactic(auto)]
 
+mod facts;
 mod printing;
 mod reports;
+#[cfg(test)]
+mod tests;
 
+pub use facts::{the_duplicate_report_is_lawful, the_worked_report_is_lawful};
 pub use printing::print;
 pub use reports::{EntryLine, FeedLine, Line, ReplyLine, Report};
