@@ -128,7 +128,7 @@ worked_is_lawful = record {
       tt,
     ),
   );
-  answered = (tt, (inl (lines_of (codes "a") 1 (reply.Begin 1 ∷ reply.Changed 1 ∷ []), lines_of (codes "a") 2 (selected_second 2 10), refl), tt));
+  answered = (tt, ((lines_of (codes "a") 1 (reply.Begin 1 ∷ reply.Changed 1 ∷ []), lines_of (codes "a") 2 (selected_second 2 10), refl), tt));
   sessions = (tt, (tt, (tt, (tt, (tt, (tt, (tt, tt)))))));
   feeds = refl;
   base = refl;
@@ -245,7 +245,7 @@ late_is_lawful = record {
       (record { later = omega arith; stands = refl; is_good = good_insert }))
       (ends_by worked_script nothing_before worked_entries (codes "a") (own_line 2 select_text) 1 (reply.Done 0 ∷ []) (reply.Committed 1) refl);
   history = worked_is_lawful.history;
-  answered = (tt, (inl (lines_of (codes "a") 1 (reply.Begin 1 ∷ reply.Changed 1 ∷ []), lines_of (codes "a") 2 late_second, refl), tt));
+  answered = (tt, ((lines_of (codes "a") 1 (reply.Begin 1 ∷ reply.Changed 1 ∷ []), lines_of (codes "a") 2 late_second, refl), tt));
   sessions = (tt, (tt, (tt, (tt, (tt, (tt, tt))))));
   feeds = refl;
   base = refl;
@@ -297,7 +297,7 @@ duplicate_is_lawful = record {
       tt,
     ),
   );
-  answered = (tt, (inl (lines_of (codes "a") 1 (reply.Begin 1 ∷ reply.Changed 1 ∷ []), lines_of (codes "a") 2 refused_second, refl), tt));
+  answered = (tt, ((lines_of (codes "a") 1 (reply.Begin 1 ∷ reply.Changed 1 ∷ []), lines_of (codes "a") 2 refused_second, refl), tt));
   sessions = (tt, (tt, (tt, (tt, (tt, (tt, tt))))));
   feeds = refl;
   base = refl;

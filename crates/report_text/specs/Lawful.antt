@@ -1,7 +1,7 @@
 -- A lawful report: what the database promises of every run, over its script and the history before it.
 --
 -- Each law is a statement about every line or entry and what stands before it.
-use Rattle.std.specs.Prelude.{◌≡◌, ℕ, ◌≤◌, ◌++◌, ◌∷◌, ◌==◌, [], List, Bool, true, false, Option, Some, None, if◌then◌else◌, ◌⊎◌}
+use Rattle.std.specs.Prelude.{◌≡◌, ℕ, ◌≤◌, ◌++◌, ◌∷◌, ◌==◌, [], List, Bool, true, false, Option, Some, None, if◌then◌else◌}
 use Rattle.std.specs.List.{AllByRecursion}
 use Rattle.std.specs.Str.{bytes_eq}
 use Rattle.script_read.specs.declared.scripts.Script.{Script}
@@ -72,11 +72,11 @@ abbrev pub IsFreshLine : Origin → List Line → Line → Type 0
 IsFreshLine origin before (line.Session name txn answer) = IsFreshAnswer origin before name answer
 IsFreshLine origin before _ = Unit {0}
 
--- an entry's transaction was answered that it is committed there, or was cut short by want of memory
+-- an entry's transaction was answered that it is committed there
 abbrev pub IsAnswered : List Line → EntryLine → Type 0
 IsAnswered lines (Setup position) = Unit {0}
 IsAnswered lines (Commit position session txn begin level) =
-    StandsIn lines (line.Session session txn (reply.Committed position)) ⊎ StandsIn lines (line.Session session txn reply.NoMemory)
+    StandsIn lines (line.Session session txn (reply.Committed position))
 
 -- only sessions are told anything: no node goes down or comes up, and there is no barrier and no feed
 abbrev pub IsOfSession : Line → Type 0
