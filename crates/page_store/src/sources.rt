@@ -1,4 +1,4 @@
-ghost use Rattle.std.specs.Prelude.{ℕ, ◌≡◌, Option, Some, None, OnOk, OnErr, IsSome, IfSome, IfOk};
+ghost use Rattle.std.specs.Prelude.{ℕ, ◌≡◌, Option, Some, None, OnOk, OnErr, IsSome, IfOk, option_map};
 ghost use Rattle.page_store.specs.Image.{Image};
 ghost use Rattle.page_store.specs.Sources.{IsExcused, pages_of};
 
@@ -23,8 +23,8 @@ pub trait PageSource {
     /// The page of each number that the source means.
     ghost pages: { Self → ℕ → Image };
 
-    /// The number of the loaded page, where one is loaded.
-    ghost loaded: { Self → Option ℕ };
+    /// The loaded page, where one is loaded.
+    ghost loaded: { Self → Option Image };
 
     /// How often the source lost the one who gives the pages.
     ghost losses: { Self → ℕ };
@@ -32,14 +32,14 @@ pub trait PageSource {
     /// Makes page `id` the loaded one. After an error no page is loaded.
     fn load(&mut self, id: u64) -> Result<(), PageFault>
         ensures pages { pages self.new ≡ pages self.old }
-        ensures loaded { OnOk result (loaded self.new ≡ Some id) }
+        ensures loaded { OnOk result (loaded self.new ≡ Some (pages self.old id)) }
         ensures none { OnErr result (loaded self.new ≡ None) }
         ensures excused { IsExcused result (losses self.old) (losses self.new) };
 
     /// The loaded page.
     fn page(&self) -> &Page
         requires { IsSome (loaded self.now) }
-        ensures { IfSome (loaded self.now) (λ id. result.now ≡ pages self.now id) };
+        ensures { loaded self.now ≡ Some result.now };
 }
 
 /// Pages in memory: those of a list, numbered from 0, and blank ones past its end.
@@ -78,7 +78,7 @@ impl MemPages {
 impl PageSource for MemPages {
     ghost pages = { λ s. pages_of s.pages };
 
-    ghost loaded = { λ s. s.loaded };
+    ghost loaded = { λ s. option_map (pages_of s.pages) s.loaded };
 
     ghost losses = { λ _. 0 };
 

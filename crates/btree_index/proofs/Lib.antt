@@ -1,0 +1,5 @@
+pub mod KeyLemmas
+pub mod TreeLemmas
+pub mod WayLemmas
+pub mod FindLemmas
+pub mod RowLemmas

@@ -1,0 +1,54 @@
+-- Lists of pairs in the order of their keys, as a tree holds them.
+use Rattle.std.specs.Prelude.{ℕ, Bool, List, [], ◌∷◌, ◌⊎◌, not, true, false, ◌≡◌, ◌&&◌, if◌then◌else◌, Option, Some, None}
+use Rattle.std.specs.List.{filter}
+use Rattle.btree_index.specs.Keys.{Key, before, same_key}
+use Rattle.btree_index.specs.Cells.{key_of, value_of, child_of}
+
+-- the value of a key
+abbrev pub value_at : Key → List (Key × List ℕ) → Option (List ℕ)
+value_at key [] = None
+value_at key (pair ∷ pairs) = if same_key key pair.0 then Some pair.1 else value_at key pairs
+
+-- the list with a pair in its place
+abbrev pub with_pair : Key → List ℕ → List (Key × List ℕ) → List (Key × List ℕ)
+with_pair key value [] = (key, value) ∷ []
+with_pair key value (pair ∷ pairs) =
+    if before key pair.0 then (key, value) ∷ pair ∷ pairs else pair ∷ with_pair key value pairs
+
+-- the list without the pair of a key
+abbrev pub without_key : Key → List (Key × List ℕ) → List (Key × List ℕ)
+without_key key pairs = filter (λ pair. not (same_key key pair.0)) pairs
+
+-- a key is below another, where one is given
+abbrev pub is_below : Option Key → Key → Bool
+is_below None key = true
+is_below (Some high) key = before key high
+
+-- a key is not before the low one, and below the high one
+abbrev pub is_between : Key → Option Key → Key → Bool
+is_between low high key = not (before key low) && is_below high key
+
+-- the pairs whose keys are between
+abbrev pub between : Key → Option Key → List (Key × List ℕ) → List (Key × List ℕ)
+between low high [] = []
+between low high (pair ∷ pairs) =
+    if is_between low high pair.0 then pair ∷ between low high pairs else between low high pairs
+
+-- the value of a key in the cells of a leaf
+abbrev pub cell_value : Key → List (List ℕ) → Option (List ℕ)
+cell_value key [] = None
+cell_value key (cell ∷ cells) = if same_key key (key_of cell) then Some (value_of cell) else cell_value key cells
+
+-- the child below which a key may stand, of a page above the leaves: that of the last cell whose key is not above it
+abbrev pub chosen : Key → ℕ → List (List ℕ) → ℕ
+chosen key child [] = child
+chosen key child (cell ∷ cells) = if before key (key_of cell) then child else chosen key (child_of cell) cells
+
+abbrev pub choice : Key → List (List ℕ) → ℕ
+choice key [] = 0
+choice key (cell ∷ cells) = chosen key (child_of cell) cells
+
+-- some cell has a key that is not below the high one
+abbrev pub HasBeyond : Option Key → List (List ℕ) → Type 0
+HasBeyond high [] = ⊥
+HasBeyond high (cell ∷ cells) = (is_below high (key_of cell) ≡ false) ⊎ HasBeyond high cells

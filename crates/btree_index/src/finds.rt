@@ -1,0 +1,88 @@
+ghost use Rattle.std.specs.Prelude.{ℕ, ◌≡◌, List, Some, IfOk, MatchOption};
+ghost use Rattle.page_store.specs.Sources.{IsExcused};
+ghost use Rattle.btree_index.specs.Keys.{Key};
+ghost use Rattle.btree_index.specs.Pairs.{value_at, cell_value, choice};
+ghost use Rattle.btree_index.specs.Trees.{TreeList};
+ghost use Rattle.btree_index.specs.Ways.{OnWay};
+ghost use Rattle.page_store.specs.declared.pages.PageKind.TheVariants.{Leaf};
+
+use crate::cells::{child_in, key_in, value_in};
+use crate::keys::{is_before, is_same};
+use page_store::{Cell, Page, PageFault, PageKind, PageSource};
+use std::alloc::{AllocError, Global};
+
+/// The value of a key in the tree below a root; `None` where the key is not there. `Gone` comes only where the source
+/// lost its pages; the other error is want of memory.
+pub fn find<P: PageSource>(
+    alloc: Global,
+    pages: &mut P,
+    root: u64,
+    key: &[u8],
+) -> Result<Option<Cell>, PageFault>
+    ensures found { (list : List (Key × List ℕ)) → TreeList (P.pages pages.old) root list → IfOk result (λ v. v ≡ value_at key.now list) }
+    ensures pages { P.pages pages.new ≡ P.pages pages.old }
+    ensures excused { IsExcused result (P.losses pages.old) (P.losses pages.new) }
+{
+    leaf_for(pages, root, key)?;
+    look_up(alloc, pages.page(), key).map_err(|_| PageFault::NoMemory)
+}
+
+/// Loads the leaf below which a key may stand, and gives its number.
+pub(crate) fn leaf_for<P: PageSource>(
+    pages: &mut P,
+    root: u64,
+    key: &[u8],
+) -> Result<u64, PageFault>
+    ensures way { (list : List (Key × List ℕ)) → TreeList (P.pages pages.old) root list →
+        IfOk result (λ id. OnWay (P.pages pages.old) key.now id list) }
+    ensures leaf { IfOk result (λ id. (P.pages pages.old id).head.kind ≡ Leaf) }
+    ensures loaded { IfOk result (λ id. P.loaded pages.new ≡ Some (P.pages pages.old id)) }
+    ensures pages { P.pages pages.new ≡ P.pages pages.old }
+    ensures excused { IsExcused result (P.losses pages.old) (P.losses pages.new) }
+{
+    let mut id = root;
+    'down: for _ in 0..u64::MAX {
+        pages.load(id)?;
+        let page = pages.page();
+        match page.head().kind {
+            PageKind::Leaf => return Ok(id),
+            PageKind::Inner => match child_for(page, key) {
+                Some(child) => id = child,
+                None => return Err(PageFault::NoMemory),
+            },
+            _ => return Err(PageFault::NoMemory),
+        }
+    }
+    // no tree is so high
+    Err(PageFault::NoMemory)
+}
+
+/// The value of a key in the cells of a leaf.
+fn look_up(alloc: Global, page: &Page, key: &[u8]) -> Result<Option<Cell>, AllocError>
+    ensures { IfOk result (λ v. v ≡ cell_value key.now page.now.cells) }
+{
+    'looking: for at in 0..page.count() {
+        let Some(cell) = page.cell(at) else {
+            return Ok(None);
+        };
+        if is_same(key, key_in(cell)) {
+            return Ok(Some(Cell::from_slice(alloc, value_in(cell))?));
+        }
+    }
+    Ok(None)
+}
+
+/// The child below which a key may stand, on a page above the leaves; `None` where a cell has no child.
+pub(crate) fn child_for(page: &Page, key: &[u8]) -> Option<u64>
+    ensures { MatchOption result (Unit {0}) (λ child. child ≡ choice key.now page.now.cells) }
+{
+    let mut child = child_in(page.cell(0)?)?;
+    'choosing: for at in 1..page.count() {
+        let cell = page.cell(at)?;
+        if is_before(key, key_in(cell)) {
+            return Some(child);
+        }
+        child = child_in(cell)?;
+    }
+    Some(child)
+}

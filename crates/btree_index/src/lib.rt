@@ -1,0 +1,41 @@
+//! B-trees on pages: below a root, pages hold a list of pairs of a key and a value, in the order of the keys.
+//!
+//! A cell of a leaf has a pair; a cell above the leaves has a key and the page below it. Numbers are big-endian:
+//!
+//! | Offset | Bytes | What |
+//! |---|---|---|
+//! | 0 | 2 | length of the key, at most 1,630 |
+//! | 2 | that many | the key |
+//! | behind | the others | in a leaf the value, so that the cell has at most 1,640 bytes; above the leaves 8 bytes, the child |
+//!
+//! The pair of the key `ab` and the value `x` is `00 02 61 62 78`.
+//!
+//! A tree of two levels, with its root at page 1:
+//!
+//! ```text
+//! page 1, inner, level 1:   "" -> page 2       "m" -> page 3
+//! page 2, leaf, right 3:    a, c, k
+//! page 3, leaf, right 0:    m, z
+//! ```
+//!
+//! The first cell of a page above the leaves has the empty key; each further key is at most every key below its child
+//! and above every key before it. Leaves are joined by their right links, 0 at the end. Keys are ordered byte by byte,
+//! a beginning before what it begins. A leaf may be empty.
+//!
+//! In the definitions a level is a list of entries, a page with the least key that may stand below it, and the level
+//! below is computed from it: the first cell of a page takes the page's own least key. So order is said once, at the
+//! leaves. That the pages below a root hold at most one list is a law of the definitions, `trees_have_one_list`.
+#![tactic(auto)]
+
+mod cells;
+mod finds;
+mod keys;
+mod laws;
+mod scans;
+
+pub use finds::find;
+pub use laws::trees_have_one_list;
+pub use scans::scan;
+
+#[cfg(test)]
+mod tests;

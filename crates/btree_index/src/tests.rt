@@ -1,0 +1,115 @@
+use super::*;
+use page_store::{Cell, Edit, Head, MemPages, Page, PageKind, apply};
+use std::test::Fail;
+
+/// A page of this kind with these cells.
+fn page_of(rt: &HostRuntime, head: Head, cells: &[&[u8]]) -> Result<Page, Fail> {
+    let mut page = Page::blank(rt.alloc())?;
+    let before = page.head();
+    apply(
+        &mut page,
+        &Edit::SetHead {
+            before,
+            after: head,
+        },
+        1,
+    )?;
+    for cell in cells {
+        let cell = Cell::from_slice(rt.alloc(), cell)?;
+        let at = page.count();
+        apply(&mut page, &Edit::PutCell { at, cell }, 1)?;
+    }
+    Ok(page)
+}
+
+/// The tree of two levels that the crate's first page shows.
+fn two_levels(rt: &HostRuntime) -> Result<MemPages, Fail> {
+    let inner = Head {
+        kind: PageKind::Inner,
+        level: 1,
+        right: 0,
+    };
+    let left = Head {
+        kind: PageKind::Leaf,
+        level: 0,
+        right: 3,
+    };
+    let right = Head {
+        kind: PageKind::Leaf,
+        level: 0,
+        right: 0,
+    };
+    let pages = MemPages::new(
+        rt.alloc(),
+        vec![in rt.alloc();
+            Page::blank(rt.alloc())?,
+            page_of(
+                rt,
+                inner,
+                &[
+                    b"\0\0\0\0\0\0\0\0\0\x02".as_slice(),
+                    b"\0\x01m\0\0\0\0\0\0\0\x03".as_slice()
+                ]
+            )?,
+            page_of(
+                rt,
+                left,
+                &[
+                    b"\0\x01a1".as_slice(),
+                    b"\0\x01c2".as_slice(),
+                    b"\0\x01k".as_slice()
+                ]
+            )?,
+            page_of(
+                rt,
+                right,
+                &[b"\0\x01m34".as_slice(), b"\0\x01z5".as_slice()]
+            )?,
+        ]?,
+    )?;
+    Ok(pages)
+}
+
+/// Each key is found with its value, and no other.
+#[test]
+fn finds_in_two_levels(rt: HostRuntime) -> Result<(), Fail> {
+    let mut pages = two_levels(&rt)?;
+    for (key, value) in [
+        (b"a".as_slice(), b"1".as_slice()),
+        (b"c".as_slice(), b"2".as_slice()),
+        (b"k".as_slice(), b"".as_slice()),
+        (b"m".as_slice(), b"34".as_slice()),
+        (b"z".as_slice(), b"5".as_slice()),
+    ] {
+        let found = find(rt.alloc(), &mut pages, 1, key)?.ok_or("not found")?;
+        assert_eq!(rt; found.as_slice(), value);
+    }
+    for key in [
+        b"".as_slice(),
+        b"b".as_slice(),
+        b"l".as_slice(),
+        b"ma".as_slice(),
+        b"zz".as_slice(),
+    ] {
+        assert!(rt; find(rt.alloc(), &mut pages, 1, key)?.is_none());
+    }
+    Ok(())
+}
+
+/// A scan goes on over the end of a leaf, from the low key on and up to the high one.
+#[test]
+fn scans_two_levels(rt: HostRuntime) -> Result<(), Fail> {
+    let mut pages = two_levels(&rt)?;
+    let all = scan(rt.alloc(), &mut pages, 1, b"", None)?;
+    assert_eq!(rt; all.len(), 5);
+    let some = scan(rt.alloc(), &mut pages, 1, b"c", Some(b"z".as_slice()))?;
+    assert_eq!(rt; some.len(), 3);
+    for (pair, key) in some
+        .iter()
+        .zip([b"c".as_slice(), b"k".as_slice(), b"m".as_slice()].iter())
+    {
+        assert_eq!(rt; pair.0.as_slice(), *key);
+    }
+    assert!(rt; scan(rt.alloc(), &mut pages, 1, b"n", Some(b"z".as_slice()))?.is_empty());
+    Ok(())
+}

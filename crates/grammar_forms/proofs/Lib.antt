@@ -1,0 +1,7 @@
+pub mod Alike
+pub mod Sequence
+pub mod Choice
+pub mod Repeat
+pub mod Verdicts
+pub mod Usual
+pub mod Loops

@@ -1,0 +1,5 @@
+pub mod NumberLemmas
+pub mod EscapeLemmas
+pub mod ValueLemmas
+pub mod JoinedLemmas
+pub mod SizeLemmas

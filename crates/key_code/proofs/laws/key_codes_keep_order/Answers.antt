@@ -1,0 +1,5 @@
+use Rattle.key_code.proofs.JoinedLemmas.{key_order}
+use Rattle.key_code.proofs.laws.key_codes_keep_order.Goals as goal
+
+pub returns : goal.returns
+returns c = record { order = key_order }

@@ -1,0 +1,4 @@
+pub mod Exit
+pub mod Run
+pub mod SoFar
+pub mod Step

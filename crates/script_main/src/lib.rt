@@ -1,0 +1,13 @@
+//! The top call: a script is read from a source, played, and its report written to a sink.
+#![tactic(auto)]
+
+mod answers;
+mod courses;
+mod playing;
+mod running;
+mod statuses;
+#[cfg(test)]
+mod tests;
+
+pub use running::run;
+pub use statuses::{Outside, Status, exit_status};
