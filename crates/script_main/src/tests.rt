@@ -213,3 +213,118 @@ fn a_sink_that_fails_has_taken_a_front(rt: HostRuntime) -> Result<(), Fail> {
     assert_eq!(rt; sink.bytes.as_slice(), b"a 1 begin ".as_slice());
     Ok(())
 }
+
+/// A generated body, and what a slower computation expects of it: rows in a list, keys looked for one
+/// by one, and the history as text.
+#[derive(Drop)]
+struct Generated {
+    body: String,
+    told: String,
+    history: String,
+    rows: Vec<(u64, u64)>,
+    last: u64,
+}
+
+impl Generated {
+    fn new(alloc: Global) -> Result<Generated, AllocError> {
+        Ok(Generated {
+            body: String::new(alloc),
+            told: String::new(alloc),
+            history: String::from_str(alloc, "entry 1 schema\n")?,
+            rows: Vec::new(alloc),
+            last: 1,
+        })
+    }
+
+    fn select(&mut self, alloc: Global, txn: u64) -> Result<(), AllocError> {
+        let last = self.last;
+        self.body.push_str("a: select * from t\n")?;
+        self.told
+            .push_str(format!(in alloc; "a {txn} begin {last}\n")?.as_str())?;
+        for (key, value) in self.rows.as_slice() {
+            let key = *key;
+            let value = *value;
+            self.told
+                .push_str(format!(in alloc; "a {txn} row {key}|{value}\n")?.as_str())?;
+        }
+        let count = self.rows.len();
+        self.told.push_str(format!(in alloc;
+            "a {txn} done {count}\na {txn} committed {last}\n"
+        )?.as_str())
+    }
+
+    fn insert(&mut self, alloc: Global, txn: u64, key: u64, value: u64) -> Result<(), AllocError> {
+        let begin = self.last;
+        let next = begin.saturating_add(1);
+        self.body.push_str(format!(in alloc;
+            "a: insert into t values({key}, {value})\n"
+        )?.as_str())?;
+        self.told.push_str(format!(in alloc;
+            "a {txn} begin {begin}\na {txn} changed 1\n"
+        )?.as_str())?;
+        if self.rows.iter().any(|row| row.0 == key) {
+            return self.told.push_str(format!(in alloc;
+                "a {txn} duplicate {begin} t pk\n"
+            )?.as_str());
+        }
+        self.rows.push((key, value))?;
+        self.last = next;
+        self.told
+            .push_str(format!(in alloc; "a {txn} committed {next}\n")?.as_str())?;
+        self.history.push_str(format!(in alloc;
+            "entry {next} a {txn} {begin} snapshot\n"
+        )?.as_str())
+    }
+}
+
+#[test]
+fn generated_scripts_are_reported_as_expected(rt: HostRuntime) -> Result<(), Fail> {
+    let alloc = rt.alloc();
+    let mut x = 1u64;
+    for seed in 0..6u64 {
+        let mut wanted = Generated::new(alloc)?;
+        for txn in 1..=30u64 {
+            x = x.wrapping_mul(6364136223846793005).wrapping_add(seed | 1);
+            let drawn = x >> 33;
+            if drawn % 4 == 0 {
+                wanted.select(alloc, txn)?;
+            } else {
+                wanted.insert(alloc, txn, drawn / 4 % 16, drawn % 1000)?;
+            }
+        }
+        let Generated {
+            body,
+            told,
+            history,
+            last,
+            ..
+        } = wanted;
+        let text = reported(alloc, body.as_str())?;
+        let want = format!(in alloc; "{told}{history}end {last}\n")?;
+        assert_eq!(rt; text.as_str(), want.as_str());
+    }
+    Ok(())
+}
+
+/// The script of a table with so many columns, and one row.
+fn wide(alloc: Global, columns: usize) -> Result<String, AllocError> {
+    let mut names = String::from_str(alloc, "c0 integer")?;
+    let mut values = String::from_str(alloc, "0")?;
+    for i in 1..columns {
+        names.push_str(format!(in alloc; ", c{i} integer")?.as_str())?;
+        values.push_str(", 0")?;
+    }
+    format!(in alloc;
+        "nodes 1\nsession a 1\ncreate table t({names})\na: insert into t values({values})\n"
+    )
+}
+
+#[test]
+fn a_table_has_at_most_64_columns(rt: HostRuntime) -> Result<(), Fail> {
+    let alloc = rt.alloc();
+    let (status, _) = played(alloc, &["play"], wide(alloc, 64)?.as_bytes())?;
+    assert_eq!(rt; status, Status::Done);
+    let (status, _) = played(alloc, &["play"], wide(alloc, 65)?.as_bytes())?;
+    assert_eq!(rt; status, Status::Refused { line: 3, why: 10 });
+    Ok(())
+}
