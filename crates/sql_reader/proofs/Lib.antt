@@ -1,0 +1,5 @@
+pub mod Joined
+pub mod Levels
+pub mod Steps
+pub mod Top
+pub mod Whole

@@ -1,0 +1,49 @@
+-- The four clauses of a text that was cut into tokens, by what the exact reader finds in them.
+use Rattle.std.proofs.Common.{sym, ap, subst, ◌∙◌}
+use Rattle.grammar_forms.specs.Forms.{only}
+use Rattle.sql_grammar.specs.Grammar.{StatementS}
+use Rattle.sql_grammar.specs.Readers.{statement_r}
+use Rattle.sql_grammar.specs.Views.{statement_in}
+use Rattle.sql_grammar.proofs.Statements.{exact_statement}
+use Rattle.sql_reader.specs.Gives.{Fails}
+use Rattle.sql_reader.proofs.Top.{one_reading, found, no_refusal, stops_right, answers_ok, answers_stop, refuses_stop}
+use Rattle.sql_reader.proofs.read.Goals as goal
+
+pub returns-in_default-clause-one_reading : goal.returns-in_default-clause-one_reading
+returns-in_default-clause-one_reading c = one_reading StatementS statement_r exact_statement c.args.text.now
+
+pub returns-in-Ok-statement-clause-found : goal.returns-in-Ok-statement-clause-found
+returns-in-Ok-statement-clause-found c =
+    found StatementS statement_r exact_statement c.args.text.now c.in-Ok.spots c.in-Ok.ensures (statement_in c.in-Ok-statement.found)
+    (ap (λ l. only (statement_r l)) (sym c.tokens-2.ensures) ∙ c.in-Ok-statement.ensures)
+
+pub returns-in-Ok-statement-clause-only : goal.returns-in-Ok-statement-clause-only
+returns-in-Ok-statement-clause-only c x =
+    answers_ok StatementS statement_r exact_statement c.args.text.now c.in-Ok.spots c.in-Ok.ensures statement_in c.in-Ok-statement.found x
+    (ap (λ l. only (statement_r l)) (sym c.tokens-2.ensures) ∙ c.in-Ok-statement.ensures)
+
+pub returns-in-Ok-statement-clause-one_reading : goal.returns-in-Ok-statement-clause-one_reading
+returns-in-Ok-statement-clause-one_reading c = one_reading StatementS statement_r exact_statement c.args.text.now
+
+pub returns-in-Ok-statement-clause-only_refused : goal.returns-in-Ok-statement-clause-only_refused
+returns-in-Ok-statement-clause-only_refused c at =
+    no_refusal StatementS statement_r exact_statement c.args.text.now c.in-Ok.spots c.in-Ok.ensures (statement_in c.in-Ok-statement.found) at
+    (ap (λ l. only (statement_r l)) (sym c.tokens-2.ensures) ∙ c.in-Ok-statement.ensures)
+
+pub returns-clause-only : goal.returns-clause-only
+returns-clause-only c x =
+    answers_stop StatementS statement_r exact_statement c.args.text.now c.in-Ok.spots c.in-Ok.ensures statement_in c.in-Err.stop c.stopped.result x
+    (subst (λ l. Fails c.in-Err.stop (only (statement_r l))) c.tokens-2.ensures c.in-Err.ensures) c.stopped.ensures
+
+pub returns-clause-one_reading : goal.returns-clause-one_reading
+returns-clause-one_reading c = one_reading StatementS statement_r exact_statement c.args.text.now
+
+pub returns-clause-refused : goal.returns-clause-refused
+returns-clause-refused c =
+    stops_right StatementS statement_r exact_statement c.args.text.now c.in-Ok.spots c.in-Ok.ensures statement_in c.in-Err.stop c.stopped.result
+    (subst (λ l. Fails c.in-Err.stop (only (statement_r l))) c.tokens-2.ensures c.in-Err.ensures) c.stopped.ensures
+
+pub returns-clause-only_refused : goal.returns-clause-only_refused
+returns-clause-only_refused c at =
+    refuses_stop StatementS statement_r exact_statement c.args.text.now c.in-Ok.spots c.in-Ok.ensures statement_in c.in-Err.stop c.stopped.result at
+    (subst (λ l. Fails c.in-Err.stop (only (statement_r l))) c.tokens-2.ensures c.in-Err.ensures) c.stopped.ensures

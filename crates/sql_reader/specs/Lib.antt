@@ -1,0 +1,4 @@
+pub mod Ending
+pub mod Gives
+pub mod Promise
+pub mod Stops
