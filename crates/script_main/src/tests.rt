@@ -96,6 +96,11 @@ fn scripts_are_refused_at_their_lines(rt: HostRuntime) -> Result<(), Fail> {
             3,
             10,
         ),
+        (
+            b"nodes 1\nsession a 1\ncreate table t(c integer)\na: \xff\n".as_slice(),
+            4,
+            10,
+        ),
     ];
     for (script, line, why) in cases {
         let (status, text) = played(rt.alloc(), &["play"], script)?;
