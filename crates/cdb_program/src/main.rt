@@ -19,7 +19,7 @@ fn main(rt: HostRuntime) -> ExitCode {
 }
 
 /// Runs the command over the words, standard input and standard output.
-fn played(rt: &HostRuntime) -> io::Result<Status> {
+fn played(rt: &HostRuntime) -> Result<Status, AllocError> {
     let alloc = rt.alloc();
     let words = words(rt)?;
     let mut outside = Outside {
@@ -31,13 +31,22 @@ fn played(rt: &HostRuntime) -> io::Result<Status> {
     Ok(run(alloc, words.as_slice(), &mut outside))
 }
 
-/// The words behind the command's name.
-fn words(rt: &HostRuntime) -> io::Result<Vec<String>> {
+/// The words behind the command's name. Where one of them is no text there are none, since either is a
+/// faulty command line.
+fn words(rt: &HostRuntime) -> Result<Vec<String>, AllocError> {
     let mut words = Vec::new(rt.alloc());
-    for word in env::args(rt)?.skip(1) {
-        words.push(word).map_err(AllocError::from)?;
+    match env::args(rt) {
+        Ok(all) => {
+            for word in all.skip(1) {
+                words.push(word)?;
+            }
+            Ok(words)
+        }
+        Err(error) => match error.kind() {
+            io::ErrorKind::OutOfMemory => Err(AllocError),
+            _ => Ok(words),
+        },
     }
-    Ok(words)
 }
 
 /// A store in memory for each node.
