@@ -1,4 +1,4 @@
-//! The report of a run: its one spelling, its printer, and what makes a report lawful.
+//! The report of a run: its types, its one spelling and its printer.
 //!
 //! A report is what a run tells: the lines of its sessions and nodes in the order in which they came
 //! about, then the base, the committed history after it, the feeds, and the length of the history.
@@ -52,25 +52,14 @@
 //!
 //! whose last line is the bytes `65 6e 64 20 32 0a`.
 //!
-//! | Notion | Code | Definition |
-//! |---|---|---|
-//! | the text of a report | `print` | `specs/Text.antt` |
-//! | the answer of a statement, a transaction run alone | | `specs/Answer.antt` |
-//! | the work of a session: its transactions | | `specs/Work.antt` |
-//! | the history, and the rows at its positions | | `specs/History.antt` |
-//! | what a session is told | | `specs/Told.antt` |
-//! | the right outcome of a transaction | | `specs/Outcome.antt` |
-//! | a lawful report | | `specs/Lawful.antt` |
-//! | the order of play | | `specs/Play.antt` |
-//! | worked examples | `the_worked_report_is_lawful`, `the_duplicate_report_is_lawful` | `specs/Worked.antt` |
+//! The text of a report is `report_text` of `specs/Text.antt`; what makes a report lawful is said in the crate
+//! `report_laws`.
 #![tactic(auto)]
 
-mod facts;
 mod printing;
 mod reports;
 #[cfg(test)]
 mod tests;
 
-pub use facts::{the_duplicate_report_is_lawful, the_worked_report_is_lawful};
 pub use printing::print;
 pub use reports::{EntryLine, FeedLine, Line, ReplyLine, Report};

@@ -10,21 +10,21 @@ use Rattle.script_read.specs.declared.scripts.Script.{Script}
 use Rattle.script_read.specs.declared.scripts.BodyLine.{BodyLine}
 use Rattle.script_read.specs.declared.scripts.Act.{Act}
 use Rattle.script_read.specs.declared.scripts.Act.TheVariants.{Say}
-use Rattle.report_text.specs.Each.{EachAfter}
-use Rattle.report_text.specs.History.{nothing_before, rows_at, IsEntryAfter}
-use Rattle.report_text.specs.Lawful.{IsFreshLine, IsAnswered, IsOfSession, NameUpTo, positions}
-use Rattle.report_text.specs.Outcome.{IsDecided}
-use Rattle.report_text.specs.Play.{IsLatest, latest_from, latest_with, BelongsTo, is_line_of}
-use Rattle.report_text.specs.Told.{told, lines_of}
-use Rattle.report_text.specs.Work.{Transaction, own_line, said, tables_of, work}
+use Rattle.report_laws.specs.Each.{EachAfter}
+use Rattle.report_laws.specs.History.{nothing_before, rows_at, IsEntryAfter}
+use Rattle.report_laws.specs.Lawful.{IsFreshLine, IsAnswered, IsOfSession, NameUpTo, positions}
+use Rattle.report_laws.specs.Outcome.{IsDecided}
+use Rattle.report_laws.specs.Play.{IsLatest, latest_from, latest_with, BelongsTo, is_line_of}
+use Rattle.report_laws.specs.Told.{told, lines_of}
+use Rattle.report_laws.specs.Work.{Transaction, own_line, said, tables_of, work}
 use Rattle.report_text.specs.declared.reports.EntryLine.{EntryLine}
 use Rattle.report_text.specs.declared.reports.Line.{Line}
 use Rattle.report_text.specs.declared.reports.Line.TheVariants as line
 use Rattle.report_text.specs.declared.reports.ReplyLine.{ReplyLine}
 use Rattle.report_text.specs.declared.reports.ReplyLine.TheVariants as reply
-use Rattle.report_text.proofs.EachLemmas.{each_append, all_append}
-use Rattle.report_text.proofs.LineLemmas.{IsPlain, plain_alone, each_whole, all_whole, named_more, named_plain, fresh_plain, fresh_begin, latest_plain, latest_append, latest_of_whole, in_order_more}
-use Rattle.report_text.proofs.ToldLemmas.{along_map}
+use Rattle.report_laws.proofs.EachLemmas.{each_append, all_append}
+use Rattle.report_laws.proofs.LineLemmas.{IsPlain, plain_alone, each_whole, all_whole, named_more, named_plain, fresh_plain, fresh_begin, latest_plain, latest_append, latest_of_whole, in_order_more}
+use Rattle.report_laws.proofs.ToldLemmas.{along_map}
 use Rattle.script_main.specs.SoFar.{SoFar, IsOver, IsBegun}
 use Rattle.script_main.specs.Step.{answered, whole}
 use Rattle.script_main.proofs.PlaceLemmas.{told_more}

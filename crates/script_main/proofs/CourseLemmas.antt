@@ -11,8 +11,8 @@ use Rattle.cdb_values.specs.declared.tables.TableDef.{TableDef}
 use Rattle.cdb_values.specs.declared.values.Value.{Value}
 use Rattle.script_read.specs.Statements.{statement_of}
 use Rattle.script_read.specs.declared.statements.Statement.TheVariants as statements
-use Rattle.report_text.specs.Answer.{answer_to, only_told, inserted, selected, rows_told}
-use Rattle.report_text.specs.Told.{lines_of}
+use Rattle.report_laws.specs.Answer.{answer_to, only_told, inserted, selected, rows_told}
+use Rattle.report_laws.specs.Told.{lines_of}
 use Rattle.report_text.specs.declared.reports.EntryLine.{EntryLine}
 use Rattle.report_text.specs.declared.reports.Line.{Line}
 use Rattle.report_text.specs.declared.reports.ReplyLine.{ReplyLine}

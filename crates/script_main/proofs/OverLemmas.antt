@@ -2,16 +2,16 @@
 use Rattle.std.proofs.Common.{◌≡◌, ℕ, List, [], ◌∷◌, ◌++◌, refl, sym, subst, ap, arith, ◌∙◌, inl, inr}
 use Rattle.cdb_values.specs.Rows.{Rows}
 use Rattle.script_read.specs.declared.scripts.Script.{Script}
-use Rattle.report_text.specs.Answer.{alone}
-use Rattle.report_text.specs.History.{Origin}
-use Rattle.report_text.specs.Outcome.{IsRight}
-use Rattle.report_text.specs.Told.{IsCut, IsTold, EndsRight}
-use Rattle.report_text.specs.Work.{Transaction, tables_of}
+use Rattle.report_laws.specs.Answer.{alone}
+use Rattle.report_laws.specs.History.{Origin}
+use Rattle.report_laws.specs.Outcome.{IsRight}
+use Rattle.report_laws.specs.Told.{IsCut, IsTold, EndsRight}
+use Rattle.report_laws.specs.Work.{Transaction, tables_of}
 use Rattle.report_text.specs.declared.reports.EntryLine.{EntryLine}
 use Rattle.report_text.specs.declared.reports.ReplyLine.{ReplyLine}
 use Rattle.report_text.specs.declared.reports.ReplyLine.TheVariants as reply
-use Rattle.report_text.proofs.HistoryLemmas.{rows_stay}
-use Rattle.report_text.proofs.OutcomeLemmas.{right_stays, last_more}
+use Rattle.report_laws.proofs.HistoryLemmas.{rows_stay}
+use Rattle.report_laws.proofs.OutcomeLemmas.{right_stays, last_more}
 use Rattle.script_main.specs.SoFar.{IsDone, IsOver}
 
 done_stays : (script : Script) (origin : Origin) (es : List EntryLine) (e : EntryLine) (name : List ℕ) (t : Transaction) (mine : List ReplyLine) →

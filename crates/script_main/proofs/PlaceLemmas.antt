@@ -7,12 +7,12 @@ use Rattle.std.specs.Cmp.Lexicographic.{same_text}
 use Rattle.script_read.specs.declared.scripts.Script.{Script}
 use Rattle.script_read.specs.declared.scripts.BodyLine.{BodyLine}
 use Rattle.script_read.specs.declared.scripts.Act.TheVariants.{Say}
-use Rattle.report_text.specs.Told.{Along, told, lines_of}
-use Rattle.report_text.specs.Work.{Transaction, said, own_line, transactions_from, work, transaction_of}
+use Rattle.report_laws.specs.Told.{Along, told, lines_of}
+use Rattle.report_laws.specs.Work.{Transaction, said, own_line, transactions_from, work, transaction_of}
 use Rattle.report_text.specs.declared.reports.Line.{Line}
 use Rattle.report_text.specs.declared.reports.ReplyLine.{ReplyLine}
-use Rattle.report_text.proofs.EachLemmas.{get_next}
-use Rattle.report_text.proofs.ToldLemmas.{along_more, said_append, told_append, told_other, told_own, transactions_append, transactions_count}
+use Rattle.report_laws.proofs.EachLemmas.{get_next}
+use Rattle.report_laws.proofs.ToldLemmas.{along_more, said_append, told_append, told_other, told_own, transactions_append, transactions_count}
 
 -- a line of a session is said by it
 pub said_own : (name text : List ℕ) (l : BodyLine) (later : List BodyLine) → l.act ≡ Say name text → bytes_eq name name ≡ true → said name (l ∷ later) ≡ text ∷ said name later

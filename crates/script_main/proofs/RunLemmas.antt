@@ -10,21 +10,21 @@ use Rattle.cdb_values.specs.declared.rows.RowOp.{RowOp}
 use Rattle.script_read.specs.declared.scripts.Script.{Script}
 use Rattle.script_read.specs.declared.scripts.BodyLine.{BodyLine}
 use Rattle.script_read.specs.declared.scripts.Act.TheVariants.{Say}
-use Rattle.report_text.specs.Each.{StandsIn}
-use Rattle.report_text.specs.History.{nothing_before, rows_at, rows_after, rows_among, ops_alone, states_of, IsEntryAfter, is_entry_of}
-use Rattle.report_text.specs.Lawful.{IsAnswered, NameUpTo}
-use Rattle.report_text.specs.Outcome.{IsCommitted, IsDuplicate, IsEntered, key_name}
-use Rattle.report_text.specs.Told.{lines_of, replies_at}
-use Rattle.report_text.specs.Work.{Transaction, own_line, said, tables_of, transaction_of}
+use Rattle.report_laws.specs.Each.{StandsIn}
+use Rattle.report_laws.specs.History.{nothing_before, rows_at, rows_after, rows_among, ops_alone, states_of, IsEntryAfter, is_entry_of}
+use Rattle.report_laws.specs.Lawful.{IsAnswered, NameUpTo}
+use Rattle.report_laws.specs.Outcome.{IsCommitted, IsDuplicate, IsEntered, key_name}
+use Rattle.report_laws.specs.Told.{lines_of, replies_at}
+use Rattle.report_laws.specs.Work.{Transaction, own_line, said, tables_of, transaction_of}
 use Rattle.report_text.specs.declared.reports.EntryLine.{EntryLine}
 use Rattle.report_text.specs.declared.reports.EntryLine.TheVariants.{Setup, Commit}
 use Rattle.report_text.specs.declared.reports.Line.{Line}
 use Rattle.report_text.specs.declared.reports.Line.TheVariants as line
 use Rattle.report_text.specs.declared.reports.ReplyLine.{ReplyLine}
 use Rattle.report_text.specs.declared.reports.ReplyLine.TheVariants as reply
-use Rattle.report_text.proofs.EachLemmas.{each_append, all_append, all_map, stands_more, stands_added, get_next}
-use Rattle.report_text.proofs.HistoryLemmas.{rows_stay, rows_next}
-use Rattle.report_text.proofs.ToldLemmas.{said_append}
+use Rattle.report_laws.proofs.EachLemmas.{each_append, all_append, all_map, stands_more, stands_added, get_next}
+use Rattle.report_laws.proofs.HistoryLemmas.{rows_stay, rows_next}
+use Rattle.report_laws.proofs.ToldLemmas.{said_append}
 use Rattle.script_main.specs.SoFar.{SoFar, IsOver, IsBegun}
 use Rattle.script_main.specs.Step.{answered, whole, IsRefused}
 use Rattle.script_main.proofs.AdvanceLemmas.{Keeps, advanced, LineLaws, whole_laws, committed_at}

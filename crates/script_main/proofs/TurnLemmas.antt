@@ -24,16 +24,16 @@ use Rattle.script_read.specs.declared.scripts.BodyLine.{BodyLine}
 use Rattle.script_read.specs.declared.scripts.Script.{Script}
 use Rattle.script_read.specs.declared.statements.Statement.{Statement}
 use Rattle.script_read.specs.declared.statements.Statement.TheVariants as statements
-use Rattle.report_text.specs.Answer.{answer_to, selected}
-use Rattle.report_text.specs.History.{nothing_before}
-use Rattle.report_text.specs.Lawful.{Lawful}
-use Rattle.report_text.specs.Play.{InPlayOrder}
+use Rattle.report_laws.specs.Answer.{answer_to, selected}
+use Rattle.report_laws.specs.History.{nothing_before}
+use Rattle.report_laws.specs.Lawful.{Lawful}
+use Rattle.report_laws.specs.Play.{InPlayOrder}
 use Rattle.report_text.specs.declared.reports.Report.{Report}
-use Rattle.report_text.specs.Work.{said, tables_of}
+use Rattle.report_laws.specs.Work.{said, tables_of}
 use Rattle.report_text.specs.declared.reports.EntryLine.{EntryLine}
 use Rattle.report_text.specs.declared.reports.Line.{Line}
-use Rattle.report_text.proofs.EachLemmas.{all_append}
-use Rattle.report_text.proofs.ToldLemmas.{said_append}
+use Rattle.report_laws.proofs.EachLemmas.{all_append}
+use Rattle.report_laws.proofs.ToldLemmas.{said_append}
 use Rattle.script_main.specs.SoFar.{IsBefore, IsOpened, SoFar, report_of}
 use Rattle.script_main.specs.Step.{answered, IsRun, IsRefused}
 use Rattle.script_main.proofs.PlaceLemmas.{said_own}

@@ -10,17 +10,17 @@ use Rattle.cdb_values.specs.declared.tables.KeyDef.{KeyDef}
 use Rattle.script_read.specs.declared.scripts.Script.{Script}
 use Rattle.script_read.specs.declared.scripts.BodyLine.{BodyLine}
 use Rattle.script_read.specs.declared.scripts.Act.TheVariants.{Say}
-use Rattle.report_text.specs.History.{nothing_before}
-use Rattle.report_text.specs.Lawful.{Lawful}
-use Rattle.report_text.specs.Play.{InPlayOrder, InOrder}
-use Rattle.report_text.specs.Told.{lines_of, told, Along, IsTold, EndsRight}
-use Rattle.report_text.specs.Work.{own_line, said, tables_of, work}
+use Rattle.report_laws.specs.History.{nothing_before}
+use Rattle.report_laws.specs.Lawful.{Lawful}
+use Rattle.report_laws.specs.Play.{InPlayOrder, InOrder}
+use Rattle.report_laws.specs.Told.{lines_of, told, Along, IsTold, EndsRight}
+use Rattle.report_laws.specs.Work.{own_line, said, tables_of, work}
 use Rattle.report_text.specs.declared.reports.EntryLine.{EntryLine}
 use Rattle.report_text.specs.declared.reports.EntryLine.TheVariants.{Setup}
 use Rattle.report_text.specs.declared.reports.Line.{Line}
 use Rattle.report_text.specs.declared.reports.ReplyLine.{ReplyLine}
 use Rattle.report_text.specs.declared.reports.ReplyLine.TheVariants as reply
-use Rattle.report_text.proofs.ToldLemmas.{along_map}
+use Rattle.report_laws.proofs.ToldLemmas.{along_map}
 use Rattle.script_main.specs.SoFar.{SoFar, IsOver, report_of}
 use Rattle.script_main.specs.Step.{answered, ended_by, judged, whole, IsRun}
 use Rattle.script_main.proofs.AdvanceLemmas.{Decision, advanced, whole_laws, committed_at, duplicate_at}

@@ -10,9 +10,9 @@ use Rattle.cdb_outside.specs.Faults.{Rose}
 use Rattle.script_read.specs.Answers.{Refusal, refusal}
 use Rattle.script_read.specs.ScriptText.{script_of}
 use Rattle.script_read.specs.declared.scripts.Script.{Script}
-use Rattle.report_text.specs.History.{nothing_before}
-use Rattle.report_text.specs.Lawful.{Lawful}
-use Rattle.report_text.specs.Play.{InPlayOrder}
+use Rattle.report_laws.specs.History.{nothing_before}
+use Rattle.report_laws.specs.Lawful.{Lawful}
+use Rattle.report_laws.specs.Play.{InPlayOrder}
 use Rattle.report_text.specs.Text.{report_text}
 use Rattle.report_text.specs.declared.reports.Report.{Report}
 use Rattle.script_main.specs.declared.statuses.Status.{Status}

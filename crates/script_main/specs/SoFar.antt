@@ -7,13 +7,13 @@ use Rattle.cdb_values.specs.declared.tables.TableDef.{TableDef}
 use Rattle.script_read.specs.declared.scripts.Script.{Script}
 use Rattle.script_read.specs.declared.scripts.BodyLine.{BodyLine}
 use Rattle.script_read.specs.FirstPath.{IsFirstPath, IsSaidBy}
-use Rattle.report_text.specs.Each.{EachAfter}
-use Rattle.report_text.specs.History.{Origin, nothing_before, rows_at, IsEntryAfter}
-use Rattle.report_text.specs.Lawful.{IsFreshLine, IsAnswered, IsOfSession, NameUpTo}
-use Rattle.report_text.specs.Outcome.{IsRight, IsDecided, last_position}
-use Rattle.report_text.specs.Play.{InOrder, IsLatest, latest}
-use Rattle.report_text.specs.Told.{Along, IsCut, told, replies_at}
-use Rattle.report_text.specs.Work.{Transaction, said, tables_of, work}
+use Rattle.report_laws.specs.Each.{EachAfter}
+use Rattle.report_laws.specs.History.{Origin, nothing_before, rows_at, IsEntryAfter}
+use Rattle.report_laws.specs.Lawful.{IsFreshLine, IsAnswered, IsOfSession, NameUpTo}
+use Rattle.report_laws.specs.Outcome.{IsRight, IsDecided, last_position}
+use Rattle.report_laws.specs.Play.{InOrder, IsLatest, latest}
+use Rattle.report_laws.specs.Told.{Along, IsCut, told, replies_at}
+use Rattle.report_laws.specs.Work.{Transaction, said, tables_of, work}
 use Rattle.report_text.specs.declared.reports.EntryLine.{EntryLine}
 use Rattle.report_text.specs.declared.reports.EntryLine.TheVariants.{Setup, Commit}
 use Rattle.report_text.specs.declared.reports.Line.{Line}

@@ -3,8 +3,8 @@ ghost use Rattle.std.specs.Prelude.{◌≡◌, ◌+◌, ◌++◌, ◌∷◌, ◌
 ghost use Rattle.cdb_values.specs.Good.{first_broken};
 ghost use Rattle.cdb_values.specs.Rows.{added};
 ghost use Rattle.cdb_values.specs.Tables.{place_of};
-ghost use Rattle.report_text.specs.Answer.{answer_to, inserted, rows_told};
-ghost use Rattle.report_text.specs.Told.{lines_of};
+ghost use Rattle.report_laws.specs.Answer.{answer_to, inserted, rows_told};
+ghost use Rattle.report_laws.specs.Told.{lines_of};
 ghost use Rattle.script_main.specs.Step.{IsRun, IsRefused, IsRest, Grown, lines_of_rows};
 
 use cdb_values::{Level, List, Name, Row, RowOp, Schema, StatementError, Version};

@@ -3,10 +3,10 @@ ghost use Rattle.std.specs.Prelude.{◌≡◌, ◌+◌, ◌++◌, ◌∷◌, [],
 ghost use Rattle.cdb_values.specs.Rows.{no_rows};
 ghost use Rattle.script_read.specs.FirstPath.{IsFirstPath};
 ghost use Rattle.script_read.specs.declared.scripts.BodyLine.{BodyLine};
-ghost use Rattle.report_text.specs.History.{nothing_before};
-ghost use Rattle.report_text.specs.Lawful.{Lawful};
-ghost use Rattle.report_text.specs.Play.{InPlayOrder};
-ghost use Rattle.report_text.specs.Work.{tables_of};
+ghost use Rattle.report_laws.specs.History.{nothing_before};
+ghost use Rattle.report_laws.specs.Lawful.{Lawful};
+ghost use Rattle.report_laws.specs.Play.{InPlayOrder};
+ghost use Rattle.report_laws.specs.Work.{tables_of};
 ghost use Rattle.script_main.specs.SoFar.{IsBefore, IsOpened, report_of};
 
 use super::courses::{Course, attempt};

@@ -1,5 +1,5 @@
 use Rattle.std.proofs.Common.{◌≡◌, ◌+◌, length}
-use Rattle.report_text.specs.Work.{tables_of}
+use Rattle.report_laws.specs.Work.{tables_of}
 use Rattle.script_main.specs.SoFar.{IsBefore}
 use Rattle.script_main.proofs.playing.play.Given as goal
 

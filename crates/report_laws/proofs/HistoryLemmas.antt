@@ -4,9 +4,9 @@ use Rattle.std.proofs.lemmas.List.{length-append}
 use Rattle.std.specs.List.{slice_get}
 use Rattle.cdb_values.specs.Rows.{Rows}
 use Rattle.script_read.specs.declared.scripts.Script.{Script}
-use Rattle.report_text.specs.History.{Origin, rows_after, rows_among, states_from, states_of, rows_at}
+use Rattle.report_laws.specs.History.{Origin, rows_after, rows_among, states_from, states_of, rows_at}
 use Rattle.report_text.specs.declared.reports.EntryLine.{EntryLine}
-use Rattle.report_text.proofs.EachLemmas.{get_front, get_next}
+use Rattle.report_laws.proofs.EachLemmas.{get_front, get_next}
 
 -- the states after an entry more
 pub states_more : (script : Script) (origin : Origin) (states : List Rows) (es : List EntryLine) (e : EntryLine) →

@@ -5,8 +5,8 @@ use Rattle.std.specs.Str.{bytes_eq}
 use Rattle.script_read.specs.declared.scripts.BodyLine.{BodyLine}
 use Rattle.script_read.specs.declared.scripts.Act.{Act}
 use Rattle.script_read.specs.declared.scripts.Act.TheVariants as act
-use Rattle.report_text.specs.Told.{told, Along, Numbered, numbered, lines_of}
-use Rattle.report_text.specs.Work.{Transaction, said, said_by, own_line, transactions_from}
+use Rattle.report_laws.specs.Told.{told, Along, Numbered, numbered, lines_of}
+use Rattle.report_laws.specs.Work.{Transaction, said, said_by, own_line, transactions_from}
 use Rattle.report_text.specs.declared.reports.Line.{Line}
 use Rattle.report_text.specs.declared.reports.Line.TheVariants as line
 use Rattle.report_text.specs.declared.reports.ReplyLine.{ReplyLine}

@@ -9,9 +9,9 @@ use Rattle.cdb_values.specs.Good.{IsGood, first_broken, KeyName}
 use Rattle.cdb_values.specs.Rows.{apply_all}
 use Rattle.cdb_values.specs.declared.rows.RowOp as operations
 use Rattle.script_read.specs.declared.scripts.Script.{Script}
-use Rattle.report_text.specs.Answer.{alone}
-use Rattle.report_text.specs.History.{Origin, rows_at}
-use Rattle.report_text.specs.Work.{Transaction, tables_of}
+use Rattle.report_laws.specs.Answer.{alone}
+use Rattle.report_laws.specs.History.{Origin, rows_at}
+use Rattle.report_laws.specs.Work.{Transaction, tables_of}
 use Rattle.report_text.specs.declared.reports.EntryLine.{EntryLine}
 use Rattle.report_text.specs.declared.reports.EntryLine.TheVariants.{Commit}
 use Rattle.report_text.specs.declared.reports.ReplyLine.{ReplyLine}

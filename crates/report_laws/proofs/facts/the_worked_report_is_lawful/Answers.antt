@@ -1,5 +1,5 @@
-use Rattle.report_text.proofs.WorkedLemmas.{worked_says, worked_is_lawful, worked_is_in_order, wrong_row_is_not_lawful, early_row_is_not_lawful, late_is_lawful, late_is_not_in_order}
-use Rattle.report_text.proofs.facts.the_worked_report_is_lawful.Goals as goal
+use Rattle.report_laws.proofs.WorkedLemmas.{worked_says, worked_is_lawful, worked_is_in_order, wrong_row_is_not_lawful, early_row_is_not_lawful, late_is_lawful, late_is_not_in_order}
+use Rattle.report_laws.proofs.facts.the_worked_report_is_lawful.Goals as goal
 
 pub returns : goal.returns
 returns c = record {

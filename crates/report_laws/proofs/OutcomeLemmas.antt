@@ -6,15 +6,15 @@ use Rattle.cdb_values.specs.Good.{IsGood, first_broken}
 use Rattle.cdb_values.specs.Rows.{Rows, apply_all}
 use Rattle.cdb_values.specs.declared.rows.RowOp.{RowOp}
 use Rattle.script_read.specs.declared.scripts.Script.{Script}
-use Rattle.report_text.specs.Answer.{alone}
-use Rattle.report_text.specs.History.{Origin}
-use Rattle.report_text.specs.Outcome.{IsRight, IsCommitted, IsDuplicate, IsEntered, entry_at, last_position, key_name}
-use Rattle.report_text.specs.Work.{Transaction, tables_of}
+use Rattle.report_laws.specs.Answer.{alone}
+use Rattle.report_laws.specs.History.{Origin}
+use Rattle.report_laws.specs.Outcome.{IsRight, IsCommitted, IsDuplicate, IsEntered, entry_at, last_position, key_name}
+use Rattle.report_laws.specs.Work.{Transaction, tables_of}
 use Rattle.report_text.specs.declared.reports.EntryLine.{EntryLine}
 use Rattle.report_text.specs.declared.reports.ReplyLine.{ReplyLine}
 use Rattle.report_text.specs.declared.reports.ReplyLine.TheVariants as reply
-use Rattle.report_text.proofs.EachLemmas.{get_front}
-use Rattle.report_text.proofs.HistoryLemmas.{rows_stay}
+use Rattle.report_laws.proofs.EachLemmas.{get_front}
+use Rattle.report_laws.proofs.HistoryLemmas.{rows_stay}
 
 -- the history with an entry more is one position longer
 pub last_more : (origin : Origin) (es : List EntryLine) (e : EntryLine) → last_position origin (es ++ e ∷ []) ≡ last_position origin es + 1

@@ -5,11 +5,11 @@ use Rattle.std.specs.Prelude.{◌≡◌, ℕ, ◌≤◌, ◌++◌, ◌∷◌, �
 use Rattle.std.specs.List.{AllByRecursion}
 use Rattle.std.specs.Str.{bytes_eq}
 use Rattle.script_read.specs.declared.scripts.Script.{Script}
-use Rattle.report_text.specs.Each.{EachAfter, StandsIn}
-use Rattle.report_text.specs.History.{Origin, IsEntryAfter}
-use Rattle.report_text.specs.Outcome.{last_position}
-use Rattle.report_text.specs.Told.{told, Along, IsTold, EndsRight}
-use Rattle.report_text.specs.Work.{work}
+use Rattle.report_laws.specs.Each.{EachAfter, StandsIn}
+use Rattle.report_laws.specs.History.{Origin, IsEntryAfter}
+use Rattle.report_laws.specs.Outcome.{last_position}
+use Rattle.report_laws.specs.Told.{told, Along, IsTold, EndsRight}
+use Rattle.report_laws.specs.Work.{work}
 use Rattle.report_text.specs.declared.reports.Report.{Report}
 use Rattle.report_text.specs.declared.reports.EntryLine.{EntryLine}
 use Rattle.report_text.specs.declared.reports.EntryLine.TheVariants.{Setup, Commit}

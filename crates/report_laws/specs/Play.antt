@@ -7,9 +7,9 @@ use Rattle.script_read.specs.declared.scripts.Script.{Script}
 use Rattle.script_read.specs.declared.scripts.BodyLine.{BodyLine}
 use Rattle.script_read.specs.declared.scripts.Act.{Act}
 use Rattle.script_read.specs.declared.scripts.Act.TheVariants as act
-use Rattle.report_text.specs.Each.{EachAfter}
-use Rattle.report_text.specs.History.{Origin}
-use Rattle.report_text.specs.Work.{said}
+use Rattle.report_laws.specs.Each.{EachAfter}
+use Rattle.report_laws.specs.History.{Origin}
+use Rattle.report_laws.specs.Work.{said}
 use Rattle.report_text.specs.declared.reports.Report.{Report}
 use Rattle.report_text.specs.declared.reports.Line.{Line}
 use Rattle.report_text.specs.declared.reports.Line.TheVariants as line

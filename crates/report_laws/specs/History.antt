@@ -12,8 +12,8 @@ use Rattle.cdb_values.specs.Rows.{Rows, no_rows, apply_all}
 use Rattle.cdb_values.specs.declared.rows.Level as levels
 use Rattle.cdb_values.specs.declared.rows.RowOp as operations
 use Rattle.script_read.specs.declared.scripts.Script.{Script}
-use Rattle.report_text.specs.Answer.{alone}
-use Rattle.report_text.specs.Work.{Transaction, tables_of, transaction_of}
+use Rattle.report_laws.specs.Answer.{alone}
+use Rattle.report_laws.specs.Work.{Transaction, tables_of, transaction_of}
 use Rattle.report_text.specs.declared.reports.EntryLine.{EntryLine}
 use Rattle.report_text.specs.declared.reports.EntryLine.TheVariants.{Setup, Commit}
 

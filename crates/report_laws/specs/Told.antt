@@ -6,10 +6,10 @@
 use Rattle.std.specs.Prelude.{◌≡◌, ℕ, ◌≤◌, ◌++◌, ◌∷◌, [], List, map, if◌then◌else◌, ◌⊎◌}
 use Rattle.std.specs.Str.{bytes_eq}
 use Rattle.script_read.specs.declared.scripts.Script.{Script}
-use Rattle.report_text.specs.Answer.{alone}
-use Rattle.report_text.specs.History.{Origin, rows_at}
-use Rattle.report_text.specs.Outcome.{IsRight, IsDecided, last_position}
-use Rattle.report_text.specs.Work.{Transaction, tables_of}
+use Rattle.report_laws.specs.Answer.{alone}
+use Rattle.report_laws.specs.History.{Origin, rows_at}
+use Rattle.report_laws.specs.Outcome.{IsRight, IsDecided, last_position}
+use Rattle.report_laws.specs.Work.{Transaction, tables_of}
 use Rattle.report_text.specs.declared.reports.EntryLine.{EntryLine}
 use Rattle.report_text.specs.declared.reports.Line.{Line}
 use Rattle.report_text.specs.declared.reports.Line.TheVariants as line

@@ -1,11 +1,11 @@
 //! The worked examples: facts of their reports, each a clause of a function that does nothing.
 
 ghost use Rattle.std.specs.Prelude.{◌≡◌};
-ghost use Rattle.report_text.specs.History.{nothing_before};
-ghost use Rattle.report_text.specs.Lawful.{Lawful};
-ghost use Rattle.report_text.specs.Play.{InPlayOrder};
+ghost use Rattle.report_laws.specs.History.{nothing_before};
+ghost use Rattle.report_laws.specs.Lawful.{Lawful};
+ghost use Rattle.report_laws.specs.Play.{InPlayOrder};
 ghost use Rattle.report_text.specs.Text.{report_text};
-ghost use Rattle.report_text.specs.Worked.{worked_script, worked_report, worked_text, wrong_row_report, early_row_report, late_report, duplicate_script, duplicate_report, kept_duplicate_report};
+ghost use Rattle.report_laws.specs.Worked.{worked_script, worked_report, worked_text, wrong_row_report, early_row_report, late_report, duplicate_script, duplicate_report, kept_duplicate_report};
 
 /// The report of an insert and a select has its ten lines as text, is lawful and in the order of
 /// play. With another value in the row it is not lawful, nor with the row where the select begins

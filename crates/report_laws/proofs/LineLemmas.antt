@@ -11,17 +11,17 @@ use Rattle.script_read.specs.Statements.{statement_of}
 use Rattle.script_read.specs.declared.scripts.BodyLine.{BodyLine}
 use Rattle.script_read.specs.declared.statements.Statement.{Statement}
 use Rattle.script_read.specs.declared.statements.Statement.TheVariants.{Insert, Select}
-use Rattle.report_text.specs.Answer.{answer, answer_to, inserted, selected, alone_from}
-use Rattle.report_text.specs.Each.{EachAfter}
-use Rattle.report_text.specs.History.{Origin}
-use Rattle.report_text.specs.Lawful.{IsFresh, IsFreshLine, NameUpTo, positions}
-use Rattle.report_text.specs.Play.{InOrder, BelongsTo, latest_from, latest_with, IsLatest}
-use Rattle.report_text.specs.Told.{lines_of}
+use Rattle.report_laws.specs.Answer.{answer, answer_to, inserted, selected, alone_from}
+use Rattle.report_laws.specs.Each.{EachAfter}
+use Rattle.report_laws.specs.History.{Origin}
+use Rattle.report_laws.specs.Lawful.{IsFresh, IsFreshLine, NameUpTo, positions}
+use Rattle.report_laws.specs.Play.{InOrder, BelongsTo, latest_from, latest_with, IsLatest}
+use Rattle.report_laws.specs.Told.{lines_of}
 use Rattle.report_text.specs.declared.reports.Line.{Line}
 use Rattle.report_text.specs.declared.reports.Line.TheVariants as line
 use Rattle.report_text.specs.declared.reports.ReplyLine.{ReplyLine}
 use Rattle.report_text.specs.declared.reports.ReplyLine.TheVariants as reply
-use Rattle.report_text.proofs.EachLemmas.{each_append, all_append, all_front}
+use Rattle.report_laws.proofs.EachLemmas.{each_append, all_append, all_front}
 
 -- a reply to a statement, which names no position
 abbrev pub IsPlain : ReplyLine → Type 0

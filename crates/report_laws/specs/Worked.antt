@@ -15,7 +15,7 @@ use Rattle.cdb_values.specs.declared.values.Value.TheVariants.{Int}
 use Rattle.script_read.specs.declared.scripts.Script.{Script}
 use Rattle.script_read.specs.declared.scripts.Act.TheVariants.{Say}
 use Rattle.report_text.specs.Text.{ended}
-use Rattle.report_text.specs.Told.{lines_of}
+use Rattle.report_laws.specs.Told.{lines_of}
 use Rattle.report_text.specs.declared.reports.Report.{Report}
 use Rattle.report_text.specs.declared.reports.EntryLine.{EntryLine}
 use Rattle.report_text.specs.declared.reports.EntryLine.TheVariants.{Setup, Commit}

@@ -9,19 +9,19 @@ use Rattle.cdb_values.specs.Good.{IsGood}
 use Rattle.cdb_values.specs.declared.values.Value.TheVariants.{Int}
 use Rattle.script_read.specs.Statements.{insert_of, insert_head_of, selected_of}
 use Rattle.script_read.specs.declared.scripts.Script.{Script}
-use Rattle.report_text.specs.History.{Origin, nothing_before, rows_at}
-use Rattle.report_text.specs.Lawful.{Lawful, positions}
-use Rattle.report_text.specs.Outcome.{IsRight}
-use Rattle.report_text.specs.Play.{InPlayOrder}
+use Rattle.report_laws.specs.History.{Origin, nothing_before, rows_at}
+use Rattle.report_laws.specs.Lawful.{Lawful, positions}
+use Rattle.report_laws.specs.Outcome.{IsRight}
+use Rattle.report_laws.specs.Play.{InPlayOrder}
 use Rattle.report_text.specs.Text.{report_text}
-use Rattle.report_text.specs.Told.{Along, IsTold, IsWhole, EndsRight, told, numbered, lines_of, replies_at, Numbered}
-use Rattle.report_text.specs.Work.{Transaction, own_line, work, tables_of}
-use Rattle.report_text.specs.Worked.{script_saying, report_with, insert_text, select_text, again_text, worked_script, worked_report, worked_text, worked_entries, inserted_first, selected_second, wrong_row_report, early_row_report, late_report, late_second, duplicate_script, refused_second, duplicate_report, kept_duplicate_report}
+use Rattle.report_laws.specs.Told.{Along, IsTold, IsWhole, EndsRight, told, numbered, lines_of, replies_at, Numbered}
+use Rattle.report_laws.specs.Work.{Transaction, own_line, work, tables_of}
+use Rattle.report_laws.specs.Worked.{script_saying, report_with, insert_text, select_text, again_text, worked_script, worked_report, worked_text, worked_entries, inserted_first, selected_second, wrong_row_report, early_row_report, late_report, late_second, duplicate_script, refused_second, duplicate_report, kept_duplicate_report}
 use Rattle.report_text.specs.declared.reports.EntryLine.{EntryLine}
 use Rattle.report_text.specs.declared.reports.ReplyLine.{ReplyLine}
 use Rattle.report_text.specs.declared.reports.ReplyLine.TheVariants as reply
-use Rattle.report_text.proofs.LineLemmas.{fresh_begin}
-use Rattle.report_text.proofs.ToldLemmas.{told_append, told_own, told_other}
+use Rattle.report_laws.proofs.LineLemmas.{fresh_begin}
+use Rattle.report_laws.proofs.ToldLemmas.{told_append, told_own, told_other}
 
 -- the worked report's text
 pub worked_says : report_text worked_report ≡ worked_text
