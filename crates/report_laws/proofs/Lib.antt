@@ -1,6 +1,1 @@
-pub mod EachLemmas
-pub mod HistoryLemmas
-pub mod OutcomeLemmas
-pub mod ToldLemmas
-pub mod LineLemmas
-pub mod WorkedLemmas
+

@@ -6,8 +6,7 @@ use Rattle.std.specs.List.{AllByRecursion}
 use Rattle.std.specs.Str.{bytes_eq}
 use Rattle.script_read.specs.declared.scripts.Script.{Script}
 use Rattle.report_laws.specs.Each.{EachAfter, StandsIn}
-use Rattle.report_laws.specs.History.{Origin, IsEntryAfter}
-use Rattle.report_laws.specs.Outcome.{last_position}
+use Rattle.report_laws.specs.History.{Origin, IsEntryAfter, last_position}
 use Rattle.report_laws.specs.Told.{told, Along, IsTold, EndsRight}
 use Rattle.report_laws.specs.Work.{work}
 use Rattle.report_text.specs.declared.reports.Report.{Report}
@@ -87,7 +86,8 @@ abbrev pub base_line : ℕ → Option ℕ
 base_line position = if position == 0 then None else Some position
 
 pub record Lawful (script : Script) (origin : Origin) (report : Report) : Type 0 where
-  -- what each session was told are its transactions, in order, each with the replies at its begin position
+  -- what each session was told are its transactions and other lines, in order, each transaction with the
+  -- replies at its begin position
   pub replies : (name : List ℕ) → Along (IsTold script origin report.entries) (work name script.body) (told name report.lines)
   -- every begin is fresh
   pub begins : EachAfter (IsFreshLine origin) [] report.lines

@@ -6,4 +6,3 @@ pub mod Outcome
 pub mod Play
 pub mod Told
 pub mod Work
-pub mod Worked

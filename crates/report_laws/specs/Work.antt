@@ -1,25 +1,97 @@
--- The work of a session: its transactions, from the script alone.
+-- The work of a session: its transactions and its other lines, from the script alone.
 --
--- A session's transactions are numbered from 1. Each line of a session is a transaction of its own.
-use Rattle.std.specs.Prelude.{ℕ, ◌+◌, ◌-◌, ◌∷◌, [], List, Option, map, slice_get, if◌then◌else◌}
+-- A session's transactions are numbered from 1. `begin` opens one, which `commit` or `rollback` ends.
+-- Any other line outside a transaction is a transaction of its own, except `commit` and `rollback`,
+-- which do not fit there, and a line that sets the level of later transactions: these have the number 0.
+-- A transaction that is open at the end of the script stays without an end.
+use Rattle.std.specs.Prelude.{ℕ, ◌+◌, ◌==◌, ◌++◌, ◌∷◌, [], List, Bool, Option, Some, None, map, if◌then◌else◌}
 use Rattle.std.specs.Str.{bytes_eq}
-use Rattle.cdb_values.specs.declared.rows.Level as levels
+use Rattle.cdb_values.specs.declared.rows.Level.{Level}
 use Rattle.cdb_values.specs.declared.rows.Level.TheVariants.{Snapshot}
+use Rattle.cdb_values.specs.declared.rows.StatementError.TheVariants.{State}
 use Rattle.cdb_values.specs.declared.tables.TableDef.{TableDef}
+use Rattle.statement_read.specs.Statements.{statement_of, kind_of}
+use Rattle.statement_read.specs.declared.statements.TextKind.{TextKind}
+use Rattle.statement_read.specs.declared.statements.TextKind.TheVariants as kind
 use Rattle.script_read.specs.declared.scripts.Script.{Script}
 use Rattle.script_read.specs.declared.scripts.BodyLine.{BodyLine}
 use Rattle.script_read.specs.declared.scripts.Act.{Act}
 use Rattle.script_read.specs.declared.scripts.Act.TheVariants as act
+use Rattle.report_text.specs.declared.reports.ReplyLine.{ReplyLine}
+use Rattle.report_text.specs.declared.reports.ReplyLine.TheVariants as reply
 
 -- the tables of a script
 abbrev pub tables_of : Script → List TableDef
 tables_of script = map (λ t. t.table) script.tables
 
--- a transaction of a session: its number, the texts of its statements and its level
+-- how a transaction ends: by a commit, by a rollback, with the one line that it is, or not at all
+pub data End : Type 0 where
+  ByCommit : End
+  ByRollback : End
+  WithItsLine : End
+  Nowhere : End
+
+-- a transaction of a session: its number, the texts of its statements, its level and its end
 pub record Transaction : Type 0 where
   pub number : ℕ
   pub texts : List (List ℕ)
-  pub level : levels.Level
+  pub level : Level
+  pub end : End
+
+-- what a session does: a transaction, or a line outside one with its one reply
+pub data Item : Type 0 where
+  Does : Transaction → Item
+  Lone : ReplyLine → Item
+
+-- where a session is in its work: what is over, how many transactions it has begun, its level, and
+-- the texts of the transaction that is open, if one is
+pub record Place : Type 0 where
+  pub over : List Item
+  pub number : ℕ
+  pub level : Level
+  pub pending : Option (List (List ℕ))
+
+abbrev pub start : Place
+start = record { over = []; number = 0; level = Snapshot; pending = None }
+
+abbrev pub transaction : ℕ → List (List ℕ) → Level → End → Transaction
+transaction number texts level end = record { number = number; texts = texts; level = level; end = end }
+
+-- one more thing is over
+abbrev pub with_item : Place → Item → Place
+with_item p item = record { over = p.over ++ item ∷ []; number = p.number; level = p.level; pending = None }
+
+-- the open transaction ends
+abbrev pub closed : Place → List (List ℕ) → End → Place
+closed p texts end = with_item p (Does (transaction p.number texts p.level end))
+
+-- a transaction of one line is over
+abbrev pub with_own_line : Place → List ℕ → Place
+with_own_line p text = record { over = p.over ++ Does (transaction (p.number + 1) (text ∷ []) p.level WithItsLine) ∷ []; number = p.number + 1; level = p.level; pending = None }
+
+-- a text is in the open transaction
+abbrev pub with_open : Place → Option (List (List ℕ)) → ℕ → Place
+with_open p pending number = record { over = p.over; number = number; level = p.level; pending = pending }
+
+-- one more line
+abbrev pub next_by : Place → List ℕ → TextKind → Option (List (List ℕ)) → Place
+next_by p text kind.Begin None = with_open p (Some []) (p.number + 1)
+next_by p text kind.Commit None = with_item p (Lone (reply.Error State))
+next_by p text kind.Rollback None = with_item p (Lone (reply.Error State))
+next_by p text kind.SetSnapshot None = with_item (record p { level = Snapshot }) (Lone (reply.Level Snapshot))
+next_by p text kind.Other None = with_own_line p text
+next_by p text kind.Begin (Some texts) = with_open p (Some (texts ++ text ∷ [])) p.number
+next_by p text kind.Commit (Some texts) = closed p texts ByCommit
+next_by p text kind.Rollback (Some texts) = closed p texts ByRollback
+next_by p text kind.SetSnapshot (Some texts) = with_open p (Some (texts ++ text ∷ [])) p.number
+next_by p text kind.Other (Some texts) = with_open p (Some (texts ++ text ∷ [])) p.number
+
+abbrev pub next_place : Place → List ℕ → Place
+next_place p text = next_by p text (kind_of (statement_of text)) p.pending
+
+abbrev pub place_from : Place → List (List ℕ) → Place
+place_from p [] = p
+place_from p (text ∷ texts) = place_from (next_place p text) texts
 
 abbrev pub said_by : List ℕ → Act → List (List ℕ) → List (List ℕ)
 said_by name (act.Say session text) later = if bytes_eq session name then text ∷ later else later
@@ -34,18 +106,37 @@ abbrev pub said : List ℕ → List BodyLine → List (List ℕ)
 said name [] = []
 said name (l ∷ ls) = said_by name l.act (said name ls)
 
--- a line of a session as a transaction of its own
-abbrev pub own_line : ℕ → List ℕ → Transaction
-own_line number text = record { number = number; texts = text ∷ []; level = Snapshot }
+-- where a session is after these lines of the script
+abbrev pub place_after : List ℕ → List BodyLine → Place
+place_after name body = place_from start (said name body)
 
-abbrev pub transactions_from : ℕ → List (List ℕ) → List Transaction
-transactions_from number [] = []
-transactions_from number (text ∷ texts) = own_line number text ∷ transactions_from (number + 1) texts
+-- the transaction that is open there, if one is
+abbrev pub open_item : Place → Option (List (List ℕ)) → List Item
+open_item p None = []
+open_item p (Some texts) = Does (transaction p.number texts p.level Nowhere) ∷ []
 
--- the transactions of a session, in order
-abbrev pub work : List ℕ → List BodyLine → List Transaction
-work name body = transactions_from 1 (said name body)
+-- what a session did up to there, in order
+abbrev pub items_at : Place → List Item
+items_at p = p.over ++ open_item p p.pending
 
--- the transaction of that number
+-- the work of a session, in order
+abbrev pub work : List ℕ → List BodyLine → List Item
+work name body = items_at (place_after name body)
+
+-- the number under which an item is told
+abbrev pub number_of : Item → ℕ
+number_of (Does t) = t.number
+number_of (Lone answer) = 0
+
+-- the transaction of that number among these
+abbrev pub if_numbered : ℕ → Transaction → Option Transaction → Option Transaction
+if_numbered number t later = if t.number == number then Some t else later
+
+abbrev pub numbered_among : ℕ → List Item → Option Transaction
+numbered_among number [] = None
+numbered_among number (Does t ∷ items) = if_numbered number t (numbered_among number items)
+numbered_among number (Lone answer ∷ items) = numbered_among number items
+
+-- the transaction of a session of that number
 abbrev pub transaction_of : List ℕ → ℕ → List BodyLine → Option Transaction
-transaction_of name number body = slice_get (work name body) (number - 1)
+transaction_of name number body = numbered_among number (work name body)

@@ -1,71 +1,153 @@
--- What one transaction does when nobody comes between: it begins at the last position, its statements
--- are answered, and its operations are committed where they keep every key.
-use Rattle.std.specs.Prelude.{◌≡◌, ℕ, ◌+◌, ◌++◌, ◌∷◌, [], List, Option, Some, None, map}
-use Rattle.cdb_values.specs.Good.{first_broken, KeyName}
-use Rattle.cdb_values.specs.Rows.{Rows, apply_all}
+-- What one line of a session does when nobody comes between, by where the session is.
+--
+-- Outside a transaction `begin` opens one at the last position, a line that does not fit there or
+-- sets the level is answered so, and any other line is a transaction of its own. In a transaction
+-- `commit` has it decided, `rollback` ends it, and any other line is answered. After a transaction
+-- that want of memory ended, lines are skipped up to its `commit` or `rollback`.
+use Rattle.std.specs.Prelude.{◌≡◌, ℕ, ◌+◌, ◌<◌, ◌++◌, ◌∷◌, [], List, Option, Some, None, map, length}
+use Rattle.cdb_values.specs.Rows.{apply_all}
 use Rattle.cdb_values.specs.declared.rows.Level.TheVariants.{Snapshot}
 use Rattle.cdb_values.specs.declared.rows.RowOp.{RowOp}
-use Rattle.cdb_values.specs.declared.rows.Version.{Version}
+use Rattle.cdb_values.specs.declared.rows.StatementError.TheVariants.{State}
 use Rattle.cdb_values.specs.declared.tables.TableDef.{TableDef}
-use Rattle.report_laws.specs.Answer.{Answered, alone}
-use Rattle.report_laws.specs.Told.{lines_of}
+use Rattle.snapshot_rows.specs.Ages.{Ages, IsUpTo, seen, rows_seen}
+use Rattle.statement_read.specs.Statements.{statement_of, kind_of}
+use Rattle.statement_read.specs.declared.statements.TextKind.{TextKind}
+use Rattle.statement_read.specs.declared.statements.TextKind.TheVariants as kind
 use Rattle.report_text.specs.declared.reports.EntryLine.{EntryLine}
 use Rattle.report_text.specs.declared.reports.EntryLine.TheVariants.{Commit}
 use Rattle.report_text.specs.declared.reports.Line.{Line}
 use Rattle.report_text.specs.declared.reports.ReplyLine.{ReplyLine}
-use Rattle.report_text.specs.declared.reports.ReplyLine.TheVariants.{Begin, Committed, Duplicate, NoMemory, Row}
+use Rattle.report_text.specs.declared.reports.ReplyLine.TheVariants as reply
+use Rattle.report_laws.specs.Answer.{Answered, answer}
+use Rattle.report_laws.specs.History.{taken_by}
+use Rattle.report_laws.specs.Told.{lines_of}
+use Rattle.report_laws.specs.declared.items.GenidItem.{GenidItem}
+use Rattle.transaction_answers.specs.Decisions.{decision, added_by}
+use Rattle.script_main.specs.declared.sites.Site.{Site}
+use Rattle.script_main.specs.declared.sites.Doing.{Doing}
+use Rattle.script_main.specs.declared.sites.Doing.TheVariants as doing
 
--- how a transaction ends: its outcome, what it adds to the history, and the rows after it
-pub record Ended : Type 0 where
-  pub outcome : ReplyLine
-  pub added : List EntryLine
-  pub rows : Rows
+abbrev pub site : ℕ → Doing → Site
+site number what = record { number = number; doing = what }
 
--- operations that keep every key are committed at the next position; others are a duplicate
-abbrev pub judged : List ℕ → ℕ → ℕ → Rows → Rows → Option KeyName → Ended
-judged name number begin before after None =
-    record { outcome = Committed (begin + 1); added = Commit (begin + 1) name number begin Snapshot ∷ []; rows = after }
-judged name number begin before after (Some key) = record { outcome = Duplicate begin key.table key.key; added = []; rows = before }
+-- what a line adds: its replies and the number that they are told under, where the session is then,
+-- and the operations of the transaction that it commits, if it commits one with operations, begun there
+pub record Turned : Type 0 where
+  pub number : ℕ
+  pub replies : List ReplyLine
+  pub after : Site
+  pub begin : ℕ
+  pub added : List (List RowOp)
 
--- a transaction without operations is committed where it began
-abbrev pub ended_by : List TableDef → List ℕ → ℕ → ℕ → Rows → List RowOp → Ended
-ended_by tables name number begin rows [] = record { outcome = Committed begin; added = []; rows = rows }
-ended_by tables name number begin rows (op ∷ ops) =
-    judged name number begin rows (apply_all rows (op ∷ ops)) (first_broken tables (apply_all rows (op ∷ ops)).tables)
+abbrev pub turned : ℕ → List ReplyLine → Site → Turned
+turned number replies after = record { number = number; replies = replies; after = after; begin = 0; added = [] }
 
--- the lines of a transaction that was told whole
-abbrev pub whole : ℕ → List ReplyLine → ReplyLine → List ReplyLine
-whole begin replies outcome = Begin begin ∷ (replies ++ outcome ∷ [])
+-- what the run is before a line: the tables, the rows at each position, what each entry took away,
+-- and the last position
+pub record World : Type 0 where
+  pub tables : List TableDef
+  pub ages : Ages
+  pub taken : List (List GenidItem)
+  pub now : ℕ
 
--- the replies of a transaction of one statement, and how it ends
-abbrev pub answered : List TableDef → Rows → List ℕ → Answered
-answered tables rows text = alone tables rows (text ∷ [])
+-- a transaction that began at a position comes to its commit with these operations
+abbrev pub outcome : World → ℕ → List RowOp → ReplyLine
+outcome w begin ops = decision w.tables w.taken (rows_seen w.ages w.now) begin w.now ops
 
-abbrev pub ended : List TableDef → List ℕ → ℕ → ℕ → Rows → List ℕ → Ended
-ended tables name number begin rows text = ended_by tables name number begin rows (answered tables rows text).ops
+-- an answer in a transaction that began there
+abbrev pub answer_at : World → ℕ → List RowOp → List ℕ → Answered
+answer_at w begin ops text = answer w.tables (seen begin w.ages.tables) ops text
 
--- a transaction was run: what it adds to the lines and to the history, and the rows after it
-pub record IsRun (tables : List TableDef) (name : List ℕ) (number begin : ℕ) (text : List ℕ) (lines lines' : List Line) (entries entries' : List EntryLine) (rows rows' : Rows) : Type 0 where
-  pub lines_are : lines' ≡ lines ++ lines_of name number (whole begin (answered tables rows text).replies (ended tables name number begin rows text).outcome)
-  pub entries_are : entries' ≡ entries ++ (ended tables name number begin rows text).added
-  pub rows_are : rows' ≡ (ended tables name number begin rows text).rows
+-- a transaction of one line
+abbrev pub own_line : World → ℕ → Answered → Turned
+own_line w number a = record {
+  number = number;
+  replies = reply.Begin w.now ∷ (a.replies ++ outcome w w.now a.ops ∷ []);
+  after = site number doing.Idle;
+  begin = w.now;
+  added = added_by (outcome w w.now a.ops) a.ops;
+}
 
--- a transaction was cut short before it did anything
-pub record IsRefused (name : List ℕ) (number : ℕ) (lines lines' : List Line) (entries entries' : List EntryLine) (rows rows' : Rows) : Type 0 where
-  pub lines_are : lines' ≡ lines ++ lines_of name number (NoMemory ∷ [])
+-- a transaction comes to its commit
+abbrev pub committed : World → ℕ → ℕ → List RowOp → Turned
+committed w number begin ops = record {
+  number = number;
+  replies = outcome w begin ops ∷ [];
+  after = site number doing.Idle;
+  begin = begin;
+  added = added_by (outcome w begin ops) ops;
+}
+
+-- a statement is answered in an open transaction
+abbrev pub goes_on : ℕ → ℕ → Answered → Turned
+goes_on number begin a = turned number a.replies (site number (doing.Open begin a.ops))
+
+abbrev pub turn_by : World → ℕ → List ℕ → TextKind → Doing → Turned
+turn_by w number text kind.Begin doing.Idle = turned (number + 1) (reply.Begin w.now ∷ []) (site (number + 1) (doing.Open w.now []))
+turn_by w number text kind.Commit doing.Idle = turned 0 (reply.Error State ∷ []) (site number doing.Idle)
+turn_by w number text kind.Rollback doing.Idle = turned 0 (reply.Error State ∷ []) (site number doing.Idle)
+turn_by w number text kind.SetSnapshot doing.Idle = turned 0 (reply.Level Snapshot ∷ []) (site number doing.Idle)
+turn_by w number text kind.Other doing.Idle = own_line w (number + 1) (answer_at w w.now [] text)
+turn_by w number text kind.Begin (doing.Open begin ops) = goes_on number begin (answer_at w begin ops text)
+turn_by w number text kind.Commit (doing.Open begin ops) = committed w number begin ops
+turn_by w number text kind.Rollback (doing.Open begin ops) = turned number (reply.RolledBack ∷ []) (site number doing.Idle)
+turn_by w number text kind.SetSnapshot (doing.Open begin ops) = goes_on number begin (answer_at w begin ops text)
+turn_by w number text kind.Other (doing.Open begin ops) = goes_on number begin (answer_at w begin ops text)
+turn_by w number text kind.Begin doing.Skipping = turned number [] (site number doing.Skipping)
+turn_by w number text kind.Commit doing.Skipping = turned number [] (site number doing.Idle)
+turn_by w number text kind.Rollback doing.Skipping = turned number [] (site number doing.Idle)
+turn_by w number text kind.SetSnapshot doing.Skipping = turned number [] (site number doing.Skipping)
+turn_by w number text kind.Other doing.Skipping = turned number [] (site number doing.Skipping)
+
+abbrev pub turn : World → Site → List ℕ → Turned
+turn w before text = turn_by w before.number text (kind_of (statement_of text)) before.doing
+
+-- the entry of the transaction that a line commits
+abbrev pub entries_added : List ℕ → ℕ → Turned → List EntryLine
+entries_added name now t = map (λ ops. Commit (now + 1) name t.number t.begin Snapshot) t.added
+
+-- the operations of a commit, if there is one, are written at the next position
+abbrev pub IsKept : ℕ → Ages → Ages → List (List RowOp) → Type 0
+IsKept now ages ages' [] = ages' ≡ ages
+IsKept now ages ages' (ops ∷ _) =
+    (rows_seen ages' (now + 1) ≡ apply_all (rows_seen ages now) ops)
+    × ((at : ℕ) → at < now + 1 → seen at ages'.tables ≡ seen at ages.tables)
+    × IsUpTo (now + 1) ages'
+    × (length ages'.tables ≡ length ages.tables)
+
+-- a line did what it does
+pub record IsTurned (w : World) (name : List ℕ) (t : Turned) (lines lines' : List Line) (entries entries' : List EntryLine) (taken' : List (List GenidItem)) (ages' : Ages) : Type 0 where
+  pub lines_are : lines' ≡ lines ++ lines_of name t.number t.replies
+  pub entries_are : entries' ≡ entries ++ entries_added name w.now t
+  pub taken_are : taken' ≡ w.taken ++ map taken_by t.added
+  pub rows_are : IsKept w.now w.ages ages' t.added
+
+-- the number of a transaction that want of memory ends, and where the session is then: it skips the
+-- lines of the transaction that are still to come
+pub record Cut : Type 0 where
+  pub number : ℕ
+  pub after : Site
+
+abbrev pub cut : ℕ → Site → Option Cut
+cut number after = Some (record { number = number; after = after })
+
+abbrev pub cut_by : ℕ → TextKind → Doing → Option Cut
+cut_by number kind.Begin doing.Idle = cut (number + 1) (site (number + 1) doing.Skipping)
+cut_by number kind.Commit doing.Idle = None
+cut_by number kind.Rollback doing.Idle = None
+cut_by number kind.SetSnapshot doing.Idle = None
+cut_by number kind.Other doing.Idle = cut (number + 1) (site (number + 1) doing.Idle)
+cut_by number kind.Begin (doing.Open begin ops) = cut number (site number doing.Skipping)
+cut_by number kind.Commit (doing.Open begin ops) = cut number (site number doing.Idle)
+cut_by number kind.Rollback (doing.Open begin ops) = cut number (site number doing.Idle)
+cut_by number kind.SetSnapshot (doing.Open begin ops) = cut number (site number doing.Skipping)
+cut_by number kind.Other (doing.Open begin ops) = cut number (site number doing.Skipping)
+cut_by number _ doing.Skipping = None
+
+-- a line was cut short by want of memory, which is all that was told and done
+pub record IsCutShort (w : World) (name : List ℕ) (c : Cut) (lines lines' : List Line) (entries entries' : List EntryLine) (taken' : List (List GenidItem)) (ages' : Ages) : Type 0 where
+  pub lines_are : lines' ≡ lines ++ lines_of name c.number (reply.NoMemory ∷ [])
   pub entries_are : entries' ≡ entries
-  pub rows_are : rows' ≡ rows
-
--- the lines of a session's rows
-abbrev pub lines_of_rows : List ℕ → ℕ → List Version → List Line
-lines_of_rows name number versions = lines_of name number (map Row (map (λ v. v.row) versions))
-
--- a statement was answered and its transaction ended: what this adds behind the line of the begin
-pub record IsRest (tables : List TableDef) (name : List ℕ) (number begin : ℕ) (a : Answered) (lines lines' : List Line) (entries entries' : List EntryLine) (rows rows' : Rows) : Type 0 where
-  pub lines_are : lines' ≡ lines ++ lines_of name number (a.replies ++ (ended_by tables name number begin rows a.ops).outcome ∷ [])
-  pub entries_are : entries' ≡ entries ++ (ended_by tables name number begin rows a.ops).added
-  pub rows_are : rows' ≡ (ended_by tables name number begin rows a.ops).rows
-
--- lines were added behind others
-abbrev pub Grown : List Line → List Line → Type 0
-Grown old new = (more : List Line) × (new ≡ old ++ more)
+  pub taken_are : taken' ≡ w.taken
+  pub rows_are : ages' ≡ w.ages

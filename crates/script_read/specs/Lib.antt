@@ -1,7 +1,1 @@
-pub mod Answers
-pub mod FirstPath
-pub mod Lines
-pub mod ScriptText
-pub mod Statements
-pub mod Tables
-pub mod Words
+pub mod CanRun

@@ -1,5 +1,0 @@
-use Rattle.script_read.proofs.FirstPathLemmas.{later_bytes}
-use Rattle.script_read.proofs.laws.later_bytes_do_not_matter.Goals as goal
-
-pub returns : goal.returns
-returns c = later_bytes
