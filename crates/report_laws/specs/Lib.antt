@@ -3,6 +3,7 @@ pub mod Each
 pub mod History
 pub mod Lawful
 pub mod Outcome
+pub mod Paced
 pub mod Play
 pub mod Told
 pub mod Work

@@ -1,4 +1,2 @@
 pub mod Exit
 pub mod Run
-pub mod SoFar
-pub mod Step

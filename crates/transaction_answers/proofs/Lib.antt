@@ -1,0 +1,5 @@
+pub mod ConflictLemmas
+pub mod SoundLemmas
+pub mod AnswerLemmas
+pub mod AppliedLemmas
+pub mod FitLemmas

@@ -24,9 +24,9 @@ use Rattle.report_laws.specs.History.{taken_by}
 use Rattle.report_laws.specs.Told.{lines_of}
 use Rattle.report_laws.specs.declared.items.GenidItem.{GenidItem}
 use Rattle.transaction_answers.specs.Decisions.{decision, added_by}
-use Rattle.script_main.specs.declared.sites.Site.{Site}
-use Rattle.script_main.specs.declared.sites.Doing.{Doing}
-use Rattle.script_main.specs.declared.sites.Doing.TheVariants as doing
+use Rattle.script_play.specs.declared.sites.Site.{Site}
+use Rattle.script_play.specs.declared.sites.Doing.{Doing}
+use Rattle.script_play.specs.declared.sites.Doing.TheVariants as doing
 
 abbrev pub site : ℕ → Doing → Site
 site number what = record { number = number; doing = what }

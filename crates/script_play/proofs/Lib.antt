@@ -1,0 +1,4 @@
+pub mod StoredLemmas
+pub mod DecisionLemmas
+pub mod StandingLemmas
+pub mod TurnLemmas

@@ -1,0 +1,170 @@
+-- The history and the rows stay in order when a transaction comes to its commit.
+use Rattle.std.proofs.Common.{◌≡◌, ◌≢◌, ℕ, ◌+◌, ◌-◌, ◌≤◌, ◌<◌, List, [], ◌∷◌, ◌++◌, length, map, refl, sym, subst, ap, arith, Option, Some, None, ◌∙◌, Bool, true, false, unwrap_or, max, ◌⊎◌, inl, inr}
+use Rattle.std.proofs.lemmas.List.{length-append}
+use Rattle.std.proofs.Math.Nat.{eq-or-lt_of_le}
+use Rattle.std.specs.List.{AllByRecursion, slice_get}
+use Rattle.std.specs.Prelude.{drop}
+use Rattle.cdb_values.specs.Good.{AllFit, IsGood, first_broken, KeyName}
+use Rattle.cdb_values.specs.Rows.{Rows, apply_all}
+use Rattle.cdb_values.specs.declared.rows.Level.TheVariants.{Snapshot}
+use Rattle.cdb_values.specs.declared.rows.RowOp.{RowOp}
+use Rattle.cdb_values.specs.declared.rows.Version.{Version}
+use Rattle.cdb_values.specs.declared.tables.TableDef.{TableDef}
+use Rattle.cdb_values.specs.declared.tables.ColumnType.TheVariants.{Integer}
+use Rattle.snapshot_rows.specs.Ages.{Ages, IsUpTo, seen, rows_seen}
+use Rattle.script_read.specs.CanRun.{AreTaken}
+use Rattle.script_read.specs.declared.scripts.Script.{Script}
+use Rattle.report_text.specs.declared.reports.EntryLine.{EntryLine}
+use Rattle.report_text.specs.declared.reports.EntryLine.TheVariants.{Commit}
+use Rattle.report_text.specs.declared.reports.ReplyLine.{ReplyLine}
+use Rattle.report_text.specs.declared.reports.ReplyLine.TheVariants as reply
+use Rattle.report_laws.specs.Answer.{alone}
+use Rattle.report_laws.specs.Each.{EachAfter}
+use Rattle.report_laws.specs.History.{nothing_before, rows_at, rows_after, states_of, ops_of, ops_alone, taken_at, taken_by, first_touched, entry_at, IsEntryAfter, IsCommitAfter, IsUntouched, is_entry_of}
+use Rattle.report_laws.specs.Outcome.{IsRight, IsEntered}
+use Rattle.report_laws.specs.Told.{alone_at}
+use Rattle.report_laws.specs.Work.{Transaction, transaction_of, tables_of}
+use Rattle.report_laws.specs.declared.items.GenidItem.{GenidItem}
+use Rattle.report_laws.proofs.EachLemmas.{each_append, all_append, get_front, get_next}
+use Rattle.report_laws.proofs.HistoryLemmas.{rows_stay, rows_new, entry_new, taken_stays, taken_new, untouched_stays}
+use Rattle.transaction_answers.specs.Decisions.{first_conflict, Touched, decision, judged, by_key, conflict_told, added_by}
+use Rattle.transaction_answers.specs.Sound.{AreSound, IsSoundOp}
+use Rattle.transaction_answers.proofs.ConflictLemmas.{none_since, one_since}
+use Rattle.transaction_answers.proofs.SoundLemmas.{sound_later, named}
+use Rattle.script_play.specs.SoFar.{Stored}
+use Rattle.script_play.specs.Step.{World, IsKept}
+
+-- the entry of a transaction at the next position
+abbrev pub entry_of : List ℕ → ℕ → ℕ → ℕ → EntryLine
+entry_of name number begin now = Commit (now + 1) name number begin Snapshot
+
+abbrev pub world : Script → List EntryLine → List (List GenidItem) → Ages → World
+world script entries taken ages = record { tables = tables_of script; ages = ages; taken = taken; now = length entries }
+
+-- a transaction comes to its commit
+pub record Commits (script : Script) (entries : List EntryLine) (taken : List (List GenidItem)) (ages : Ages) (name : List ℕ) (t : Transaction) (begin : ℕ) (ops : List RowOp) : Type 0 where
+  pub stored : Stored script entries taken ages
+  pub first : 1 ≤ begin
+  pub within : begin ≤ length entries
+  pub is_its : transaction_of name t.number script.body ≡ Some t
+  pub is_snapshot : t.level ≡ Snapshot
+  pub ops_are : ops ≡ (alone_at script nothing_before entries t begin).ops
+  pub sound : AllByRecursion (IsSoundOp (tables_of script) ages.next) ops
+  pub once : AllByRecursion (λ e. is_entry_of name t.number e ≡ false) entries
+  -- applied now, the operations leave sound rows, which fit
+  pub applied : AreSound (tables_of script) (apply_all (rows_seen ages (length entries)) ops).next (apply_all (rows_seen ages (length entries)) ops).tables
+  pub grows : ages.next ≤ (apply_all (rows_seen ages (length entries)) ops).next
+  pub fits : AllFit (tables_of script) (apply_all (rows_seen ages (length entries)) ops).tables
+
+module _ (script : Script) (entries : List EntryLine) (taken : List (List GenidItem)) (ages : Ages) (name : List ℕ) (t : Transaction) (begin : ℕ) (ops : List RowOp) (c : Commits script entries taken ages name t begin ops) where
+  abbrev pub now : ℕ
+  now = length entries
+
+  -- what no entry since the begin touches, by the versions that were kept for each entry
+  pub untouched_now : first_conflict begin (drop begin taken) (taken_by ops) ≡ None → IsUntouched script nothing_before entries begin (now + 1) (taken_by ops)
+  untouched_now none j after before =
+      ap (λ (items : List GenidItem). first_touched items (taken_by ops)) (sym (c.stored.taken_are j (omega (arith, after)) (omega (arith, before))))
+      ∙ none_since begin taken (taken_by ops) none j after (let same = c.stored.taken_length in omega (arith, before, same))
+
+  abbrev pub e : EntryLine
+  e = entry_of name t.number begin now
+
+  abbrev pub more : List EntryLine
+  more = entries ++ e ∷ []
+
+  count : length more ≡ now + 1
+  count = omega (arith, length-append entries (e ∷ []))
+
+  -- the entry's operations are those that were answered
+  pub its_ops : ops_of script nothing_before (states_of script nothing_before entries) e ≡ ops
+  its_ops = ap (λ (found : Option Transaction). ops_alone script (rows_at script nothing_before entries begin) found) c.is_its ∙ sym c.ops_are
+
+  pub rows_there : rows_after script nothing_before (states_of script nothing_before entries) e ≡ apply_all (rows_seen ages now) ops
+  rows_there =
+      let back : now + 1 - 1 ≡ now = omega arith in
+      ap (λ (o : List RowOp). apply_all (rows_at script nothing_before entries (now + 1 - 1)) o) its_ops
+      ∙ ap (λ k. apply_all (rows_at script nothing_before entries k) ops) back
+      ∙ ap (λ (r : Rows). apply_all r ops) (sym c.stored.now_are)
+
+  pub rows_then : rows_at script nothing_before more (now + 1) ≡ apply_all (rows_seen ages now) ops
+  rows_then = rows_new script entries e ∙ rows_there
+
+  module _ (ages' : Ages) (kept : IsKept now ages ages' (ops ∷ [])) (unbroken : first_broken (tables_of script) (apply_all (rows_seen ages now) ops).tables ≡ None) (some : ops ≢ []) (clear : first_conflict begin (drop begin taken) (taken_by ops) ≡ None) where
+    good : IsGood (tables_of script) (apply_all (rows_seen ages now) ops).tables
+    good = record { rows_fit = c.fits; keys_kept = unbroken }
+
+    its_entry : IsCommitAfter script nothing_before entries (now + 1) name t.number begin Snapshot
+    its_entry = record {
+      placed = omega arith;
+      once = c.once;
+      begun = (c.first, omega arith, (let w = c.within in omega (arith, w)));
+      transaction = t;
+      is_its = c.is_its;
+      is_level = sym c.is_snapshot;
+      has_ops = subst (λ (o : List RowOp). o ≢ []) c.ops_are some;
+      untouched = subst (λ (o : List RowOp). IsUntouched script nothing_before entries begin (now + 1) (taken_by o)) c.ops_are (untouched_now clear);
+      is_good = subst (λ (r : Rows). IsGood (tables_of script) r.tables) (sym rows_there) good;
+    }
+
+    pub next_is : ages'.next ≡ (apply_all (rows_seen ages now) ops).next
+    next_is = ap (λ (r : Rows). r.next) kept.0
+
+    tables_are : seen (now + 1) ages'.tables ≡ (apply_all (rows_seen ages now) ops).tables
+    tables_are = ap (λ (r : Rows). r.tables) kept.0
+
+    -- each position of the longer history is one of the shorter, or the next
+    at_next : (P : ℕ → Type 0) → ((at : ℕ) → 1 ≤ at → at ≤ now → P at) → P (now + 1) → (at : ℕ) → 1 ≤ at → at ≤ length more → P at
+    at_next P old new at first within = pick (eq-or-lt_of_le (omega (arith, within, count)))
+      where
+        pick : (at ≡ now + 1) ⊎ (at < now + 1) → P at
+        pick (inl is) = subst P (sym is) new
+        pick (inr before) = old at first (omega (arith, before))
+
+    abbrev pub taken' : List (List GenidItem)
+    taken' = taken ++ taken_by ops ∷ []
+
+    taken_there : unwrap_or (slice_get taken' (now + 1 - 1)) [] ≡ taken_at script nothing_before more (now + 1)
+    taken_there =
+        let at : now + 1 - 1 ≡ length taken = let same = c.stored.taken_length in omega (arith, same) in
+        ap (λ k. unwrap_or (slice_get taken' k) []) at
+        ∙ ap (λ (found : Option (List GenidItem)). unwrap_or found []) (get_next taken (taken_by ops) [])
+        ∙ ap (λ (o : List RowOp). taken_by o) (sym its_ops)
+        ∙ sym (taken_new script entries e)
+
+    taken_before : (k : ℕ) → 1 ≤ k → k ≤ now → unwrap_or (slice_get taken' (k - 1)) [] ≡ taken_at script nothing_before more k
+    taken_before k first within =
+        let inside : k - 1 < length taken = let same = c.stored.taken_length in omega (arith, same, first, within) in
+        ap (λ (found : Option (List GenidItem)). unwrap_or found []) (get_front taken (taken_by ops ∷ []) (k - 1) inside)
+        ∙ c.stored.taken_are k first within
+        ∙ sym (taken_stays script entries e k first within)
+
+    -- after the commit
+    pub stored_more : Stored script more taken' ages'
+    stored_more = record {
+      opened = omega (arith, count);
+      history = each_append (IsEntryAfter script nothing_before) [] entries (e ∷ []) c.stored.history (its_entry, tt);
+      rows_are = at_next (λ at. seen at ages'.tables ≡ (rows_at script nothing_before more at).tables)
+          (λ at first within. kept.1 at (omega (arith, within)) ∙ c.stored.rows_are at first within ∙ ap (λ (r : Rows). r.tables) (sym (rows_stay script entries e at within)))
+          (tables_are ∙ ap (λ (r : Rows). r.tables) (sym rows_then));
+      now_are = subst (λ k. rows_seen ages' k ≡ rows_at script nothing_before more k) (sym count) (kept.0 ∙ sym rows_then);
+      up_to = subst (λ k. IsUpTo k ages') (sym count) kept.2;
+      taken_length = let same = c.stored.taken_length in omega (arith, count, same, length-append taken (taken_by ops ∷ []));
+      taken_are = at_next (λ k. unwrap_or (slice_get taken' (k - 1)) [] ≡ taken_at script nothing_before more k) taken_before taken_there;
+      sound = at_next (λ at. AreSound (tables_of script) ages'.next (seen at ages'.tables))
+          (λ at first within. subst (λ (vs : List (List Version)). AreSound (tables_of script) ages'.next vs) (sym (kept.1 at (omega (arith, within))))
+              (sound_later (tables_of script) ages.next ages'.next (seen at ages.tables) (let g = c.grows in let n = next_is in omega (arith, g, n)) (c.stored.sound at first within)))
+          (subst (λ (vs : List (List Version)). AreSound (tables_of script) ages'.next vs) (sym tables_are) (subst (λ k. AreSound (tables_of script) k (apply_all (rows_seen ages now) ops).tables) (sym next_is) c.applied));
+      kept = subst (λ k. first_broken (tables_of script) (seen k ages'.tables) ≡ None) (sym count) (ap (λ (vs : List (List Version)). first_broken (tables_of script) vs) tables_are ∙ unbroken);
+    }
+
+    -- and the outcome is right
+    pub committed_right : (o : RowOp) (os : List RowOp) → ops ≡ o ∷ os → IsRight script nothing_before more name t begin ops (reply.Committed (now + 1))
+    committed_right o os is = subst (λ (all : List RowOp). IsRight script nothing_before more name t begin all (reply.Committed (now + 1))) (sym is) (subst (λ (all : List RowOp). IsEntered script nothing_before more name t begin (now + 1) all) is entered)
+      where
+        entered : IsEntered script nothing_before more name t begin (now + 1) ops
+        entered = record {
+          later = let w = c.within in omega (arith, w);
+          stands = entry_new entries e ∙ ap (λ l. Some (Commit (now + 1) name t.number begin l)) (sym c.is_snapshot);
+          untouched = untouched_stays script entries e begin (now + 1) (taken_by ops) (omega arith) (untouched_now clear);
+          is_good = subst (λ (r : Rows). IsGood (tables_of script) r.tables) (sym rows_then) good;
+        }
