@@ -1,2 +1,4 @@
+pub mod InTurnLemmas
+pub mod OwnLemmas
 pub mod Standing
 pub mod ViewLemmas

@@ -44,7 +44,7 @@ pub shown_all : (vs : List Version) → shown (λ _. true) vs ≡ map (λ v. v.r
 shown_all [] = refl
 shown_all (x ∷ xs) = ap (λ l. x.row ∷ l) (shown_all xs)
 
-eq_flip : (a b : ℕ) → (a == b) ≡ (b == a)
+pub eq_flip : (a b : ℕ) → (a == b) ≡ (b == a)
 eq_flip a b = grind (arith, nat_tests)
 
 one_taken : (keep : Version → Bool) (x : Version) (a b : Bool) (ls rs : List Version) → a ≡ b → ls ≡ filter keep rs
@@ -71,16 +71,16 @@ fresh_kept tables next later table (Delete place (Base genid) old ∷ ops) above
     ap (λ b. b || list_any (takes table later) ops) (other (place == table) genid later all.0.1 above) ∙ fresh_kept tables next later table ops above all.1
 fresh_kept tables next later table (Delete place (Own write) old ∷ ops) above all = absurd all.0.1
 
-placed_here : (xs : List (List Version)) (i : ℕ) (a : List Version) → i < length xs → unwrap_or (slice_get (slice_set xs i a) i) [] ≡ a
+pub placed_here : (xs : List (List Version)) (i : ℕ) (a : List Version) → i < length xs → unwrap_or (slice_get (slice_set xs i a) i) [] ≡ a
 placed_here xs i a within = unwrap_or-slice_get (slice_set xs i a) i [] ∙ get_or-set_same xs i a [] within
 
-placed_there : (xs : List (List Version)) (i j : ℕ) (a : List Version) → (j ≡ i → ⊥) → unwrap_or (slice_get (slice_set xs i a) j) [] ≡ unwrap_or (slice_get xs j) []
+pub placed_there : (xs : List (List Version)) (i j : ℕ) (a : List Version) → (j ≡ i → ⊥) → unwrap_or (slice_get (slice_set xs i a) j) [] ≡ unwrap_or (slice_get xs j) []
 placed_there xs i j a apart = unwrap_or-slice_get (slice_set xs i a) j [] ∙ get_or-set_other xs i j a [] apart ∙ sym (unwrap_or-slice_get xs j [])
 
-same_place : (a b : ℕ) → (a == b) ≡ true → a ≡ b
+pub same_place : (a b : ℕ) → (a == b) ≡ true → a ≡ b
 same_place a b is = grind (arith, nat_tests)
 
-other_place : (a b : ℕ) → (a == b) ≡ false → b ≡ a → ⊥
+pub other_place : (a b : ℕ) → (a == b) ≡ false → b ≡ a → ⊥
 other_place a b is same = grind (arith, nat_tests)
 
 -- an insert shows its row after the others
@@ -99,7 +99,7 @@ insert_step rows place row ops table false is within fresh =
     ap (λ l. shown (keeps ops table) l ++ written table ops) (placed_there rows.tables place table (versions_of rows place ++ v ∷ []) (other_place place table is))
     ∙ ap (λ b. shown (keeps ops table) (versions_of rows table) ++ (if b then row ∷ written table ops else written table ops)) (sym is)
 
-neither : (a b : Bool) → not (a || b) ≡ not a && not b
+pub neither : (a b : Bool) → not (a || b) ≡ not a && not b
 neither true b = refl
 neither false b = refl
 

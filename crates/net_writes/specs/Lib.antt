@@ -1,2 +1,3 @@
+pub mod InTurn
 pub mod Net
 pub mod Views

@@ -17,6 +17,7 @@
 
 ghost use Rattle.std.specs.Prelude.{◌≡◌, ◌++◌, ◌∷◌, [], IfOk, OnOk, Some, None};
 ghost use Rattle.net_writes.specs.Views.{ViewsAreApplied};
+ghost use Rattle.net_writes.specs.InTurn.{NetIsInTurn, NoRowsAreNumbered, StaysNumbered};
 ghost use Rattle.net_writes.specs.Net.{held_at, taken_out, rewritten, undone, held_with, standing, net_of};
 
 use cdb_values::{List, Row, RowOp, RowRef};
@@ -39,6 +40,15 @@ pub fn net(alloc: Global, ops: &[RowOp]) -> Result<List<RowOp>, AllocError>
 /// make of the base when they are applied one after the other.
 pub fn views_are_applied()
     ensures { ViewsAreApplied }
+{}
+
+/// A law for the crates above: on every base whose genids are below its next one, the net operations
+/// of writes that apply one after the other give the same rows, in the same order, as the writes do.
+/// Tables without rows are such a base, and operations keep it.
+pub fn net_is_in_turn()
+    ensures same { NetIsInTurn }
+    ensures begins { NoRowsAreNumbered }
+    ensures stays { StaysNumbered }
 {}
 
 /// Holds one more write.

@@ -1,8 +1,17 @@
 pub mod AnswerLemmas
 pub mod EachLemmas
+pub mod EmptyLemmas
+pub mod GrowLemmas
 pub mod HistoryLemmas
+pub mod InsertSelectLemmas
+pub mod InsertSelectWrongLemmas
+pub mod KeyAgainLemmas
 pub mod LineLemmas
 pub mod OutcomeLemmas
+pub mod OwnWritesLemmas
 pub mod PlainLemmas
 pub mod ToldLemmas
+pub mod TwoUpdatesLemmas
+pub mod TwoUpdatesWrongLemmas
 pub mod WorkLemmas
+pub mod WorkedLemmas

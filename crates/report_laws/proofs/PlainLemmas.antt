@@ -15,7 +15,7 @@ use Rattle.report_text.specs.declared.reports.ReplyLine.{ReplyLine}
 use Rattle.report_text.specs.declared.reports.ReplyLine.TheVariants as reply
 use Rattle.report_laws.proofs.EachLemmas.{all_append}
 
--- a reply that names no position and stands for no loss
+-- a reply that names no position, ends nothing and stands for no loss
 abbrev pub IsPlain : ReplyLine → Type 0
 IsPlain (reply.Begin position) = ⊥
 IsPlain (reply.Row row) = Unit {0}
@@ -23,7 +23,7 @@ IsPlain (reply.Done rows) = Unit {0}
 IsPlain (reply.Changed rows) = Unit {0}
 IsPlain (reply.Error cause) = Unit {0}
 IsPlain (reply.Level level) = Unit {0}
-IsPlain reply.RolledBack = Unit {0}
+IsPlain reply.RolledBack = ⊥
 IsPlain (reply.Committed position) = ⊥
 IsPlain (reply.ConflictGenid position table genid) = ⊥
 IsPlain (reply.ConflictRange position table key) = ⊥
@@ -44,7 +44,7 @@ plain_then now after (reply.Done rows ∷ rs) last all is = plain_then now after
 plain_then now after (reply.Changed rows ∷ rs) last all is = plain_then now after rs last all.1 is
 plain_then now after (reply.Error cause ∷ rs) last all is = plain_then now after rs last all.1 is
 plain_then now after (reply.Level level ∷ rs) last all is = plain_then now after rs last all.1 is
-plain_then now after (reply.RolledBack ∷ rs) last all is = plain_then now after rs last all.1 is
+plain_then now after (reply.RolledBack ∷ rs) last all is = absurd all.0
 plain_then now after (reply.Committed position ∷ rs) last all is = absurd all.0
 plain_then now after (reply.ConflictGenid position table genid ∷ rs) last all is = absurd all.0
 plain_then now after (reply.ConflictRange position table key ∷ rs) last all is = absurd all.0
@@ -62,7 +62,7 @@ plain_paced now (reply.Done rows ∷ rs) all = plain_paced now rs all.1
 plain_paced now (reply.Changed rows ∷ rs) all = plain_paced now rs all.1
 plain_paced now (reply.Error cause ∷ rs) all = plain_paced now rs all.1
 plain_paced now (reply.Level level ∷ rs) all = plain_paced now rs all.1
-plain_paced now (reply.RolledBack ∷ rs) all = plain_paced now rs all.1
+plain_paced now (reply.RolledBack ∷ rs) all = absurd all.0
 plain_paced now (reply.Committed position ∷ rs) all = absurd all.0
 plain_paced now (reply.ConflictGenid position table genid ∷ rs) all = absurd all.0
 plain_paced now (reply.ConflictRange position table key ∷ rs) all = absurd all.0

@@ -8,7 +8,7 @@
 -- operations took away, and then the rows that its operations wrote, in their order. An update of a
 -- row of its own takes the operation that wrote it out and puts it at the end with the new row; a
 -- delete of one takes it out and leaves the delete of the version that it had taken away, if there is one.
-use Rattle.std.specs.Prelude.{ℕ, ◌+◌, ◌++◌, ◌∷◌, ◌==◌, ◌&&◌, [], List, Bool, true, false, not, if◌then◌else◌, Option, Some, None, map, filter, length, slice_get, slice_set, unwrap_or}
+use Rattle.std.specs.Prelude.{ℕ, ◌+◌, ◌++◌, ◌∷◌, ◌==◌, ◌&&◌, [], List, Bool, true, false, not, Option, Some, None, map, filter, length, slice_get, slice_set, unwrap_or}
 use Rattle.std.specs.List.{list_any}
 use Rattle.std.specs.Ordering.{is_eq}
 use Rattle.cdb_values.specs.Order.{value_order}

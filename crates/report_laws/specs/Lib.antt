@@ -7,3 +7,5 @@ pub mod Paced
 pub mod Play
 pub mod Told
 pub mod Work
+pub mod Worked
+pub mod WorkedWrong

@@ -12,7 +12,6 @@ use Rattle.cdb_values.specs.Rows.{apply_all}
 use Rattle.cdb_values.specs.declared.rows.RowOp.{RowOp}
 use Rattle.cdb_values.specs.declared.tables.TableDef.{TableDef}
 use Rattle.script_read.specs.declared.scripts.Script.{Script}
-use Rattle.report_laws.specs.Answer.{alone}
 use Rattle.report_laws.specs.History.{Origin, rows_at, entry_at, last_position, taken_at, taken_by, first_touched, IsUntouched, genid_item}
 use Rattle.report_laws.specs.Work.{Transaction, End, ByCommit, ByRollback, WithItsLine, Nowhere, tables_of}
 use Rattle.report_text.specs.declared.reports.EntryLine.{EntryLine}

@@ -4,7 +4,7 @@
 -- Any other line outside a transaction is a transaction of its own, except `commit` and `rollback`,
 -- which do not fit there, and a line that sets the level of later transactions: these have the number 0.
 -- A transaction that is open at the end of the script stays without an end.
-use Rattle.std.specs.Prelude.{ℕ, ◌+◌, ◌==◌, ◌++◌, ◌∷◌, [], List, Bool, Option, Some, None, map, if◌then◌else◌}
+use Rattle.std.specs.Prelude.{ℕ, ◌+◌, ◌==◌, ◌++◌, ◌∷◌, [], List, Option, Some, None, map, if◌then◌else◌}
 use Rattle.std.specs.Str.{bytes_eq}
 use Rattle.cdb_values.specs.declared.rows.Level.{Level}
 use Rattle.cdb_values.specs.declared.rows.Level.TheVariants.{Snapshot}

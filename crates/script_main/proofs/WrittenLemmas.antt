@@ -7,7 +7,7 @@ use Rattle.cdb_outside.specs.Faults.{Rose}
 use Rattle.script_read.specs.Answers.{Refusal, refusal}
 use Rattle.script_read.specs.ScriptText.{script_of, most_bytes, past_limit, read_lines, no_draft, whole_script, and_then}
 use Rattle.script_read.specs.declared.drafts.Draft.{Draft}
-use Rattle.script_read.specs.Lines.{lines_of, but_last}
+use Rattle.script_words.specs.Lines.{lines_of, but_last}
 use Rattle.script_read.specs.declared.scripts.Script.{Script}
 use Rattle.script_main.specs.Run.{IsText, IsWritten, Finishes, AsksNoStore, Writes, AnswersSource, IsStop, IsFault, TellsRefusal, TellsUsage, usage_text}
 use Rattle.script_main.specs.declared.statuses.Status.{Status}
@@ -186,8 +186,8 @@ tells_refusal play stores consumers (Some bytes) old new result w =
     subst (λ (s : Result Script Refusal). TellsRefusal play s result) w.is_script (refusal_told play w.script result w.text w.is_written)
 
 -- a script that passes the limit is not read
-never_read : (lines : List (List ℕ)) (script : Script) → past_limit lines ≡ Ok script → ⊥
-never_read lines script is = go (read_lines no_draft 1 lines) is
+never_read : (draft : Draft) (lines : List (List ℕ)) (script : Script) → past_limit draft lines ≡ Ok script → ⊥
+never_read draft lines script is = go (read_lines draft 1 lines) is
   where
     go : (r : Result (Draft × ℕ) Refusal) → and_then r (λ last. Err (refusal last.1 8)) ≡ Ok script → ⊥
     go (Ok x) e = cc
@@ -197,8 +197,8 @@ read_is_short : (stores consumers : ℕ) (bytes : List ℕ) (script : Script) �
 read_is_short stores consumers bytes script is = go (nat_lt most_bytes (length bytes)) refl is
   where
     go : (b : Bool) → nat_lt most_bytes (length bytes) ≡ b →
-        (if b then past_limit (but_last (lines_of (take (most_bytes + 1) bytes))) else whole_script bytes) ≡ Ok script → length bytes ≤ most_bytes
-    go true long e = absurd (never_read (but_last (lines_of (take (most_bytes + 1) bytes))) script e)
+        (if b then past_limit (no_draft stores consumers) (but_last (lines_of (take (most_bytes + 1) bytes))) else whole_script (no_draft stores consumers) bytes) ≡ Ok script → length bytes ≤ most_bytes
+    go true long e = absurd (never_read (no_draft stores consumers) (but_last (lines_of (take (most_bytes + 1) bytes))) script e)
     go false short e = ltb-false most_bytes (length bytes) short
 
 -- the answer to the bytes that were read is the answer to what the source had

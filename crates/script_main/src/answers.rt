@@ -1,15 +1,15 @@
 //! What a script's bytes are answered: a status and the text that belongs to it.
 ghost use Rattle.std.specs.Prelude.{true, IfOk};
 ghost use Rattle.script_read.specs.Answers.{refusal};
-ghost use Rattle.script_read.specs.FirstPath.{IsFirstPath};
+ghost use Rattle.script_read.specs.CanRun.{CanRun};
 ghost use Rattle.script_read.specs.ScriptText.{script_of};
 ghost use Rattle.script_main.specs.Run.{IsText};
 
-use super::playing::play;
 use super::statuses::Status;
 use cdb_values::Bytes;
 use report_text::print;
-use script_read::{Script, ScriptStop, read_script, scripts_are_of_the_first_path};
+use script_play::play;
+use script_read::{Script, ScriptStop, read_script, scripts_can_run};
 use std::alloc::{AllocError, Global};
 
 /// A status, and the text that is to be written.
@@ -30,7 +30,7 @@ pub(crate) fn answer_script(
 {
     match read_script(alloc, bytes, stores, consumers) {
         Ok(script) => {
-            scripts_are_of_the_first_path();
+            scripts_can_run();
             played(alloc, &script)
         }
         Err(ScriptStop::Refused { line, why }) => refused(alloc, line, why),
@@ -40,7 +40,7 @@ pub(crate) fn answer_script(
 
 /// The answer to a script that was read.
 fn played(alloc: Global, script: &Script) -> Result<Answer, AllocError>
-    requires { IsFirstPath script.now }
+    requires { CanRun script.now }
     ensures { IfOk result (λ a. IsText true (Ok script.now) a.status a.text) }
 {
     let report = play(alloc, script)?;

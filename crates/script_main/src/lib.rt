@@ -2,8 +2,6 @@
 #![tactic(auto)]
 
 mod answers;
-mod courses;
-mod playing;
 mod running;
 mod statuses;
 #[cfg(test)]

@@ -2,3 +2,8 @@ pub mod StoredLemmas
 pub mod DecisionLemmas
 pub mod StandingLemmas
 pub mod TurnLemmas
+pub mod CutLemmas
+pub mod RunLemmas
+pub mod WholeLemmas
+pub mod CourseLemmas
+pub mod SiteLemmas

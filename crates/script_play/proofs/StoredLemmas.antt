@@ -32,14 +32,14 @@ use Rattle.transaction_answers.specs.Sound.{AreSound, IsSoundOp}
 use Rattle.transaction_answers.proofs.ConflictLemmas.{none_since, one_since}
 use Rattle.transaction_answers.proofs.SoundLemmas.{sound_later, named}
 use Rattle.script_play.specs.SoFar.{Stored}
-use Rattle.script_play.specs.Step.{World, IsKept}
+use Rattle.script_play.specs.Step.{World, world_of, IsKept}
 
 -- the entry of a transaction at the next position
 abbrev pub entry_of : List ℕ → ℕ → ℕ → ℕ → EntryLine
 entry_of name number begin now = Commit (now + 1) name number begin Snapshot
 
 abbrev pub world : Script → List EntryLine → List (List GenidItem) → Ages → World
-world script entries taken ages = record { tables = tables_of script; ages = ages; taken = taken; now = length entries }
+world script entries taken ages = world_of (tables_of script) ages taken (length entries)
 
 -- a transaction comes to its commit
 pub record Commits (script : Script) (entries : List EntryLine) (taken : List (List GenidItem)) (ages : Ages) (name : List ℕ) (t : Transaction) (begin : ℕ) (ops : List RowOp) : Type 0 where

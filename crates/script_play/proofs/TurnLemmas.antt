@@ -99,7 +99,7 @@ none_past name number n pending below (Commit position session txn begin level �
     go false past = refl
 
 -- a piece added to lines
-piece : (lines before : List Numbered) (number : ℕ) (mine more : List ReplyLine) → lines ≡ before ++ numbered number mine → lines ++ numbered number more ≡ before ++ numbered number (mine ++ more)
+pub piece : (lines before : List Numbered) (number : ℕ) (mine more : List ReplyLine) → lines ≡ before ++ numbered number mine → lines ++ numbered number more ≡ before ++ numbered number (mine ++ more)
 piece lines before number mine more is =
     ap (λ ls. ls ++ numbered number more) is ∙ append_assoc before (numbered number mine) (numbered number more) ∙ ap (λ ls. before ++ ls) (sym (numbered_append number mine more))
 
@@ -170,7 +170,7 @@ module _ (script : Script) (entries : List EntryLine) (taken : List (List GenidI
   Goal after told t = Kept t → Turns script entries (entries ++ entries_added name (length entries) t) (taken ++ map taken_by t.added) ages ages' name after lines told t
 
   -- outside a transaction nothing of one was told
-  idle_lines : (k : TextKind) (c : Comes script entries taken ages name p None doing.Idle text k lines) → lines ≡ c.before
+  pub idle_lines : (k : TextKind) (c : Comes script entries taken ages name p None doing.Idle text k lines) → lines ≡ c.before
   idle_lines k c = c.is ∙ ap (λ rs. c.before ++ numbered p.number rs) c.doing ∙ append-nil c.before
 
   begun : (c : Comes script entries taken ages name p None doing.Idle text kind.Begin lines) → Goal (next_by p text kind.Begin None) (number_by p.number kind.Begin None) (turn_by w p.number text kind.Begin doing.Idle)

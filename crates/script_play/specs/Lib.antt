@@ -1,2 +1,4 @@
+pub mod Plans
+pub mod Ready
 pub mod SoFar
 pub mod Step

@@ -141,3 +141,12 @@ pub record IsOpened (script : Script) (lines : List Line) (entries : List EntryL
   pub nothing_taken : taken ≡ [] ∷ []
   pub no_rows : ages ≡ no_ages (tables_of script)
   pub at_starts : sites ≡ map (λ _. at_start) script.sessions
+
+-- the place of the session with a name, counted on from a number
+abbrev pub session_from : ℕ → List ℕ → List SessionLine → Option ℕ
+session_from at name [] = None
+session_from at name (s ∷ ss) = if bytes_eq s.name name then Some at else session_from (at + 1) name ss
+
+-- the place of the session with a name, from 0
+abbrev pub session_at : List ℕ → List SessionLine → Option ℕ
+session_at name sessions = session_from 0 name sessions

@@ -4,7 +4,7 @@
 -- sets the level is answered so, and any other line is a transaction of its own. In a transaction
 -- `commit` has it decided, `rollback` ends it, and any other line is answered. After a transaction
 -- that want of memory ended, lines are skipped up to its `commit` or `rollback`.
-use Rattle.std.specs.Prelude.{◌≡◌, ℕ, ◌+◌, ◌<◌, ◌++◌, ◌∷◌, [], List, Option, Some, None, map, length}
+use Rattle.std.specs.Prelude.{◌≡◌, ℕ, ◌+◌, ◌<◌, ◌++◌, ◌∷◌, [], List, Option, Some, None, map, length, ◌⊎◌}
 use Rattle.cdb_values.specs.Rows.{apply_all}
 use Rattle.cdb_values.specs.declared.rows.Level.TheVariants.{Snapshot}
 use Rattle.cdb_values.specs.declared.rows.RowOp.{RowOp}
@@ -50,6 +50,9 @@ pub record World : Type 0 where
   pub ages : Ages
   pub taken : List (List GenidItem)
   pub now : ℕ
+
+abbrev pub world_of : List TableDef → Ages → List (List GenidItem) → ℕ → World
+world_of tables ages taken now = record { tables = tables; ages = ages; taken = taken; now = now }
 
 -- a transaction that began at a position comes to its commit with these operations
 abbrev pub outcome : World → ℕ → List RowOp → ReplyLine
@@ -151,3 +154,13 @@ pub record IsCutShort (w : World) (name : List ℕ) (c : Cut) (lines lines' : Li
   pub entries_are : entries' ≡ entries
   pub taken_are : taken' ≡ w.taken
   pub rows_are : ages' ≡ w.ages
+
+-- a line did what it does, or was cut short; and the session is there behind it
+abbrev pub IsTakenBy : World → List ℕ → ℕ → List ℕ → TextKind → Doing → Site → List Line → List Line → List EntryLine → List EntryLine → List (List GenidItem) → Ages → Type 0
+IsTakenBy w name number text k what after lines lines' entries entries' taken' ages' =
+    (IsTurned w name (turn_by w number text k what) lines lines' entries entries' taken' ages' × (after ≡ (turn_by w number text k what).after))
+    ⊎ ((c : Cut) × (cut_by number k what ≡ Some c) × IsCutShort w name c lines lines' entries entries' taken' ages' × (after ≡ c.after))
+
+abbrev pub IsTaken : World → List ℕ → Site → List ℕ → Site → List Line → List Line → List EntryLine → List EntryLine → List (List GenidItem) → Ages → Type 0
+IsTaken w name before text after lines lines' entries entries' taken' ages' =
+    IsTakenBy w name before.number text (kind_of (statement_of text)) before.doing after lines lines' entries entries' taken' ages'

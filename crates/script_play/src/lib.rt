@@ -1,20 +1,10 @@
-//! A stand-in.
+//! Plays scripts on one node: each line of the script is done in its order, and the report tells what came of it.
 #![tactic(auto)]
 
-ghost use Rattle.std.specs.Prelude.{◌≡◌};
-
+mod courses;
+mod plans;
+mod playing;
 mod sites;
+mod turns;
 
-use sites::{Doing, Site};
-
-fn idle() -> Site {
-    Site { number: 0, doing: Doing::Idle }
-}
-
-/// A stand-in.
-pub fn nothing(n: u64) -> u64
-    ensures { result ≡ n }
-{
-    let _ = idle();
-    n
-}
+pub use playing::play;

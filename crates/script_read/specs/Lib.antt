@@ -1,1 +1,8 @@
+pub mod Answers
+pub mod Kinds
+pub mod Heads
+pub mod Bodies
+pub mod Built
+pub mod ScriptText
 pub mod CanRun
+pub mod Lawful

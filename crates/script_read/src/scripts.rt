@@ -77,9 +77,8 @@ pub enum Moment {
 /// Why bytes gave no script.
 #[derive(Debug, Drop, Error)]
 pub enum ScriptStop {
-    /// The first line with a reason against it, from 1, and the smallest of its reasons: 4 where the
-    /// script does not begin with `nodes` and 1 to 7, 8 where a limit is passed, 10 where the line is
-    /// none that runs today.
+    /// The first line with a reason against it, from 1, and the smallest of its reasons: 1 to 8 or 10.
+    /// The table at the head of this crate says what they mean.
     #[error("line {line} is refused for reason {why}")]
     Refused { line: u64, why: u8 },
     /// Want of memory.

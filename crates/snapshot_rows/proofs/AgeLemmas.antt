@@ -1,9 +1,10 @@
 -- A commit, seen at its own position and at those before it.
-use Rattle.std.proofs.Common.{◌≡◌, ℕ, ◌+◌, ◌-◌, ◌<◌, ◌≤◌, ◌==◌, ◌++◌, ◌∷◌, [], List, Bool, true, false, ◌&&◌, ◌||◌, not, map, filter, refl, sym, ◌∙◌, ap, subst, arith, zero, suc}
-use Rattle.std.specs.Prelude.{slice_get, slice_set, unwrap_or, if◌then◌else◌, nat_le, nat_lt}
+use Rattle.std.proofs.Common.{◌≡◌, ℕ, ◌+◌, ◌-◌, ◌<◌, ◌≤◌, ◌==◌, ◌++◌, ◌∷◌, [], List, Bool, true, false, ◌&&◌, ◌||◌, not, map, filter, refl, sym, ◌∙◌, ap, subst, arith, length, get_or, zero, suc}
+use Rattle.std.specs.Prelude.{Some, slice_get, slice_set, unwrap_or, if◌then◌else◌, nat_le, nat_lt}
 use Rattle.std.proofs.lemmas.Bool.Decides.{nat_tests}
+use Rattle.std.proofs.lemmas.Option.{slice_get_read}
 use Rattle.std.specs.List.{AllByRecursion}
-use Rattle.cdb_values.specs.Rows.{Rows, taken, added, apply, apply_all, no_rows, without}
+use Rattle.cdb_values.specs.Rows.{Rows, taken, added, apply, apply_all, no_rows, without, versions_of}
 use Rattle.cdb_values.specs.declared.rows.RowOp.{RowOp}
 use Rattle.cdb_values.specs.declared.rows.RowOp.TheVariants.{Insert, Update, Delete}
 use Rattle.cdb_values.specs.declared.rows.RowRef.TheVariants.{Base, Own}
@@ -146,6 +147,21 @@ up_to_later last later ages above all = later_tables last later ages.tables abov
 -- after the last position the rows stay as they were there
 pub seen_later : (last later : ℕ) (ages : Ages) → last ≤ later → IsUpTo last ages → rows_seen ages later ≡ rows_seen ages last
 seen_later last later ages above all = seen_rows later ages (up_to_later last later ages above all) ∙ sym (seen_rows last ages all)
+
+-- the rows of a table at a position
+pub seen_got : (at : ℕ) (lists : List (List Age)) (i : ℕ) → unwrap_or (slice_get (seen at lists) i) [] ≡ seen_in at (unwrap_or (slice_get lists i) [])
+seen_got at [] zero = refl
+seen_got at [] (suc i) = refl
+seen_got at (l ∷ ls) zero = refl
+seen_got at (l ∷ ls) (suc i) = seen_got at ls i
+
+-- the ages of a table that were read, at a position
+pub seen_read : (ages : Ages) (lists : List (List Age)) (i at : ℕ) (x found : List Age) → lists ≡ ages.tables → i < length ages.tables → x ≡ get_or lists i x → found ≡ x
+    → seen_in at found ≡ versions_of (rows_seen ages at) i
+seen_read ages lists i at x found stands within is same =
+    let inside : i < length lists = subst (λ n. i < n) (ap length (sym stands)) within in
+    let there : slice_get ages.tables i ≡ Some x = subst (λ l. slice_get l i ≡ Some x) stands (slice_get_read lists (length lists) i x refl inside is) in
+    ap (seen_in at) (same ∙ ap (λ o. unwrap_or o []) (sym there)) ∙ sym (seen_got at ages.tables i)
 
 got_up_to : (last : ℕ) (tables : List (List Age)) (i : ℕ) → AllByRecursion (AllByRecursion (IsAgeUpTo last)) tables → AllByRecursion (IsAgeUpTo last) (unwrap_or (slice_get tables i) [])
 got_up_to last [] zero all = tt

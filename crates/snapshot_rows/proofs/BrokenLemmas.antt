@@ -1,5 +1,5 @@
 -- Operations on rows whose keys are kept: what they break is what they write.
-use Rattle.std.proofs.Common.{◌≡◌, ℕ, ◌+◌, ◌++◌, ◌∷◌, [], List, Bool, true, false, ◌&&◌, ◌||◌, not, map, filter, refl, sym, ◌∙◌, ap, subst, length, append_assoc, append-nil, arith, zero, suc}
+use Rattle.std.proofs.Common.{◌≡◌, ℕ, ◌+◌, ◌++◌, ◌∷◌, [], List, Bool, true, false, ◌&&◌, ◌||◌, not, map, filter, refl, sym, ◌∙◌, ap, subst, length, append_assoc, append-nil, arith, suc}
 use Rattle.std.specs.Prelude.{slice_get, unwrap_or, if◌then◌else◌, Option, Some, None}
 use Rattle.std.specs.List.{list_any, AllByRecursion}
 use Rattle.std.proofs.Math.ListN.{length-set}
@@ -17,7 +17,7 @@ use Rattle.net_writes.proofs.ViewLemmas.{view_applied}
 use Rattle.snapshot_rows.specs.Ages.{is_seen, seen_in, seen}
 use Rattle.snapshot_rows.specs.Broken.{is_row_taken, are_rows_apart, is_left, rows_left, breaks_key, key_broken, first_key_broken}
 use Rattle.snapshot_rows.specs.declared.ages.Age.{Age}
-use Rattle.snapshot_rows.proofs.AgeLemmas.{rows_of}
+use Rattle.snapshot_rows.proofs.AgeLemmas.{rows_of, seen_got}
 
 -- the rows of these versions
 abbrev pub rows : List Version → List (List Value)
@@ -199,12 +199,6 @@ tables_same at ops place (t ∷ ts) (l ∷ ls) (n ∷ ns) long is kept =
     subst (λ m. rows (unwrap_or (slice_get ns k) []) ≡ rows_left at ops m (unwrap_or (slice_get ls k) []) ++ written m ops) (moved place k) (is (suc k)) in
     let later = tables_same at ops (place + 1) ts ls ns (one_less (length ns) (length ls) long) others both.1 in
     λ j. or_broken t (here j) (later j)
-
-seen_got : (at : ℕ) (lists : List (List Age)) (i : ℕ) → unwrap_or (slice_get (seen at lists) i) [] ≡ seen_in at (unwrap_or (slice_get lists i) [])
-seen_got at [] zero = refl
-seen_got at [] (suc i) = refl
-seen_got at (l ∷ ls) zero = refl
-seen_got at (l ∷ ls) (suc i) = seen_got at ls i
 
 length_seen : (at : ℕ) (lists : List (List Age)) → length (seen at lists) ≡ length lists
 length_seen at [] = refl

@@ -18,6 +18,8 @@
 mod ages;
 mod keys;
 mod snapshots;
+#[cfg(test)]
+mod tests;
 
 pub use ages::Age;
 pub use keys::BrokenKey;

@@ -1,7 +1,7 @@
 ghost use Rattle.std.specs.Prelude.{◌≡◌, ℕ, ◌<◌, ◌≤◌, ◌+◌, ◌-◌, ◌^◌, [], length, map, unwrap_or, slice_get, IfOk, OnOk, OnErr};
 ghost use Rattle.std.specs.List.{AllByRecursion};
-ghost use Rattle.cdb_values.specs.Rows.{apply_all, no_rows};
-ghost use Rattle.snapshot_rows.specs.Ages.{Ages, IsUpTo, IsBased, seen, rows_seen, no_ages, ages_of};
+ghost use Rattle.cdb_values.specs.Rows.{apply_all, no_rows, versions_of};
+ghost use Rattle.snapshot_rows.specs.Ages.{Ages, IsUpTo, IsBased, seen_in, seen, rows_seen, no_ages, ages_of};
 ghost use Rattle.snapshot_rows.specs.Commits.{ended, with_death, with_birth, after_op, after_ops, before_in, before};
 
 use super::ages::{Age, before_in, ended};
@@ -53,11 +53,12 @@ impl Snapshots {
         self.next
     }
 
-    /// The ages of the table at a place, in the order in which the versions were written. Takes no
-    /// memory.
+    /// The ages of the table at a place, in the order in which the versions were written: those that
+    /// are seen at a position are the table's rows there. Takes no memory.
     pub fn ages(&self, table: u16) -> &[Age]
         requires { table < length self.now.tables }
-        ensures { result.now ≡ ages_of self.now table }
+        ensures ages { result.now ≡ ages_of self.now table }
+        ensures seen { (at : ℕ) → seen_in at result.now ≡ versions_of (rows_seen self.now at) table }
     {
         self.tables.as_slice()[table as usize].as_slice()
     }

@@ -145,4 +145,6 @@ pub fn read_create(alloc: Global, text: &str) -> Result<CreateTable, ReadStop>
 }
 
 #[cfg(test)]
+mod second_reader;
+#[cfg(test)]
 mod tests;

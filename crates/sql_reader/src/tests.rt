@@ -1,4 +1,5 @@
-// Texts, whether each is read, and where it is refused, with the offsets counted by hand.
+// Texts, whether each is read, and where it is refused: with the offsets counted by hand, and as a second reader answers.
+use crate::second_reader::{refusal_from, rule_alone, ways_behind};
 use crate::{
     CreatePart, CreateTable, Kind, Literal, Mark, Operand, ReadStop, Sign, Stmt, Test, read,
     read_create,
@@ -144,28 +145,6 @@ fn levels_and_long_names(rt: HostRuntime) -> Result<(), Fail> {
     Ok(())
 }
 
-// A statement cut after each of its tokens is read, or refused at its length.
-#[test]
-fn cut_statements(rt: HostRuntime) -> Result<(), Fail> {
-    let alloc = rt.alloc();
-    let mut text = String::new(alloc);
-    for token in [
-        "select", "a", ",", "sum", "(", "b", ")", "from", "t", "as", "x", ",", "u", "where", "not",
-        "(", "a", "=", "-", "1", "or", "b", "is", "not", "null", ")", "and", "a", "<>", "'y'",
-        "group", "by", "a", "order", "by", "a", "desc", "limit", "5", ";",
-    ] {
-        text.push_str(token)?;
-        text.push_str(" ")?;
-        let is_right = match refusal(alloc, &text)? {
-            None => true,
-            Some(at) => at as usize == text.len(),
-        };
-        assert!(rt; is_right, "{text}");
-    }
-    assert_eq!(rt; refusal(alloc, &text)?, None);
-    Ok(())
-}
-
 #[test]
 fn definitions(rt: HostRuntime) -> Result<(), Fail> {
     for (text, want) in [
@@ -289,6 +268,184 @@ fn what_is_defined(rt: HostRuntime) -> Result<(), Fail> {
     match read_create(rt.alloc(), text) {
         Ok(found) => assert!(rt; is_wanted_definition(&found)),
         Err(_) => assert!(rt; false, "a definition"),
+    }
+    Ok(())
+}
+
+// Statements and definitions that tell most, with a blank between every two tokens.
+static TELLING: [&str; 12] = [
+    "begin ;",
+    "set transaction serializable",
+    "insert into t ( a , b ) values ( 1 , - 2 ) , ( null , x'0f' ) ;",
+    "update t set a = b + 1 - t . a , c = 'it''s' where a <= 2",
+    "delete from t where not ( a is not null or b = - 5 ) and c != 'x'",
+    "select * from t as x , u y , v where x . id <> y . id ;",
+    "selectv a , t . b , count ( * ) , sum ( t . c ) from t group by a , t . b",
+    "select min ( a ) from t order by a desc , max ( b ) asc , c limit 3 ;",
+    "delete from t where ( ( a > 1 and b < 2 ) or not not c >= 3 )",
+    "select a from t where 9223372036854775807 = a",
+    "select a , sum ( b ) from t as x , u where not ( a = - 1 or b is not null ) and a <> 'y' group by a order by a desc limit 5 ;",
+    "insert into t values ( 'é' , X'00FF' , - 9223372036854775808 )",
+];
+
+static DEFINITIONS: [&str; 2] = [
+    "create table t ( a int not null , b integer primary key unique , c text , d blob ) ;",
+    "create table t ( a int , primary key ( a , b ) , unique u ( b ) , key k ( a , b ) )",
+];
+
+// Each kind of token: a word of each class that stands in the same places, names, numbers, a text, a blob, the signs,
+// and what is none.
+static TOKENS: [&str; 58] = [
+    "all",
+    "and",
+    "as",
+    "asc",
+    "begin",
+    "blob",
+    "by",
+    "count",
+    "create",
+    "delete",
+    "from",
+    "group",
+    "insert",
+    "int",
+    "into",
+    "is",
+    "key",
+    "limit",
+    "max",
+    "not",
+    "null",
+    "or",
+    "order",
+    "primary",
+    "select",
+    "set",
+    "snapshot",
+    "table",
+    "transaction",
+    "unique",
+    "update",
+    "values",
+    "where",
+    "tooold",
+    "n",
+    "a_name_of_more_than_thirty_2_bytes",
+    "7",
+    "9223372036854775808",
+    "9223372036854775809",
+    "'s'",
+    "x'1a'",
+    "(",
+    ")",
+    ",",
+    ".",
+    ";",
+    "*",
+    "=",
+    "<>",
+    "!=",
+    "<",
+    "<=",
+    ">",
+    ">=",
+    "+",
+    "-",
+    "!",
+    "'",
+];
+
+// Where a text is refused by one of the second reader's rules, if it is, as the first reader answers.
+fn first_refusal(alloc: Global, rule: &str, text: &str) -> Result<Option<usize>, AllocError> {
+    let at = if rule == "CREATE" {
+        create_refusal(alloc, text)?
+    } else {
+        refusal(alloc, text)?
+    };
+    Ok(at.map(|at| at as usize))
+}
+
+// Whether both readers answer alike of a text that is cut after each of its bytes; a character stays whole.
+fn is_alike_cut(alloc: Global, rule: &str, text: &str) -> Result<bool, AllocError> {
+    let ways = rule_alone(alloc, rule)?;
+    for size in 0..text.len() {
+        if let Some(cut) = text.get(..size) {
+            if first_refusal(alloc, rule, cut)? != refusal_from(alloc, &ways, cut, 0)? {
+                return Ok(false);
+            }
+        }
+    }
+    Ok(true)
+}
+
+// The text with another token in place of that with this number, and where that one begins.
+fn with_token(
+    alloc: Global,
+    text: &str,
+    number: usize,
+    token: &str,
+) -> Result<(String, usize), AllocError> {
+    let mut changed = String::new(alloc);
+    let mut offset = 0;
+    for (index, old) in text.split(' ').enumerate() {
+        if index > 0 {
+            changed.push_str(" ")?;
+        }
+        if index == number {
+            offset = changed.len();
+        }
+        changed.push_str(if index == number { token } else { old })?;
+    }
+    Ok((changed, offset))
+}
+
+// Whether they do of a text with each kind of token in place of that with this number, before which the text goes on in
+// these ways.
+fn is_alike_at(
+    alloc: Global,
+    rule: &str,
+    text: &str,
+    number: usize,
+    ways: &[String],
+) -> Result<bool, AllocError> {
+    for token in &TOKENS {
+        let (changed, offset) = with_token(alloc, text, number, token)?;
+        let second = refusal_from(alloc, ways, changed.as_str(), offset)?;
+        if first_refusal(alloc, rule, changed.as_str())? != second {
+            return Ok(false);
+        }
+    }
+    Ok(true)
+}
+
+// Whether they do of a text with each kind of token in place of each of its own.
+fn is_alike_changed(alloc: Global, rule: &str, text: &str) -> Result<bool, AllocError> {
+    let mut ways = rule_alone(alloc, rule)?;
+    for (number, token) in text.split(' ').enumerate() {
+        if !is_alike_at(alloc, rule, text, number, &ways)? {
+            return Ok(false);
+        }
+        ways = ways_behind(alloc, &ways, token)?;
+    }
+    Ok(true)
+}
+
+// Whether they do of a text that both read, where it is cut and where it is changed.
+fn is_alike(alloc: Global, rule: &str, text: &str) -> Result<bool, AllocError> {
+    let ways = rule_alone(alloc, rule)?;
+    let is_read = first_refusal(alloc, rule, text)?.is_none()
+        && refusal_from(alloc, &ways, text, 0)?.is_none();
+    Ok(is_read && is_alike_cut(alloc, rule, text)? && is_alike_changed(alloc, rule, text)?)
+}
+
+#[test]
+fn both_readers_answer_alike(rt: HostRuntime) -> Result<(), Fail> {
+    for text in &TELLING {
+        assert!(rt; is_alike(rt.alloc(), "STATEMENT", text)?, "{text}");
+    }
+    for text in &DEFINITIONS {
+        assert!(rt; is_alike(rt.alloc(), "CREATE", text)?, "{text}");
     }
     Ok(())
 }

@@ -1,2 +1,3 @@
+pub mod IntegerLemmas
 pub mod ItemLemmas
 pub mod KindLemmas

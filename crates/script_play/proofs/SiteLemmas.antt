@@ -1,0 +1,195 @@
+-- Where a session is, by its place among the sessions, and that a line of its own changes no other.
+use Rattle.std.proofs.Common.{◌≡◌, ℕ, zero, suc, ◌+◌, ◌≤◌, ◌<◌, List, [], ◌∷◌, ◌++◌, length, map, refl, sym, subst, ap, arith, Option, Some, None, ◌∙◌, Bool, true, false, ◌⊎◌, inl, inr, if◌then◌else◌, slice_set}
+use Rattle.std.proofs.lemmas.List.{length-set}
+use Rattle.std.specs.List.{AllByRecursion, slice_get}
+use Rattle.std.specs.Str.{bytes_eq}
+use Rattle.cdb_values.specs.declared.tables.ColumnDef.{ColumnDef}
+use Rattle.cdb_values.specs.declared.tables.TableDef.{TableDef}
+use Rattle.cdb_values.specs.declared.tables.ColumnType.TheVariants.{Integer}
+use Rattle.snapshot_rows.specs.Ages.{Ages, seen}
+use Rattle.snapshot_rows.specs.declared.ages.Age.{Age}
+use Rattle.statement_read.specs.OnTables.{IsOn}
+use Rattle.statement_read.specs.Statements.{statement_of, kind_of}
+use Rattle.script_read.specs.CanRun.{CanRun, IsDeclared, IsSaid}
+use Rattle.script_read.specs.declared.scripts.Script.{Script}
+use Rattle.script_read.specs.declared.scripts.Act.{Act}
+use Rattle.script_read.specs.declared.scripts.Act.TheVariants.{Say}
+use Rattle.script_read.specs.declared.scripts.BodyLine.{BodyLine}
+use Rattle.script_read.specs.declared.scripts.SessionLine.{SessionLine}
+use Rattle.script_read.specs.declared.scripts.TableLine.{TableLine}
+use Rattle.report_text.specs.declared.reports.EntryLine.{EntryLine}
+use Rattle.report_text.specs.declared.reports.Line.{Line}
+use Rattle.report_text.specs.declared.reports.ReplyLine.{ReplyLine}
+use Rattle.report_laws.specs.Told.{told}
+use Rattle.report_laws.specs.Work.{Place, place_after, tables_of}
+use Rattle.report_laws.specs.declared.items.GenidItem.{GenidItem}
+use Rattle.transaction_answers.specs.Sound.{AreSound}
+use Rattle.transaction_answers.proofs.SoundLemmas.{sound_length}
+use Rattle.script_play.specs.Ready.{IsReady, IsReadyToGo}
+use Rattle.script_play.specs.SoFar.{IsBefore, IsDoing, SoFar, Stored, Standing, site_of, session_from, session_at}
+use Rattle.script_play.specs.Step.{IsTaken, world_of}
+use Rattle.script_play.specs.declared.sites.Site.{Site}
+use Rattle.script_play.specs.declared.sites.Doing.{Doing}
+use Rattle.script_play.specs.declared.sites.Doing.TheVariants as doing
+use Rattle.script_play.proofs.RunLemmas.{same_itself, same_name, turned_keeps, cut_keeps}
+
+-- the place is counted on from a number
+from_least : (k : ℕ) (name : List ℕ) (ss : List SessionLine) (at : ℕ) → session_from k name ss ≡ Some at → k ≤ at
+from_least k name [] at is = absurd cc
+from_least k name (s ∷ ss) at is = pick (bytes_eq s.name name) (from_least (k + 1) name ss at) is
+  where
+    pick : (b : Bool) → (session_from (k + 1) name ss ≡ Some at → k + 1 ≤ at) → (if b then Some k else session_from (k + 1) name ss) ≡ Some at → k ≤ at
+    pick true more found = let same : k ≡ at = cc in omega (arith, same)
+    pick false more found = let le = more found in omega (arith, le)
+
+pub within : (k : ℕ) (name : List ℕ) (ss : List SessionLine) (at : ℕ) → session_from k name ss ≡ Some at → at < k + length ss
+within k name [] at is = absurd cc
+within k name (s ∷ ss) at is = pick (bytes_eq s.name name) (within (k + 1) name ss at) is
+  where
+    pick : (b : Bool) → (session_from (k + 1) name ss ≡ Some at → at < k + 1 + length ss) → (if b then Some k else session_from (k + 1) name ss) ≡ Some at → at < k + length (s ∷ ss)
+    pick true more found = let same : k ≡ at = cc in omega (arith, same)
+    pick false more found = let le = more found in omega (arith, le)
+
+-- a declared session has a place
+pub declared : (k : ℕ) (name : List ℕ) (ss : List SessionLine) → IsDeclared name ss → session_from k name ss ≡ None → ⊥
+declared k name [] is none = is
+declared k name (s ∷ ss) is none = pick (bytes_eq s.name name) refl none
+  where
+    pick : (b : Bool) → bytes_eq s.name name ≡ b → (if b then Some k else session_from (k + 1) name ss) ≡ None → ⊥
+    pick true same found = absurd cc
+    pick false differs found = go is
+      where
+        go : (s.name ≡ name) ⊎ IsDeclared name ss → ⊥
+        go (inl same) = let yes = ap (λ n. bytes_eq n name) same ∙ same_itself name in absurd cc
+        go (inr more) = declared (k + 1) name ss more found
+
+-- the session at its place is there
+pub found_site : (k : ℕ) (name : List ℕ) (ss : List SessionLine) (sites : List Site) (at i : ℕ) (x : Site) → session_from k name ss ≡ Some at → at ≡ k + i → slice_get sites i ≡ Some x → site_of name ss sites ≡ x
+found_site k name [] sites at i x is place has = absurd cc
+found_site k name (s ∷ ss) [] at i x is place has = absurd cc
+found_site k name (s ∷ ss) (y ∷ ys) at i x is place has = pick (bytes_eq s.name name) i is place has
+  where
+    pick : (b : Bool) (j : ℕ) → (if b then Some k else session_from (k + 1) name ss) ≡ Some at → at ≡ k + j → slice_get (y ∷ ys) j ≡ Some x → (if b then y else site_of name ss ys) ≡ x
+    pick true zero found e has = cc
+    pick true (suc j) found e has = let same : k ≡ at = cc in absurd (omega (arith, same, e))
+    pick false zero found e has = let least = from_least (k + 1) name ss at found in absurd (omega (arith, least, e))
+    pick false (suc j) found e has = found_site (k + 1) name ss ys at j x found (omega (arith, e)) has
+
+-- a session that is put there is there
+pub set_site : (k : ℕ) (name : List ℕ) (ss : List SessionLine) (sites : List Site) (at i : ℕ) (x : Site) → session_from k name ss ≡ Some at → at ≡ k + i → i < length sites → site_of name ss (slice_set sites i x) ≡ x
+set_site k name [] sites at i x is place inside = absurd cc
+set_site k name (s ∷ ss) [] at i x is place inside = absurd (omega (arith, inside))
+set_site k name (s ∷ ss) (y ∷ ys) at zero x is place inside = pick (bytes_eq s.name name) is
+  where
+    pick : (b : Bool) → (if b then Some k else session_from (k + 1) name ss) ≡ Some at → (if b then x else site_of name ss ys) ≡ x
+    pick true found = refl
+    pick false found = let least = from_least (k + 1) name ss at found in absurd (omega (arith, least, place))
+set_site k name (s ∷ ss) (y ∷ ys) at (suc i) x is place inside = pick (bytes_eq s.name name) is
+  where
+    pick : (b : Bool) → (if b then Some k else session_from (k + 1) name ss) ≡ Some at → (if b then y else site_of name ss (slice_set ys i x)) ≡ x
+    pick true found = let same : k ≡ at = cc in absurd (omega (arith, same, place))
+    pick false found = set_site (k + 1) name ss ys at i x found (omega (arith, place)) (omega (arith, inside))
+
+-- and every other session is where it was
+pub other_site : (k : ℕ) (name m : List ℕ) (ss : List SessionLine) (sites : List Site) (at i : ℕ) (x : Site) → session_from k name ss ≡ Some at → at ≡ k + i → bytes_eq name m ≡ false → site_of m ss (slice_set sites i x) ≡ site_of m ss sites
+other_site k name m [] sites at i x is place differs = absurd cc
+other_site k name m (s ∷ ss) [] at i x is place differs = refl
+other_site k name m (s ∷ ss) (y ∷ ys) at zero x is place differs = pick (bytes_eq s.name name) refl is
+  where
+    pick : (b : Bool) → bytes_eq s.name name ≡ b → (if b then Some k else session_from (k + 1) name ss) ≡ Some at → (if bytes_eq s.name m then x else site_of m ss ys) ≡ (if bytes_eq s.name m then y else site_of m ss ys)
+    pick true same found = let no : bytes_eq s.name m ≡ false = ap (λ n. bytes_eq n m) (same_name s.name name same) ∙ differs in rw no refl
+    pick false other found = let least = from_least (k + 1) name ss at found in absurd (omega (arith, least, place))
+other_site k name m (s ∷ ss) (y ∷ ys) at (suc i) x is place differs = pick (bytes_eq s.name name) is
+  where
+    go : (b : Bool) → site_of m ss (slice_set ys i x) ≡ site_of m ss ys → (if b then y else site_of m ss (slice_set ys i x)) ≡ (if b then y else site_of m ss ys)
+    go true same = refl
+    go false same = same
+
+    pick : (b : Bool) → (if b then Some k else session_from (k + 1) name ss) ≡ Some at → (if bytes_eq s.name m then y else site_of m ss (slice_set ys i x)) ≡ (if bytes_eq s.name m then y else site_of m ss ys)
+    pick true found = let same : k ≡ at = cc in absurd (omega (arith, same, place))
+    pick false found = go (bytes_eq s.name m) (other_site (k + 1) name m ss ys at i x found (omega (arith, place)) differs)
+
+-- columns of integers
+pub all_integers : (ts : List TableLine) → AllByRecursion (λ (t : TableLine). AllByRecursion (λ (c : ColumnDef). c.kind ≡ Integer) t.table.columns) ts →
+    AllByRecursion (λ (t : TableDef). AllByRecursion (λ (c : ColumnDef). c.kind ≡ Integer) t.columns) (map (λ t. t.table) ts)
+all_integers [] all = tt
+all_integers (t ∷ ts) all = (all.0, all_integers ts all.1)
+
+length-seen : (at : ℕ) (tables : List (List Age)) → length (seen at tables) ≡ length tables
+length-seen at [] = refl
+length-seen at (ages ∷ more) = let rest = length-seen at more in omega (arith, rest)
+
+-- the rows are ready for a line
+pub ready : (script : Script) (entries : List EntryLine) (taken : List (List GenidItem)) (ages : Ages) → Stored script entries taken ages → IsReady (tables_of script) (length entries) ages
+ready script entries taken ages stored = record {
+  opened = stored.opened;
+  many = sym (length-seen (length entries) ages.tables) ∙ sound_length (tables_of script) ages.next _ (stored.sound (length entries) stored.opened (omega arith));
+  up_to = stored.up_to;
+  sound = stored.sound;
+  kept = stored.kept;
+}
+
+doing_ready : (script : Script) (entries : List EntryLine) (next : ℕ) (p : Place) (q : Option (List (List ℕ))) (d : Doing) (mine : List ReplyLine) → IsDoing script entries next p q d mine → IsReadyToGo (tables_of script) (length entries) next d
+doing_ready script entries next p None doing.Idle mine is = tt
+doing_ready script entries next p None (doing.Open begin ops) mine is = absurd is
+doing_ready script entries next p None doing.Skipping mine is = tt
+doing_ready script entries next p (Some texts) doing.Idle mine is = tt
+doing_ready script entries next p (Some texts) (doing.Open begin ops) mine is = (is.first, is.within, is.sound)
+doing_ready script entries next p (Some texts) doing.Skipping mine is = tt
+
+-- the run before a line of a session
+pub record Turn (script : Script) (name text : List ℕ) (lines : List Line) (entries : List EntryLine) (ages : Ages) (sites : List Site) : Type 0 where
+  pub ready : IsReady (tables_of script) (length entries) ages
+  pub to_go : (at : ℕ) (x : Site) → session_at name script.sessions ≡ Some at → slice_get sites at ≡ Some x → IsReadyToGo (tables_of script) (length entries) ages.next x.doing
+  pub on : IsOn (tables_of script) (statement_of text)
+  pub is_declared : session_at name script.sessions ≡ None → ⊥
+  pub inside : (at : ℕ) → session_at name script.sessions ≡ Some at → at < length sites
+
+pub turn_is : (script : Script) (left : List BodyLine) (l : BodyLine) (lines : List Line) (entries : List EntryLine) (taken : List (List GenidItem)) (ages : Ages) (sites : List Site) (name text : List ℕ) →
+    IsBefore script (l ∷ left) lines entries taken ages sites → l.act ≡ Say name text → Turn script name text lines entries ages sites
+turn_is script left l lines entries taken ages sites name text before is_act = record {
+  ready = ready script entries taken ages before.so_far.stored;
+  to_go = λ at x found has. subst (λ (y : Site). IsReadyToGo (tables_of script) (length entries) ages.next y.doing) (found_site 0 name script.sessions sites at at x found (omega arith) has)
+      (doing_ready script entries ages.next (place_after name before.done) (place_after name before.done).pending (site_of name script.sessions sites).doing _ (before.so_far.standing name).doing);
+  on = said.1;
+  is_declared = declared 0 name script.sessions said.0;
+  inside = λ at found. let w = within 0 name script.sessions at found in let same = before.same in omega (arith, w, same);
+}
+  where
+    said : IsDeclared name script.sessions × IsOn (tables_of script) (statement_of text)
+    said = subst (λ (a : Act). IsSaid script.sessions (tables_of script) a) is_act before.said.0
+
+-- a line that was taken keeps the run so far
+pub turn_taken : (script : Script) (left : List BodyLine) (l : BodyLine) (lines lines' : List Line) (entries entries' : List EntryLine) (taken taken' : List (List GenidItem)) (ages ages' : Ages) (sites : List Site) (name text : List ℕ) (at : ℕ) (x after : Site) →
+    IsBefore script (l ∷ left) lines entries taken ages sites → l.act ≡ Say name text → session_at name script.sessions ≡ Some at → slice_get sites at ≡ Some x →
+    IsTaken (world_of (tables_of script) ages taken (length entries)) name x text after lines lines' entries entries' taken' ages' →
+    IsBefore script left lines' entries' taken' ages' (slice_set sites at after)
+turn_taken script left l lines lines' entries entries' taken taken' ages ages' sites name text at x after before is_act found has run = record {
+  can_run = before.can_run;
+  said = before.said.1;
+  same = length-set sites at after ∙ before.same;
+  done = before.done ++ l ∷ [];
+  so_far = go (subst (λ (y : Site). IsTaken (world_of (tables_of script) ages taken (length entries)) name y text after lines lines' entries entries' taken' ages') (sym its) run);
+}
+  where
+    its : site_of name script.sessions sites ≡ x
+    its = found_site 0 name script.sessions sites at at x found (omega arith) has
+
+    inside : at < length sites
+    inside = let w = within 0 name script.sessions at found in let same = before.same in omega (arith, w, same)
+
+    on : IsOn (tables_of script) (statement_of text)
+    on = (subst (λ (a : Act). IsSaid script.sessions (tables_of script) a) is_act before.said.0).1
+
+    own : site_of name script.sessions (slice_set sites at after) ≡ after
+    own = set_site 0 name script.sessions sites at at after found (omega arith) inside
+
+    others : (m : List ℕ) → bytes_eq name m ≡ false → site_of m script.sessions (slice_set sites at after) ≡ site_of m script.sessions sites
+    others m differs = other_site 0 name m script.sessions sites at at after found (omega arith) differs
+
+    go : IsTaken (world_of (tables_of script) ages taken (length entries)) name (site_of name script.sessions sites) text after lines lines' entries entries' taken' ages' →
+        SoFar script (before.done ++ l ∷ []) left lines' entries' taken' ages' (slice_set sites at after)
+    go (inl (done, there)) = turned_keeps script before.done left l lines entries taken ages sites (slice_set sites at after) name text before.so_far is_act before.can_run on (all_integers script.tables before.can_run.integers)
+        lines' entries' taken' ages' done (own ∙ there) others
+    go (inr (c, is, short, there)) = cut_keeps script before.done left l lines entries taken ages sites (slice_set sites at after) name text before.so_far is_act before.can_run on (all_integers script.tables before.can_run.integers)
+        lines' entries' taken' ages' c is short (own ∙ there) others

@@ -1,0 +1,10 @@
+use Rattle.std.proofs.Common.{◌≡◌, ◌++◌}
+use Rattle.std.specs.Vec.Iter.{into_iter_items}
+use Rattle.report_laws.specs.Told.{lines_of}
+use Rattle.script_play.specs.Plans.{Grown}
+use Rattle.script_play.proofs.courses.tell_all.Given as goal
+
+abbrev pub invariant-replies : goal.invariant-replies
+invariant-replies l =
+    (l.lines.items ++ lines_of l.name.now l.number (into_iter_items l.reply-iterator) ≡ l.fn.lines.items ++ lines_of l.name.now l.number l.fn.replies.items)
+    × Grown l.fn.lines.items l.lines.items

@@ -1,0 +1,27 @@
+-- What the rows and the operations of open transactions keep from line to line, so that a commit can
+-- be decided and written.
+use Rattle.std.specs.Prelude.{◌≡◌, ℕ, ◌≤◌, List, length, None}
+use Rattle.std.specs.List.{AllByRecursion}
+use Rattle.cdb_values.specs.Good.{first_broken}
+use Rattle.cdb_values.specs.declared.rows.RowOp.{RowOp}
+use Rattle.cdb_values.specs.declared.tables.TableDef.{TableDef}
+use Rattle.snapshot_rows.specs.Ages.{Ages, IsUpTo, seen}
+use Rattle.statement_read.specs.OnTables.{IsOn}
+use Rattle.statement_read.specs.Statements.{statement_of}
+use Rattle.transaction_answers.specs.Sound.{AreSound, IsSoundOp}
+use Rattle.script_play.specs.declared.sites.Doing.{Doing}
+use Rattle.script_play.specs.declared.sites.Doing.TheVariants as doing
+
+-- the rows up to a last position
+pub record IsReady (tables : List TableDef) (now : ℕ) (ages : Ages) : Type 0 where
+  pub opened : 1 ≤ now
+  pub many : length ages.tables ≡ length tables
+  pub up_to : IsUpTo now ages
+  pub sound : (at : ℕ) → 1 ≤ at → at ≤ now → AreSound tables ages.next (seen at ages.tables)
+  pub kept : first_broken tables (seen now ages.tables) ≡ None
+
+-- what a session is doing: its open transaction began at a position of the history, with sound operations
+abbrev pub IsReadyToGo : List TableDef → ℕ → ℕ → Doing → Type 0
+IsReadyToGo tables now next doing.Idle = Unit {0}
+IsReadyToGo tables now next (doing.Open begin ops) = (1 ≤ begin) × (begin ≤ now) × AllByRecursion (IsSoundOp tables next) ops
+IsReadyToGo tables now next doing.Skipping = Unit {0}

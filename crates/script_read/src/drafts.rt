@@ -1,0 +1,294 @@
+ghost use Rattle.std.specs.Prelude.{◌≡◌, ◌<◌, ◌≤◌, ◌^◌, ◌∷◌, ◌++◌, [], IfOk, OnErr, length, nat_lt, MatchOption, true, false};
+ghost use Rattle.std.specs.Str.{is_utf8};
+ghost use Rattle.script_words.specs.Lines.{text_of};
+ghost use Rattle.script_words.specs.Words.{after_piece};
+ghost use Rattle.table_read.specs.Verdict.{table_of};
+ghost use Rattle.script_read.specs.Answers.{Answers};
+ghost use Rattle.script_read.specs.Heads.{table_said, tabled};
+ghost use Rattle.script_read.specs.Kinds.{kind_of, part_of};
+ghost use Rattle.script_read.specs.ScriptText.{no_draft, told, with_said, with_table, if_built, if_table_built, read_placed, read_kind, read_line, finished, cluster_name, and_then, most_line_bytes};
+
+use super::bodies::{arm_line, barrier_line, feed_line, say_line, start_line, stop_line};
+use super::built::{has_integers_alone, runs_today};
+use super::heads::{cluster_line, nodes_line, session_line, watch_line, workers_line};
+use super::kinds::{Keyword, LineKind, line_kind, line_part, may_follow};
+use super::reasons::{LIMIT, LONG_LINE, NO_LINE, NO_NODES, NOT_BUILT, NOT_TEXT, WRONG_TABLE};
+use super::said::Said;
+use super::scripts::{BodyLine, Script, ScriptStop, SessionLine, TableLine};
+use cdb_values::{List, Name, Schema, TableDef};
+use script_words::{is_comment, line_text, next_piece};
+use std::alloc::{AllocError, Global};
+use table_read::{TableStop, read_table};
+
+/// The most bytes of a line.
+const MOST_LINE_BYTES: usize = 65_535;
+
+/// What was read of a script so far.
+#[derive(Drop)]
+pub struct Draft {
+    /// The number of stores that there are.
+    pub stores: u64,
+    /// The number of consumers that there are.
+    pub consumers: u64,
+    /// The part in which the last line stands, from 1, or 0 before any line.
+    pub part: u8,
+    /// The number of nodes, or 0 before the line that says it.
+    pub nodes: u8,
+    /// The name of the cluster, where a line says it.
+    pub cluster: Option<Name>,
+    pub workers: u8,
+    pub sessions: List<SessionLine>,
+    /// The tables alone.
+    pub schema: Schema,
+    pub tables: List<TableLine>,
+    pub watches: List<u16>,
+    pub body: List<BodyLine>,
+}
+
+impl Draft {
+    /// Nothing read yet.
+    pub fn new(alloc: Global, stores: u64, consumers: u64) -> Draft
+        ensures { result ≡ no_draft stores consumers }
+    {
+        Draft {
+            stores,
+            consumers,
+            part: 0,
+            nodes: 0,
+            cluster: None,
+            workers: 1,
+            sessions: List::new(alloc),
+            schema: Schema::new(alloc),
+            tables: List::new(alloc),
+            watches: List::new(alloc),
+            body: List::new(alloc),
+        }
+    }
+}
+
+/// One line read behind what was read before it.
+#[tactic(auto, unfolding(crate::specs::ScriptText::read_line), using(crate::proofs::TextLemmas::text_is_short))]
+pub fn line_after(alloc: Global, draft: Draft, line: u64, bytes: &[u8]) -> Result<Draft, ScriptStop>
+    ensures { Answers (λ d. d) result (read_line draft line bytes.now) }
+{
+    let Some(_) = as_text(bytes) else {
+        return Err(ScriptStop::Refused {
+            line,
+            why: NOT_TEXT,
+        });
+    };
+    if MOST_LINE_BYTES < bytes.len() {
+        return Err(ScriptStop::Refused {
+            line,
+            why: LONG_LINE,
+        });
+    }
+    let text = line_text(bytes);
+    if is_comment(text) {
+        return Ok(draft);
+    }
+    text_after(alloc, draft, line, text)
+}
+
+/// Bytes as text; `None` exactly where they are not UTF-8.
+#[tactic(auto, using(crate::proofs::TextLemmas::is_text, crate::proofs::TextLemmas::is_no_text))]
+fn as_text(bytes: &[u8]) -> Option<&str>
+    ensures { MatchOption result (is_utf8 bytes.now ≡ false) (λ text. (is_utf8 bytes.now ≡ true) × (text.now ≡ bytes.now)) }
+{
+    match std::str::from_utf8(bytes) {
+        Ok(text) => Some(text),
+        Err(_) => None,
+    }
+}
+
+/// A text read behind what was read before it.
+fn text_after(alloc: Global, draft: Draft, line: u64, text: &[u8]) -> Result<Draft, ScriptStop>
+    requires { length text.now < 2 ^ 32 }
+    ensures { Answers (λ d. d) result (read_kind draft line text.now (kind_of text.now)) }
+{
+    let Some(kind) = line_kind(text) else {
+        return Err(ScriptStop::Refused { line, why: NO_LINE });
+    };
+    if !may_follow(draft.part, line_part(kind)) {
+        return Err(ScriptStop::Refused { line, why: NO_LINE });
+    }
+    kind_after(alloc, draft, line, text, kind)
+}
+
+/// A line of a kind, where it may come.
+fn kind_after(
+    alloc: Global,
+    draft: Draft,
+    line: u64,
+    text: &[u8],
+    kind: LineKind,
+) -> Result<Draft, ScriptStop>
+    requires { length text.now < 2 ^ 32 }
+    ensures { Answers (λ d. d) result (read_placed draft line text.now kind) }
+{
+    match kind {
+        LineKind::Create => table_after(alloc, draft, line, text),
+        LineKind::Say => {
+            let said = say_line(alloc, &draft, line, text)?;
+            said_after(alloc, draft, line, said)
+        }
+        LineKind::Told(keyword) => {
+            let said = keyword_line(alloc, &draft, line, keyword, next_piece(text).1)?;
+            said_after(alloc, draft, line, said)
+        }
+    }
+}
+
+/// What a line says that a keyword begins, by what stands behind that.
+fn keyword_line(
+    alloc: Global,
+    draft: &Draft,
+    line: u64,
+    keyword: Keyword,
+    rest: &[u8],
+) -> Result<Said, ScriptStop>
+    ensures { Answers (λ said. said) result (told draft.now line rest.now keyword) }
+{
+    match keyword {
+        Keyword::Nodes => nodes_line(draft, line, rest),
+        Keyword::Cluster => cluster_line(alloc, line, rest),
+        Keyword::Workers => workers_line(line, rest),
+        Keyword::Session => session_line(alloc, draft, line, rest),
+        Keyword::Watch => watch_line(alloc, draft, line, rest),
+        Keyword::Stop => stop_line(draft, line, rest),
+        Keyword::Start => start_line(draft, line, rest),
+        Keyword::Arm => arm_line(alloc, draft, line, rest),
+        Keyword::Barrier => barrier_line(line, rest),
+        Keyword::Feed => feed_line(line, rest),
+    }
+}
+
+/// What a line says added to what was read, where it runs today.
+fn said_after(alloc: Global, draft: Draft, line: u64, said: Said) -> Result<Draft, ScriptStop>
+    ensures { Answers (λ d. d) result (if_built draft line said) }
+{
+    if runs_today(alloc, &draft.schema, &said)? {
+        added(draft, line, said)
+    } else {
+        Err(ScriptStop::Refused {
+            line,
+            why: NOT_BUILT,
+        })
+    }
+}
+
+/// What a line says added to what was read.
+fn added(draft: Draft, line: u64, said: Said) -> Result<Draft, ScriptStop>
+    ensures { Answers (λ d. d) result (Ok (with_said draft line said)) }
+{
+    let mut draft = draft;
+    match said {
+        Said::Nodes(nodes) => {
+            draft.part = 1;
+            draft.nodes = nodes;
+            Ok(draft)
+        }
+        Said::Cluster(name) => {
+            draft.part = 2;
+            draft.cluster = Some(name);
+            Ok(draft)
+        }
+        Said::Workers(workers) => {
+            draft.part = 3;
+            draft.workers = workers;
+            Ok(draft)
+        }
+        Said::Session(session) => {
+            draft.part = 4;
+            draft.sessions.push(session)?;
+            Ok(draft)
+        }
+        Said::Watch(place) => {
+            draft.part = 6;
+            draft.watches.push(place)?;
+            Ok(draft)
+        }
+        Said::Runs(act) => {
+            draft.part = 7;
+            draft.body.push(BodyLine { line, act })?;
+            Ok(draft)
+        }
+    }
+}
+
+/// A table added to what was read, where it runs today.
+fn table_after(alloc: Global, draft: Draft, line: u64, text: &[u8]) -> Result<Draft, ScriptStop>
+    requires { length text.now < 2 ^ 32 }
+    ensures { Answers (λ d. d) result (and_then (table_said draft.schema line text.now) (if_table_built draft line)) }
+{
+    let mut draft = draft;
+    let table = table_line(alloc, &mut draft.schema, line, text)?;
+    if !has_integers_alone(&table) {
+        return Err(ScriptStop::Refused {
+            line,
+            why: NOT_BUILT,
+        });
+    }
+    draft.part = 5;
+    draft.tables.push(TableLine { line, table })?;
+    Ok(draft)
+}
+
+/// The table of a line, which is added to the schema.
+fn table_line(
+    alloc: Global,
+    schema: &mut Schema,
+    line: u64,
+    text: &[u8],
+) -> Result<TableDef, ScriptStop>
+    requires { length text.now < 2 ^ 32 }
+    ensures gives { Answers (λ table. table) result (table_said schema.old line text.now) }
+    ensures added { IfOk result (λ table. schema.new ≡ schema.old ++ table ∷ []) }
+{
+    let Some(text) = as_text(text) else {
+        return Err(ScriptStop::Refused {
+            line,
+            why: WRONG_TABLE,
+        });
+    };
+    match read_table(alloc, text, schema) {
+        Ok(table) => Ok(table),
+        Err(TableStop::Unlawful) => Err(ScriptStop::Refused {
+            line,
+            why: WRONG_TABLE,
+        }),
+        Err(TableStop::Limit) => Err(ScriptStop::Refused { line, why: LIMIT }),
+        Err(TableStop::NoMemory) => Err(ScriptStop::NoMemory),
+    }
+}
+
+/// The script at the end of the bytes, where `line` is the number of the line after their last.
+pub fn finish(alloc: Global, draft: Draft, line: u64) -> Result<Script, ScriptStop>
+    ensures { Answers (λ s. s) result (finished draft line) }
+{
+    if draft.part == 0 {
+        return Err(ScriptStop::Refused {
+            line,
+            why: NO_NODES,
+        });
+    }
+    Ok(Script {
+        nodes: draft.nodes,
+        cluster: named_cluster(alloc, draft.cluster)?,
+        workers: draft.workers,
+        sessions: draft.sessions,
+        tables: draft.tables,
+        watches: draft.watches,
+        body: draft.body,
+    })
+}
+
+/// The name of the cluster: `main` where no line says it.
+fn named_cluster(alloc: Global, said: Option<Name>) -> Result<Name, AllocError>
+    ensures { IfOk result (λ name. name ≡ cluster_name said) }
+{
+    match said {
+        None => Name::copied(alloc, b"main"),
+        Some(name) => Ok(name),
+    }
+}

@@ -1,0 +1,24 @@
+//! Facts of all scripts, each the contract of a function that does nothing.
+
+ghost use Rattle.std.specs.Prelude.{◌≡◌, ◌<◌, ◌++◌, ℕ, List, length};
+ghost use Rattle.script_read.specs.CanRun.{CanRun};
+ghost use Rattle.script_read.specs.Lawful.{IsLawful};
+ghost use Rattle.script_read.specs.ScriptText.{script_of, most_bytes};
+ghost use Rattle.script_read.specs.declared.scripts.Script.{Script};
+
+/// Of a script that is read, the names of sessions and of tables are distinct, watches name tables,
+/// each line of the body names a declared session or a node, and lines rise.
+pub fn scripts_are_lawful()
+    ensures { (stores consumers : ℕ) (bytes : List ℕ) (script : Script) → script_of stores consumers bytes ≡ Ok script → IsLawful script }
+{}
+
+/// A script that is read can run: it has one node and no watch, its tables have integer columns
+/// alone, and its body is statements of declared sessions on declared tables.
+pub fn scripts_can_run()
+    ensures { (stores consumers : ℕ) (bytes : List ℕ) (script : Script) → script_of stores consumers bytes ≡ Ok script → CanRun script }
+{}
+
+/// The bytes behind the first one past the limit do not matter.
+pub fn later_bytes_do_not_matter()
+    ensures { (stores consumers : ℕ) (bytes rest : List ℕ) → most_bytes < length bytes → script_of stores consumers (bytes ++ rest) ≡ script_of stores consumers bytes }
+{}

@@ -1,0 +1,54 @@
+ghost use Rattle.std.specs.Prelude.{◌≡◌, ◌+◌, length, take, List, ℕ, [], ◌∷◌, ◌≤◌};
+ghost use Rattle.script_read.specs.Answers.{Answers};
+ghost use Rattle.script_words.specs.Lines.{lines_of, but_last};
+ghost use Rattle.script_read.specs.ScriptText.{script_of, read_lines, no_draft, most_bytes, past_limit, whole_script};
+
+use super::drafts::{Draft, finish, line_after};
+use super::reasons::LIMIT;
+use super::scripts::{Script, ScriptStop};
+use script_words::{before_last_line, next_line};
+use std::alloc::Global;
+
+/// The most bytes of a script.
+const MOST_BYTES: usize = 67_108_864;
+
+/// The script of these bytes, for a run with that many stores and consumers.
+///
+/// Answers `Refused` for the first line that has a reason against it, with the smallest of its
+/// reasons, and `NoMemory` for want of memory alone. No byte behind the 67,108,865th matters.
+pub fn read_script(
+    alloc: Global,
+    bytes: &[u8],
+    stores: u64,
+    consumers: u64,
+) -> Result<Script, ScriptStop>
+    ensures { Answers (λ s. s) result (script_of stores consumers bytes.now) }
+{
+    if MOST_BYTES < bytes.len() {
+        let (held, _) = bytes.split_at(MOST_BYTES + 1);
+        let (_, line) = lines_read(alloc, before_last_line(held), stores, consumers)?;
+        return Err(ScriptStop::Refused { line, why: LIMIT });
+    }
+    let (draft, line) = lines_read(alloc, bytes, stores, consumers)?;
+    finish(alloc, draft, line)
+}
+
+/// All lines of these bytes read one after the other, and the number of the line after them.
+fn lines_read(
+    alloc: Global,
+    bytes: &[u8],
+    stores: u64,
+    consumers: u64,
+) -> Result<(Draft, u64), ScriptStop>
+    ensures { Answers (λ x. x) result (read_lines (no_draft stores consumers) 1 (lines_of bytes.now)) }
+{
+    let mut draft = Draft::new(alloc, stores, consumers);
+    let mut line = 1u64;
+    let mut rest = bytes;
+    'lines: while let Some((text, after)) = next_line(rest) {
+        draft = line_after(alloc, draft, line, text)?;
+        line += 1;
+        rest = after;
+    }
+    Ok((draft, line))
+}

@@ -1,0 +1,5 @@
+pub mod ReadingLemmas
+pub mod StandInLemmas
+pub mod TableLemmas
+pub mod Worked
+pub mod NameLemmas
