@@ -7,7 +7,9 @@ use cdb_outside::{Failed, MemSink, MemSource, MemStore, Sink, Source};
 use std::alloc::{AllocError, Global};
 use std::test::Fail;
 
-const HEAD: &str = "nodes 1\nsession a 1\ncreate table t(id integer primary key, v integer)\n";
+/// Two sessions and a table.
+const HEAD: &str =
+    "nodes 1\nsession a 1\nsession b 1\ncreate table t(id integer primary key, v integer)\n";
 
 /// The words of a command.
 fn words(alloc: Global, words: &[&str]) -> Result<Vec<String>, AllocError> {
@@ -18,7 +20,7 @@ fn words(alloc: Global, words: &[&str]) -> Result<Vec<String>, AllocError> {
     Ok(owned)
 }
 
-/// The status of a run over a source and a sink.
+/// The status of a run over a source and a sink, with one empty store and no consumer.
 fn status_of<S: Source + Drop, K: Sink + Drop>(
     alloc: Global,
     said: &[&str],
@@ -26,10 +28,11 @@ fn status_of<S: Source + Drop, K: Sink + Drop>(
     sink: K,
 ) -> Result<(Status, K), AllocError> {
     let said = words(alloc, said)?;
+    let store = MemStore::new(Vec::new(alloc), Vec::new(alloc), None, 0);
     let mut outside: Outside<S, K, MemStore> = Outside {
         source,
         sink,
-        stores: Vec::new(alloc),
+        stores: vec![in alloc; store]?,
         consumers: Vec::new(alloc),
     };
     let status = run(alloc, said.as_slice(), &mut outside);
@@ -44,8 +47,19 @@ fn played(alloc: Global, said: &[&str], script: &[u8]) -> Result<(Status, Vec<u8
     Ok((status, Vec::from_slice(alloc, sink.taken())?))
 }
 
-/// What is written for a body over the head of the worked script.
+/// These lines, which are parted by ` ; `, each ended by LF.
+fn lines(alloc: Global, parted: &str) -> Result<String, AllocError> {
+    let mut ended = String::new(alloc);
+    for line in parted.split(" ; ") {
+        ended.push_str(line)?;
+        ended.push_str("\n")?;
+    }
+    Ok(ended)
+}
+
+/// What is written for these lines behind the head.
 fn reported(alloc: Global, body: &str) -> Result<String, AllocError> {
+    let body = lines(alloc, body)?;
     let script = format!(in alloc; "{HEAD}{body}")?;
     let (_, text) = played(alloc, &["play"], script.as_bytes())?;
     format!(in alloc;
@@ -58,11 +72,11 @@ const WORKED: &[u8] =
     b"a 1 begin 1\na 1 changed 1\na 1 committed 2\na 2 begin 2\na 2 row 1|10\na 2 done 1\na 2 committed 2\nentry 1 schema\nentry 2 a 1 1 snapshot\nend 2\n";
 
 #[test]
-fn an_insert_and_a_select_are_reported(rt: HostRuntime) -> Result<(), Fail> {
+fn one_script_in_three_spellings(rt: HostRuntime) -> Result<(), Fail> {
     let scripts = [
         b"nodes 1\nsession a 1\ncreate table t(id integer primary key, v integer)\na: insert into t values(1, 10)\na: select * from t".as_slice(),
         b"nodes 1\r\nsession a 1\r\ncreate table t(id integer primary key, v integer)\r\na: insert into t values(1, 10)\r\na: select * from t\r\n".as_slice(),
-        b"# a comment\n\n  nodes\t1 \nsession  a 1\n \t\ncreate table t ( id integer primary key , v integer )\n#\na:insert into t values ( 1 , 10 )\na:  select*from t\n".as_slice(),
+        b"# a comment\n\n  nodes\t1 \nsession  a 1\n \t\nCREATE TABLE t ( id int PRIMARY KEY , v integer ) ;\n#\na:insert into t values ( 1 , 10 )\na:  select*from t\n".as_slice(),
     ];
     for script in scripts {
         let (status, text) = played(rt.alloc(), &["play"], script)?;
@@ -73,33 +87,97 @@ fn an_insert_and_a_select_are_reported(rt: HostRuntime) -> Result<(), Fail> {
 }
 
 #[test]
+fn worked_scripts_have_their_reports(rt: HostRuntime) -> Result<(), Fail> {
+    let rows = [
+        // An insert and a select, each a transaction of its own.
+        (
+            "a: insert into t values(1, 10) ; a: select * from t",
+            "a 1 begin 1 ; a 1 changed 1 ; a 1 committed 2 ; a 2 begin 2 ; a 2 row 1|10 ; a 2 done 1 ; a 2 committed 2 ; entry 1 schema ; entry 2 a 1 1 snapshot ; end 2",
+        ),
+        // Two updates of one row: the second commit would lose the first.
+        (
+            "a: insert into t values(1, 10) ; a: begin ; b: begin ; a: update t set v = 11 where id = 1 ; b: update t set v = 12 where id = 1 ; a: commit ; b: commit",
+            "a 1 begin 1 ; a 1 changed 1 ; a 1 committed 2 ; a 2 begin 2 ; b 1 begin 2 ; a 2 changed 1 ; b 1 changed 1 ; a 2 committed 3 ; b 1 conflict 3 genid t 1 ; entry 1 schema ; entry 2 a 1 1 snapshot ; entry 3 a 2 2 snapshot ; end 3",
+        ),
+        // A duplicate key; then the key freed and taken again within one transaction.
+        (
+            "a: begin ; a: insert into t values(1, 1) ; b: insert into t values(1, 2) ; a: commit ; a: begin ; a: delete from t where id = 1 ; a: insert into t values(1, 3) ; a: commit",
+            "a 1 begin 1 ; a 1 changed 1 ; b 1 begin 1 ; b 1 changed 1 ; b 1 committed 2 ; a 1 duplicate 2 t pk ; a 2 begin 2 ; a 2 changed 1 ; a 2 changed 1 ; a 2 committed 3 ; entry 1 schema ; entry 2 b 1 1 snapshot ; entry 3 a 2 2 snapshot ; end 3",
+        ),
+        // A transaction reads its own writes, and commits where it began since it undid them.
+        (
+            "a: insert into t values(1, 10) ; a: begin ; a: insert into t values(2, 20) ; a: update t set v = 21 where id = 2 ; a: select * from t ; a: delete from t where id = 2 ; a: select * from t ; a: commit",
+            "a 1 begin 1 ; a 1 changed 1 ; a 1 committed 2 ; a 2 begin 2 ; a 2 changed 1 ; a 2 changed 1 ; a 2 row 1|10 ; a 2 row 2|21 ; a 2 done 2 ; a 2 changed 1 ; a 2 row 1|10 ; a 2 done 1 ; a 2 committed 2 ; entry 1 schema ; entry 2 a 1 1 snapshot ; end 2",
+        ),
+        // A second row of a key; the run goes on, and the next transaction begins there.
+        (
+            "a: insert into t values(1, 10) ; a: insert into t values(1, 20) ; b: select * from t where id = 1",
+            "a 1 begin 1 ; a 1 changed 1 ; a 1 committed 2 ; a 2 begin 2 ; a 2 changed 1 ; a 2 duplicate 2 t pk ; b 1 begin 2 ; b 1 row 1|10 ; b 1 done 1 ; b 1 committed 2 ; entry 1 schema ; entry 2 a 1 1 snapshot ; end 2",
+        ),
+        // A snapshot does not move, and one that only read commits where it began.
+        (
+            "a: insert into t values(1, 10) ; a: begin ; b: update t set v = 11 ; a: select * from t ; a: commit ; a: select * from t",
+            "a 1 begin 1 ; a 1 changed 1 ; a 1 committed 2 ; a 2 begin 2 ; b 1 begin 2 ; b 1 changed 1 ; b 1 committed 3 ; a 2 row 1|10 ; a 2 done 1 ; a 2 committed 2 ; a 3 begin 3 ; a 3 row 1|11 ; a 3 done 1 ; a 3 committed 3 ; entry 1 schema ; entry 2 a 1 1 snapshot ; entry 3 b 1 2 snapshot ; end 3",
+        ),
+        // What is rolled back was never there; a transaction that is open at the end is dropped.
+        (
+            "a: begin ; a: insert into t values(1, 10) ; a: rollback ; a: select * from t ; b: begin ; b: insert into t values(1, 20)",
+            "a 1 begin 1 ; a 1 changed 1 ; a 1 rolledback ; a 2 begin 1 ; a 2 done 0 ; a 2 committed 1 ; b 1 begin 1 ; b 1 changed 1 ; entry 1 schema ; end 1",
+        ),
+        // Lines that do not fit change nothing, and the numbers go on from there.
+        (
+            "a: commit ; a: rollback ; a: set transaction snapshot ; a: begin ; a: begin ; a: set transaction snapshot ; a: insert into t values(1, 10) ; a: commit",
+            "a 0 error state ; a 0 error state ; a 0 level snapshot ; a 1 begin 1 ; a 1 error state ; a 1 error state ; a 1 changed 1 ; a 1 committed 2 ; entry 1 schema ; entry 2 a 1 1 snapshot ; end 2",
+        ),
+        // Two updates exchange two keys: keys are tested on the rows after the last operation.
+        (
+            "a: begin ; a: insert into t values(1, 10) ; a: insert into t values(2, 20) ; a: commit ; a: begin ; a: update t set id = 2 where v = 10 ; a: update t set id = 1 where v = 20 ; a: commit ; a: select * from t",
+            "a 1 begin 1 ; a 1 changed 1 ; a 1 changed 1 ; a 1 committed 2 ; a 2 begin 2 ; a 2 changed 1 ; a 2 changed 1 ; a 2 committed 3 ; a 3 begin 3 ; a 3 row 2|10 ; a 3 row 1|20 ; a 3 done 2 ; a 3 committed 3 ; entry 1 schema ; entry 2 a 1 1 snapshot ; entry 3 a 2 2 snapshot ; end 3",
+        ),
+        // A transaction with a conflict and a broken key is told the conflict: the first entry
+        // that took one of its versions, and of these the first that it used itself.
+        (
+            "a: insert into t values(1, 10) ; a: insert into t values(2, 20) ; b: begin ; b: delete from t where id = 2 ; b: delete from t where id = 1 ; b: insert into t values(3, 0) ; a: update t set v = 11 where id = 1 ; a: update t set v = 21 where id = 2 ; a: insert into t values(3, 30) ; b: commit",
+            "a 1 begin 1 ; a 1 changed 1 ; a 1 committed 2 ; a 2 begin 2 ; a 2 changed 1 ; a 2 committed 3 ; b 1 begin 3 ; b 1 changed 1 ; b 1 changed 1 ; b 1 changed 1 ; a 3 begin 3 ; a 3 changed 1 ; a 3 committed 4 ; a 4 begin 4 ; a 4 changed 1 ; a 4 committed 5 ; a 5 begin 5 ; a 5 changed 1 ; a 5 committed 6 ; b 1 conflict 4 genid t 1 ; entry 1 schema ; entry 2 a 1 1 snapshot ; entry 3 a 2 2 snapshot ; entry 4 a 3 3 snapshot ; entry 5 a 4 4 snapshot ; entry 6 a 5 5 snapshot ; end 6",
+        ),
+    ];
+    for (body, report) in rows {
+        let text = reported(rt.alloc(), body)?;
+        let want = lines(rt.alloc(), report)?;
+        assert_eq!(rt; text.as_str(), want.as_str(), "for {body}");
+    }
+    Ok(())
+}
+
+#[test]
 fn scripts_are_refused_at_their_lines(rt: HostRuntime) -> Result<(), Fail> {
     let cases = [
         (b"".as_slice(), 1, 4),
         (b"# nothing\n\n".as_slice(), 3, 4),
-        (b"hello\n".as_slice(), 1, 4),
-        (b"nodes 01\n".as_slice(), 1, 4),
-        (b"NODES 1\n".as_slice(), 1, 4),
+        (b"\xff".as_slice(), 1, 1),
+        (b"hello\n".as_slice(), 1, 3),
+        (b"nodes 01\n".as_slice(), 1, 3),
+        (b"NODES 1\n".as_slice(), 1, 3),
+        (b"nodes 1\nhello\n".as_slice(), 2, 3),
+        (b"nodes 1\nnodes 1\n".as_slice(), 2, 3),
         (b"nodes 8\n".as_slice(), 1, 4),
-        (b"nodes 2\n".as_slice(), 1, 10),
-        (b"nodes 1\n".as_slice(), 2, 10),
-        (b"nodes 1\nnodes 1\n".as_slice(), 2, 10),
-        (b"nodes 1\nsession a 2\n".as_slice(), 2, 10),
-        (b"nodes 1\nsession a 1\n\n".as_slice(), 4, 10),
+        (b"nodes 2\n".as_slice(), 1, 8),
+        (b"nodes 1\nsession a 1\nsession a 1\n".as_slice(), 3, 5),
+        (b"nodes 1\nsession A 2\n".as_slice(), 2, 5),
+        (b"nodes 1\nsession a 2\n".as_slice(), 2, 6),
+        (b"nodes 1\ncreate table t(id real)\n".as_slice(), 2, 7),
         (
-            b"nodes 1\nsession a 1\ncreate table t(c integer, c integer)\n".as_slice(),
-            3,
-            10,
+            b"nodes 1\ncreate table t(c integer, c integer)\n".as_slice(),
+            2,
+            7,
         ),
-        (
-            b"nodes 1\nsession a 1\ncreate table t(c real)\n".as_slice(),
-            3,
-            10,
-        ),
+        (b"nodes 1\nworkers 65\nhello\n".as_slice(), 2, 8),
+        (b"nodes 1\nworkers 1\n\xff".as_slice(), 2, 10),
+        (b"nodes 1\ncreate table t(c text)\n".as_slice(), 2, 10),
         (
             b"nodes 1\nsession a 1\ncreate table t(c integer)\na: \xff\n".as_slice(),
             4,
-            10,
+            1,
         ),
     ];
     for (script, line, why) in cases {
@@ -114,35 +192,30 @@ fn scripts_are_refused_at_their_lines(rt: HostRuntime) -> Result<(), Fail> {
 #[test]
 fn lines_are_refused_in_the_body(rt: HostRuntime) -> Result<(), Fail> {
     let bodies = [
-        "b: select * from t\n",
-        "a: select * from u\n",
-        "a: insert into t values(1)\n",
-        "a: insert into t values(1, 2, 3)\n",
-        "a: insert into t values(9223372036854775808, 1)\n",
-        "a: insert into t values(1, -9223372036854775809)\n",
-        "a: SELECT * from t\n",
-        "a: select * from t;\n",
-        "a : select * from t\n",
-        "a:\n",
-        "barrier\n",
+        ("a : select * from t", 3),
+        ("arm a row 0", 3),
+        ("c: select * from t", 5),
+        ("arm c ship", 5),
+        ("stop 2", 6),
+        ("watch t", 8),
+        ("a:", 10),
+        ("a: select * from u", 10),
+        ("a: select * from t where w = 1", 10),
+        ("a: update t set w = 1", 10),
+        ("a: insert into t values(1)", 10),
+        ("a: insert into t values(9223372036854775808, 1)", 10),
+        ("a: insert into t values(1, -9223372036854775809)", 10),
+        ("a: SELECT * from t", 10),
+        ("a: select * from t;", 10),
+        ("a: set transaction serializable", 10),
+        ("stop 1", 10),
+        ("barrier", 10),
     ];
-    for body in bodies {
+    for (body, why) in bodies {
         let text = reported(rt.alloc(), body)?;
-        assert_eq!(rt; text.as_str(), "refused 4 10\n", "for {body}");
+        let want = format!(in rt.alloc(); "refused 5 {why}\n")?;
+        assert_eq!(rt; text.as_str(), want.as_str(), "for {body}");
     }
-    Ok(())
-}
-
-#[test]
-fn a_second_row_of_a_key_is_a_duplicate(rt: HostRuntime) -> Result<(), Fail> {
-    let text = reported(
-        rt.alloc(),
-        "a: insert into t values(1, 10)\na: insert into t values(1, 20)\n",
-    )?;
-    assert_eq!(rt;
-        text.as_str(),
-        "a 1 begin 1\na 1 changed 1\na 1 committed 2\na 2 begin 2\na 2 changed 1\na 2 duplicate 2 t pk\nentry 1 schema\nentry 2 a 1 1 snapshot\nend 2\n"
-    );
     Ok(())
 }
 
@@ -219,117 +292,41 @@ fn a_sink_that_fails_has_taken_a_front(rt: HostRuntime) -> Result<(), Fail> {
     Ok(())
 }
 
-/// A generated body, and what a slower computation expects of it: rows in a list, keys looked for one
-/// by one, and the history as text.
-#[derive(Drop)]
-struct Generated {
-    body: String,
-    told: String,
-    history: String,
-    rows: Vec<(u64, u64)>,
-    last: u64,
+/// The status and the output of a run over a script that begins with one comment of so many bytes.
+fn after_comment(alloc: Global, length: usize) -> Result<Status, AllocError> {
+    let mut script = Vec::new(alloc);
+    for _ in 0..length {
+        script.push(b'#')?;
+    }
+    script.extend_from_slice(b"\nnodes 1\n")?;
+    let (status, _) = played(alloc, &["play"], script.as_slice())?;
+    Ok(status)
 }
 
-impl Generated {
-    fn new(alloc: Global) -> Result<Generated, AllocError> {
-        Ok(Generated {
-            body: String::new(alloc),
-            told: String::new(alloc),
-            history: String::from_str(alloc, "entry 1 schema\n")?,
-            rows: Vec::new(alloc),
-            last: 1,
-        })
-    }
-
-    fn select(&mut self, alloc: Global, txn: u64) -> Result<(), AllocError> {
-        let last = self.last;
-        self.body.push_str("a: select * from t\n")?;
-        self.told
-            .push_str(format!(in alloc; "a {txn} begin {last}\n")?.as_str())?;
-        for (key, value) in self.rows.as_slice() {
-            let key = *key;
-            let value = *value;
-            self.told
-                .push_str(format!(in alloc; "a {txn} row {key}|{value}\n")?.as_str())?;
-        }
-        let count = self.rows.len();
-        self.told.push_str(format!(in alloc;
-            "a {txn} done {count}\na {txn} committed {last}\n"
-        )?.as_str())
-    }
-
-    fn insert(&mut self, alloc: Global, txn: u64, key: u64, value: u64) -> Result<(), AllocError> {
-        let begin = self.last;
-        let next = begin.saturating_add(1);
-        self.body.push_str(format!(in alloc;
-            "a: insert into t values({key}, {value})\n"
-        )?.as_str())?;
-        self.told.push_str(format!(in alloc;
-            "a {txn} begin {begin}\na {txn} changed 1\n"
-        )?.as_str())?;
-        if self.rows.iter().any(|row| row.0 == key) {
-            return self.told.push_str(format!(in alloc;
-                "a {txn} duplicate {begin} t pk\n"
-            )?.as_str());
-        }
-        self.rows.push((key, value))?;
-        self.last = next;
-        self.told
-            .push_str(format!(in alloc; "a {txn} committed {next}\n")?.as_str())?;
-        self.history.push_str(format!(in alloc;
-            "entry {next} a {txn} {begin} snapshot\n"
-        )?.as_str())
-    }
-}
-
-#[test]
-fn generated_scripts_are_reported_as_expected(rt: HostRuntime) -> Result<(), Fail> {
-    let alloc = rt.alloc();
-    let mut x = 1u64;
-    for seed in 0..6u64 {
-        let mut wanted = Generated::new(alloc)?;
-        for txn in 1..=30u64 {
-            x = x.wrapping_mul(6364136223846793005).wrapping_add(seed | 1);
-            let drawn = x >> 33;
-            if drawn % 4 == 0 {
-                wanted.select(alloc, txn)?;
-            } else {
-                wanted.insert(alloc, txn, drawn / 4 % 16, drawn % 1000)?;
-            }
-        }
-        let Generated {
-            body,
-            told,
-            history,
-            last,
-            ..
-        } = wanted;
-        let text = reported(alloc, body.as_str())?;
-        let want = format!(in alloc; "{told}{history}end {last}\n")?;
-        assert_eq!(rt; text.as_str(), want.as_str());
-    }
-    Ok(())
-}
-
-/// The script of a table with so many columns, and one row.
-fn wide(alloc: Global, columns: usize) -> Result<String, AllocError> {
+/// The status of a run over a table with so many columns, and one row.
+fn wide(alloc: Global, columns: usize) -> Result<Status, AllocError> {
     let mut names = String::from_str(alloc, "c0 integer")?;
     let mut values = String::from_str(alloc, "0")?;
     for i in 1..columns {
         names.push_str(format!(in alloc; ", c{i} integer")?.as_str())?;
         values.push_str(", 0")?;
     }
-    format!(in alloc;
+    let script = format!(in alloc;
         "nodes 1\nsession a 1\ncreate table t({names})\na: insert into t values({values})\n"
-    )
+    )?;
+    let (status, _) = played(alloc, &["play"], script.as_bytes())?;
+    Ok(status)
 }
 
 #[test]
-fn a_table_has_at_most_64_columns(rt: HostRuntime) -> Result<(), Fail> {
+fn limits_hold_to_the_byte_and_the_column(rt: HostRuntime) -> Result<(), Fail> {
     let alloc = rt.alloc();
-    let (status, _) = played(alloc, &["play"], wide(alloc, 64)?.as_bytes())?;
-    assert_eq!(rt; status, Status::Done);
-    let (status, _) = played(alloc, &["play"], wide(alloc, 65)?.as_bytes())?;
-    assert_eq!(rt; status, Status::Refused { line: 3, why: 10 });
+    assert_eq!(rt; after_comment(alloc, 65535)?, Status::Done);
+    assert_eq!(rt;
+        after_comment(alloc, 65536)?,
+        Status::Refused { line: 1, why: 2 }
+    );
+    assert_eq!(rt; wide(alloc, 64)?, Status::Done);
+    assert_eq!(rt; wide(alloc, 65)?, Status::Refused { line: 3, why: 8 });
     Ok(())
 }

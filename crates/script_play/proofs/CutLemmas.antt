@@ -1,25 +1,22 @@
 -- A line that want of memory cuts short leaves the session where its work is.
-use Rattle.std.proofs.Common.{◌≡◌, ℕ, ◌+◌, ◌≤◌, List, [], ◌∷◌, ◌++◌, length, refl, sym, subst, ap, arith, Option, Some, None, ◌∙◌, inl, inr}
+use Rattle.std.proofs.Common.{◌≡◌, ℕ, ◌+◌, List, [], ◌∷◌, ◌++◌, refl, sym, subst, ap, arith, Option, Some, None, ◌∙◌, inl, inr}
 use Rattle.std.proofs.lemmas.List.{append-nil}
-use Rattle.cdb_values.specs.declared.rows.Level.{Level}
 use Rattle.cdb_values.specs.declared.rows.RowOp.{RowOp}
 use Rattle.snapshot_rows.specs.Ages.{Ages}
 use Rattle.statement_read.specs.declared.statements.TextKind.{TextKind}
 use Rattle.statement_read.specs.declared.statements.TextKind.TheVariants as kind
 use Rattle.script_read.specs.declared.scripts.Script.{Script}
 use Rattle.report_text.specs.declared.reports.EntryLine.{EntryLine}
-use Rattle.report_text.specs.declared.reports.ReplyLine.{ReplyLine}
 use Rattle.report_text.specs.declared.reports.ReplyLine.TheVariants as reply
 use Rattle.report_laws.specs.Answer.{answer, alone}
 use Rattle.report_laws.specs.History.{nothing_before, rows_at}
 use Rattle.report_laws.specs.Play.{number_by}
-use Rattle.report_laws.specs.Told.{Numbered, IsCut, numbered, alone_at}
+use Rattle.report_laws.specs.Told.{Numbered, IsCut, numbered}
 use Rattle.report_laws.specs.Work.{Does, Place, End, ByCommit, ByRollback, WithItsLine, Nowhere, transaction, tables_of, with_open, with_own_line, closed, next_by}
 use Rattle.report_laws.specs.declared.items.GenidItem.{GenidItem}
 use Rattle.report_laws.proofs.AnswerLemmas.{replies_more}
 use Rattle.script_play.specs.SoFar.{Standing}
 use Rattle.script_play.specs.Step.{Cut, cut_by, site}
-use Rattle.script_play.specs.declared.sites.Site.{Site}
 use Rattle.script_play.specs.declared.sites.Doing.{Doing}
 use Rattle.script_play.specs.declared.sites.Doing.TheVariants as doing
 use Rattle.script_play.proofs.StandingLemmas.{idle_after, in_transaction}

@@ -1,7 +1,7 @@
 -- Whatever is decided on a transaction at its commit is right, and the history and the rows stay in order.
-use Rattle.std.proofs.Common.{◌≡◌, ◌≢◌, ℕ, ◌+◌, ◌-◌, ◌≤◌, ◌<◌, List, [], ◌∷◌, ◌++◌, length, map, refl, sym, subst, ap, arith, Option, Some, None, ◌∙◌, unwrap_or, max, ◌⊎◌, inl, inr}
+use Rattle.std.proofs.Common.{◌≡◌, ◌≢◌, ℕ, ◌+◌, ◌-◌, ◌≤◌, List, [], ◌∷◌, ◌++◌, length, map, refl, sym, subst, ap, arith, Option, Some, None, ◌∙◌, unwrap_or, ◌⊎◌, inl, inr}
 use Rattle.std.proofs.lemmas.List.{length-append, append-nil}
-use Rattle.std.specs.List.{AllByRecursion, slice_get}
+use Rattle.std.specs.List.{slice_get}
 use Rattle.std.specs.Prelude.{drop}
 use Rattle.cdb_values.specs.Good.{first_broken, KeyName}
 use Rattle.cdb_values.specs.Rows.{Rows, apply_all}
@@ -11,12 +11,12 @@ use Rattle.script_read.specs.declared.scripts.Script.{Script}
 use Rattle.report_text.specs.declared.reports.EntryLine.{EntryLine}
 use Rattle.report_text.specs.declared.reports.ReplyLine.{ReplyLine}
 use Rattle.report_text.specs.declared.reports.ReplyLine.TheVariants as reply
-use Rattle.report_laws.specs.History.{nothing_before, rows_at, taken_at, taken_by, first_touched, IsUntouched}
+use Rattle.report_laws.specs.History.{nothing_before, taken_by, first_touched}
 use Rattle.report_laws.specs.Outcome.{IsRight, IsDecided, IsConflict, IsDuplicate, name_of_table}
 use Rattle.report_laws.specs.Paced.{Paced}
 use Rattle.report_laws.specs.Work.{Transaction, tables_of}
 use Rattle.report_laws.specs.declared.items.GenidItem.{GenidItem}
-use Rattle.transaction_answers.specs.Decisions.{first_conflict, Touched, decision, judged, by_key, conflict_told, added_by}
+use Rattle.transaction_answers.specs.Decisions.{first_conflict, Touched, decision, judged, by_key, added_by}
 use Rattle.transaction_answers.proofs.ConflictLemmas.{one_since, IsFirstSince}
 use Rattle.transaction_answers.proofs.SoundLemmas.{named}
 use Rattle.script_play.specs.SoFar.{Stored}

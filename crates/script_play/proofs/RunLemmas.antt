@@ -1,11 +1,9 @@
 -- A line of the script more keeps the run so far.
-use Rattle.std.proofs.Common.{◌≡◌, ℕ, ◌+◌, ◌≤◌, ◌<◌, List, [], ◌∷◌, ◌++◌, length, map, refl, sym, subst, ap, arith, Option, Some, None, ◌∙◌, Bool, true, false, append_assoc, ◌⊎◌, inl, inr, eq-eqb}
+use Rattle.std.proofs.Common.{◌≡◌, ℕ, ◌+◌, ◌≤◌, List, [], ◌∷◌, ◌++◌, length, map, refl, sym, subst, ap, arith, Option, Some, None, ◌∙◌, Bool, true, false, append_assoc, ◌⊎◌, inl, inr, eq-eqb}
 use Rattle.std.proofs.lemmas.List.{append-nil}
 use Rattle.std.specs.List.{AllByRecursion}
 use Rattle.std.specs.Str.{bytes_eq}
 use Rattle.std.specs.Cmp.Lexicographic.{same_text}
-use Rattle.cdb_values.specs.declared.rows.Level.TheVariants.{Snapshot}
-use Rattle.cdb_values.specs.declared.rows.RowOp.{RowOp}
 use Rattle.cdb_values.specs.declared.tables.ColumnDef.{ColumnDef}
 use Rattle.cdb_values.specs.declared.tables.TableDef.{TableDef}
 use Rattle.cdb_values.specs.declared.tables.ColumnType.TheVariants.{Integer}
@@ -14,7 +12,7 @@ use Rattle.statement_read.specs.OnTables.{IsOn}
 use Rattle.statement_read.specs.Statements.{statement_of, kind_of}
 use Rattle.statement_read.specs.declared.statements.TextKind.{TextKind}
 use Rattle.statement_read.specs.declared.statements.TextKind.TheVariants as kind
-use Rattle.script_read.specs.CanRun.{CanRun, AreTaken}
+use Rattle.script_read.specs.CanRun.{CanRun}
 use Rattle.script_read.specs.declared.scripts.Script.{Script}
 use Rattle.script_read.specs.declared.scripts.BodyLine.{BodyLine}
 use Rattle.script_read.specs.declared.scripts.Act.{Act}
@@ -25,22 +23,21 @@ use Rattle.report_text.specs.declared.reports.Line.{Line}
 use Rattle.report_text.specs.declared.reports.Line.TheVariants as line
 use Rattle.report_text.specs.declared.reports.ReplyLine.{ReplyLine}
 use Rattle.report_text.specs.declared.reports.ReplyLine.TheVariants as reply
-use Rattle.report_laws.specs.Each.{EachAfter, StandsIn}
+use Rattle.report_laws.specs.Each.{StandsIn}
 use Rattle.report_laws.specs.History.{nothing_before, taken_by}
-use Rattle.report_laws.specs.Lawful.{IsFreshLine, IsAnswered, IsOfSession, NameUpTo}
+use Rattle.report_laws.specs.Lawful.{IsFreshLine, IsAnswered, IsOfSession}
 use Rattle.report_laws.specs.Paced.{Paced}
-use Rattle.report_laws.specs.Play.{IsLatest, BelongsTo, number_by, number_told}
-use Rattle.report_laws.specs.Told.{told, lines_of, numbered, Numbered}
-use Rattle.report_laws.specs.Work.{Transaction, Item, Does, Place, next_by, next_place, place_after, tables_of, transaction_of, said, start}
+use Rattle.report_laws.specs.Play.{IsLatest, BelongsTo, number_told}
+use Rattle.report_laws.specs.Told.{told, lines_of, numbered}
+use Rattle.report_laws.specs.Work.{Place, next_by, next_place, place_after, tables_of, said}
 use Rattle.report_laws.specs.declared.items.GenidItem.{GenidItem}
 use Rattle.report_laws.proofs.EachLemmas.{each_append, all_append, all_map, stands_more, stands_added}
 use Rattle.report_laws.proofs.LineLemmas.{ArePaced, paced_laws, named_more, in_order_more, lines_belong}
 use Rattle.report_laws.proofs.ToldLemmas.{told_append, told_own, told_other}
 use Rattle.report_laws.proofs.WorkLemmas.{after_own, after_other, its_transaction, level_stays}
 use Rattle.script_play.specs.SoFar.{SoFar, Stored, Standing, IsPast, IsEnded, site_of}
-use Rattle.script_play.specs.Step.{World, Turned, Cut, IsTurned, IsCutShort, IsKept, turn, turn_by, cut_by, entries_added}
+use Rattle.script_play.specs.Step.{Turned, Cut, IsTurned, IsCutShort, IsKept, turn, turn_by, cut_by, entries_added}
 use Rattle.script_play.specs.declared.sites.Site.{Site}
-use Rattle.script_play.specs.declared.sites.Doing.{Doing}
 use Rattle.script_play.proofs.StoredLemmas.{world, entry_of}
 use Rattle.script_play.proofs.StandingLemmas.{Grows, grows_length, stands_on}
 use Rattle.script_play.proofs.TurnLemmas.{Comes, Turns, IsNews, IsPastOf, turns}
@@ -88,7 +85,6 @@ pub record Keeps (script : Script) (done : List BodyLine) (l : BodyLine) (lines 
 
 module _ (script : Script) (done left : List BodyLine) (l : BodyLine) (lines : List Line) (entries : List EntryLine) (taken : List (List GenidItem)) (ages : Ages) (sites sites' : List Site) (name text : List ℕ)
     (was : SoFar script done (l ∷ left) lines entries taken ages sites) (is_act : l.act ≡ Say name text) where
-
   abbrev pub place : Place
   place = place_after name done
 
@@ -189,7 +185,12 @@ module _ (script : Script) (done left : List BodyLine) (l : BodyLine) (lines : L
   pub turn_keeps : (entries' : List EntryLine) (taken' : List (List GenidItem)) (ages' : Ages) (t : Turned) → Turns script entries entries' taken' ages ages' name (next_place place text) (told name lines) (number_told place text) t →
       Keeps script done l lines entries entries' taken' ages ages' name text t.number t.replies t.after
   turn_keeps entries' taken' ages' t turn = record {
-    stored = turn.stored; grows = turn.grows; next = turn.next; stands = turn.stands; paced = turn.paced; belongs = turn.number;
+    stored = turn.stored;
+    grows = turn.grows;
+    next = turn.next;
+    stands = turn.stands;
+    paced = turn.paced;
+    belongs = turn.number;
     answered = answered turn.news;
     ended = ended turn.news;
   }

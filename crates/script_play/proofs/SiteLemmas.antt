@@ -1,5 +1,5 @@
 -- Where a session is, by its place among the sessions, and that a line of its own changes no other.
-use Rattle.std.proofs.Common.{◌≡◌, ℕ, zero, suc, ◌+◌, ◌≤◌, ◌<◌, List, [], ◌∷◌, ◌++◌, length, map, refl, sym, subst, ap, arith, Option, Some, None, ◌∙◌, Bool, true, false, ◌⊎◌, inl, inr, if◌then◌else◌, slice_set}
+use Rattle.std.proofs.Common.{◌≡◌, ℕ, zero, suc, ◌+◌, ◌≤◌, ◌<◌, List, [], ◌∷◌, ◌++◌, length, map, refl, sym, subst, ap, arith, Option, Some, None, ◌∙◌, Bool, true, false, inl, inr, if◌then◌else◌, slice_set}
 use Rattle.std.proofs.lemmas.List.{length-set}
 use Rattle.std.specs.List.{AllByRecursion, slice_get}
 use Rattle.std.specs.Str.{bytes_eq}
@@ -9,8 +9,8 @@ use Rattle.cdb_values.specs.declared.tables.ColumnType.TheVariants.{Integer}
 use Rattle.snapshot_rows.specs.Ages.{Ages, seen}
 use Rattle.snapshot_rows.specs.declared.ages.Age.{Age}
 use Rattle.statement_read.specs.OnTables.{IsOn}
-use Rattle.statement_read.specs.Statements.{statement_of, kind_of}
-use Rattle.script_read.specs.CanRun.{CanRun, IsDeclared, IsSaid}
+use Rattle.statement_read.specs.Statements.{statement_of}
+use Rattle.script_read.specs.CanRun.{IsDeclared, IsSaid}
 use Rattle.script_read.specs.declared.scripts.Script.{Script}
 use Rattle.script_read.specs.declared.scripts.Act.{Act}
 use Rattle.script_read.specs.declared.scripts.Act.TheVariants.{Say}
@@ -20,13 +20,11 @@ use Rattle.script_read.specs.declared.scripts.TableLine.{TableLine}
 use Rattle.report_text.specs.declared.reports.EntryLine.{EntryLine}
 use Rattle.report_text.specs.declared.reports.Line.{Line}
 use Rattle.report_text.specs.declared.reports.ReplyLine.{ReplyLine}
-use Rattle.report_laws.specs.Told.{told}
 use Rattle.report_laws.specs.Work.{Place, place_after, tables_of}
 use Rattle.report_laws.specs.declared.items.GenidItem.{GenidItem}
-use Rattle.transaction_answers.specs.Sound.{AreSound}
 use Rattle.transaction_answers.proofs.SoundLemmas.{sound_length}
 use Rattle.script_play.specs.Ready.{IsReady, IsReadyToGo}
-use Rattle.script_play.specs.SoFar.{IsBefore, IsDoing, SoFar, Stored, Standing, site_of, session_from, session_at}
+use Rattle.script_play.specs.SoFar.{IsBefore, IsDoing, SoFar, Stored, site_of, session_from, session_at}
 use Rattle.script_play.specs.Step.{IsTaken, world_of}
 use Rattle.script_play.specs.declared.sites.Site.{Site}
 use Rattle.script_play.specs.declared.sites.Doing.{Doing}
@@ -53,27 +51,31 @@ within k name (s ∷ ss) at is = pick (bytes_eq s.name name) (within (k + 1) nam
 -- a declared session has a place
 pub declared : (k : ℕ) (name : List ℕ) (ss : List SessionLine) → IsDeclared name ss → session_from k name ss ≡ None → ⊥
 declared k name [] is none = is
-declared k name (s ∷ ss) is none = pick (bytes_eq s.name name) refl none
+declared k name (s ∷ ss) (inl same) none = pick (bytes_eq s.name name) refl none
   where
     pick : (b : Bool) → bytes_eq s.name name ≡ b → (if b then Some k else session_from (k + 1) name ss) ≡ None → ⊥
-    pick true same found = absurd cc
-    pick false differs found = go is
-      where
-        go : (s.name ≡ name) ⊎ IsDeclared name ss → ⊥
-        go (inl same) = let yes = ap (λ n. bytes_eq n name) same ∙ same_itself name in absurd cc
-        go (inr more) = declared (k + 1) name ss more found
+    pick true same_ found = absurd cc
+    pick false other found = let itself : bytes_eq s.name name ≡ true = ap (λ n. bytes_eq n name) same ∙ same_itself name in absurd cc
+declared k name (s ∷ ss) (inr more) none = pick (bytes_eq s.name name) (declared (k + 1) name ss more) none
+  where
+    pick : (b : Bool) → (session_from (k + 1) name ss ≡ None → ⊥) → (if b then Some k else session_from (k + 1) name ss) ≡ None → ⊥
+    pick true later found = absurd cc
+    pick false later found = later found
 
 -- the session at its place is there
 pub found_site : (k : ℕ) (name : List ℕ) (ss : List SessionLine) (sites : List Site) (at i : ℕ) (x : Site) → session_from k name ss ≡ Some at → at ≡ k + i → slice_get sites i ≡ Some x → site_of name ss sites ≡ x
 found_site k name [] sites at i x is place has = absurd cc
 found_site k name (s ∷ ss) [] at i x is place has = absurd cc
-found_site k name (s ∷ ss) (y ∷ ys) at i x is place has = pick (bytes_eq s.name name) i is place has
+found_site k name (s ∷ ss) (y ∷ ys) at zero x is place has = pick (bytes_eq s.name name) is
   where
-    pick : (b : Bool) (j : ℕ) → (if b then Some k else session_from (k + 1) name ss) ≡ Some at → at ≡ k + j → slice_get (y ∷ ys) j ≡ Some x → (if b then y else site_of name ss ys) ≡ x
-    pick true zero found e has = cc
-    pick true (suc j) found e has = let same : k ≡ at = cc in absurd (omega (arith, same, e))
-    pick false zero found e has = let least = from_least (k + 1) name ss at found in absurd (omega (arith, least, e))
-    pick false (suc j) found e has = found_site (k + 1) name ss ys at j x found (omega (arith, e)) has
+    pick : (b : Bool) → (if b then Some k else session_from (k + 1) name ss) ≡ Some at → (if b then y else site_of name ss ys) ≡ x
+    pick true found = cc
+    pick false found = let least = from_least (k + 1) name ss at found in absurd (omega (arith, least, place))
+found_site k name (s ∷ ss) (y ∷ ys) at (suc i) x is place has = pick (bytes_eq s.name name) (λ found. found_site (k + 1) name ss ys at i x found (omega (arith, place)) has) is
+  where
+    pick : (b : Bool) → (session_from (k + 1) name ss ≡ Some at → site_of name ss ys ≡ x) → (if b then Some k else session_from (k + 1) name ss) ≡ Some at → (if b then y else site_of name ss ys) ≡ x
+    pick true later found = let same : k ≡ at = cc in absurd (omega (arith, same, place))
+    pick false later found = later found
 
 -- a session that is put there is there
 pub set_site : (k : ℕ) (name : List ℕ) (ss : List SessionLine) (sites : List Site) (at i : ℕ) (x : Site) → session_from k name ss ≡ Some at → at ≡ k + i → i < length sites → site_of name ss (slice_set sites i x) ≡ x
@@ -84,11 +86,11 @@ set_site k name (s ∷ ss) (y ∷ ys) at zero x is place inside = pick (bytes_eq
     pick : (b : Bool) → (if b then Some k else session_from (k + 1) name ss) ≡ Some at → (if b then x else site_of name ss ys) ≡ x
     pick true found = refl
     pick false found = let least = from_least (k + 1) name ss at found in absurd (omega (arith, least, place))
-set_site k name (s ∷ ss) (y ∷ ys) at (suc i) x is place inside = pick (bytes_eq s.name name) is
+set_site k name (s ∷ ss) (y ∷ ys) at (suc i) x is place inside = pick (bytes_eq s.name name) (λ found. set_site (k + 1) name ss ys at i x found (omega (arith, place)) (omega (arith, inside))) is
   where
-    pick : (b : Bool) → (if b then Some k else session_from (k + 1) name ss) ≡ Some at → (if b then y else site_of name ss (slice_set ys i x)) ≡ x
-    pick true found = let same : k ≡ at = cc in absurd (omega (arith, same, place))
-    pick false found = set_site (k + 1) name ss ys at i x found (omega (arith, place)) (omega (arith, inside))
+    pick : (b : Bool) → (session_from (k + 1) name ss ≡ Some at → site_of name ss (slice_set ys i x) ≡ x) → (if b then Some k else session_from (k + 1) name ss) ≡ Some at → (if b then y else site_of name ss (slice_set ys i x)) ≡ x
+    pick true later found = let same : k ≡ at = cc in absurd (omega (arith, same, place))
+    pick false later found = later found
 
 -- and every other session is where it was
 pub other_site : (k : ℕ) (name m : List ℕ) (ss : List SessionLine) (sites : List Site) (at i : ℕ) (x : Site) → session_from k name ss ≡ Some at → at ≡ k + i → bytes_eq name m ≡ false → site_of m ss (slice_set sites i x) ≡ site_of m ss sites
@@ -99,15 +101,16 @@ other_site k name m (s ∷ ss) (y ∷ ys) at zero x is place differs = pick (byt
     pick : (b : Bool) → bytes_eq s.name name ≡ b → (if b then Some k else session_from (k + 1) name ss) ≡ Some at → (if bytes_eq s.name m then x else site_of m ss ys) ≡ (if bytes_eq s.name m then y else site_of m ss ys)
     pick true same found = let no : bytes_eq s.name m ≡ false = ap (λ n. bytes_eq n m) (same_name s.name name same) ∙ differs in rw no refl
     pick false other found = let least = from_least (k + 1) name ss at found in absurd (omega (arith, least, place))
-other_site k name m (s ∷ ss) (y ∷ ys) at (suc i) x is place differs = pick (bytes_eq s.name name) is
+other_site k name m (s ∷ ss) (y ∷ ys) at (suc i) x is place differs = pick (bytes_eq s.name name) (λ found. other_site (k + 1) name m ss ys at i x found (omega (arith, place)) differs) is
   where
     go : (b : Bool) → site_of m ss (slice_set ys i x) ≡ site_of m ss ys → (if b then y else site_of m ss (slice_set ys i x)) ≡ (if b then y else site_of m ss ys)
     go true same = refl
     go false same = same
 
-    pick : (b : Bool) → (if b then Some k else session_from (k + 1) name ss) ≡ Some at → (if bytes_eq s.name m then y else site_of m ss (slice_set ys i x)) ≡ (if bytes_eq s.name m then y else site_of m ss ys)
-    pick true found = let same : k ≡ at = cc in absurd (omega (arith, same, place))
-    pick false found = go (bytes_eq s.name m) (other_site (k + 1) name m ss ys at i x found (omega (arith, place)) differs)
+    pick : (b : Bool) → (session_from (k + 1) name ss ≡ Some at → site_of m ss (slice_set ys i x) ≡ site_of m ss ys) → (if b then Some k else session_from (k + 1) name ss) ≡ Some at →
+        (if bytes_eq s.name m then y else site_of m ss (slice_set ys i x)) ≡ (if bytes_eq s.name m then y else site_of m ss ys)
+    pick true later found = let same : k ≡ at = cc in absurd (omega (arith, same, place))
+    pick false later found = go (bytes_eq s.name m) (later found)
 
 -- columns of integers
 pub all_integers : (ts : List TableLine) → AllByRecursion (λ (t : TableLine). AllByRecursion (λ (c : ColumnDef). c.kind ≡ Integer) t.table.columns) ts →
@@ -193,3 +196,9 @@ turn_taken script left l lines lines' entries entries' taken taken' ages ages' s
         lines' entries' taken' ages' done (own ∙ there) others
     go (inr (c, is, short, there)) = cut_keeps script before.done left l lines entries taken ages sites (slice_set sites at after) name text before.so_far is_act before.can_run on (all_integers script.tables before.can_run.integers)
         lines' entries' taken' ages' c is short (own ∙ there) others
+
+-- what is put at a place twice is what was put there last
+pub set_again : {A : Type 0} (xs : List A) (i : ℕ) (x y : A) → slice_set (slice_set xs i x) i y ≡ slice_set xs i y
+set_again [] i x y = refl
+set_again (z ∷ zs) zero x y = refl
+set_again (z ∷ zs) (suc i) x y = ap (λ rest. z ∷ rest) (set_again zs i x y)

@@ -1,25 +1,23 @@
 -- A session's lines stay those of its work when the history grows, and when a line of its own is done.
-use Rattle.std.proofs.Common.{◌≡◌, ℕ, ◌+◌, ◌≤◌, List, [], ◌∷◌, ◌++◌, length, map, refl, sym, subst, ap, arith, Option, Some, None, ◌∙◌, append_assoc, ◌⊎◌, inl, inr}
+use Rattle.std.proofs.Common.{◌≡◌, ℕ, ◌≤◌, List, [], ◌∷◌, ◌++◌, length, refl, sym, subst, ap, arith, Option, Some, None, ◌∙◌, ◌⊎◌, inl, inr}
 use Rattle.std.proofs.lemmas.List.{length-append, append-nil}
 use Rattle.std.specs.List.{AllByRecursion}
 use Rattle.cdb_values.specs.Rows.{Rows}
 use Rattle.cdb_values.specs.declared.rows.Level.{Level}
 use Rattle.cdb_values.specs.declared.rows.RowOp.{RowOp}
-use Rattle.cdb_values.specs.declared.rows.Version.{Version}
 use Rattle.script_read.specs.declared.scripts.Script.{Script}
 use Rattle.report_text.specs.declared.reports.EntryLine.{EntryLine}
 use Rattle.report_text.specs.declared.reports.ReplyLine.{ReplyLine}
 use Rattle.report_text.specs.declared.reports.ReplyLine.TheVariants as reply
-use Rattle.report_laws.specs.Answer.{Answered, answer, alone, alone_from}
+use Rattle.report_laws.specs.Answer.{Answered, answer, alone}
 use Rattle.report_laws.specs.History.{nothing_before, rows_at}
-use Rattle.report_laws.specs.Outcome.{IsRight, IsDecided}
+use Rattle.report_laws.specs.Outcome.{IsRight}
 use Rattle.report_laws.specs.Told.{Along, Numbered, IsCut, numbered, alone_at}
-use Rattle.report_laws.specs.Work.{Transaction, Item, Does, Lone, Place, End, ByCommit, ByRollback, WithItsLine, Nowhere, transaction, tables_of, with_item, with_open, with_own_line, closed, number_of}
+use Rattle.report_laws.specs.Work.{Transaction, Item, Does, Lone, Place, Nowhere, transaction, tables_of, with_open, number_of}
 use Rattle.report_laws.proofs.EachLemmas.{all_map}
 use Rattle.report_laws.proofs.HistoryLemmas.{rows_stay}
 use Rattle.report_laws.proofs.OutcomeLemmas.{right_stays}
-use Rattle.report_laws.proofs.ToldLemmas.{along_append, along_one, along_map, numbered_append}
-use Rattle.transaction_answers.specs.Sound.{IsSoundOp}
+use Rattle.report_laws.proofs.ToldLemmas.{along_append, along_one, along_map}
 use Rattle.transaction_answers.proofs.SoundLemmas.{ops_later}
 use Rattle.script_play.specs.SoFar.{IsDone, IsOver, IsOpen, IsDoing, Standing}
 use Rattle.script_play.specs.Step.{site}
@@ -107,14 +105,25 @@ open_later script entries next next' p None (doing.Open begin ops) mine le is = 
 open_later script entries next next' p None doing.Skipping mine le is = absurd is
 open_later script entries next next' p (Some texts) doing.Idle mine le is = absurd is
 open_later script entries next next' p (Some texts) (doing.Open begin ops) mine le is = record {
-  first = is.first; within = is.within; says = is.says; ops_are = is.ops_are; sound = ops_later (tables_of script) next next' ops le is.sound }
+  first = is.first;
+  within = is.within;
+  says = is.says;
+  ops_are = is.ops_are;
+  sound = ops_later (tables_of script) next next' ops le is.sound;
+}
 open_later script entries next next' p (Some texts) doing.Skipping mine le is = is
 
 -- a session stays where it is when the history grows
 pub stands_on : (script : Script) (entries entries' : List EntryLine) (next next' : ℕ) (name : List ℕ) (p : Place) (lines : List Numbered) (at : Site) → Grows entries entries' → next ≤ next' →
     Standing script entries next name p lines at → Standing script entries' next' name p lines at
 stands_on script entries entries' next next' name p lines at (inl same) le was = subst (λ es. Standing script es next' name p lines at) (sym same) (record {
-  before = was.before; mine = was.mine; is = was.is; past = was.past; number = was.number; doing = open_later script entries next next' p p.pending at.doing was.mine le was.doing })
+  before = was.before;
+  mine = was.mine;
+  is = was.is;
+  past = was.past;
+  number = was.number;
+  doing = open_later script entries next next' p p.pending at.doing was.mine le was.doing;
+})
 stands_on script entries entries' next next' name p lines at (inr (e, grows)) le was = subst (λ es. Standing script es next' name p lines at) (sym grows) (grown_stands script entries e next next' name p lines at le was)
 
 -- what is over stays so, and so does what a transaction run alone gives

@@ -1,36 +1,30 @@
 -- The history and the rows stay in order when a transaction comes to its commit.
-use Rattle.std.proofs.Common.{◌≡◌, ◌≢◌, ℕ, ◌+◌, ◌-◌, ◌≤◌, ◌<◌, List, [], ◌∷◌, ◌++◌, length, map, refl, sym, subst, ap, arith, Option, Some, None, ◌∙◌, Bool, true, false, unwrap_or, max, ◌⊎◌, inl, inr}
+use Rattle.std.proofs.Common.{◌≡◌, ◌≢◌, ℕ, ◌+◌, ◌-◌, ◌≤◌, ◌<◌, List, [], ◌∷◌, ◌++◌, length, sym, subst, ap, arith, Option, Some, None, ◌∙◌, false, unwrap_or, ◌⊎◌, inl, inr}
 use Rattle.std.proofs.lemmas.List.{length-append}
 use Rattle.std.proofs.Math.Nat.{eq-or-lt_of_le}
 use Rattle.std.specs.List.{AllByRecursion, slice_get}
 use Rattle.std.specs.Prelude.{drop}
-use Rattle.cdb_values.specs.Good.{AllFit, IsGood, first_broken, KeyName}
+use Rattle.cdb_values.specs.Good.{AllFit, IsGood, first_broken}
 use Rattle.cdb_values.specs.Rows.{Rows, apply_all}
 use Rattle.cdb_values.specs.declared.rows.Level.TheVariants.{Snapshot}
 use Rattle.cdb_values.specs.declared.rows.RowOp.{RowOp}
 use Rattle.cdb_values.specs.declared.rows.Version.{Version}
-use Rattle.cdb_values.specs.declared.tables.TableDef.{TableDef}
-use Rattle.cdb_values.specs.declared.tables.ColumnType.TheVariants.{Integer}
 use Rattle.snapshot_rows.specs.Ages.{Ages, IsUpTo, seen, rows_seen}
-use Rattle.script_read.specs.CanRun.{AreTaken}
 use Rattle.script_read.specs.declared.scripts.Script.{Script}
 use Rattle.report_text.specs.declared.reports.EntryLine.{EntryLine}
 use Rattle.report_text.specs.declared.reports.EntryLine.TheVariants.{Commit}
-use Rattle.report_text.specs.declared.reports.ReplyLine.{ReplyLine}
 use Rattle.report_text.specs.declared.reports.ReplyLine.TheVariants as reply
-use Rattle.report_laws.specs.Answer.{alone}
-use Rattle.report_laws.specs.Each.{EachAfter}
-use Rattle.report_laws.specs.History.{nothing_before, rows_at, rows_after, states_of, ops_of, ops_alone, taken_at, taken_by, first_touched, entry_at, IsEntryAfter, IsCommitAfter, IsUntouched, is_entry_of}
+use Rattle.report_laws.specs.History.{nothing_before, rows_at, rows_after, states_of, ops_of, ops_alone, taken_at, taken_by, first_touched, IsEntryAfter, IsCommitAfter, IsUntouched, is_entry_of}
 use Rattle.report_laws.specs.Outcome.{IsRight, IsEntered}
 use Rattle.report_laws.specs.Told.{alone_at}
 use Rattle.report_laws.specs.Work.{Transaction, transaction_of, tables_of}
 use Rattle.report_laws.specs.declared.items.GenidItem.{GenidItem}
-use Rattle.report_laws.proofs.EachLemmas.{each_append, all_append, get_front, get_next}
+use Rattle.report_laws.proofs.EachLemmas.{each_append, get_front, get_next}
 use Rattle.report_laws.proofs.HistoryLemmas.{rows_stay, rows_new, entry_new, taken_stays, taken_new, untouched_stays}
-use Rattle.transaction_answers.specs.Decisions.{first_conflict, Touched, decision, judged, by_key, conflict_told, added_by}
+use Rattle.transaction_answers.specs.Decisions.{first_conflict}
 use Rattle.transaction_answers.specs.Sound.{AreSound, IsSoundOp}
-use Rattle.transaction_answers.proofs.ConflictLemmas.{none_since, one_since}
-use Rattle.transaction_answers.proofs.SoundLemmas.{sound_later, named}
+use Rattle.transaction_answers.proofs.ConflictLemmas.{none_since}
+use Rattle.transaction_answers.proofs.SoundLemmas.{sound_later}
 use Rattle.script_play.specs.SoFar.{Stored}
 use Rattle.script_play.specs.Step.{World, world_of, IsKept}
 
@@ -152,7 +146,7 @@ module _ (script : Script) (entries : List EntryLine) (taken : List (List GenidI
       taken_are = at_next (λ k. unwrap_or (slice_get taken' (k - 1)) [] ≡ taken_at script nothing_before more k) taken_before taken_there;
       sound = at_next (λ at. AreSound (tables_of script) ages'.next (seen at ages'.tables))
           (λ at first within. subst (λ (vs : List (List Version)). AreSound (tables_of script) ages'.next vs) (sym (kept.1 at (omega (arith, within))))
-              (sound_later (tables_of script) ages.next ages'.next (seen at ages.tables) (let g = c.grows in let n = next_is in omega (arith, g, n)) (c.stored.sound at first within)))
+          (sound_later (tables_of script) ages.next ages'.next (seen at ages.tables) (let g = c.grows in let n = next_is in omega (arith, g, n)) (c.stored.sound at first within)))
           (subst (λ (vs : List (List Version)). AreSound (tables_of script) ages'.next vs) (sym tables_are) (subst (λ k. AreSound (tables_of script) k (apply_all (rows_seen ages now) ops).tables) (sym next_is) c.applied));
       kept = subst (λ k. first_broken (tables_of script) (seen k ages'.tables) ≡ None) (sym count) (ap (λ (vs : List (List Version)). first_broken (tables_of script) vs) tables_are ∙ unbroken);
     }

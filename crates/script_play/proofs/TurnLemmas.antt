@@ -1,10 +1,10 @@
 -- Whatever a line of a session does keeps the history and the rows in order, and the session where its work is.
-use Rattle.std.proofs.Common.{◌≡◌, ◌≢◌, ℕ, ◌+◌, ◌-◌, ◌≤◌, ◌<◌, ◌==◌, ◌&&◌, List, [], ◌∷◌, ◌++◌, length, map, refl, sym, subst, ap, arith, Option, Some, None, ◌∙◌, Bool, true, false, append_assoc, ◌⊎◌, inl, inr, max}
-use Rattle.std.proofs.lemmas.List.{length-append, append-nil}
+use Rattle.std.proofs.Common.{◌≡◌, ℕ, ◌+◌, ◌≤◌, ◌<◌, ◌==◌, ◌&&◌, List, [], ◌∷◌, ◌++◌, length, map, refl, sym, subst, ap, arith, Option, Some, None, ◌∙◌, Bool, true, false, append_assoc, ◌⊎◌, inl, inr}
+use Rattle.std.proofs.lemmas.List.{append-nil}
 use Rattle.std.proofs.lemmas.Bool.{ne_eqb}
 use Rattle.std.specs.List.{AllByRecursion}
 use Rattle.std.specs.Str.{bytes_eq}
-use Rattle.cdb_values.specs.Rows.{Rows, apply_all}
+use Rattle.cdb_values.specs.Rows.{apply_all}
 use Rattle.cdb_values.specs.declared.rows.Level.{Level}
 use Rattle.cdb_values.specs.declared.rows.Level.TheVariants.{Snapshot}
 use Rattle.cdb_values.specs.declared.rows.RowOp.{RowOp}
@@ -24,24 +24,23 @@ use Rattle.report_text.specs.declared.reports.EntryLine.{EntryLine}
 use Rattle.report_text.specs.declared.reports.EntryLine.TheVariants.{Setup, Commit}
 use Rattle.report_text.specs.declared.reports.ReplyLine.{ReplyLine}
 use Rattle.report_text.specs.declared.reports.ReplyLine.TheVariants as reply
-use Rattle.report_laws.specs.Answer.{Answered, answer, alone, alone_from, answered_then}
+use Rattle.report_laws.specs.Answer.{Answered, answer, alone}
 use Rattle.report_laws.specs.Each.{StandsIn}
 use Rattle.report_laws.specs.History.{nothing_before, rows_at, is_entry_of, taken_by}
 use Rattle.report_laws.specs.Outcome.{IsRight, IsDecided, Ends}
 use Rattle.report_laws.specs.Paced.{Paced}
 use Rattle.report_laws.specs.Play.{number_by}
 use Rattle.report_laws.specs.Told.{Along, Numbered, IsCut, numbered, alone_at}
-use Rattle.report_laws.specs.Work.{Transaction, Item, Does, Lone, Place, End, ByCommit, ByRollback, WithItsLine, Nowhere, transaction, transaction_of, tables_of, with_item, with_open, with_own_line, closed, next_by, number_of}
+use Rattle.report_laws.specs.Work.{Transaction, Does, Lone, Place, End, ByCommit, ByRollback, WithItsLine, Nowhere, transaction, transaction_of, tables_of, with_open, with_own_line, closed, next_by}
 use Rattle.report_laws.specs.declared.items.GenidItem.{GenidItem}
 use Rattle.report_laws.proofs.AnswerLemmas.{replies_more, ops_more}
 use Rattle.report_laws.proofs.PlainLemmas.{ArePlain, plain_then, plain_paced, plain_answer}
 use Rattle.report_laws.proofs.ToldLemmas.{numbered_append}
-use Rattle.transaction_answers.specs.Decisions.{decision, added_by}
+use Rattle.transaction_answers.specs.Decisions.{added_by}
 use Rattle.transaction_answers.specs.Sound.{AreSound, IsSoundOp}
 use Rattle.transaction_answers.proofs.AnswerLemmas.{sound_answer}
 use Rattle.transaction_answers.proofs.AppliedLemmas.{sound_applied}
 use Rattle.transaction_answers.proofs.FitLemmas.{sound_fits}
-use Rattle.transaction_answers.proofs.SoundLemmas.{ops_later}
 use Rattle.script_play.specs.SoFar.{Stored, IsDone, IsOver, IsOpen, IsDoing, IsPast, Standing}
 use Rattle.script_play.specs.Step.{World, Turned, site, turned, turn_by, outcome, answer_at, own_line, committed, goes_on, entries_added, IsKept}
 use Rattle.script_play.specs.declared.sites.Site.{Site}
@@ -115,7 +114,14 @@ module _ (script : Script) (entries : List EntryLine) (taken : List (List GenidI
       subst (λ (a : Ages). Turns script entries (entries ++ []) (taken ++ []) ages a name after lines told (turned number replies at)) (sym same)
       (subst (λ es. Turns script entries es (taken ++ []) ages ages name after lines told (turned number replies at)) (sym (append-nil entries))
       (subst (λ ts. Turns script entries entries ts ages ages name after lines told (turned number replies at)) (sym (append-nil taken)) (record {
-        stored = c.stored; grows = inl refl; next = omega arith; stands = stands; paced = paced; number = number_is; news = inl refl })))
+        stored = c.stored;
+        grows = inl refl;
+        next = omega arith;
+        stands = stands;
+        paced = paced;
+        number = number_is;
+        news = inl refl;
+      })))
 
   -- the answer to a line, at a position of the history
   answer_is : (k : TextKind) (pending : Option (List (List ℕ))) (what : Doing) → Comes script entries taken ages name p pending what text k lines → (begin : ℕ) → 1 ≤ begin → begin ≤ length entries → (ops : List RowOp) →
@@ -132,7 +138,14 @@ module _ (script : Script) (entries : List EntryLine) (taken : List (List GenidI
       transaction_of name t.number script.body ≡ Some t → t.level ≡ Snapshot → ops ≡ (alone_at script nothing_before entries t begin).ops → AllByRecursion (IsSoundOp (tables_of script) ages.next) ops →
       AllByRecursion (λ e. is_entry_of name t.number e ≡ false) entries → Commits script entries taken ages name t begin ops
   comes_to k pending what c t begin ops first within its level are sound once = record {
-    stored = c.stored; first = first; within = within; is_its = its; is_snapshot = level; ops_are = are; sound = sound; once = once;
+    stored = c.stored;
+    first = first;
+    within = within;
+    is_its = its;
+    is_snapshot = level;
+    ops_are = are;
+    sound = sound;
+    once = once;
     applied = applied.0;
     grows = applied.1;
     fits = sound_fits (tables_of script) (apply_all (rows_seen ages (length entries)) ops).next (apply_all (rows_seen ages (length entries)) ops).tables c.lawful c.integers applied.0;
@@ -158,9 +171,10 @@ module _ (script : Script) (entries : List EntryLine) (taken : List (List GenidI
       go (inl none) = inl (ap (λ (l : List (List RowOp)). entries_after entries name t.number begin l) none ∙ append-nil entries)
       go (inr (x, one, is)) = inr (
         ap (λ (l : List (List RowOp)). entries_after entries name t.number begin l) one
-        ∙ ap (λ n. entries ++ entry_of name n begin (length entries) ∷ []) (sym number) ∙ ap (λ b. entries ++ entry_of name turn.number b (length entries) ∷ []) (sym at),
+            ∙ ap (λ n. entries ++ entry_of name n begin (length entries) ∷ []) (sym number) ∙ ap (λ b. entries ++ entry_of name turn.number b (length entries) ∷ []) (sym at),
         subst (λ x. StandsIn turn.replies x) is stands,
-        subst (λ n. IsPast after.number after.pending n) (sym number) past)
+        subst (λ n. IsPast after.number after.pending n) (sym number) past,
+      )
 
   -- what is kept for a line
   abbrev pub Kept : Turned → Type 0

@@ -1,14 +1,13 @@
 -- The run from its opening to its end: what holds at first, and that it gives a lawful report.
-use Rattle.std.proofs.Common.{◌≡◌, ℕ, ◌+◌, ◌≤◌, List, [], ◌∷◌, ◌++◌, length, map, refl, sym, subst, ap, arith, Option, Some, None, ◌∙◌, Bool, true, false, ◌⊎◌, inl, inr, if◌then◌else◌, zero, suc}
+use Rattle.std.proofs.Common.{◌≡◌, ℕ, ◌≤◌, List, [], ◌∷◌, ◌++◌, map, refl, sym, subst, ap, arith, Option, Some, None, ◌∙◌, Bool, true, false, ◌⊎◌, inl, inr, if◌then◌else◌}
 use Rattle.std.proofs.lemmas.List.{append-nil}
 use Rattle.std.specs.List.{AllByRecursion}
 use Rattle.std.specs.Str.{bytes_eq}
 use Rattle.cdb_values.specs.Good.{first_broken}
-use Rattle.cdb_values.specs.Rows.{Rows, no_rows}
 use Rattle.cdb_values.specs.declared.rows.RowOp.{RowOp}
 use Rattle.cdb_values.specs.declared.rows.Version.{Version}
 use Rattle.cdb_values.specs.declared.tables.TableDef.{TableDef}
-use Rattle.snapshot_rows.specs.Ages.{Ages, IsUpTo, IsAgeUpTo, seen, seen_in, rows_seen, no_ages}
+use Rattle.snapshot_rows.specs.Ages.{Ages, IsUpTo, seen, no_ages}
 use Rattle.script_read.specs.declared.scripts.Script.{Script}
 use Rattle.script_read.specs.declared.scripts.BodyLine.{BodyLine}
 use Rattle.script_read.specs.declared.scripts.SessionLine.{SessionLine}
@@ -29,7 +28,7 @@ use Rattle.report_laws.proofs.PlainLemmas.{IsPlain, ArePlain, plain_alone}
 use Rattle.report_laws.proofs.ToldLemmas.{along_append, along_one, along_map}
 use Rattle.transaction_answers.specs.Sound.{AreSound}
 use Rattle.transaction_answers.proofs.SoundLemmas.{sound_none, fits_none}
-use Rattle.script_play.specs.SoFar.{SoFar, Stored, Standing, IsOver, IsDone, IsOpen, IsDoing, at_start, site_of, report_of}
+use Rattle.script_play.specs.SoFar.{SoFar, Standing, IsOver, IsOpen, IsDoing, at_start, site_of, report_of}
 use Rattle.script_play.specs.declared.sites.Site.{Site}
 use Rattle.script_play.specs.declared.sites.Doing.{Doing}
 use Rattle.script_play.specs.declared.sites.Doing.TheVariants as doing
@@ -140,12 +139,12 @@ module _ (script : Script) (entries : List EntryLine) (name : List ℕ) (t : Tra
       IsRight script nothing_before entries name t begin (alone_at script nothing_before entries t begin).ops outcome
   ends_by b last (inl none) right begin front outcome is =
       let rest : (alone_at script nothing_before entries t b).replies ≡ front ++ outcome ∷ [] =
-          sym (append-nil (alone_at script nothing_before entries t b).replies) ∙ ap (λ (l : List ReplyLine). (alone_at script nothing_before entries t b).replies ++ l) (sym none) ∙ first_rest b begin _ _ is in
+      sym (append-nil (alone_at script nothing_before entries t b).replies) ∙ ap (λ (l : List ReplyLine). (alone_at script nothing_before entries t b).replies ++ l) (sym none) ∙ first_rest b begin _ _ is in
       plain_right script entries name t begin (alone_at script nothing_before entries t begin).ops outcome
       (plain_last (alone_at script nothing_before entries t b).replies front outcome (plain_alone (tables_of script) (rows_at script nothing_before entries b).tables [] t.texts) rest)
   ends_by b last (inr (o, one)) right begin front outcome is =
       let rest : (alone_at script nothing_before entries t b).replies ++ o ∷ [] ≡ front ++ outcome ∷ [] =
-          ap (λ (l : List ReplyLine). (alone_at script nothing_before entries t b).replies ++ l) (sym one) ∙ first_rest b begin _ _ is in
+      ap (λ (l : List ReplyLine). (alone_at script nothing_before entries t b).replies ++ l) (sym one) ∙ first_rest b begin _ _ is in
       let its : AllByRecursion (IsRight script nothing_before entries name t b (alone_at script nothing_before entries t b).ops) (o ∷ []) = subst (λ (l : List ReplyLine). AllByRecursion (IsRight script nothing_before entries name t b (alone_at script nothing_before entries t b).ops) l) one right in
       subst (λ k. IsRight script nothing_before entries name t k (alone_at script nothing_before entries t k).ops outcome) (first_begin b begin _ _ is)
       (subst (λ x. IsRight script nothing_before entries name t b (alone_at script nothing_before entries t b).ops x) (same_last (alone_at script nothing_before entries t b).replies front o outcome rest) its.0)

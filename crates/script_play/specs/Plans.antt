@@ -5,8 +5,6 @@ use Rattle.cdb_values.specs.declared.rows.RowOp.{RowOp}
 use Rattle.report_text.specs.declared.reports.EntryLine.{EntryLine}
 use Rattle.report_text.specs.declared.reports.EntryLine.TheVariants.{Commit}
 use Rattle.report_text.specs.declared.reports.Line.{Line}
-use Rattle.report_laws.specs.History.{taken_by}
-use Rattle.report_laws.specs.Told.{lines_of}
 use Rattle.report_laws.specs.declared.items.GenidItem.{GenidItem}
 use Rattle.snapshot_rows.specs.Ages.{Ages}
 use Rattle.script_play.specs.declared.plans.Plan.{Plan}

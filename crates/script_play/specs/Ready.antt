@@ -3,11 +3,8 @@
 use Rattle.std.specs.Prelude.{◌≡◌, ℕ, ◌≤◌, List, length, None}
 use Rattle.std.specs.List.{AllByRecursion}
 use Rattle.cdb_values.specs.Good.{first_broken}
-use Rattle.cdb_values.specs.declared.rows.RowOp.{RowOp}
 use Rattle.cdb_values.specs.declared.tables.TableDef.{TableDef}
 use Rattle.snapshot_rows.specs.Ages.{Ages, IsUpTo, seen}
-use Rattle.statement_read.specs.OnTables.{IsOn}
-use Rattle.statement_read.specs.Statements.{statement_of}
 use Rattle.transaction_answers.specs.Sound.{AreSound, IsSoundOp}
 use Rattle.script_play.specs.declared.sites.Doing.{Doing}
 use Rattle.script_play.specs.declared.sites.Doing.TheVariants as doing

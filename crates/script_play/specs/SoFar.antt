@@ -4,12 +4,8 @@ use Rattle.std.specs.Prelude.{◌≡◌, ℕ, ◌+◌, ◌-◌, ◌≤◌, ◌<�
 use Rattle.std.specs.List.{AllByRecursion}
 use Rattle.std.specs.Str.{bytes_eq}
 use Rattle.cdb_values.specs.Good.{first_broken}
-use Rattle.cdb_values.specs.declared.rows.Level.TheVariants.{Snapshot}
 use Rattle.cdb_values.specs.declared.rows.RowOp.{RowOp}
-use Rattle.cdb_values.specs.declared.tables.TableDef.{TableDef}
 use Rattle.snapshot_rows.specs.Ages.{Ages, IsUpTo, seen, rows_seen, no_ages}
-use Rattle.statement_read.specs.OnTables.{IsOn}
-use Rattle.statement_read.specs.Statements.{statement_of}
 use Rattle.script_read.specs.CanRun.{CanRun, IsSaid}
 use Rattle.script_read.specs.declared.scripts.Script.{Script}
 use Rattle.script_read.specs.declared.scripts.BodyLine.{BodyLine}
@@ -20,7 +16,7 @@ use Rattle.report_text.specs.declared.reports.Line.{Line}
 use Rattle.report_text.specs.declared.reports.Report.{Report}
 use Rattle.report_text.specs.declared.reports.ReplyLine.{ReplyLine}
 use Rattle.report_text.specs.declared.reports.ReplyLine.TheVariants as reply
-use Rattle.report_laws.specs.Answer.{Answered, alone}
+use Rattle.report_laws.specs.Answer.{alone}
 use Rattle.report_laws.specs.Each.{EachAfter}
 use Rattle.report_laws.specs.History.{nothing_before, rows_at, taken_at, IsEntryAfter}
 use Rattle.report_laws.specs.Lawful.{IsFreshLine, IsAnswered, IsOfSession, NameUpTo}

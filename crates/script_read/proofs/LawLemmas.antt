@@ -3,7 +3,6 @@ use Rattle.std.proofs.Common.{◌≡◌, ℕ, ◌+◌, ◌<◌, ◌≤◌, List,
 use Rattle.std.specs.List.{AllByRecursion}
 use Rattle.std.specs.Str.{is_utf8}
 use Rattle.cdb_values.specs.Tables.{add_fault, place_of}
-use Rattle.cdb_values.specs.declared.schemas.AddFault.{AddFault}
 use Rattle.cdb_values.specs.declared.tables.ColumnType.TheVariants.{Integer}
 use Rattle.cdb_values.specs.declared.tables.TableDef.{TableDef}
 use Rattle.script_words.specs.Lines.{lines_of, text_of, is_skipped}
@@ -14,14 +13,14 @@ use Rattle.table_read.proofs.TableLemmas.{lawful}
 use Rattle.table_read.specs.Verdict.{TableFault, Unlawful, Limit, table_of}
 use Rattle.script_read.proofs.LimitLemmas.{within_is_whole}
 use Rattle.script_read.proofs.OnTableLemmas.{and_first, and_second, declared, table_has_integers, on_tables}
-use Rattle.script_read.specs.Answers.{Refusal, refusal}
+use Rattle.script_read.specs.Answers.{Refusal}
 use Rattle.script_read.specs.Bodies.{said_of, say_said, stop_said, start_said, arm_of, arm_said, barrier_said, feed_said}
-use Rattle.script_read.specs.Built.{is_built, has_integers, is_on}
-use Rattle.script_read.specs.CanRun.{IsDeclared, AreTaken, IsSaid, tables_of, CanRun}
+use Rattle.script_read.specs.Built.{is_built, has_integers}
+use Rattle.script_read.specs.CanRun.{AreTaken, IsSaid, CanRun}
 use Rattle.script_read.specs.Heads.{only_number, only_fitting, is_declared, is_node, nodes_said, cluster_said, workers_said, session_of, session_said, tabled, table_said, watched, watch_said}
 use Rattle.script_read.specs.Kinds.{kind_of, keyword_part, part_of, may_come}
-use Rattle.script_read.specs.Lawful.{AreNew, IsNode, NamesDeclared, Rise, lines_in, IsLawful}
-use Rattle.script_read.specs.ScriptText.{script_of, whole_script, finished, script_with, and_then, read_lines, read_line, read_kind, read_placed, told, if_built, if_table_built, with_said, with_table, no_draft, most_bytes, most_line_bytes}
+use Rattle.script_read.specs.Lawful.{AreNew, IsNode, NamesDeclared, Rise, IsLawful}
+use Rattle.script_read.specs.ScriptText.{script_of, finished, script_with, and_then, read_lines, read_line, read_kind, read_placed, told, if_built, if_table_built, with_said, with_table, no_draft, most_bytes, most_line_bytes}
 use Rattle.script_read.specs.declared.drafts.Draft.{Draft}
 use Rattle.script_read.specs.declared.kinds.Keyword.{Keyword}
 use Rattle.script_read.specs.declared.kinds.Keyword.TheVariants as keywords

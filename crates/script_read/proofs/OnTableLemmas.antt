@@ -15,7 +15,7 @@ use Rattle.statement_read.specs.OnTables.{IsColumn, IsFilterOn, IsOn}
 use Rattle.statement_read.specs.declared.statements.Filter.{Filter}
 use Rattle.statement_read.specs.declared.statements.Statement.{Statement}
 use Rattle.statement_read.specs.declared.statements.Statement.TheVariants as statements
-use Rattle.script_read.specs.Built.{is_integer, is_there, has_column, is_filter_on, has_integers, table_named, takes_row, takes_filter, takes_change, is_on}
+use Rattle.script_read.specs.Built.{is_integer, is_there, has_column, is_filter_on, has_integers, takes_row, takes_filter, takes_change, is_on}
 use Rattle.script_read.specs.CanRun.{IsDeclared}
 use Rattle.script_read.specs.Heads.{is_declared}
 use Rattle.script_read.specs.declared.scripts.SessionLine.{SessionLine}

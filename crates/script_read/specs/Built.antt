@@ -6,7 +6,6 @@
 use Rattle.std.specs.Prelude.{ℕ, ◌==◌, List, length, Bool, true, false, not, ◌&&◌, Option, Some, None, slice_get}
 use Rattle.std.specs.List.{list_all}
 use Rattle.cdb_values.specs.Tables.{place_of}
-use Rattle.cdb_values.specs.declared.tables.ColumnDef.{ColumnDef}
 use Rattle.cdb_values.specs.declared.tables.ColumnType.{ColumnType}
 use Rattle.cdb_values.specs.declared.tables.ColumnType.TheVariants as types
 use Rattle.cdb_values.specs.declared.tables.TableDef.{TableDef}

@@ -17,7 +17,7 @@
 -- no other reason. A script without any other line has reason 4 at the line after its last. Where
 -- there are more than 67,108,864 bytes, the line of the first one past them has reason 8, whatever
 -- stands in it; the lines before it are judged as always, and no later byte matters.
-use Rattle.std.specs.Prelude.{ℕ, ◌+◌, ◌==◌, ◌++◌, ◌∷◌, [], List, length, take, Bool, true, if◌then◌else◌, nat_lt, Option, Some, None, Result, Ok, Err, codes}
+use Rattle.std.specs.Prelude.{ℕ, ◌+◌, ◌==◌, ◌++◌, ◌∷◌, [], List, length, take, if◌then◌else◌, nat_lt, Option, Some, None, Result, Ok, Err, codes}
 use Rattle.std.specs.Str.{is_utf8}
 use Rattle.cdb_values.specs.declared.tables.TableDef.{TableDef}
 use Rattle.script_words.specs.Lines.{lines_of, but_last, text_of, is_skipped}

@@ -1,27 +1,32 @@
-ghost use Rattle.std.specs.Prelude.{◌≡◌, ◌<◌, ◌^◌, length, IfOk, None};
-ghost use Rattle.std.specs.List.{AllByRecursion};
-ghost use Rattle.cdb_values.specs.Good.{first_broken};
-ghost use Rattle.snapshot_rows.specs.Ages.{seen, rows_seen};
-ghost use Rattle.report_laws.specs.Answer.{answer};
-ghost use Rattle.report_laws.specs.History.{taken_by};
-ghost use Rattle.transaction_answers.specs.Decisions.{decision};
-ghost use Rattle.transaction_answers.specs.Sound.{IsSoundOp};
+//! The answer of a statement.
+ghost use Rattle.std.specs.Prelude.{◌≡◌, ◌<◌, ◌∷◌, [], length, IfOk};
+ghost use Rattle.report_laws.specs.Answer.{answer, answer_to, refused, selected, set, removed, inserted, on_table, on_column, on_condition, table_named, condition_of};
+ghost use Rattle.statement_read.specs.Columns.{column_at};
+ghost use Rattle.snapshot_rows.specs.Ages.{seen};
 ghost use Rattle.transaction_answers.specs.Views.{IsAnswer};
 
-use cdb_values::{List, RowOp, Schema};
-use report_laws::GenidItem;
+use super::changes::{delete, insert, update};
+use super::conditions::{Found, Wanted, find_condition, find_table};
+use super::selects::select;
+use cdb_values::{List, Name, Row, RowOp, Schema, StatementError, Value};
 use report_text::ReplyLine;
 use snapshot_rows::Snapshots;
+use statement_read::{Filter, Statement, find_column, read_statement};
 use std::alloc::{AllocError, Global};
 
-/// An answer.
+/// The reply lines of a statement, and the operations of its transaction after it.
 #[derive(Drop)]
 pub struct Answer {
     pub replies: Vec<ReplyLine>,
     pub ops: List<RowOp>,
 }
 
-/// A stand-in.
+/// The answer of a statement's text: over the rows at the position where its transaction began, and
+/// the operations `done` of the transaction so far, which go into the answer or are changed there.
+/// Goes once over the ages of the statement's table, and copies only the rows that it tells or
+/// changes.
+///
+/// Answers `AllocError` for want of memory alone.
 pub fn answer_text(
     alloc: Global,
     schema: &Schema,
@@ -33,31 +38,167 @@ pub fn answer_text(
     requires { length rows.now.tables ≡ length schema.now }
     ensures { IfOk result (λ a. IsAnswer a (answer schema.now (seen begin rows.now.tables) done text.now)) }
 {
-    Err(AllocError)
+    let statement = read_statement(alloc, text)?;
+    answer_statement(alloc, schema, rows, begin, done, statement)
 }
 
-/// A stand-in.
-pub fn decide(
+/// The answer of a statement, or of a text that is none.
+fn answer_statement(
     alloc: Global,
     schema: &Schema,
     rows: &Snapshots,
-    taken: &[List<GenidItem>],
     begin: u64,
-    now: u64,
-    ops: &[RowOp],
-) -> Result<ReplyLine, AllocError>
-    requires many { length rows.now.tables ≡ length schema.now }
-    requires kept { first_broken schema.now (seen now rows.now.tables) ≡ None }
-    requires sound { AllByRecursion (IsSoundOp schema.now rows.now.next) ops.now }
-    requires within { now < 2 ^ 62 }
-    ensures { IfOk result (λ outcome. outcome ≡ decision schema.now taken.now (rows_seen rows.now now) begin now ops.now) }
+    done: List<RowOp>,
+    statement: Option<Statement>,
+) -> Result<Answer, AllocError>
+    requires { length rows.now.tables ≡ length schema.now }
+    ensures { IfOk result (λ a. IsAnswer a (answer_to schema.now (seen begin rows.now.tables) done statement)) }
 {
-    Err(AllocError)
+    match statement {
+        None => Ok(Answer {
+            replies: Vec::new(alloc),
+            ops: done,
+        }),
+        Some(Statement::Begin) => refuse(alloc, done, StatementError::State),
+        Some(Statement::Commit) => refuse(alloc, done, StatementError::State),
+        Some(Statement::Rollback) => refuse(alloc, done, StatementError::State),
+        Some(Statement::SetSnapshot) => refuse(alloc, done, StatementError::State),
+        Some(Statement::Insert { table, row }) => insert_into(alloc, schema, done, &table, row),
+        Some(Statement::Select { table, filter }) => {
+            select_from(alloc, schema, rows, begin, done, &table, &filter)
+        }
+        Some(
+            Statement::Update {
+                table,
+                column,
+                value,
+                filter,
+            },
+        ) => update_in(
+            alloc, schema, rows, begin, done, &table, &column, &value, &filter,
+        ),
+        Some(Statement::Delete { table, filter }) => {
+            delete_from(alloc, schema, rows, begin, done, &table, &filter)
+        }
+    }
 }
 
-/// A stand-in.
-pub fn items_taken(alloc: Global, ops: &[RowOp]) -> Result<List<GenidItem>, AllocError>
-    ensures { IfOk result (λ items. items ≡ taken_by ops.now) }
+/// Refuses a statement.
+fn refuse(alloc: Global, done: List<RowOp>, cause: StatementError) -> Result<Answer, AllocError>
+    ensures { IfOk result (λ a. IsAnswer a (refused done cause)) }
 {
-    Err(AllocError)
+    let replies = vec![in alloc; ReplyLine::Error(cause)]?;
+    Ok(Answer { replies, ops: done })
+}
+
+/// Inserts a row into a table, where it is there.
+fn insert_into(
+    alloc: Global,
+    schema: &Schema,
+    done: List<RowOp>,
+    table: &Name,
+    row: Row,
+) -> Result<Answer, AllocError>
+    ensures { IfOk result (λ a. IsAnswer a (on_table done (table_named schema.now table.now) (λ p. inserted done p.place row))) }
+{
+    match find_table(schema, table) {
+        None => refuse(alloc, done, StatementError::Table),
+        Some(found) => insert(alloc, done, found.place, row),
+    }
+}
+
+/// Selects rows of a table, where it and the column are there.
+fn select_from(
+    alloc: Global,
+    schema: &Schema,
+    rows: &Snapshots,
+    begin: u64,
+    done: List<RowOp>,
+    table: &Name,
+    filter: &Option<Filter>,
+) -> Result<Answer, AllocError>
+    requires { length rows.now.tables ≡ length schema.now }
+    ensures { IfOk result (λ a. IsAnswer a (on_table done (table_named schema.now table.now) (λ p. on_condition done (condition_of p.table filter.now) (λ c. selected (seen begin rows.now.tables) done p.place c)))) }
+{
+    match find_table(schema, table) {
+        None => refuse(alloc, done, StatementError::Table),
+        Some(found) => match find_condition(found.table, filter) {
+            None => refuse(alloc, done, StatementError::Column),
+            Some(condition) => select(alloc, rows, begin, done, found.place, condition),
+        },
+    }
+}
+
+/// Updates rows of a table, where it and the columns are there.
+fn update_in(
+    alloc: Global,
+    schema: &Schema,
+    rows: &Snapshots,
+    begin: u64,
+    done: List<RowOp>,
+    table: &Name,
+    column: &Name,
+    value: &Value,
+    filter: &Option<Filter>,
+) -> Result<Answer, AllocError>
+    requires { length rows.now.tables ≡ length schema.now }
+    ensures { IfOk result (λ a. IsAnswer a (on_table done (table_named schema.now table.now) (λ p. on_column done (column_at column.now p.table.columns) (λ at. on_condition done (condition_of p.table filter.now) (λ c. set (seen begin rows.now.tables) done p.place c at value.now))))) }
+{
+    match find_table(schema, table) {
+        None => refuse(alloc, done, StatementError::Table),
+        Some(found) => update_found(alloc, rows, begin, done, found, column, value, filter),
+    }
+}
+
+/// Updates rows of a table, where the columns are there.
+fn update_found(
+    alloc: Global,
+    rows: &Snapshots,
+    begin: u64,
+    done: List<RowOp>,
+    found: Found<'_>,
+    column: &Name,
+    value: &Value,
+    filter: &Option<Filter>,
+) -> Result<Answer, AllocError>
+    requires { found.place < length rows.now.tables }
+    ensures { IfOk result (λ a. IsAnswer a (on_column done (column_at column.now found.entry.table.now.columns) (λ at. on_condition done (condition_of found.entry.table.now filter.now) (λ c. set (seen begin rows.now.tables) done found.entry.place c at value.now)))) }
+{
+    match find_column(found.table.columns.as_slice(), column.as_bytes()) {
+        None => refuse(alloc, done, StatementError::Column),
+        Some(column) => match find_condition(found.table, filter) {
+            None => refuse(alloc, done, StatementError::Column),
+            Some(condition) => update(
+                alloc,
+                rows,
+                begin,
+                done,
+                found.place,
+                condition,
+                Wanted { column, value },
+            ),
+        },
+    }
+}
+
+/// Deletes rows of a table, where it and the column are there.
+fn delete_from(
+    alloc: Global,
+    schema: &Schema,
+    rows: &Snapshots,
+    begin: u64,
+    done: List<RowOp>,
+    table: &Name,
+    filter: &Option<Filter>,
+) -> Result<Answer, AllocError>
+    requires { length rows.now.tables ≡ length schema.now }
+    ensures { IfOk result (λ a. IsAnswer a (on_table done (table_named schema.now table.now) (λ p. on_condition done (condition_of p.table filter.now) (λ c. removed (seen begin rows.now.tables) done p.place c)))) }
+{
+    match find_table(schema, table) {
+        None => refuse(alloc, done, StatementError::Table),
+        Some(found) => match find_condition(found.table, filter) {
+            None => refuse(alloc, done, StatementError::Column),
+            Some(condition) => delete(alloc, rows, begin, done, found.place, condition),
+        },
+    }
 }

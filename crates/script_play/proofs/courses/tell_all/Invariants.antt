@@ -6,5 +6,5 @@ use Rattle.script_play.proofs.courses.tell_all.Given as goal
 
 abbrev pub invariant-replies : goal.invariant-replies
 invariant-replies l =
-    (l.lines.items ++ lines_of l.name.now l.number (into_iter_items l.reply-iterator) ≡ l.fn.lines.items ++ lines_of l.name.now l.number l.fn.replies.items)
+    (l.lines.items ++ lines_of l.name l.number (into_iter_items l.reply-iterator) ≡ l.fn.lines.items ++ lines_of l.name l.number l.fn.replies.items)
     × Grown l.fn.lines.items l.lines.items
