@@ -52,8 +52,9 @@
 //!
 //! whose last line is the bytes `65 6e 64 20 32 0a`.
 //!
-//! The text of a report is `report_text` of `specs/Text.antt`; what makes a report lawful is said in the crate
-//! `report_laws`.
+//! The text of a report is `report_text` of `specs/Text.antt`, and the reports that the grammar has are
+//! `IsReport` of `specs/Grammar.antt`. The crate `report_read` reads the text again; what makes a report
+//! lawful is said in the crate `report_laws`.
 #![tactic(auto)]
 
 mod printing;

@@ -1,0 +1,12 @@
+pub mod CodedLaws
+pub mod CodedLemmas
+pub mod FrontLemmas
+pub mod ItemLaws
+pub mod LineLemmas
+pub mod NumberLemmas
+pub mod ReadLemmas
+pub mod ReaderLaws
+pub mod ReplyLaws
+pub mod ReportLaws
+pub mod ValueLaws
+pub mod ValueLemmas
