@@ -1,0 +1,51 @@
+//! Drawn scripts have the reports that the slow computation gives.
+
+use super::drawn::{next_number, turn_of};
+use super::slow::Expected;
+use cdb_outside::{MemSink, MemSource, MemStore};
+use script_main::{Outside, Status, run};
+use std::alloc::{AllocError, Global};
+use std::test::Fail;
+
+/// What a run over a script answers and writes.
+fn played(alloc: Global, script: &[u8]) -> Result<(Status, Vec<u8>), AllocError> {
+    let words = vec![in alloc; String::from_str(alloc, "play")?]?;
+    let store = MemStore::new(Vec::new(alloc), Vec::new(alloc), None, 0);
+    let mut outside: Outside<MemSource, MemSink, MemStore> = Outside {
+        source: MemSource::new(Vec::from_slice(alloc, script)?, Vec::new(alloc)),
+        sink: MemSink::new(alloc, Vec::new(alloc)),
+        stores: vec![in alloc; store]?,
+        consumers: Vec::new(alloc),
+    };
+    let status = run(alloc, words.as_slice(), &mut outside);
+    Ok((status, Vec::from_slice(alloc, outside.sink.taken())?))
+}
+
+/// A script of 40 lines that a seed draws, and its report.
+fn drawn(alloc: Global, seed: u64) -> Result<Expected, AllocError> {
+    let mut expected = Expected::new(alloc)?;
+    let mut x = seed;
+    for _ in 0..40 {
+        x = next_number(x);
+        expected.take(alloc, turn_of(x))?;
+    }
+    Ok(expected)
+}
+
+#[test]
+fn drawn_scripts_have_the_reports_of_a_slower_computation(rt: HostRuntime) -> Result<(), Fail> {
+    let alloc = rt.alloc();
+    let mut all = String::new(alloc);
+    for seed in 0..24 {
+        let expected = drawn(alloc, seed)?;
+        let (status, text) = played(alloc, expected.script.as_bytes())?;
+        let want = expected.report(alloc)?;
+        assert_eq!(rt; status, Status::Done);
+        assert_eq!(rt; text.as_slice(), want.as_bytes(), "at seed {seed}");
+        all.push_str(want.as_str())?;
+    }
+    for kind in ["conflict", "duplicate", "rolledback", "error state", "level"] {
+        assert!(rt; all.as_str().contains(kind), "no script has {kind}");
+    }
+    Ok(())
+}
