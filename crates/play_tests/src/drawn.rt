@@ -75,9 +75,7 @@ pub(crate) fn text_of(alloc: Global, said: Said) -> Result<String, AllocError> {
         Said::Commit => String::from_str(alloc, "commit"),
         Said::Rollback => String::from_str(alloc, "rollback"),
         Said::Level => String::from_str(alloc, "set transaction snapshot"),
-        Said::Insert { key, value } => {
-            format!(in alloc; "insert into t values({key}, {value})")
-        }
+        Said::Insert { key, value } => { format!(in alloc; "insert into t values({key}, {value})") }
         Said::SetValue { value, of } => {
             let filter = filter_text(alloc, of)?;
             format!(in alloc; "update t set v = {value}{filter}")

@@ -118,7 +118,10 @@ impl Alone {
 
     fn put(&mut self, row: Seen) -> Result<(), AllocError> {
         let Seen {
-            genid, key, value, ..
+            genid,
+            key,
+            value,
+            ..
         } = row;
         self.seen.push(Seen {
             own: true,
@@ -278,8 +281,7 @@ impl Expected {
         number: u64,
         reply: &str,
     ) -> Result<(), AllocError> {
-        self.told
-            .push_str(format!(in alloc; "s{session} {number} {reply}\n")?.as_str())
+        self.told.push_str(format!(in alloc; "s{session} {number} {reply}\n")?.as_str())
     }
 
     /// The first used genid that the entry at a position took away, 0 where it took none.

@@ -44,7 +44,13 @@ fn drawn_scripts_have_the_reports_of_a_slower_computation(rt: HostRuntime) -> Re
         assert_eq!(rt; text.as_slice(), want.as_bytes(), "at seed {seed}");
         all.push_str(want.as_str())?;
     }
-    for kind in ["conflict", "duplicate", "rolledback", "error state", "level"] {
+    for kind in [
+        "conflict",
+        "duplicate",
+        "rolledback",
+        "error state",
+        "level",
+    ] {
         assert!(rt; all.as_str().contains(kind), "no script has {kind}");
     }
     Ok(())
