@@ -9,3 +9,7 @@ pub mod LeafLemmas
 pub mod PairLemmas
 pub mod PathLemmas
 pub mod StandLemmas
+pub mod CellLemmas
+pub mod SplitLemmas
+pub mod HalfLemmas
+pub mod ParentLemmas

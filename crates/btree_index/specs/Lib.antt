@@ -4,3 +4,4 @@ pub mod Trees
 pub mod Pairs
 pub mod Ways
 pub mod Changes
+pub mod Steps
