@@ -36,6 +36,7 @@ apart_cross n (x ∷ xs) ys h (inl e) j = h.0 (go xs)
     same [] k = k
     same (z ∷ zs) (inl k) = inl (cc)
     same (z ∷ zs) (inr k) = inr (same zs k)
+
     go : (zs : List ℕ) → IsIn x (zs ++ ys)
     go zs = in_right x zs ys (same ys j)
 apart_cross n (x ∷ xs) ys h (inr i) j = apart_cross n xs ys h.1 i j

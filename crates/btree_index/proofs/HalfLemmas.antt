@@ -80,10 +80,10 @@ half_leaf old new front m others fresh separator cells halves off h =
     let first : halves.first ≡ halves.middle = halves.leaf leaf.kind in
     let behind : (new fresh).cells ≡ halves.middle ∷ halves.right = halves.right_cells ∙ ap (λ (c : List ℕ). c ∷ halves.right) first in
     let each = all_append IsLeafCell (halves.start ∷ halves.left) (halves.middle ∷ halves.right)
-        (subst (λ (l : List (List ℕ)). AllByRecursion IsLeafCell l) halves.cells leaf.cells) in
+    (subst (λ (l : List (List ℕ)). AllByRecursion IsLeafCell l) halves.cells leaf.cells) in
     let room : HasRoom ((halves.start ∷ halves.left) ++ (halves.middle ∷ halves.right)) = subst HasRoom halves.cells leaf.fits in
     let fences = fence_halves m.low separator halves.start halves.left halves.middle halves.right fresh others halves.separator_is
-        (subst (λ (l : List (List ℕ)). IsFenced m.low l others) halves.cells (fenced_at old front m others h.fenced)) in
+    (subst (λ (l : List (List ℕ)). IsFenced m.low l others) halves.cells (fenced_at old front m others h.fenced)) in
     let here : IsLeafPage (new m.page) = record {
       kind = ap (λ (h : Head). h.kind) halves.left_head ∙ leaf.kind;
       level = ap (λ (h : Head). h.level) halves.left_head ∙ leaf.level;
@@ -133,12 +133,12 @@ half_inner old new height front m others fresh separator cells halves off h =
     let off_here : IsIn fresh here_pages → ⊥ = λ i. off (in_left fresh here_pages deeper i) in
     let same = beside_same old new front m others fresh separator halves apart off_here in
     let inside : IsIn m.page here_pages =
-        subst (λ (l : List ℕ). IsIn m.page l) (sym (pages-append front (m ∷ others))) (in_right m.page (map page_of front) (m.page ∷ map page_of others) (inl refl)) in
+    subst (λ (l : List ℕ). IsIn m.page l) (sym (pages-append front (m ∷ others))) (in_right m.page (map page_of front) (m.page ∷ map page_of others) (inl refl)) in
     let inner : IsInnerPage (suc height) (old m.page) = each_at (λ e. IsInnerPage (suc height) (old e.page)) front m others h.shaped.0 in
     let first : halves.first ≡ inner_cell [] (child_of halves.middle) = halves.inner inner.kind in
     let child : child_of halves.first ≡ child_of halves.middle = ap child_of first ∙ child_of-cell [] (child_of halves.middle) (lit≤ tt) (halves.small inner.kind) in
     let each = all_append IsInnerCell (halves.start ∷ halves.left) (halves.middle ∷ halves.right)
-        (subst (λ (l : List (List ℕ)). AllByRecursion IsInnerCell l) halves.cells inner.cells) in
+    (subst (λ (l : List (List ℕ)). AllByRecursion IsInnerCell l) halves.cells inner.cells) in
     let room : HasRoom ((halves.start ∷ halves.left) ++ (halves.middle ∷ halves.right)) = subst HasRoom halves.cells inner.fits in
     let here : IsInnerPage (suc height) (new m.page) = record {
       kind = ap (λ (h : Head). h.kind) halves.left_head ∙ inner.kind;
@@ -178,8 +178,11 @@ half_inner old new height front m others fresh separator cells halves off h =
     subst (λ (l : List Entry). (n : ℕ) → IsIn n (pages_of new height l) → IsIn n deeper ⊎ ⊥) (sym below_is) kept.from in
     record {
       holds = record {
-        shaped = (each_split (λ e. IsInnerPage (suc height) (old e.page)) (λ e. IsInnerPage (suc height) (new e.page)) front m x others
-          (λ e i p. subst (λ (i : Image). IsInnerPage (suc height) i) (sym (same e.page i)) p) here there h.shaped.0, holds.shaped);
+        shaped = (
+          each_split (λ e. IsInnerPage (suc height) (old e.page)) (λ e. IsInnerPage (suc height) (new e.page)) front m x others
+              (λ e i p. subst (λ (i : Image). IsInnerPage (suc height) i) (sym (same e.page i)) p) here there h.shaped.0,
+          holds.shaped,
+        );
         fenced = holds.fenced;
         linked = holds.linked;
         apart = apart_join (map page_of (front ++ (m ∷ (x ∷ others)))) (pages_of new height next) (level_apart front m x others apart off_here) holds.apart
@@ -196,12 +199,14 @@ half_inner old new height front m others fresh separator cells halves off h =
         let a : taken (halves.first ∷ halves.right) ≡ (4 + length halves.first) + taken halves.right = sum_by-cons cell_size halves.first halves.right in
         let b : taken (halves.middle ∷ halves.right) ≡ (4 + length halves.middle) + taken halves.right = sum_by-cons cell_size halves.middle halves.right in
         omega arith
+
     clash : (n : ℕ) → IsIn n (map page_of (front ++ (m ∷ others))) ⊎ (n ≡ fresh) → IsIn n (pages_of old height (spread old (front ++ (m ∷ others)))) ⊎ ⊥ → ⊥
     clash n (inl i) (inl j) = apart_cross n (map page_of (front ++ (m ∷ others))) (pages_of old height (spread old (front ++ (m ∷ others)))) h.apart i j
     clash n (inr e) (inl j) =
         off (subst (λ (k : ℕ). IsIn k (pages_of old (suc height) (front ++ (m ∷ others)))) e
         (in_right n (map page_of (front ++ (m ∷ others))) (pages_of old height (spread old (front ++ (m ∷ others)))) j))
     clash n i (inr f) = f
+
     up : (n : ℕ)
         → ((n : ℕ) → IsIn n (pages_of new height (spread new (front ++ (m ∷ (record { low = separator; page = fresh } ∷ others)))))
         → IsIn n (pages_of old height (spread old (front ++ (m ∷ others)))) ⊎ ⊥)

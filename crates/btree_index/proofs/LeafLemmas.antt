@@ -73,6 +73,7 @@ beside front e others apart n i same = go (subst AreApart (pages-append front (e
     there : AreApart (map page_of front ++ (e.page ∷ map page_of others)) → IsIn e.page (map page_of front) ⊎ IsIn e.page (map page_of others) → ⊥
     there apart (inl i) = apart_cross e.page (map page_of front) (e.page ∷ map page_of others) apart i (inl refl)
     there apart (inr i) = (apart_right (map page_of front) (e.page ∷ map page_of others) apart).0 i
+
     go : AreApart (map page_of front ++ (e.page ∷ map page_of others)) → IsIn n (map page_of front) ⊎ IsIn n (map page_of others) → ⊥
     go apart i = there apart (subst (λ (k : ℕ). IsIn k (map page_of front) ⊎ IsIn k (map page_of others)) same i)
 
@@ -95,9 +96,10 @@ pub fenced_with : (old new : ℕ → Image) (front : List Entry) (e : Entry) (ot
     → SameOn old new (map page_of others) → AreFenced old (front ++ (e ∷ others)) → IsFenced e.low (new e.page).cells others
     → AreFenced new (front ++ (e ∷ others))
 fenced_with old new [] e others left right h now = (now, fenced_same old new others right h.1)
-fenced_with old new (f ∷ fs) e others left right h now =
-    (subst (λ (i : Image). IsFenced f.low i.cells (fs ++ (e ∷ others))) (sym (left f.page (inl refl))) h.0,
-      fenced_with old new fs e others (λ n i. left n (inr i)) right h.1 now)
+fenced_with old new (f ∷ fs) e others left right h now = (
+  subst (λ (i : Image). IsFenced f.low i.cells (fs ++ (e ∷ others))) (sym (left f.page (inl refl))) h.0,
+  fenced_with old new fs e others (λ n i. left n (inr i)) right h.1 now,
+)
 
 pub each_with : (old new : ℕ → Image) (P : Image → Type 0) (front : List Entry) (e : Entry) (others : List Entry) → SameOn old new (map page_of front)
     → SameOn old new (map page_of others) → AllByRecursion (λ x. P (old x.page)) (front ++ (e ∷ others)) → P (new e.page)

@@ -61,6 +61,7 @@ lift old new Fresh height level cells shaped same fresh apart grown =
     off : (n : ℕ) → IsIn n (map page_of level) → IsIn n (pages_of old height (spread old level)) ⊎ Fresh n → ⊥
     off n i (inl j) = apart_cross n (map page_of level) (pages_of old height (spread old level)) apart i j
     off n i (inr f) = fresh n i f
+
     up : (n : ℕ) → ((n : ℕ) → IsIn n (pages_of new height (spread new level)) → IsIn n (pages_of old height (spread old level)) ⊎ Fresh n)
         → IsIn n (map page_of level) ⊎ IsIn n (pages_of new height (spread new level))
         → IsIn n (pages_of old (suc height) level) ⊎ Fresh n

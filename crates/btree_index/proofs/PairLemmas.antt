@@ -49,6 +49,7 @@ behind_after pages key (e ∷ es) fenced to =
     here : (cells : List (List ℕ)) → AllByRecursion (λ c. before (key_of c) e.low ≡ false) cells → AllByRecursion (λ c. before key (key_of c) ≡ true) cells
     here [] from = tt
     here (c ∷ cs) from = (before_atmost key e.low (key_of c) to from.0, here cs from.1)
+
     further : (es : List Entry) → IsUnder e.low es → IsUnder key es
     further [] h = tt
     further (f ∷ fs) h = before_before key e.low f.low to h

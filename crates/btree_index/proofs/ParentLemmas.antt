@@ -77,8 +77,8 @@ half_parent old halved new height front e others at cell fresh separator cells m
     let child_in : IsIn (child_of cell) deeper = deep height (spread old level) before m behind old_is in
     let off_here : (n : ℕ) → IsIn n (map page_of front) ⊎ IsIn n (map page_of others) → new n ≡ old n =
     λ n i. same n (beside front e others apart n i)
-      (λ k. apart_cross n here_pages deeper h.apart (up n i) (subst (λ (j : ℕ). IsIn j deeper) (sym k) child_in))
-      (λ k. off (subst (λ (j : ℕ). IsIn j (pages_of old (suc height) level)) k (in_left n here_pages deeper (up n i)))) in
+    (λ k. apart_cross n here_pages deeper h.apart (up n i) (subst (λ (j : ℕ). IsIn j deeper) (sym k) child_in))
+    (λ k. off (subst (λ (j : ℕ). IsIn j (pages_of old (suc height) level)) k (in_left n here_pages deeper (up n i)))) in
     let left : SameOn old new (map page_of front) = λ n i. off_here n (inl i) in
     let right : SameOn old new (map page_of others) = λ n i. off_here n (inr i) in
     let more_entry : entry_of more ≡ x =
@@ -124,14 +124,17 @@ half_parent old halved new height front e others at cell fresh separator cells m
         in_left m.page (map page_of level) (pages_of old height (spread old level))
         (subst (λ (l : List Entry). IsIn m.page (map page_of l)) (sym is)
         (subst (λ (l : List ℕ). IsIn m.page l) (sym (pages-append before (m ∷ behind))) (in_right m.page (map page_of before) (m.page ∷ map page_of behind) (inl refl))))
+
     up : (n : ℕ) → IsIn n (map page_of front) ⊎ IsIn n (map page_of others) → IsIn n (map page_of (front ++ (e ∷ others)))
     up n (inl i) = subst (λ (l : List ℕ). IsIn n l) (sym (pages-append front (e ∷ others))) (in_left n (map page_of front) (e.page ∷ map page_of others) i)
     up n (inr i) = subst (λ (l : List ℕ). IsIn n l) (sym (pages-append front (e ∷ others))) (in_right n (map page_of front) (e.page ∷ map page_of others) (inr i))
+
     clash : (n : ℕ) → IsIn n (map page_of (front ++ (e ∷ others))) → IsIn n (pages_of old height (spread old (front ++ (e ∷ others)))) ⊎ (n ≡ fresh) → ⊥
     clash n i (inl j) = apart_cross n (map page_of (front ++ (e ∷ others))) (pages_of old height (spread old (front ++ (e ∷ others)))) h.apart i j
     clash n i (inr k) =
         off (subst (λ (j : ℕ). IsIn j (pages_of old (suc height) (front ++ (e ∷ others)))) k
         (in_left n (map page_of (front ++ (e ∷ others))) (pages_of old height (spread old (front ++ (e ∷ others)))) i))
+
     rise : (n : ℕ) → ((n : ℕ) → IsIn n (pages_of new height (spread new (front ++ (e ∷ others)))) → IsIn n (pages_of old height (spread old (front ++ (e ∷ others)))) ⊎ (n ≡ fresh))
         → IsIn n (map page_of (front ++ (e ∷ others))) ⊎ IsIn n (pages_of new height (spread new (front ++ (e ∷ others))))
         → IsIn n (pages_of old (suc height) (front ++ (e ∷ others))) ⊎ (n ≡ fresh)

@@ -53,10 +53,11 @@ pub fenced_split : (old new : ℕ → Image) (front : List Entry) (m x : Entry) 
     → SameOn old new (map page_of others) → AreFenced old (front ++ (m ∷ others)) → IsFenced m.low (new m.page).cells (x ∷ others)
     → IsFenced x.low (new x.page).cells others → AreFenced new (front ++ (m ∷ (x ∷ others)))
 fenced_split old new [] m x others left right h here there = (here, (there, fenced_same old new others right h.1))
-fenced_split old new (f ∷ fs) m x others left right h here there =
-    (subst (λ (i : Image). IsFenced f.low i.cells (fs ++ (m ∷ (x ∷ others)))) (sym (left f.page (inl refl)))
-    (fence_split f.low (old f.page).cells fs m x others h.0),
-      fenced_split old new fs m x others (λ n i. left n (inr i)) right h.1 here there)
+fenced_split old new (f ∷ fs) m x others left right h here there = (
+  subst (λ (i : Image). IsFenced f.low i.cells (fs ++ (m ∷ (x ∷ others)))) (sym (left f.page (inl refl)))
+      (fence_split f.low (old f.page).cells fs m x others h.0),
+  fenced_split old new fs m x others (λ n i. left n (inr i)) right h.1 here there,
+)
 
 pub linked_split : (old new : ℕ → Image) (front : List Entry) (m x : Entry) (others : List Entry) → SameOn old new (map page_of front)
     → SameOn old new (map page_of others) → AreLinked old (front ++ (m ∷ others)) → (new m.page).head.right ≡ x.page
@@ -66,9 +67,10 @@ linked_split old new [] m x (o ∷ os) left right h here there =
     (here, (there ∙ h.0, linked_same old new (o ∷ os) (λ n i. ap (λ (i : Image). i.head.right) (right n i)) h.1))
 linked_split old new (f ∷ []) m x others left right h here there =
     (ap (λ (i : Image). i.head.right) (left f.page (inl refl)) ∙ h.0, linked_split old new [] m x others (λ n i. absurd i) right h.1 here there)
-linked_split old new (f ∷ g ∷ gs) m x others left right h here there =
-    (ap (λ (i : Image). i.head.right) (left f.page (inl refl)) ∙ h.0,
-      linked_split old new (g ∷ gs) m x others (λ n i. left n (inr i)) right h.1 here there)
+linked_split old new (f ∷ g ∷ gs) m x others left right h here there = (
+  ap (λ (i : Image). i.head.right) (left f.page (inl refl)) ∙ h.0,
+  linked_split old new (g ∷ gs) m x others (λ n i. left n (inr i)) right h.1 here there,
+)
 
 -- the two halves of a leaf's cells are in order
 pub all_append : (P : List ℕ → Type 0) (xs ys : List (List ℕ)) → AllByRecursion P (xs ++ ys) → AllByRecursion P xs × AllByRecursion P ys
@@ -91,19 +93,20 @@ fence_halves low separator start left middle right fresh others is h =
     let up = ascends_append start left middle right h.ascends in
     let under : AllByRecursion (λ x. before (key_of x) separator ≡ true) (start ∷ left) =
     subst (λ (k : Key). AllByRecursion (λ x. before (key_of x) k ≡ true) (start ∷ left)) (sym is) up.2 in
-    let P : Key → Type 0 = λ k. IsFenced k (middle ∷ right) others in
-    (record {
-      from = from.0;
-      to = under;
-      ascends = up.0;
-      next = atmost_before low (key_of start) separator from.0.0 under.0;
-    },
+    let P : Key → Type 0 = λ k. IsFenced k (middle ∷ right) others in (
+      record {
+        from = from.0;
+        to = under;
+        ascends = up.0;
+        next = atmost_before low (key_of start) separator from.0.0 under.0;
+      },
       subst P (sym is) (record {
         from = (irreflexive (key_of middle), at_least right (ascends_all middle right up.1));
         to = to.1;
         ascends = up.1;
         next = to.1.0;
-      }))
+      }),
+    )
   where
     at_least : (cells : List (List ℕ)) → AllByRecursion (λ d. before (key_of middle) (key_of d) ≡ true) cells
         → AllByRecursion (λ c. before (key_of c) (key_of middle) ≡ false) cells

@@ -24,9 +24,12 @@ use Rattle.btree_index.proofs.WayLemmas.{here_from, value-pairs}
 
 pub chain_same : (old new : ℕ → Image) (next : ℕ) (ids : List ℕ) → ((n : ℕ) → IsIn n ids → new n ≡ old n) → IsChain old next ids → IsChain new next ids
 chain_same old new next [] same h = h
-chain_same old new next (id ∷ ids) same h =
-    (h.0, h.1, subst (λ (n : ℕ). IsChain new n ids) (sym (ap (λ (i : Image). i.head.right) (same id (inl refl))))
-    (chain_same old new (old id).head.right ids (λ n i. same n (inr i)) h.2))
+chain_same old new next (id ∷ ids) same h = (
+  h.0,
+  h.1,
+  subst (λ (n : ℕ). IsChain new n ids) (sym (ap (λ (i : Image). i.head.right) (same id (inl refl))))
+      (chain_same old new (old id).head.right ids (λ n i. same n (inr i)) h.2),
+)
 
 pub changes_none : (pages : ℕ → Image) (own free : List ℕ) → Changes pages pages own own free free
 changes_none pages own free = record {
@@ -92,15 +95,19 @@ becomes first old new Fresh root own free list after stands changes fresh height
   where
     off : (n : ℕ) {c : ℕ} → c ≤ n → n < c → ⊥
     off n a b = omega arith
+
     meta : IsIn 0 own ⊎ Fresh 0 → ⊥
     meta (inl i) = stands.off_meta i
     meta (inr f) = (fresh 0 f).some refl
+
     apart : (n : ℕ) → IsIn n free → IsIn n own ⊎ Fresh n → ⊥
     apart n j (inl i) = stands.off_free n i j
     apart n j (inr f) = (fresh n f).off j
+
     under : (n : ℕ) → IsIn n own ⊎ Fresh n → n < count_of old
     under n (inl i) = stands.below n i
     under n (inr f) = (fresh n f).below
+
     tree : (n : ℕ) → IsIn n own ⊎ Fresh n → IsIn n own ⊎ IsIn n free ⊎ (count_of first ≤ n)
     tree n (inl i) = inl i
     tree n (inr f) = inr (inr (fresh n f).past)
@@ -148,18 +155,20 @@ removes old new root key page at leads leaf has changes room own free list stand
     let e : Entry = record { low = r.low; page = page } in
     let fence : IsFenced r.low (old page).cells r.others = fenced_at old r.front e r.others r.fenced in
     let value : value_at key list ≡ cell_value key (old page).cells =
-    ap (value_at key) (sym stands.pairs) ∙ value-pairs key stands.cells ∙ leaf_has old new root key page stands.height stands.cells cells r in
-    (sym (ap is_some value ∙ value_some key (old page).cells at has.found has.here has.same),
+    ap (value_at key) (sym stands.pairs) ∙ value-pairs key stands.cells ∙ leaf_has old new root key page stands.height stands.cells cells r in (
+      sym (ap is_some value ∙ value_some key (old page).cells at has.found has.here has.same),
       leaf_becomes old new root key page own free list (without_key key list) cells stands changes r room
-      (all_remove IsLeafCell (old page).cells at (each r))
-      (fenced_remove r.low (old page).cells at r.others fence)
-      (without-cells key (cells_of old r.front) (old page).cells (cells_of old r.others) at has.found fence.ascends has.here has.same
-      (front_before old key r.low page r.front r.others r.fenced r.from)
-      (behind_after old key r.others (behind r) r.to)
-      ∙ ap (λ (l : List (List ℕ)). without_key key (map pair_of l)) (sym r.is) ∙ ap (without_key key) stands.pairs))
+          (all_remove IsLeafCell (old page).cells at (each r))
+          (fenced_remove r.low (old page).cells at r.others fence)
+          (without-cells key (cells_of old r.front) (old page).cells (cells_of old r.others) at has.found fence.ascends has.here has.same
+          (front_before old key r.low page r.front r.others r.fenced r.from)
+          (behind_after old key r.others (behind r) r.to)
+          ∙ ap (λ (l : List (List ℕ)). without_key key (map pair_of l)) (sym r.is) ∙ ap (without_key key) stands.pairs),
+    )
   where
     behind : (r : Replaces old new root key page stands.height stands.cells (remove (old page).cells at)) → AreFenced old r.others
     behind r = (fenced_rest old r.front (record { low = r.low; page = page }) r.others r.fenced).1
+
     each : (r : Replaces old new root key page stands.height stands.cells (remove (old page).cells at)) → AllByRecursion IsLeafCell (old page).cells
     each r = r.leaf.cells
 
@@ -173,12 +182,13 @@ removes_none old new root key page same leads leaf none own free list stands =
     replaces old old root key page stands.height stands.cells cells stands.holds (leads stands.height stands.cells stands.holds) leaf
     (record { is = refl; head = refl; others = λ n off. refl }) in
     let absent : cell_value key stands.cells ≡ None = leaf_has old old root key page stands.height stands.cells cells r ∙ none in
-    let value : value_at key list ≡ None = ap (value_at key) (sym stands.pairs) ∙ value-pairs key stands.cells ∙ absent in
-    (sym (ap is_some value),
+    let value : value_at key list ≡ None = ap (value_at key) (sym stands.pairs) ∙ value-pairs key stands.cells ∙ absent in (
+      sym (ap is_some value),
       subst (λ (f : ℕ → Image). Becomes old f root own free (without_key key list)) (sym same)
-      (becomes old old old (λ _. ⊥) root own free list (without_key key list) stands (changes_none old own free) (λ n f. absurd f) stands.height stands.cells stands.holds
-      (λ n i. inl (subst (λ (l : List ℕ). IsIn n l) stands.own_is i)) (λ n off f. refl)
-      (sym (without-absent key stands.cells absent) ∙ ap (without_key key) stands.pairs)))
+          (becomes old old old (λ _. ⊥) root own free list (without_key key list) stands (changes_none old own free) (λ n f. absurd f) stands.height stands.cells stands.holds
+          (λ n i. inl (subst (λ (l : List ℕ). IsIn n l) stands.own_is i)) (λ n off f. refl)
+          (sym (without-absent key stands.cells absent) ∙ ap (without_key key) stands.pairs)),
+    )
 
 -- an edit of the cells of one page
 pub takes_cell : (old new : ℕ → Image) (id at : ℕ) (cell : List ℕ) → new ≡ edited old id (TakeCell at cell) → ChangesCells old new id (remove (old id).cells at)

@@ -151,8 +151,6 @@ pub value-pairs : (key : Key) (cells : List (List ℕ)) → value_at key (map pa
 value-pairs key [] = refl
 value-pairs key (c ∷ cs) = ap (λ (o : Option (List ℕ)). if same_key key (key_of c) then Some (value_of c) else o) (value-pairs key cs)
 
-
-
 all_off : (level : List Entry) → (IsIn 0 (map page_of level) → ⊥) → AllByRecursion (λ e. e.page ≡ 0 → ⊥) level
 all_off [] off = tt
 all_off (e ∷ es) off = (λ h. off (inl (sym h)), all_off es (λ i. off (inr i)))

@@ -21,7 +21,7 @@ pub fn remove<P: PageSource>(
 ) -> Result<bool, PageFault>
     ensures removed { (own free : List ℕ) (list : List (Key × List ℕ)) → Stands (meant P.pages space.old) root own free list →
         IfOk result (λ was. (was ≡ is_some (value_at key.now list))
-            × Becomes (meant P.pages space.old) (meant P.pages space.new) root own free (without_key key.now list)) }
+        × Becomes (meant P.pages space.old) (meant P.pages space.new) root own free (without_key key.now list)) }
     ensures base { P.pages space.new.base ≡ P.pages space.old.base }
     ensures excused { IsLoadExcused result (P.losses space.old.base) (P.losses space.new.base) }
 {
@@ -41,7 +41,7 @@ fn take_key<P: PageSource>(
 ) -> Result<bool, EditFault>
     ensures removed { (own free : List ℕ) (list : List (Key × List ℕ)) → Stands (meant P.pages space.old) root own free list →
         IfOk result (λ was. (was ≡ is_some (value_at key.now list))
-            × Becomes (meant P.pages space.old) (meant P.pages space.new) root own free (without_key key.now list)) }
+        × Becomes (meant P.pages space.old) (meant P.pages space.new) root own free (without_key key.now list)) }
     ensures base { P.pages space.new.base ≡ P.pages space.old.base }
     ensures excused { IsExcused result (P.losses space.old.base) (P.losses space.new.base) }
 {
