@@ -85,3 +85,27 @@ pub none_before_empty : (a : Key) → before a [] ≡ false
 unfolding before
 none_before_empty [] = refl
 none_before_empty (x ∷ xs) = refl
+
+eq_alone : (o : Ordering) → is_eq o ≡ true → (is_lt o ≡ false) × (is_gt o ≡ false)
+eq_alone Less h = absurd (false≢true h)
+eq_alone Equal h = (refl, refl)
+eq_alone Greater h = absurd (false≢true h)
+
+-- the same key is neither before nor behind
+pub same_not_before : (a b : Key) → same_key a b ≡ true → before a b ≡ false
+unfolding before same_key
+same_not_before a b h = (eq_alone (slice_cmp nat_cmp a b) h).0
+
+pub same_not_behind : (a b : Key) → same_key a b ≡ true → before b a ≡ false
+unfolding before same_key
+same_not_behind a b h = sym (back b a) ∙ (eq_alone (slice_cmp nat_cmp a b) h).1
+
+others_gone : (o : Ordering) → is_eq o ≡ false → is_gt o ≡ false → is_lt o ≡ true
+others_gone Less h k = refl
+others_gone Equal h k = absurd (false≢true (sym h))
+others_gone Greater h k = absurd (false≢true (sym k))
+
+-- a key that is neither the same nor behind is before
+pub else_before : (a b : Key) → same_key a b ≡ false → before b a ≡ false → before a b ≡ true
+unfolding before same_key
+else_before a b h k = others_gone (slice_cmp nat_cmp a b) h (back b a ∙ k)

@@ -3,3 +3,13 @@ pub mod TreeLemmas
 pub mod WayLemmas
 pub mod FindLemmas
 pub mod RowLemmas
+pub mod ApartLemmas
+pub mod LevelLemmas
+pub mod LeafLemmas
+pub mod PairLemmas
+pub mod PathLemmas
+pub mod StandLemmas
+pub mod CellLemmas
+pub mod SplitLemmas
+pub mod HalfLemmas
+pub mod ParentLemmas

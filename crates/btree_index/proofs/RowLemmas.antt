@@ -26,7 +26,7 @@ between-append low high (x ∷ xs) ys = go (is_between low high x.0) (between-ap
     go true e = ap (λ l. x ∷ l) e
     go false e = e
 
-pairs-append : (xs ys : List (List ℕ)) → map pair_of (xs ++ ys) ≡ map pair_of xs ++ map pair_of ys
+pub pairs-append : (xs ys : List (List ℕ)) → map pair_of (xs ++ ys) ≡ map pair_of xs ++ map pair_of ys
 pairs-append [] ys = refl
 pairs-append (x ∷ xs) ys = ap (λ l. pair_of x ∷ l) (pairs-append xs ys)
 
@@ -57,7 +57,7 @@ none_high low high (c ∷ cs) h =
     off false = refl
 
 -- cells under leaves that begin at most at the low key are before it
-front_low : (low : Key) (cells : List (List ℕ)) (level : List Entry) → AllByRecursion (λ c. IsUnder (key_of c) level) cells
+pub front_low : (low : Key) (cells : List (List ℕ)) (level : List Entry) → AllByRecursion (λ c. IsUnder (key_of c) level) cells
     → BeginsBelow low level → AllByRecursion (λ c. before (key_of c) low ≡ true) cells
 front_low low [] level to begins = tt
 front_low low (c ∷ cs) [] to begins = absurd begins
@@ -164,7 +164,7 @@ linked_rest pages [] e others linked = linked
 linked_rest pages (f ∷ []) e others linked = linked.1
 linked_rest pages (f ∷ g ∷ gs) e others linked = linked_rest pages (g ∷ gs) e others linked.1
 
-fenced_rest : (pages : ℕ → Image) (front : List Entry) (e : Entry) (others : List Entry) → AreFenced pages (front ++ (e ∷ others)) → AreFenced pages (e ∷ others)
+pub fenced_rest : (pages : ℕ → Image) (front : List Entry) (e : Entry) (others : List Entry) → AreFenced pages (front ++ (e ∷ others)) → AreFenced pages (e ∷ others)
 fenced_rest pages [] e others fenced = fenced
 fenced_rest pages (f ∷ fs) e others fenced = fenced_rest pages fs e others fenced.1
 

@@ -3,11 +3,13 @@ use Rattle.std.proofs.Common.{◌≡◌, inl, inr, ℕ, zero, suc, Bool, true, f
 use Rattle.std.specs.List.{AllByRecursion}
 use Rattle.page_store.specs.Image.{Image}
 use Rattle.page_store.specs.declared.pages.PageKind.TheVariants.{Leaf, Inner}
+use Rattle.page_workspace.specs.Spare.{IsIn}
 use Rattle.btree_index.specs.Keys.{Key, before, same_key}
 use Rattle.btree_index.specs.Cells.{key_of, value_of, child_of}
 use Rattle.btree_index.specs.Pairs.{value_at, cell_value, chosen, choice}
-use Rattle.btree_index.specs.Trees.{AreLinked, IsIn, page_of, pages_of, Entry, entry_of, below, spread, leaves, cells_of, IsShaped, IsLeafPage, IsInnerPage, BeginsEmpty, IsUnder, AreFenced, top, pair_of, TreeList}
+use Rattle.btree_index.specs.Trees.{AreLinked, page_of, pages_of, Entry, entry_of, below, spread, leaves, cells_of, IsShaped, IsLeafPage, IsInnerPage, BeginsEmpty, IsUnder, AreFenced, top, pair_of, TreeList}
 use Rattle.btree_index.specs.Ways.{IsAt, OnWay}
+use Rattle.btree_index.proofs.ApartLemmas.{in_right}
 use Rattle.btree_index.proofs.KeyLemmas.{before_atmost, before_before, not_back, not_same_before, not_same_behind, none_before_empty}
 
 at_more : (ys xs : List Entry) (key : Key) (page : ℕ) → IsAt xs key page → IsAt (ys ++ xs) key page
@@ -83,7 +85,7 @@ value-append_none key [] ys h none = refl
 value-append_none key (x ∷ xs) ys h none = let e = none.0 in rw e (value-append_none key xs ys (no_cell key xs none.1) none.1)
 
 -- cells from a least key that is above the key
-above : (key low : Key) (cells : List (List ℕ)) → before key low ≡ true → AllByRecursion (λ c. before (key_of c) low ≡ false) cells
+pub above : (key low : Key) (cells : List (List ℕ)) → before key low ≡ true → AllByRecursion (λ c. before (key_of c) low ≡ false) cells
     → AllByRecursion (λ c. same_key key (key_of c) ≡ false) cells
 above key low [] h from = tt
 above key low (c ∷ cs) h from = (not_same_before key (key_of c) (before_atmost key low (key_of c) h from.0), above key low cs h from.1)
@@ -126,7 +128,7 @@ under_all key (c ∷ cs) (e ∷ es) to begins =
     (not_same_behind key (key_of c) (before_atmost (key_of c) e.low key to.0 begins), under_all key cs (e ∷ es) to.1 begins)
 
 -- the leaf that was found has the key's value, if there is one
-here_from : (pages : ℕ → Image) (key low : Key) (page : ℕ) (front others : List Entry)
+pub here_from : (pages : ℕ → Image) (key low : Key) (page : ℕ) (front others : List Entry)
     → AreFenced pages (front ++ (record { low = low; page = page } ∷ others)) → before key low ≡ false → IsUnder key others
     → cell_value key (cells_of pages (front ++ (record { low = low; page = page } ∷ others))) ≡ cell_value key (pages page).cells
 here_from pages key low page [] others fenced from to =
@@ -148,10 +150,6 @@ here pages level key page fenced at =
 pub value-pairs : (key : Key) (cells : List (List ℕ)) → value_at key (map pair_of cells) ≡ cell_value key cells
 value-pairs key [] = refl
 value-pairs key (c ∷ cs) = ap (λ (o : Option (List ℕ)). if same_key key (key_of c) then Some (value_of c) else o) (value-pairs key cs)
-
-in_right : (n : ℕ) (xs ys : List ℕ) → IsIn n ys → IsIn n (xs ++ ys)
-in_right n [] ys h = h
-in_right n (x ∷ xs) ys h = inr (in_right n xs ys h)
 
 all_off : (level : List Entry) → (IsIn 0 (map page_of level) → ⊥) → AllByRecursion (λ e. e.page ≡ 0 → ⊥) level
 all_off [] off = tt
@@ -182,7 +180,7 @@ pub not_leaf : (pages : ℕ → Image) (page : ℕ) (low : Key) (front others : 
 not_leaf pages page low [] others inner shaped = let e = sym inner ∙ shaped.0.kind in cc
 not_leaf pages page low (f ∷ fs) others inner shaped = not_leaf pages page low fs others inner shaped.1
 
-not_inner : (pages : ℕ → Image) (page h : ℕ) (low : Key) (front others : List Entry) → (pages page).head.kind ≡ Leaf
+pub not_inner : (pages : ℕ → Image) (page h : ℕ) (low : Key) (front others : List Entry) → (pages page).head.kind ≡ Leaf
     → AllByRecursion (λ e. IsInnerPage (suc h) (pages e.page)) (front ++ (record { low = low; page = page } ∷ others)) → ⊥
 not_inner pages page h low [] others leaf shaped = let e = sym leaf ∙ shaped.0.kind in cc
 not_inner pages page h low (f ∷ fs) others leaf shaped = not_inner pages page h low fs others leaf shaped.1

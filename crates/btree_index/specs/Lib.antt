@@ -2,5 +2,6 @@ pub mod Keys
 pub mod Cells
 pub mod Trees
 pub mod Pairs
-pub mod Spare
 pub mod Ways
+pub mod Changes
+pub mod Steps

@@ -1,6 +1,6 @@
 -- Lists of pairs in the order of their keys, as a tree holds them.
-use Rattle.std.specs.Prelude.{ℕ, Bool, List, [], ◌∷◌, ◌⊎◌, not, true, false, ◌≡◌, ◌&&◌, if◌then◌else◌, Option, Some, None}
-use Rattle.std.specs.List.{filter}
+use Rattle.std.specs.Prelude.{ℕ, zero, suc, Bool, List, [], ◌∷◌, ◌⊎◌, not, true, false, ◌≡◌, ◌&&◌, if◌then◌else◌, Option, Some, None}
+use Rattle.std.specs.List.{filter, slice_get}
 use Rattle.btree_index.specs.Keys.{Key, before, same_key}
 use Rattle.btree_index.specs.Cells.{key_of, value_of, child_of}
 
@@ -52,3 +52,14 @@ choice key (cell ∷ cells) = chosen key (child_of cell) cells
 abbrev pub HasBeyond : Option Key → List (List ℕ) → Type 0
 HasBeyond high [] = ⊥
 HasBeyond high (cell ∷ cells) = (is_below high (key_of cell) ≡ false) ⊎ HasBeyond high cells
+
+-- how many cells of a leaf come before a key
+abbrev pub place_in : Key → List (List ℕ) → ℕ
+place_in key [] = zero
+place_in key (cell ∷ cells) = if before (key_of cell) key then suc (place_in key cells) else zero
+
+-- the cell at a place has the key
+pub record HasKeyAt (key : Key) (cells : List (List ℕ)) (at : ℕ) : Type 0 where
+  pub found : List ℕ
+  pub here : slice_get cells at ≡ Some found
+  pub same : same_key key (key_of found) ≡ true

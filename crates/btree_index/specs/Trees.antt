@@ -8,6 +8,7 @@ use Rattle.std.specs.Prelude.{◌≡◌, ◌⊎◌, ℕ, zero, suc, true, false,
 use Rattle.std.specs.List.{AllByRecursion}
 use Rattle.page_store.specs.Image.{Image, HasRoom}
 use Rattle.page_store.specs.declared.pages.PageKind.TheVariants.{Leaf, Inner}
+use Rattle.page_workspace.specs.Spare.{IsIn, AreApart}
 use Rattle.btree_index.specs.Keys.{Key, before}
 use Rattle.btree_index.specs.Cells.{key_of, value_of, child_of, IsLeafCell, IsInnerCell}
 
@@ -100,16 +101,6 @@ abbrev pub AreLinked : (ℕ → Image) → List Entry → Type 0
 AreLinked pages [] = Unit {0}
 AreLinked pages (e ∷ []) = (pages e.page).head.right ≡ 0
 AreLinked pages (e ∷ f ∷ es) = ((pages e.page).head.right ≡ f.page) × AreLinked pages (f ∷ es)
-
--- a number is among these
-abbrev pub IsIn : ℕ → List ℕ → Type 0
-IsIn n [] = ⊥
-IsIn n (x ∷ xs) = (n ≡ x) ⊎ IsIn n xs
-
--- no number is there twice
-abbrev pub AreApart : List ℕ → Type 0
-AreApart [] = Unit {0}
-AreApart (x ∷ xs) = (IsIn x xs → ⊥) × AreApart xs
 
 -- the pages from a level down hold these cells
 pub record Holds (pages : ℕ → Image) (height : ℕ) (level : List Entry) (cells : List (List ℕ)) : Type 0 where

@@ -31,10 +31,13 @@ mod cells;
 mod finds;
 mod keys;
 mod laws;
+mod paths;
+mod removes;
 mod scans;
 
 pub use finds::find;
 pub use laws::trees_have_one_list;
+pub use removes::remove;
 pub use scans::scan;
 
 #[cfg(test)]

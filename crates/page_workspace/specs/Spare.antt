@@ -6,7 +6,16 @@ use Rattle.std.specs.List.{AllByRecursion}
 use Rattle.byteorder.specs.Endian.{big_number}
 use Rattle.page_store.specs.Image.{Image, blank_image}
 use Rattle.page_store.specs.declared.pages.PageKind.TheVariants.{Meta}
-use Rattle.btree_index.specs.Trees.{IsIn, AreApart}
+
+-- a number is among these
+abbrev pub IsIn : ℕ → List ℕ → Type 0
+IsIn n [] = ⊥
+IsIn n (x ∷ xs) = (n ≡ x) ⊎ IsIn n xs
+
+-- no number is there twice
+abbrev pub AreApart : List ℕ → Type 0
+AreApart [] = Unit {0}
+AreApart (x ∷ xs) = (IsIn x xs → ⊥) × AreApart xs
 
 -- the first cell of a page, where it has one
 abbrev pub first_cell : List (List ℕ) → List ℕ

@@ -1,0 +1,210 @@
+-- A tree among other pages, before a change and after it.
+use Rattle.std.proofs.Common.{if◌then◌else◌, drop, ◌≡◌, ◌⊎◌, inl, inr, ℕ, zero, suc, ◌≤◌, ◌<◌, Bool, true, false, List, [], ◌∷◌, ◌++◌, map, Option, None, Some, refl, sym, ap, ◌∙◌, subst, arith}
+use Rattle.std.proofs.lemmas.Option.{none-some, same_Some}
+use Rattle.std.specs.Option.{is_some}
+use Rattle.std.specs.List.{AllByRecursion, slice_get, insert, remove}
+use Rattle.byteorder.specs.Endian.{big_number}
+use Rattle.page_store.specs.Image.{Image, HasRoom}
+use Rattle.page_store.specs.declared.pages.PageKind.TheVariants.{Leaf}
+use Rattle.page_store.specs.Edits.{after_edit}
+use Rattle.page_store.specs.declared.edits.Edit.TheVariants.{PutCell, TakeCell}
+use Rattle.page_workspace.specs.Drafts.{edited}
+use Rattle.page_workspace.proofs.DraftLemmas.{edited_here, edited_other}
+use Rattle.page_workspace.specs.Spare.{IsIn, IsChain, AreFree, IsMeta, next_genid, count_of, first_free, first_cell}
+use Rattle.btree_index.specs.Keys.{Key, same_key}
+use Rattle.btree_index.specs.Cells.{key_of, value_of, IsLeafCell}
+use Rattle.btree_index.specs.Pairs.{value_at, cell_value, without_key, HasKeyAt}
+use Rattle.btree_index.specs.Trees.{Entry, cells_of, pages_of, IsLeafPage, IsFenced, AreFenced, Holds, top, pair_of}
+use Rattle.btree_index.specs.Changes.{Stands, Changes, Becomes, Leads}
+use Rattle.btree_index.proofs.LevelLemmas.{Grown}
+use Rattle.btree_index.proofs.LeafLemmas.{ChangesCells, Replaces, replaces, cells-append, fenced_at}
+use Rattle.btree_index.proofs.PairLemmas.{front_before, behind_after, without-cells, without-absent, fenced_remove, all_remove}
+use Rattle.btree_index.proofs.RowLemmas.{fenced_rest}
+use Rattle.btree_index.proofs.WayLemmas.{here_from, value-pairs}
+
+pub chain_same : (old new : ℕ → Image) (next : ℕ) (ids : List ℕ) → ((n : ℕ) → IsIn n ids → new n ≡ old n) → IsChain old next ids → IsChain new next ids
+chain_same old new next [] same h = h
+chain_same old new next (id ∷ ids) same h = (
+  h.0,
+  h.1,
+  subst (λ (n : ℕ). IsChain new n ids) (sym (ap (λ (i : Image). i.head.right) (same id (inl refl))))
+      (chain_same old new (old id).head.right ids (λ n i. same n (inr i)) h.2),
+)
+
+pub changes_none : (pages : ℕ → Image) (own free : List ℕ) → Changes pages pages own own free free
+changes_none pages own free = record {
+  genid = refl;
+  count = omega arith;
+  others = λ n below some off_own off_free. refl;
+  tree = λ n i. inl i;
+  unused = λ n i. inr (inl i);
+}
+
+-- a page that was not of the tree before
+pub record IsFresh (first old : ℕ → Image) (free : List ℕ) (n : ℕ) : Type 0 where
+  pub past : count_of first ≤ n
+  pub below : n < count_of old
+  pub some : n ≡ 0 → ⊥
+  pub off : IsIn n free → ⊥
+
+-- a change of the tree's pages and of fresh ones alone
+pub becomes : (first old new : ℕ → Image) (Fresh : ℕ → Type 0) (root : ℕ) (own free : List ℕ) (list after : List (Key × List ℕ))
+    → Stands old root own free list → Changes first old own own free free → ((n : ℕ) → Fresh n → IsFresh first old free n)
+    → (height : ℕ) (cells : List (List ℕ)) → Holds new height (top root) cells
+    → ((n : ℕ) → IsIn n (pages_of new height (top root)) → IsIn n own ⊎ Fresh n)
+    → ((n : ℕ) → (IsIn n own → ⊥) → (Fresh n → ⊥) → new n ≡ old n) → map pair_of cells ≡ after
+    → Becomes first new root own free after
+becomes first old new Fresh root own free list after stands changes fresh height cells holds from same pairs =
+    let zeroth : new 0 ≡ old 0 = same 0 stands.off_meta (λ f. (fresh 0 f).some refl) in
+    let count : count_of new ≡ count_of old = ap (λ (i : Image). big_number 8 (drop 8 (first_cell i.cells))) zeroth in
+    let genid : next_genid new ≡ next_genid old = ap (λ (i : Image). big_number 8 (first_cell i.cells)) zeroth in
+    let free_is : first_free new ≡ first_free old = ap (λ (i : Image). big_number 8 (drop 16 (first_cell i.cells))) zeroth in
+    let earlier : count_of first ≤ count_of old = changes.count in
+    record {
+      more = pages_of new height (top root);
+      spare = free;
+      stands = record {
+        height = height;
+        cells = cells;
+        holds = holds;
+        own_is = refl;
+        pairs = pairs;
+        spare = record {
+          meta = subst IsMeta (sym zeroth) stands.spare.meta;
+          chain = subst (λ (n : ℕ). IsChain new n free) (sym free_is)
+              (chain_same old new (first_free old) free (λ n i. same n (λ j. stands.off_free n j i) (λ f. (fresh n f).off i)) stands.spare.chain);
+          apart = stands.spare.apart;
+          written = subst (λ (c : ℕ). AllByRecursion (λ id. id < c) free) (sym count) stands.spare.written;
+          past = λ n h.
+              (let past : count_of old ≤ n = omega arith in
+              same n (λ i. off n past (stands.below n i)) (λ f. off n past (fresh n f).below) ∙ stands.spare.past n past);
+        };
+        off_meta = λ i. meta (from 0 i);
+        off_free = λ n i j. apart n j (from n i);
+        below = λ n i. subst (λ (c : ℕ). n < c) (sym count) (under n (from n i));
+      };
+      changes = record {
+        genid = genid ∙ changes.genid;
+        count = omega arith;
+        others = λ n h some off_own off_free.
+            same n off_own (λ f. off n (fresh n f).past h) ∙ changes.others n h some off_own off_free;
+        tree = λ n i. tree n (from n i);
+        unused = changes.unused;
+      };
+    }
+  where
+    off : (n : ℕ) {c : ℕ} → c ≤ n → n < c → ⊥
+    off n a b = omega arith
+
+    meta : IsIn 0 own ⊎ Fresh 0 → ⊥
+    meta (inl i) = stands.off_meta i
+    meta (inr f) = (fresh 0 f).some refl
+
+    apart : (n : ℕ) → IsIn n free → IsIn n own ⊎ Fresh n → ⊥
+    apart n j (inl i) = stands.off_free n i j
+    apart n j (inr f) = (fresh n f).off j
+
+    under : (n : ℕ) → IsIn n own ⊎ Fresh n → n < count_of old
+    under n (inl i) = stands.below n i
+    under n (inr f) = (fresh n f).below
+
+    tree : (n : ℕ) → IsIn n own ⊎ Fresh n → IsIn n own ⊎ IsIn n free ⊎ (count_of first ≤ n)
+    tree n (inl i) = inl i
+    tree n (inr f) = inr (inr (fresh n f).past)
+
+-- a leaf with other cells
+pub leaf_becomes : (old new : ℕ → Image) (root : ℕ) (key : Key) (page : ℕ) (own free : List ℕ) (list after : List (Key × List ℕ)) (cells : List (List ℕ))
+    → (stands : Stands old root own free list) → ChangesCells old new page cells
+    → (r : Replaces old new root key page stands.height stands.cells cells) → HasRoom cells → AllByRecursion IsLeafCell cells → IsFenced r.low cells r.others
+    → map pair_of (cells_of old r.front ++ (cells ++ cells_of old r.others)) ≡ after → Becomes old new root own free after
+leaf_becomes old new root key page own free list after cells stands changes r room each fence pairs =
+    let grown = r.grown room each fence in
+    becomes old old new (λ _. ⊥) root own free list after stands (changes_none old own free) (λ n f. absurd f) stands.height
+    (cells_of old r.front ++ (cells ++ cells_of old r.others)) grown.holds
+    (λ n i. subst (λ (l : List ℕ). IsIn n l ⊎ ⊥) stands.own_is (grown.from n i))
+    (λ n off f. changes.others n (λ e. off (subst (λ (k : ℕ). IsIn k own) (sym e) (subst (λ (l : List ℕ). IsIn page l) stands.own_is r.inside)))) pairs
+
+-- what the leaf has of the key is what the tree has
+pub leaf_has : (old new : ℕ → Image) (root : ℕ) (key : Key) (page height : ℕ) (all cells : List (List ℕ))
+    → (r : Replaces old new root key page height all cells) → cell_value key all ≡ cell_value key (old page).cells
+leaf_has old new root key page height all cells r =
+    ap (cell_value key) (r.is ∙ sym (cells-append old r.front (record { low = r.low; page = page } ∷ r.others)))
+    ∙ here_from old key r.low page r.front r.others r.fenced r.from r.to
+
+value_some : (key : Key) (cells : List (List ℕ)) (at : ℕ) (found : List ℕ) → slice_get cells at ≡ Some found → same_key key (key_of found) ≡ true
+    → is_some (cell_value key cells) ≡ true
+value_some key [] at found h same = absurd (none-some found h)
+value_some key (c ∷ cs) zero found h same =
+    let here : same_key key (key_of c) ≡ true = ap (λ (x : List ℕ). same_key key (key_of x)) (same_Some c found h) ∙ same in
+    ap (λ (t : Bool). is_some (if t then Some (value_of c) else cell_value key cs)) here
+value_some key (c ∷ cs) (suc at) found h same = go (same_key key (key_of c)) (value_some key cs at found h same)
+  where
+    go : (t : Bool) → is_some (cell_value key cs) ≡ true → is_some (if t then Some (value_of c) else cell_value key cs) ≡ true
+    go true k = refl
+    go false k = k
+
+-- the cell of the key is taken out of its leaf
+pub removes : (old new : ℕ → Image) (root : ℕ) (key : Key) (page at : ℕ) → Leads old root key page → (old page).head.kind ≡ Leaf
+    → HasKeyAt key (old page).cells at → ChangesCells old new page (remove (old page).cells at) → HasRoom (remove (old page).cells at)
+    → (own free : List ℕ) (list : List (Key × List ℕ)) → Stands old root own free list
+    → (true ≡ is_some (value_at key list)) × Becomes old new root own free (without_key key list)
+removes old new root key page at leads leaf has changes room own free list stands =
+    let cells = remove (old page).cells at in
+    let r : Replaces old new root key page stands.height stands.cells cells =
+    replaces old new root key page stands.height stands.cells cells stands.holds (leads stands.height stands.cells stands.holds) leaf changes in
+    let e : Entry = record { low = r.low; page = page } in
+    let fence : IsFenced r.low (old page).cells r.others = fenced_at old r.front e r.others r.fenced in
+    let value : value_at key list ≡ cell_value key (old page).cells =
+    ap (value_at key) (sym stands.pairs) ∙ value-pairs key stands.cells ∙ leaf_has old new root key page stands.height stands.cells cells r in (
+      sym (ap is_some value ∙ value_some key (old page).cells at has.found has.here has.same),
+      leaf_becomes old new root key page own free list (without_key key list) cells stands changes r room
+          (all_remove IsLeafCell (old page).cells at (each r))
+          (fenced_remove r.low (old page).cells at r.others fence)
+          (without-cells key (cells_of old r.front) (old page).cells (cells_of old r.others) at has.found fence.ascends has.here has.same
+          (front_before old key r.low page r.front r.others r.fenced r.from)
+          (behind_after old key r.others (behind r) r.to)
+          ∙ ap (λ (l : List (List ℕ)). without_key key (map pair_of l)) (sym r.is) ∙ ap (without_key key) stands.pairs),
+    )
+  where
+    behind : (r : Replaces old new root key page stands.height stands.cells (remove (old page).cells at)) → AreFenced old r.others
+    behind r = (fenced_rest old r.front (record { low = r.low; page = page }) r.others r.fenced).1
+
+    each : (r : Replaces old new root key page stands.height stands.cells (remove (old page).cells at)) → AllByRecursion IsLeafCell (old page).cells
+    each r = r.leaf.cells
+
+-- where no cell has the key, nothing is to be taken
+pub removes_none : (old new : ℕ → Image) (root : ℕ) (key : Key) (page : ℕ) → new ≡ old → Leads old root key page → (old page).head.kind ≡ Leaf
+    → cell_value key (old page).cells ≡ None → (own free : List ℕ) (list : List (Key × List ℕ)) → Stands old root own free list
+    → (false ≡ is_some (value_at key list)) × Becomes old new root own free (without_key key list)
+removes_none old new root key page same leads leaf none own free list stands =
+    let cells = (old page).cells in
+    let r : Replaces old old root key page stands.height stands.cells cells =
+    replaces old old root key page stands.height stands.cells cells stands.holds (leads stands.height stands.cells stands.holds) leaf
+    (record { is = refl; head = refl; others = λ n off. refl }) in
+    let absent : cell_value key stands.cells ≡ None = leaf_has old old root key page stands.height stands.cells cells r ∙ none in
+    let value : value_at key list ≡ None = ap (value_at key) (sym stands.pairs) ∙ value-pairs key stands.cells ∙ absent in (
+      sym (ap is_some value),
+      subst (λ (f : ℕ → Image). Becomes old f root own free (without_key key list)) (sym same)
+          (becomes old old old (λ _. ⊥) root own free list (without_key key list) stands (changes_none old own free) (λ n f. absurd f) stands.height stands.cells stands.holds
+          (λ n i. inl (subst (λ (l : List ℕ). IsIn n l) stands.own_is i)) (λ n off f. refl)
+          (sym (without-absent key stands.cells absent) ∙ ap (without_key key) stands.pairs)),
+    )
+
+-- an edit of the cells of one page
+pub takes_cell : (old new : ℕ → Image) (id at : ℕ) (cell : List ℕ) → new ≡ edited old id (TakeCell at cell) → ChangesCells old new id (remove (old id).cells at)
+takes_cell old new id at cell is =
+    let here : new id ≡ after_edit (old id) (TakeCell at cell) (old id).lsn = ap (λ (f : ℕ → Image). f id) is ∙ edited_here old id (TakeCell at cell) in
+    record {
+      is = ap (λ (i : Image). i.cells) here;
+      head = ap (λ (i : Image). i.head) here;
+      others = λ n off. ap (λ (f : ℕ → Image). f n) is ∙ edited_other old id (TakeCell at cell) n off;
+    }
+
+pub puts_cell : (old new : ℕ → Image) (id at : ℕ) (cell : List ℕ) → new ≡ edited old id (PutCell at cell) → ChangesCells old new id (insert (old id).cells at cell)
+puts_cell old new id at cell is =
+    let here : new id ≡ after_edit (old id) (PutCell at cell) (old id).lsn = ap (λ (f : ℕ → Image). f id) is ∙ edited_here old id (PutCell at cell) in
+    record {
+      is = ap (λ (i : Image). i.cells) here;
+      head = ap (λ (i : Image). i.head) here;
+      others = λ n off. ap (λ (f : ℕ → Image). f n) is ∙ edited_other old id (PutCell at cell) n off;
+    }

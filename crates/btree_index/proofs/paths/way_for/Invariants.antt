@@ -1,0 +1,14 @@
+-- the workspace means what it meant, and the page is on the way to the key
+use Rattle.std.proofs.Common.{◌≡◌, ◌≤◌}
+use Rattle.page_workspace.specs.Drafts.{meant}
+use Rattle.btree_index.specs.Changes.{Leads, LeadsOver}
+use Rattle.btree_index.proofs.paths.way_for.Given as goal
+
+abbrev pub invariant-down : goal.invariant-down
+invariant-down g l = record {
+  pages : meant g.P.PageSource.pages l.space ≡ meant g.P.PageSource.pages l.fn.space;
+  base : g.P.PageSource.pages l.space.base ≡ g.P.PageSource.pages l.fn.space.base;
+  losses : g.P.PageSource.losses l.fn.space.base ≤ g.P.PageSource.losses l.space.base;
+  leads : Leads (meant g.P.PageSource.pages l.fn.space) l.root l.key l.leaf;
+  over : LeadsOver (meant g.P.PageSource.pages l.fn.space) l.root l.key l.roomy;
+}

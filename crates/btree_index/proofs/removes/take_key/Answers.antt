@@ -1,0 +1,39 @@
+-- The leaf of the way has the key's cell, or no leaf has.
+use Rattle.std.proofs.Common.{◌≡◌, ℕ, Some, None, refl, sym, ap, ◌∙◌, subst, rules, List}
+use Rattle.std.proofs.lemmas.Option.{same_Some}
+use Rattle.std.specs.List.{remove}
+use Rattle.page_store.specs.Image.{Image, HasRoom}
+use Rattle.page_store.specs.declared.edits.Edit.TheVariants.{TakeCell}
+use Rattle.page_workspace.specs.Drafts.{meant, edited}
+use Rattle.btree_index.specs.Pairs.{cell_value, HasKeyAt}
+use Rattle.btree_index.proofs.LeafLemmas.{ChangesCells}
+use Rattle.btree_index.proofs.StandLemmas.{removes, removes_none, takes_cell}
+use Rattle.btree_index.proofs.removes.take_key.Goals as goal
+
+pub returns-in_default-clause-removed : goal.returns-in_default-clause-removed
+returns-in_default-clause-removed g c =
+    let pages = meant g.P.PageSource.pages c.args.space.now in
+    let way = c.in_ok-way.way in
+    let said = c.in_ok-way.ensures in
+    let page = c.page-page.result.now in
+    let now : page ≡ pages way.leaf = same_Some page (pages way.leaf) (sym c.page-page.ensures ∙ said.loaded) in
+    let none : cell_value c.args.key.now (pages way.leaf).cells ≡ None =
+    ap (λ (i : Image). cell_value c.args.key.now i.cells) (sym now) ∙ c.in_default.ensures in
+    removes_none pages (meant g.P.PageSource.pages c.way_for.new.space) c.args.root c.args.key.now way.leaf said.pages said.way.leaf said.way.kind none
+
+pub returns-clause-removed : goal.returns-clause-removed
+returns-clause-removed g c =
+    let pages = meant g.P.PageSource.pages c.args.space.now in
+    let way = c.in_ok-way.way in
+    let said = c.in_ok-way.ensures in
+    let page = c.page-page.result.now in
+    let new = meant g.P.PageSource.pages c.edit.new.self in
+    let at = c.in-Some.at in
+    let now : page ≡ pages way.leaf = same_Some page (pages way.leaf) (sym c.page-page.ensures ∙ said.loaded) in
+    let has : HasKeyAt c.args.key.now (pages way.leaf).cells at = subst (λ (i : Image). HasKeyAt c.args.key.now i.cells at) now c.in-Some.ensures in
+    let is : new ≡ edited pages way.leaf (TakeCell at c.in_ok-cell.cell) =
+    c.in_ok-edit.ensures.pages ∙ ap (λ (f : ℕ → Image). edited f way.leaf (TakeCell at c.in_ok-cell.cell)) said.pages in
+    let room : HasRoom (remove (pages way.leaf).cells at) =
+    subst (λ (f : ℕ → Image). HasRoom (remove (f way.leaf).cells at)) said.pages c.in_ok-edit.ensures.fits.fits in
+    removes pages new c.args.root c.args.key.now way.leaf at said.way.leaf said.way.kind has
+    (takes_cell pages new way.leaf at c.in_ok-cell.cell is) room

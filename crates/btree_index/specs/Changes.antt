@@ -1,0 +1,65 @@
+-- What a change of a tree needs of the pages, and what it leaves.
+use Rattle.std.specs.Prelude.{◌≡◌, ◌⊎◌, ℕ, zero, suc, ◌≤◌, ◌<◌, List, ◌∷◌, map, Option, None, Some}
+use Rattle.page_store.specs.Image.{Image}
+use Rattle.page_store.specs.declared.pages.PageKind.TheVariants.{Leaf, Inner}
+use Rattle.page_workspace.specs.Spare.{IsIn, AreFree, next_genid, count_of}
+use Rattle.btree_index.specs.Keys.{Key}
+use Rattle.btree_index.specs.Trees.{Holds, top, pages_of, leaves, pair_of}
+use Rattle.btree_index.specs.Ways.{IsAt}
+use Rattle.btree_index.specs.declared.paths.Way.{Way}
+
+-- the tree of this list stands below the root, on its own pages; these, the meta page and the free pages are apart and
+-- below the number of pages, and the pages from there on are blank
+pub record Stands (pages : ℕ → Image) (root : ℕ) (own free : List ℕ) (list : List (Key × List ℕ)) : Type 0 where
+  pub height : ℕ
+  pub cells : List (List ℕ)
+  pub holds : Holds pages height (top root) cells
+  pub own_is : pages_of pages height (top root) ≡ own
+  pub pairs : map pair_of cells ≡ list
+  pub spare : AreFree pages free
+  pub off_meta : IsIn 0 own → ⊥
+  pub off_free : (n : ℕ) → IsIn n own → IsIn n free → ⊥
+  pub below : (n : ℕ) → IsIn n own → n < count_of pages
+
+-- the next genid stays, and so does each page below the number of pages that is neither the meta page nor free nor of
+-- the tree; what is of the tree or free now was one of these, or was never written
+pub record Changes (old new : ℕ → Image) (own more free spare : List ℕ) : Type 0 where
+  pub genid : next_genid new ≡ next_genid old
+  pub count : count_of old ≤ count_of new
+  pub others : (n : ℕ) → n < count_of old → (n ≡ 0 → ⊥) → (IsIn n own → ⊥) → (IsIn n free → ⊥) → new n ≡ old n
+  pub tree : (n : ℕ) → IsIn n more → IsIn n own ⊎ IsIn n free ⊎ (count_of old ≤ n)
+  pub unused : (n : ℕ) → IsIn n spare → IsIn n own ⊎ IsIn n free ⊎ (count_of old ≤ n)
+
+-- the tree of another list stands below the root, after such a change
+pub record Becomes (old new : ℕ → Image) (root : ℕ) (own free : List ℕ) (list : List (Key × List ℕ)) : Type 0 where
+  pub more : List ℕ
+  pub spare : List ℕ
+  pub stands : Stands new root more spare list
+  pub changes : Changes old new own more free spare
+
+-- a height with so many levels more
+abbrev pub raise : ℕ → ℕ → ℕ
+raise zero height = height
+raise (suc depth) height = suc (raise depth height)
+
+-- a page so deep on the way to a key, in a tree of this height
+pub record IsPath (pages : ℕ → Image) (root : ℕ) (key : Key) (page height : ℕ) : Type 0 where
+  pub depth : ℕ
+  pub rest : ℕ
+  pub tall : raise depth rest ≡ height
+  pub at : IsAt (leaves pages depth (top root)) key page
+
+-- over pages that hold a tree at the root, the page is on the way to the key
+abbrev pub Leads : (ℕ → Image) → ℕ → Key → ℕ → Type 0
+Leads pages root key page = (height : ℕ) (cells : List (List ℕ)) → Holds pages height (top root) cells → IsPath pages root key page height
+
+-- a page above the leaves on the way, where one is told
+abbrev pub LeadsOver : (ℕ → Image) → ℕ → Key → Option ℕ → Type 0
+LeadsOver pages root key None = Unit {0}
+LeadsOver pages root key (Some page) = Leads pages root key page × ((pages page).head.kind ≡ Inner)
+
+-- the way to a key: its leaf, and a page above the leaves
+pub record IsWay (pages : ℕ → Image) (root : ℕ) (key : Key) (way : Way) : Type 0 where
+  pub leaf : Leads pages root key way.leaf
+  pub kind : (pages way.leaf).head.kind ≡ Leaf
+  pub roomy : LeadsOver pages root key way.roomy

@@ -1,0 +1,59 @@
+ghost use Rattle.std.specs.Prelude.{ℕ, ◌≡◌, List, IfOk, is_some};
+ghost use Rattle.page_store.specs.Sources.{IsExcused as IsLoadExcused};
+ghost use Rattle.page_workspace.specs.Drafts.{meant, IsExcused};
+ghost use Rattle.btree_index.specs.Keys.{Key};
+ghost use Rattle.btree_index.specs.Pairs.{value_at, without_key};
+ghost use Rattle.btree_index.specs.Changes.{Stands, Becomes};
+
+use crate::paths::{key_place, way_for};
+use page_store::{Cell, Edit, PageFault, PageSource};
+use page_workspace::{EditFault, Workspace};
+use std::alloc::Global;
+
+/// Takes the pair of a key out of the tree below a root, and tells whether it was there. A leaf that becomes empty
+/// stays. `Gone` comes only where the source lost its pages; the other error is want of memory. After an error the
+/// workspace may only be dropped.
+pub fn remove<P: PageSource>(
+    alloc: Global,
+    space: &mut Workspace<P>,
+    root: u64,
+    key: &[u8],
+) -> Result<bool, PageFault>
+    ensures removed { (own free : List ℕ) (list : List (Key × List ℕ)) → Stands (meant P.pages space.old) root own free list →
+        IfOk result (λ was. (was ≡ is_some (value_at key.now list))
+        × Becomes (meant P.pages space.old) (meant P.pages space.new) root own free (without_key key.now list)) }
+    ensures base { P.pages space.new.base ≡ P.pages space.old.base }
+    ensures excused { IsLoadExcused result (P.losses space.old.base) (P.losses space.new.base) }
+{
+    match take_key(alloc, space, root, key) {
+        Ok(was) => Ok(was),
+        Err(EditFault::Gone) => Err(PageFault::Gone),
+        Err(_) => Err(PageFault::NoMemory),
+    }
+}
+
+/// The same, with the faults of an edit.
+fn take_key<P: PageSource>(
+    alloc: Global,
+    space: &mut Workspace<P>,
+    root: u64,
+    key: &[u8],
+) -> Result<bool, EditFault>
+    ensures removed { (own free : List ℕ) (list : List (Key × List ℕ)) → Stands (meant P.pages space.old) root own free list →
+        IfOk result (λ was. (was ≡ is_some (value_at key.now list))
+        × Becomes (meant P.pages space.old) (meant P.pages space.new) root own free (without_key key.now list)) }
+    ensures base { P.pages space.new.base ≡ P.pages space.old.base }
+    ensures excused { IsExcused result (P.losses space.old.base) (P.losses space.new.base) }
+{
+    let way = way_for(space, root, key)?;
+    let page = space.page();
+    let Some(at) = key_place(page, key) else {
+        return Ok(false);
+    };
+    let Some(found) = page.cell(at) else {
+        return Err(EditFault::Unfit);
+    };
+    let cell = Cell::from_slice(alloc, found).map_err(|_| EditFault::NoMemory)?;
+    space.edit(way.leaf, Edit::TakeCell { at, cell })?;
+    Ok(true)
+}

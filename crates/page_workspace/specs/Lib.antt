@@ -1,0 +1,4 @@
+pub mod Drafts
+pub mod Owned
+pub mod Spare
+pub mod Takes

@@ -1,0 +1,92 @@
+ghost use Rattle.std.specs.Prelude.{ℕ, ◌≡◌, ◌+◌, ◌<◌, ◌^◌, ◌++◌, IfOk, OnErr, OnOk, length};
+ghost use Rattle.byteorder.specs.Endian.{big_bytes};
+ghost use Rattle.page_workspace.specs.Drafts.{meant, IsExcused};
+ghost use Rattle.page_workspace.specs.Takes.{with_count, IsCounted, TakesPage};
+
+use crate::workspaces::{EditFault, Workspace};
+use byteorder::{BigEndian, ByteOrder};
+use page_store::{Cell, Edit, Page, PageSource};
+use std::alloc::{AllocError, Global};
+
+/// The bytes of the meta page's cell.
+const META_SIZE: usize = 24;
+
+/// The number of pages, the cell of the meta page that says it, and the cell with one more.
+#[derive(Drop)]
+struct Counted {
+    count: u64,
+    before: Cell,
+    after: Cell,
+}
+
+impl<P: PageSource> Workspace<P> {
+    /// Takes the first page that was never written, by the meta page, and gives its number. `Unfit` comes where page 0
+    /// is no meta page or has no further number, `Gone` only where the source lost its pages; the other error is want
+    /// of memory.
+    pub fn take_page(&mut self, alloc: Global) -> Result<u64, EditFault>
+        ensures taken { IfOk result (TakesPage (meant P.pages self.old) (meant P.pages self.new)) }
+        ensures unchanged { OnErr result (self.new.edits ≡ self.old.edits) }
+        ensures base { P.pages self.new.base ≡ P.pages self.old.base }
+        ensures excused { IsExcused result (P.losses self.old.base) (P.losses self.new.base) }
+    {
+        self.load_to_edit(0)?;
+        let counted = read_count(alloc, self.page())?;
+        let count = counted.count;
+        self.edit(
+            0,
+            Edit::SwapCell {
+                at: 0,
+                before: counted.before,
+                after: counted.after,
+            },
+        )?;
+        Ok(count)
+    }
+}
+
+/// What the meta page says of the number of pages.
+fn read_count(alloc: Global, page: &Page) -> Result<Counted, EditFault>
+    ensures counted { IfOk result (IsCounted page.now) }
+    ensures excused { (count : ℕ) → IsExcused result count count }
+{
+    let Some(cell) = page.cell(0) else {
+        return Err(EditFault::Unfit);
+    };
+    if cell.len() != META_SIZE {
+        return Err(EditFault::Unfit);
+    }
+    let (_, behind) = cell.split_at(8);
+    let count = BigEndian::read_u64(behind);
+    if count == u64::MAX {
+        return Err(EditFault::Unfit);
+    }
+    let before = Cell::from_slice(alloc, cell).map_err(|_| EditFault::NoMemory)?;
+    let after = counting(alloc, cell, count + 1).map_err(|_| EditFault::NoMemory)?;
+    Ok(Counted {
+        count,
+        before,
+        after,
+    })
+}
+
+/// The cell of the meta page with another number of pages.
+fn counting(alloc: Global, cell: &[u8], count: u64) -> Result<Cell, AllocError>
+    requires { length cell.now ≡ 24 }
+    ensures { IfOk result (λ c. c ≡ with_count cell.now count) }
+{
+    let (front, _) = cell.split_at(8);
+    let (_, back) = cell.split_at(16);
+    let mut bytes = Vec::from_slice(alloc, front)?;
+    put_number(&mut bytes, count)?;
+    bytes.extend_from_slice(back)?;
+    Ok(Cell::new(bytes))
+}
+
+/// Adds the 8 bytes of a number, the highest first.
+fn put_number(out: &mut Vec<u8>, n: u64) -> Result<(), AllocError>
+    ensures { OnOk result (out.new.items ≡ out.old.items ++ big_bytes 8 n) }
+{
+    let mut digits = [0u8; 8];
+    BigEndian::write_u64(&mut digits, n);
+    out.extend_from_slice(&digits)
+}
