@@ -207,22 +207,22 @@ fn has_genid_among(genids: &[u64], genid: u64) -> bool {
     false
 }
 
-fn has_key(rows: &[Kept], key: u64) -> bool {
+/// How many rows have a key.
+fn count_of(rows: &[Kept], key: u64) -> u64 {
+    let mut count = 0u64;
     for row in rows {
         if row.key == key {
-            return true;
+            count = count.saturating_add(1);
         }
     }
-    false
+    count
 }
 
 fn has_key_twice(rows: &[Kept]) -> bool {
-    let mut rest = rows;
-    while let Some((row, after)) = rest.split_first() {
-        if has_key(after, row.key) {
+    for row in rows {
+        if count_of(rows, row.key) > 1 {
             return true;
         }
-        rest = after;
     }
     false
 }
