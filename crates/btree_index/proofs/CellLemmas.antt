@@ -1,10 +1,9 @@
 -- The cells of a key.
-use Rattle.std.proofs.Common.{◌≡◌, ℕ, zero, suc, ◌+◌, ◌-◌, ◌*◌, ◌^◌, ◌<◌, ◌≤◌, List, [], ◌∷◌, ◌++◌, length, take, drop, refl, sym, ap, ◌∙◌, subst, arith, length-append}
+use Rattle.std.proofs.Common.{◌≡◌, ℕ, ◌+◌, ◌^◌, ◌<◌, ◌≤◌, List, [], ◌++◌, length, take, drop, sym, ap, ◌∙◌, arith, length-append}
 use Rattle.std.proofs.lemmas.List.{append-nil}
 use Rattle.std.proofs.Math.Seq.{drop-append_seam, drop-append-add, take-append_seam}
-use Rattle.byteorder.specs.Endian.{big_number, big_bytes, big_from}
+use Rattle.byteorder.specs.Endian.{big_number, big_bytes}
 use Rattle.byteorder.specs.Numbers.{big_number-reads_back, length-bytes_high_first}
-use Rattle.btree_index.specs.Keys.{Key}
 use Rattle.btree_index.specs.Cells.{key_size, key_of, value_of, child_of, leaf_cell, inner_cell, IsLeafCell, IsInnerCell}
 
 size_is : (key rest : List ℕ) → length key < 2 ^ 16 → key_size (big_bytes 2 (length key) ++ (key ++ rest)) ≡ length key

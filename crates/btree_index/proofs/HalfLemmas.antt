@@ -1,15 +1,13 @@
 -- A level in which a page was halved, and the level above it.
-use Rattle.std.proofs.Common.{◌≡◌, ◌⊎◌, inl, inr, ℕ, zero, suc, ◌+◌, ◌<◌, ◌≤◌, ◌^◌, List, [], ◌∷◌, ◌++◌, map, length, Option, None, Some, refl, sym, ap, ◌∙◌, subst, append_assoc, arith, lit≤}
-use Rattle.std.proofs.lemmas.Option.{none-some, same_Some}
+use Rattle.std.proofs.Common.{◌≡◌, ◌⊎◌, inl, inr, ℕ, zero, suc, ◌+◌, List, [], ◌∷◌, ◌++◌, map, length, refl, sym, ap, ◌∙◌, subst, append_assoc, arith, lit≤}
 use Rattle.std.proofs.lemmas.List.Sums.{sum_by-append, sum_by-cons}
-use Rattle.std.specs.List.{AllByRecursion, insert, slice_get}
+use Rattle.std.specs.List.{AllByRecursion}
 use Rattle.page_store.specs.Image.{Image, HasRoom, taken, cell_size}
 use Rattle.page_store.specs.declared.pages.Head.{Head}
-use Rattle.page_store.specs.declared.pages.PageKind.TheVariants.{Leaf, Inner}
 use Rattle.page_workspace.specs.Spare.{IsIn, AreApart}
-use Rattle.btree_index.specs.Keys.{Key, before}
+use Rattle.btree_index.specs.Keys.{Key}
 use Rattle.btree_index.specs.Cells.{key_size, key_of, child_of, inner_cell, IsLeafCell, IsInnerCell}
-use Rattle.btree_index.specs.Trees.{Entry, page_of, entry_of, below, spread, leaves, cells_of, pages_of, IsShaped, IsLeafPage, IsInnerPage, BeginsEmpty, IsFenced, AreFenced, AreLinked, Holds}
+use Rattle.btree_index.specs.Trees.{Entry, page_of, below, spread, cells_of, pages_of, IsLeafPage, IsInnerPage, BeginsEmpty, IsFenced, Holds}
 use Rattle.btree_index.specs.Steps.{Halves}
 use Rattle.btree_index.proofs.ApartLemmas.{in_left, in_right, in_either, in_more, apart_left, apart_right, apart_cross, apart_join, apart_more}
 use Rattle.btree_index.proofs.CellLemmas.{child_of-cell, inner_key_is, inner_cell_is, inner_length}

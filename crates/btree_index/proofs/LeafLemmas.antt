@@ -9,11 +9,11 @@ use Rattle.page_store.specs.declared.pages.Head.{Head}
 use Rattle.page_store.specs.declared.pages.PageKind.TheVariants.{Leaf}
 use Rattle.page_workspace.specs.Spare.{IsIn, AreApart}
 use Rattle.btree_index.specs.Keys.{Key, before}
-use Rattle.btree_index.specs.Cells.{key_of, IsLeafCell}
+use Rattle.btree_index.specs.Cells.{IsLeafCell}
 use Rattle.btree_index.specs.Trees.{Entry, page_of, spread, leaves, cells_of, pages_of, IsShaped, IsLeafPage, IsInnerPage, IsFenced, IsUnder, AreFenced, AreLinked, Holds, top}
 use Rattle.btree_index.specs.Ways.{IsAt}
 use Rattle.btree_index.specs.Changes.{raise, IsPath}
-use Rattle.btree_index.proofs.ApartLemmas.{in_left, in_right, in_either, apart_left, apart_right, apart_cross}
+use Rattle.btree_index.proofs.ApartLemmas.{in_left, in_right, apart_right, apart_cross}
 use Rattle.btree_index.proofs.LevelLemmas.{Grown, SameOn, each_same, lift, climb, uppers, all_pages, holds_down, shaped_down}
 use Rattle.btree_index.proofs.WayLemmas.{not_inner}
 

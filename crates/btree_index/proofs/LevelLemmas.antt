@@ -3,8 +3,7 @@ use Rattle.std.proofs.Common.{◌≡◌, ◌⊎◌, inl, inr, ℕ, zero, suc, Li
 use Rattle.std.specs.List.{AllByRecursion}
 use Rattle.page_store.specs.Image.{Image}
 use Rattle.page_workspace.specs.Spare.{IsIn, AreApart}
-use Rattle.btree_index.specs.Keys.{Key}
-use Rattle.btree_index.specs.Trees.{Entry, page_of, below, spread, leaves, cells_of, pages_of, IsShaped, IsLeafPage, IsInnerPage, AreFenced, AreLinked, Holds}
+use Rattle.btree_index.specs.Trees.{Entry, page_of, below, spread, leaves, cells_of, pages_of, IsShaped, IsInnerPage, AreFenced, AreLinked, Holds}
 use Rattle.btree_index.specs.Changes.{raise}
 use Rattle.btree_index.proofs.ApartLemmas.{in_left, in_right, in_either, apart_left, apart_right, apart_cross, apart_join}
 

@@ -13,3 +13,5 @@ pub mod CellLemmas
 pub mod SplitLemmas
 pub mod HalfLemmas
 pub mod ParentLemmas
+pub mod StepLemmas
+pub mod RootLemmas

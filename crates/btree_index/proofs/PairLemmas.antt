@@ -1,15 +1,14 @@
 -- A pair more, and one less, in the list of a tree.
-use Rattle.std.proofs.Common.{◌≡◌, ℕ, zero, suc, not, Bool, true, false, List, [], ◌∷◌, ◌++◌, map, Option, None, Some, if◌then◌else◌, refl, sym, ap, ◌∙◌, subst}
+use Rattle.std.proofs.Common.{◌≡◌, ℕ, zero, suc, not, Bool, true, false, List, [], ◌∷◌, ◌++◌, map, None, Some, if◌then◌else◌, refl, sym, ap, ◌∙◌, subst}
 use Rattle.std.proofs.lemmas.Option.{none-some, same_Some}
-use Rattle.std.proofs.lemmas.Bool.{false≢true}
-use Rattle.std.specs.List.{AllByRecursion, slice_get, insert, remove, filter}
+use Rattle.std.specs.List.{AllByRecursion, slice_get, insert, remove}
 use Rattle.page_store.specs.Image.{Image}
 use Rattle.btree_index.specs.Keys.{Key, before, same_key}
 use Rattle.btree_index.specs.Cells.{key_of, value_of}
 use Rattle.btree_index.specs.Pairs.{with_pair, without_key, place_in, cell_value}
 use Rattle.btree_index.specs.Trees.{Entry, cells_of, IsUnder, Ascends, IsFenced, AreFenced, pair_of}
 use Rattle.btree_index.proofs.KeyLemmas.{before_atmost, atmost_before, before_before, not_back, not_same_before, not_same_behind, same_not_before, same_not_behind, else_before}
-use Rattle.btree_index.proofs.WayLemmas.{BeginsBelow, begins_below}
+use Rattle.btree_index.proofs.WayLemmas.{begins_below}
 use Rattle.btree_index.proofs.RowLemmas.{front_low, pairs-append}
 
 pub all_join : (P : List ℕ → Type 0) (xs ys : List (List ℕ)) → AllByRecursion P xs → AllByRecursion P ys → AllByRecursion P (xs ++ ys)

@@ -1,16 +1,14 @@
 -- The page above a halved one, with a cell more.
-use Rattle.std.proofs.Common.{◌≡◌, ◌⊎◌, inl, inr, ℕ, zero, suc, ◌+◌, ◌<◌, ◌≤◌, ◌^◌, List, [], ◌∷◌, ◌++◌, map, take, drop, length, Option, None, Some, refl, sym, ap, ◌∙◌, subst, append_assoc, arith, add-one}
+use Rattle.std.proofs.Common.{◌≡◌, ◌⊎◌, inl, inr, ℕ, zero, suc, List, [], ◌∷◌, ◌++◌, map, take, drop, Some, refl, sym, ap, ◌∙◌, subst, append_assoc}
 use Rattle.std.proofs.lemmas.Option.{none-some, same_Some}
 use Rattle.std.specs.List.{AllByRecursion, insert, slice_get}
 use Rattle.page_store.specs.Image.{Image, HasRoom}
 use Rattle.page_store.specs.declared.pages.Head.{Head}
-use Rattle.page_store.specs.declared.pages.PageKind.TheVariants.{Leaf, Inner}
 use Rattle.page_workspace.specs.Spare.{IsIn, AreApart}
 use Rattle.btree_index.specs.Keys.{Key}
-use Rattle.btree_index.specs.Cells.{key_of, child_of, inner_cell, IsInnerCell}
-use Rattle.btree_index.specs.Trees.{Entry, page_of, entry_of, below, spread, leaves, cells_of, pages_of, IsShaped, IsLeafPage, IsInnerPage, BeginsEmpty, Holds}
-use Rattle.btree_index.specs.Steps.{Halves, Alters}
-use Rattle.btree_index.proofs.ApartLemmas.{in_left, in_right, in_either, apart_left, apart_right, apart_cross, apart_join}
+use Rattle.btree_index.specs.Cells.{key_of, child_of, IsInnerCell}
+use Rattle.btree_index.specs.Trees.{Entry, page_of, entry_of, below, spread, pages_of, IsInnerPage, BeginsEmpty, Holds}
+use Rattle.btree_index.proofs.ApartLemmas.{in_left, in_right, in_either, apart_left, apart_cross, apart_join}
 use Rattle.btree_index.proofs.LevelLemmas.{Grown, SameOn, spread-same}
 use Rattle.btree_index.proofs.LeafLemmas.{pages-append, beside, each_with, each_at}
 use Rattle.btree_index.proofs.SplitLemmas.{spread-append, entries-append}
@@ -44,8 +42,32 @@ below_at low (c ∷ cs) cell = record {
   begins = λ some more h. h;
 }
 
+-- a page of a level is among the pages from there down
+pub level_inside : (pages : ℕ → Image) (height : ℕ) (front : List Entry) (e : Entry) (others : List Entry) → IsIn e.page (pages_of pages height (front ++ (e ∷ others)))
+level_inside pages zero front e others =
+    subst (λ (l : List ℕ). IsIn e.page l) (sym (pages-append front (e ∷ others))) (in_right e.page (map page_of front) (e.page ∷ map page_of others) (inl refl))
+level_inside pages (suc height) front e others =
+    in_left e.page (map page_of (front ++ (e ∷ others))) (pages_of pages height (spread pages (front ++ (e ∷ others))))
+    (subst (λ (l : List ℕ). IsIn e.page l) (sym (pages-append front (e ∷ others))) (in_right e.page (map page_of front) (e.page ∷ map page_of others) (inl refl)))
+
+pub child_inside : (pages : ℕ → Image) (height : ℕ) (front : List Entry) (e : Entry) (others : List Entry) (at : ℕ) (cell : List ℕ)
+    → slice_get (pages e.page).cells at ≡ Some cell → IsIn (child_of cell) (pages_of pages height (spread pages (front ++ (e ∷ others))))
+child_inside pages height front e others at cell here =
+    let a = take at (pages e.page).cells in
+    let b = drop (suc at) (pages e.page).cells in
+    let point : BelowAt e.low a cell = below_at e.low a cell in
+    let m : Entry = record { low = point.least; page = child_of cell } in
+    let is : spread pages (front ++ (e ∷ others)) ≡ (spread pages front ++ point.before) ++ (m ∷ (map entry_of b ++ spread pages others)) =
+    spread-append pages front (e ∷ others)
+    ∙ ap (λ (l : List (List ℕ)). spread pages front ++ (below e.low l ++ spread pages others)) (cut_at (pages e.page).cells at cell here)
+    ∙ ap (λ (l : List Entry). spread pages front ++ (l ++ spread pages others)) (point.once b)
+    ∙ ap (λ (l : List Entry). spread pages front ++ l) (append_assoc point.before (m ∷ map entry_of b) (spread pages others))
+    ∙ sym (append_assoc (spread pages front) point.before (m ∷ (map entry_of b ++ spread pages others))) in
+    subst (λ (l : List Entry). IsIn (child_of cell) (pages_of pages height l)) (sym is)
+    (level_inside pages height (spread pages front ++ point.before) m (map entry_of b ++ spread pages others))
+
 -- one level up from a halved page
-pub half_parent : (old halved new : ℕ → Image) (height : ℕ) (front : List Entry) (e : Entry) (others : List Entry) (at : ℕ) (cell : List ℕ) (fresh : ℕ)
+pub half_parent : (old new : ℕ → Image) (height : ℕ) (front : List Entry) (e : Entry) (others : List Entry) (at : ℕ) (cell : List ℕ) (fresh : ℕ)
     (separator : Key) (cells : List (List ℕ)) (more : List ℕ) → Holds old (suc height) (front ++ (e ∷ others)) cells → slice_get (old e.page).cells at ≡ Some cell
     → key_of more ≡ separator → child_of more ≡ fresh → IsInnerCell more → HasRoom (new e.page).cells
     → (new e.page).head ≡ (old e.page).head → (new e.page).cells ≡ insert (old e.page).cells (suc at) more
@@ -54,7 +76,7 @@ pub half_parent : (old halved new : ℕ → Image) (height : ℕ) (front : List 
     → ((before : List Entry) (m : Entry) (behind : List Entry) → m.page ≡ child_of cell → spread old (front ++ (e ∷ others)) ≡ before ++ (m ∷ behind)
     → Grown old new (λ n. n ≡ fresh) height (spread old (front ++ (e ∷ others))) (before ++ (m ∷ (record { low = separator; page = fresh } ∷ behind))) cells)
     → Grown old new (λ n. n ≡ fresh) (suc height) (front ++ (e ∷ others)) (front ++ (e ∷ others)) cells
-half_parent old halved new height front e others at cell fresh separator cells more h here key child inner_more room head put off same below_grown =
+half_parent old new height front e others at cell fresh separator cells more h here key child inner_more room head put off same below_grown =
     let level = front ++ (e ∷ others) in
     let here_pages = map page_of level in
     let deeper = pages_of old height (spread old level) in

@@ -1,11 +1,11 @@
 -- The way from the root down, in a tree of one height.
-use Rattle.std.proofs.Common.{◌≡◌, ◌⊎◌, inl, inr, ℕ, zero, suc, List, [], ◌∷◌, ◌++◌, Option, None, Some, refl, sym, ap, ◌∙◌, subst}
+use Rattle.std.proofs.Common.{◌≡◌, ◌⊎◌, inl, inr, ℕ, zero, suc, List, [], Option, Some, refl, sym, ◌∙◌, subst}
 use Rattle.std.specs.List.{AllByRecursion}
 use Rattle.page_store.specs.Image.{Image}
-use Rattle.page_store.specs.declared.pages.PageKind.TheVariants.{Leaf, Inner}
+use Rattle.page_store.specs.declared.pages.PageKind.TheVariants.{Inner}
 use Rattle.btree_index.specs.Keys.{Key}
 use Rattle.btree_index.specs.Pairs.{choice}
-use Rattle.btree_index.specs.Trees.{Entry, leaves, spread, IsShaped, IsLeafPage, Holds, top}
+use Rattle.btree_index.specs.Trees.{Entry, leaves, IsShaped, IsLeafPage, top}
 use Rattle.btree_index.specs.Ways.{IsAt}
 use Rattle.btree_index.specs.Changes.{raise, IsPath, Leads, LeadsOver}
 use Rattle.btree_index.proofs.KeyLemmas.{none_before_empty}

@@ -1,19 +1,15 @@
 -- A page halved, seen from its level and from the level above.
-use Rattle.std.proofs.Common.{◌≡◌, ◌⊎◌, inl, inr, ℕ, zero, suc, ◌+◌, ◌<◌, ◌≤◌, ◌^◌, false, true, List, [], ◌∷◌, ◌++◌, map, length, refl, sym, ap, ◌∙◌, subst, append_assoc, arith}
+use Rattle.std.proofs.Common.{◌≡◌, ◌⊎◌, inl, inr, ℕ, false, true, List, [], ◌∷◌, ◌++◌, map, refl, sym, ap, ◌∙◌, subst, append_assoc}
 use Rattle.std.specs.List.{AllByRecursion}
-use Rattle.page_store.specs.Image.{Image, HasRoom}
-use Rattle.page_store.specs.declared.pages.Head.{Head}
-use Rattle.page_store.specs.declared.pages.PageKind.TheVariants.{Leaf, Inner}
-use Rattle.page_workspace.specs.Spare.{IsIn, AreApart}
+use Rattle.page_store.specs.Image.{Image}
+use Rattle.page_workspace.specs.Spare.{IsIn}
 use Rattle.btree_index.specs.Keys.{Key, before}
-use Rattle.btree_index.specs.Cells.{key_of, child_of, IsLeafCell, IsInnerCell}
-use Rattle.btree_index.specs.Trees.{Entry, page_of, entry_of, below, spread, leaves, cells_of, pages_of, IsShaped, IsLeafPage, IsInnerPage, BeginsEmpty, IsFenced, IsUnder, Ascends, AreFenced, AreLinked, Holds}
-use Rattle.btree_index.specs.Steps.{Halves}
-use Rattle.btree_index.proofs.ApartLemmas.{in_left, in_right, in_either, in_more, apart_left, apart_right, apart_cross, apart_join, apart_more}
+use Rattle.btree_index.specs.Cells.{key_of, child_of}
+use Rattle.btree_index.specs.Trees.{Entry, page_of, entry_of, below, spread, IsFenced, IsUnder, Ascends, AreFenced, AreLinked}
 use Rattle.btree_index.proofs.KeyLemmas.{atmost_before, before_before, irreflexive, not_back}
 use Rattle.btree_index.proofs.PairLemmas.{ascends_all}
-use Rattle.btree_index.proofs.LevelLemmas.{Grown, SameOn, each_same, spread-same}
-use Rattle.btree_index.proofs.LeafLemmas.{pages-append, cells-append, cells-same, fenced_same, linked_same, holds_same, beside}
+use Rattle.btree_index.proofs.LevelLemmas.{SameOn}
+use Rattle.btree_index.proofs.LeafLemmas.{fenced_same, linked_same}
 
 -- one entry more behind another
 pub each_split : (P Q : Entry → Type 0) (front : List Entry) (m x : Entry) (others : List Entry)

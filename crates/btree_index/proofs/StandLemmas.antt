@@ -1,7 +1,9 @@
 -- A tree among other pages, before a change and after it.
-use Rattle.std.proofs.Common.{if◌then◌else◌, drop, ◌≡◌, ◌⊎◌, inl, inr, ℕ, zero, suc, ◌≤◌, ◌<◌, Bool, true, false, List, [], ◌∷◌, ◌++◌, map, Option, None, Some, refl, sym, ap, ◌∙◌, subst, arith}
+use Rattle.std.proofs.Common.{if◌then◌else◌, drop, length, ◌+◌, ◌^◌, Result, Ok, Err, ◌≡◌, ◌⊎◌, inl, inr, ℕ, zero, suc, ◌≤◌, ◌<◌, Bool, true, false, List, [], ◌∷◌, ◌++◌, map, None, Some, refl, sym, ap, ◌∙◌, subst, arith}
 use Rattle.std.proofs.lemmas.Option.{none-some, same_Some}
 use Rattle.std.specs.Option.{is_some}
+use Rattle.std.specs.Result.{IsErr}
+use Rattle.std.proofs.lemmas.Bool.{false≢true}
 use Rattle.std.specs.List.{AllByRecursion, slice_get, insert, remove}
 use Rattle.byteorder.specs.Endian.{big_number}
 use Rattle.page_store.specs.Image.{Image, HasRoom}
@@ -10,15 +12,17 @@ use Rattle.page_store.specs.Edits.{after_edit}
 use Rattle.page_store.specs.declared.edits.Edit.TheVariants.{PutCell, TakeCell}
 use Rattle.page_workspace.specs.Drafts.{edited}
 use Rattle.page_workspace.proofs.DraftLemmas.{edited_here, edited_other}
-use Rattle.page_workspace.specs.Spare.{IsIn, IsChain, AreFree, IsMeta, next_genid, count_of, first_free, first_cell}
+use Rattle.page_workspace.specs.Spare.{IsIn, IsChain, IsMeta, next_genid, count_of, first_free, first_cell}
 use Rattle.btree_index.specs.Keys.{Key, same_key}
-use Rattle.btree_index.specs.Cells.{key_of, value_of, IsLeafCell}
-use Rattle.btree_index.specs.Pairs.{value_at, cell_value, without_key, HasKeyAt}
-use Rattle.btree_index.specs.Trees.{Entry, cells_of, pages_of, IsLeafPage, IsFenced, AreFenced, Holds, top, pair_of}
-use Rattle.btree_index.specs.Changes.{Stands, Changes, Becomes, Leads}
-use Rattle.btree_index.proofs.LevelLemmas.{Grown}
+use Rattle.btree_index.specs.Cells.{key_of, value_of, leaf_cell, IsLeafCell}
+use Rattle.btree_index.specs.Pairs.{value_at, cell_value, with_pair, place_in, without_key, HasKeyAt}
+use Rattle.btree_index.specs.Trees.{Entry, cells_of, pages_of, IsFenced, AreFenced, Holds, top, pair_of}
+use Rattle.btree_index.specs.Changes.{Stands, Changes, Becomes, Leads, IsInserted, IsNoDuplicate}
+use Rattle.btree_index.specs.declared.inserts.InsertFault.{InsertFault}
+use Rattle.btree_index.specs.declared.inserts.InsertFault.TheVariants.{Duplicate, Gone, NoMemory}
 use Rattle.btree_index.proofs.LeafLemmas.{ChangesCells, Replaces, replaces, cells-append, fenced_at}
-use Rattle.btree_index.proofs.PairLemmas.{front_before, behind_after, without-cells, without-absent, fenced_remove, all_remove}
+use Rattle.btree_index.proofs.CellLemmas.{key_of-cell, value_of-cell, leaf_cell_is}
+use Rattle.btree_index.proofs.PairLemmas.{with_pair-cells, fenced_insert, all_insert, front_before, behind_after, without-cells, without-absent, fenced_remove, all_remove}
 use Rattle.btree_index.proofs.RowLemmas.{fenced_rest}
 use Rattle.btree_index.proofs.WayLemmas.{here_from, value-pairs}
 
@@ -208,3 +212,93 @@ puts_cell old new id at cell is =
       head = ap (λ (i : Image). i.head) here;
       others = λ n off. ap (λ (f : ℕ → Image). f n) is ∙ edited_other old id (PutCell at cell) n off;
     }
+
+-- a tree as it is
+pub becomes_none : (pages : ℕ → Image) (root : ℕ) (own free : List ℕ) (list : List (Key × List ℕ)) → Stands pages root own free list
+    → Becomes pages pages root own free list
+becomes_none pages root own free list stands =
+    becomes pages pages pages (λ _. ⊥) root own free list list stands (changes_none pages own free) (λ n f. absurd f) stands.height stands.cells stands.holds
+    (λ n i. inl (subst (λ (l : List ℕ). IsIn n l) stands.own_is i)) (λ n off f. refl) stands.pairs
+
+-- one change after another
+pub becomes_after : (a b c : ℕ → Image) (root : ℕ) (own free : List ℕ) (one two : List (Key × List ℕ)) → (first : Becomes a b root own free one)
+    → Becomes b c root first.more first.spare two → Becomes a c root own free two
+becomes_after a b c root own free one two first second =
+    let early : count_of a ≤ count_of b = first.changes.count in
+    let late : count_of b ≤ count_of c = second.changes.count in
+    record {
+      more = second.more;
+      spare = second.spare;
+      stands = second.stands;
+      changes = record {
+        genid = second.changes.genid ∙ first.changes.genid;
+        count = omega arith;
+        others = λ n h some off_own off_free.
+            (let below : n < count_of b = omega arith in
+            second.changes.others n below some (λ i. gone n h off_own off_free (first.changes.tree n i)) (λ i. gone n h off_own off_free (first.changes.unused n i))
+            ∙ first.changes.others n h some off_own off_free);
+        tree = λ n i. back n (second.changes.tree n i);
+        unused = λ n i. back n (second.changes.unused n i);
+      };
+    }
+  where
+    gone : (n : ℕ) → n < count_of a → (IsIn n own → ⊥) → (IsIn n free → ⊥) → IsIn n own ⊎ IsIn n free ⊎ (count_of a ≤ n) → ⊥
+    gone n h off_own off_free (inl i) = off_own i
+    gone n h off_own off_free (inr (inl i)) = off_free i
+    gone n h off_own off_free (inr (inr k)) = omega arith
+
+    back : (n : ℕ) → IsIn n first.more ⊎ IsIn n first.spare ⊎ (count_of b ≤ n) → IsIn n own ⊎ IsIn n free ⊎ (count_of a ≤ n)
+    back n (inl i) = first.changes.tree n i
+    back n (inr (inl i)) = first.changes.unused n i
+    back n (inr (inr k)) = let early : count_of a ≤ count_of b = first.changes.count in inr (inr (omega arith))
+
+-- where the leaf has the key, so has the list
+pub found_there : (old : ℕ → Image) (root : ℕ) (key : Key) (page at : ℕ) → Leads old root key page → (old page).head.kind ≡ Leaf
+    → HasKeyAt key (old page).cells at → (own free : List ℕ) (list : List (Key × List ℕ)) → Stands old root own free list
+    → is_some (value_at key list) ≡ true
+found_there old root key page at leads leaf has own free list stands =
+    let cells = (old page).cells in
+    let r : Replaces old old root key page stands.height stands.cells cells =
+    replaces old old root key page stands.height stands.cells cells stands.holds (leads stands.height stands.cells stands.holds) leaf
+    (record { is = refl; head = refl; others = λ n off. refl }) in
+    let value : value_at key list ≡ cell_value key cells =
+    ap (value_at key) (sym stands.pairs) ∙ value-pairs key stands.cells ∙ leaf_has old old root key page stands.height stands.cells cells r in
+    ap is_some value ∙ value_some key cells at has.found has.here has.same
+
+-- the cell of the pair is put into its leaf
+pub puts : (old new : ℕ → Image) (root : ℕ) (key : Key) (value : List ℕ) (page : ℕ) → Leads old root key page → (old page).head.kind ≡ Leaf
+    → cell_value key (old page).cells ≡ None → length key ≤ 1630 → 2 + length key + length value ≤ 1640
+    → ChangesCells old new page (insert (old page).cells (place_in key (old page).cells) (leaf_cell key value))
+    → HasRoom (insert (old page).cells (place_in key (old page).cells) (leaf_cell key value))
+    → (own free : List ℕ) (list : List (Key × List ℕ)) → Stands old root own free list
+    → (value_at key list ≡ None) × Becomes old new root own free (with_pair key value list)
+puts old new root key value page leads leaf none short small changes room own free list stands =
+    let cell = leaf_cell key value in
+    let cells = insert (old page).cells (place_in key (old page).cells) cell in
+    let fits : length key < 2 ^ 16 = omega arith in
+    let key_is : key_of cell ≡ key = key_of-cell key value fits in
+    let value_is : value_of cell ≡ value = value_of-cell key value fits in
+    let pair_is : pair_of cell ≡ (key, value) = ap (λ (k : List ℕ). (k, value_of cell)) key_is ∙ ap (λ (v : List ℕ). (key, v)) value_is in
+    let r : Replaces old new root key page stands.height stands.cells cells =
+    replaces old new root key page stands.height stands.cells cells stands.holds (leads stands.height stands.cells stands.holds) leaf changes in
+    let e : Entry = record { low = r.low; page = page } in
+    let fence : IsFenced r.low (old page).cells r.others = fenced_at old r.front e r.others r.fenced in
+    let has : value_at key list ≡ None =
+    ap (value_at key) (sym stands.pairs) ∙ value-pairs key stands.cells ∙ leaf_has old new root key page stands.height stands.cells cells r ∙ none in (
+      has,
+      leaf_becomes old new root key page own free list (with_pair key value list) cells stands changes r room
+          (all_insert IsLeafCell (old page).cells (place_in key (old page).cells) cell r.leaf.cells (leaf_cell_is key value short small))
+          (fenced_insert key r.low cell (old page).cells r.others key_is none r.from r.to fence)
+          (with_pair-cells key value cell (cells_of old r.front) (old page).cells (cells_of old r.others) pair_is none
+          (front_before old key r.low page r.front r.others r.fenced r.from)
+          (behind_after old key r.others (fenced_rest old r.front e r.others r.fenced).1 r.to)
+          ∙ ap (λ (l : List (List ℕ)). with_pair key value (map pair_of l)) (sym r.is) ∙ ap (with_pair key value) stands.pairs),
+    )
+
+-- an error that is no duplicate tells nothing
+pub inserted_error : (old new : ℕ → Image) (root : ℕ) (own free : List ℕ) (key : Key) (value : List ℕ) (list : List (Key × List ℕ)) (r : Result (Unit {0}) InsertFault)
+    → IsErr r → IsNoDuplicate r → IsInserted old new root own free key value list r
+inserted_error old new root own free key value list (Ok x) err sure = absurd (false≢true err)
+inserted_error old new root own free key value list (Err Duplicate) err sure = absurd sure
+inserted_error old new root own free key value list (Err Gone) err sure = tt
+inserted_error old new root own free key value list (Err NoMemory) err sure = tt

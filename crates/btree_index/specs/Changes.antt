@@ -1,12 +1,17 @@
 -- What a change of a tree needs of the pages, and what it leaves.
-use Rattle.std.specs.Prelude.{◌≡◌, ◌⊎◌, ℕ, zero, suc, ◌≤◌, ◌<◌, List, ◌∷◌, map, Option, None, Some}
+use Rattle.std.specs.Prelude.{◌≡◌, ◌⊎◌, ℕ, zero, suc, ◌≤◌, ◌<◌, List, map, Option, None, Some, is_some, true, Result, Ok, Err}
 use Rattle.page_store.specs.Image.{Image}
 use Rattle.page_store.specs.declared.pages.PageKind.TheVariants.{Leaf, Inner}
 use Rattle.page_workspace.specs.Spare.{IsIn, AreFree, next_genid, count_of}
 use Rattle.btree_index.specs.Keys.{Key}
 use Rattle.btree_index.specs.Trees.{Holds, top, pages_of, leaves, pair_of}
 use Rattle.btree_index.specs.Ways.{IsAt}
+use Rattle.btree_index.specs.Pairs.{value_at, with_pair}
 use Rattle.btree_index.specs.declared.paths.Way.{Way}
+use Rattle.btree_index.specs.declared.inserts.InsertFault.{InsertFault}
+use Rattle.btree_index.specs.declared.inserts.InsertFault.TheVariants.{Duplicate, Gone, NoMemory}
+use Rattle.btree_index.specs.declared.inserts.Pass.{Pass}
+use Rattle.btree_index.specs.declared.inserts.Pass.TheVariants.{Done, Found, Again}
 
 -- the tree of this list stands below the root, on its own pages; these, the meta page and the free pages are apart and
 -- below the number of pages, and the pages from there on are blank
@@ -36,6 +41,33 @@ pub record Becomes (old new : ℕ → Image) (root : ℕ) (own free : List ℕ) 
   pub spare : List ℕ
   pub stands : Stands new root more spare list
   pub changes : Changes old new own more free spare
+
+-- an answer of an insert: the pair stands in the list where its key was not there before, and `Duplicate` comes where it was
+abbrev pub IsInserted : (ℕ → Image) → (ℕ → Image) → ℕ → List ℕ → List ℕ → Key → List ℕ → List (Key × List ℕ) → Result (Unit {0}) InsertFault → Type 0
+IsInserted old new root own free key value list (Ok x) = (value_at key list ≡ None) × Becomes old new root own free (with_pair key value list)
+IsInserted old new root own free key value list (Err Duplicate) = is_some (value_at key list) ≡ true
+IsInserted old new root own free key value list (Err Gone) = Unit {0}
+IsInserted old new root own free key value list (Err NoMemory) = Unit {0}
+
+-- one pass of an insert: it put the pair, found its key, or made room and left the list
+abbrev pub IsPassed : (ℕ → Image) → (ℕ → Image) → ℕ → List ℕ → List ℕ → Key → List ℕ → List (Key × List ℕ) → Pass → Type 0
+IsPassed old new root own free key value list Done = (value_at key list ≡ None) × Becomes old new root own free (with_pair key value list)
+IsPassed old new root own free key value list Found = is_some (value_at key list) ≡ true
+IsPassed old new root own free key value list Again = Becomes old new root own free list
+
+-- a pass fails for want of pages or memory alone
+abbrev pub IsNoDuplicate : {T : Type 0} → Result T InsertFault → Type 0
+IsNoDuplicate (Ok x) = Unit {0}
+IsNoDuplicate (Err Duplicate) = ⊥
+IsNoDuplicate (Err Gone) = Unit {0}
+IsNoDuplicate (Err NoMemory) = Unit {0}
+
+-- an error of an insert against the counts of losses before and after: `Gone` comes only where the count rose
+abbrev pub IsExcusedInsert : {T : Type 0} → Result T InsertFault → ℕ → ℕ → Type 0
+IsExcusedInsert (Ok x) before now = before ≤ now
+IsExcusedInsert (Err Duplicate) before now = before ≤ now
+IsExcusedInsert (Err Gone) before now = before < now
+IsExcusedInsert (Err NoMemory) before now = before ≤ now
 
 -- a height with so many levels more
 abbrev pub raise : ℕ → ℕ → ℕ

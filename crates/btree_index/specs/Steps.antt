@@ -1,10 +1,13 @@
 -- The steps of an insert on pages: one page altered, a page halved into itself and a fresh one, a page under which a
 -- child was halved, and a root that was raised over a copy of itself.
-use Rattle.std.specs.Prelude.{◌≡◌, ℕ, ◌+◌, ◌<◌, ◌^◌, List, [], ◌∷◌, ◌++◌, Some, min}
-use Rattle.std.specs.List.{insert, slice_get}
+use Rattle.std.specs.Prelude.{◌≡◌, ℕ, ◌+◌, ◌<◌, ◌^◌, Bool, true, false, List, [], ◌∷◌, ◌++◌, length, take, drop, Some, None, ◌≤◌, min}
+use Rattle.std.specs.List.{insert, remove, slice_get}
 use Rattle.page_store.specs.Image.{Image, HasRoom}
 use Rattle.page_store.specs.declared.pages.Head.{Head}
 use Rattle.page_store.specs.declared.pages.PageKind.TheVariants.{Leaf, Inner}
+use Rattle.page_store.specs.declared.pages.PageKind.{PageKind}
+use Rattle.btree_index.specs.declared.halves.Half.{Half}
+use Rattle.btree_index.specs.declared.splits.Below.{Below}
 use Rattle.page_workspace.specs.Takes.{TakesPage}
 use Rattle.btree_index.specs.Keys.{Key}
 use Rattle.btree_index.specs.Cells.{key_of, child_of, inner_cell}
@@ -14,6 +17,48 @@ pub record Alters (old new : ℕ → Image) (page : ℕ) (head : Head) (cells : 
   pub head_is : (new page).head ≡ head
   pub is : (new page).cells ≡ cells
   pub others : (n : ℕ) → (n ≡ page → ⊥) → new n ≡ old n
+
+-- a cell of one page was copied behind those of another
+pub record CopiesCell (old new : ℕ → Image) (page at to : ℕ) : Type 0 where
+  pub cell : List ℕ
+  pub here : slice_get (old page).cells at ≡ Some cell
+  pub alters : Alters old new to (old to).head (insert (old to).cells (length (old to).cells) cell)
+
+-- the cell at a place was taken away, if there is one
+abbrev pub TakesAt : (ℕ → Image) → (ℕ → Image) → ℕ → ℕ → Bool → Type 0
+TakesAt old new page at true = ((cell : List ℕ) × (slice_get (old page).cells at ≡ Some cell)) × Alters old new page (old page).head (remove (old page).cells at)
+TakesAt old new page at false = (slice_get (old page).cells at ≡ None) × (new ≡ old)
+
+-- some cells of a page stand behind those of another
+pub record Filling (old new : ℕ → Image) (page to start at : ℕ) : Type 0 where
+  pub alters : Alters old new to (old to).head (new to).cells
+  pub rest : (new to).cells ++ drop at (old page).cells ≡ (old to).cells ++ drop start (old page).cells
+
+-- some cells from a place on were taken away
+pub record Trimming (old new : ℕ → Image) (page at : ℕ) : Type 0 where
+  pub alters : Alters old new page (old page).head (new page).cells
+  pub same : take at (new page).cells ≡ take at (old page).cells
+
+-- the first cell of the fresh page, by the kind of page and the cell where it was cut
+pub record IsFirstFor (kind : PageKind) (middle first : List ℕ) : Type 0 where
+  pub leaf : kind ≡ Leaf → first ≡ middle
+  pub inner : kind ≡ Inner → first ≡ inner_cell [] (child_of middle)
+  pub small : kind ≡ Inner → child_of middle < 2 ^ 64
+
+-- where a page is cut, and what the fresh page begins with
+pub record IsHalf (image : Image) (half : Half) : Type 0 where
+  pub middle : List ℕ
+  pub some : 0 < half.at
+  pub here : slice_get image.cells half.at ≡ Some middle
+  pub separator : half.separator ≡ key_of middle
+  pub head : half.head ≡ image.head
+  pub first : IsFirstFor image.head.kind middle half.first
+
+-- a child of a page above the leaves, by the place of its cell
+pub record IsBelow (image : Image) (below : Below) : Type 0 where
+  pub cell : List ℕ
+  pub here : slice_get image.cells below.at ≡ Some cell
+  pub child : below.child ≡ child_of cell
 
 -- the cells of a page stand in two now: in itself, and in a fresh one that is linked behind it and has the old head. Above the
 -- leaves, the first cell of the fresh page has the empty key in place of the separator.
@@ -43,6 +88,7 @@ pub record Splits (old new : ℕ → Image) (parent : ℕ) : Type 0 where
   pub small : fresh < 2 ^ 64
   pub halved : ℕ → Image
   pub separator : Key
+  pub short : length separator ≤ 1630
   pub at : ℕ
   pub cell : List ℕ
   pub here : slice_get (taken parent).cells at ≡ Some cell

@@ -4,7 +4,7 @@
 -- computed from it and the pages: the first cell of a page takes the page's own least key, each further cell its own.
 -- So the least keys of an upper level are some of those of the leaves, and order is said once, at the leaves. An empty
 -- leaf adds nothing.
-use Rattle.std.specs.Prelude.{◌≡◌, ◌⊎◌, ℕ, zero, suc, true, false, List, [], ◌∷◌, ◌++◌, map, min}
+use Rattle.std.specs.Prelude.{◌≡◌, ℕ, zero, suc, true, false, List, [], ◌∷◌, ◌++◌, map, min}
 use Rattle.std.specs.List.{AllByRecursion}
 use Rattle.page_store.specs.Image.{Image, HasRoom}
 use Rattle.page_store.specs.declared.pages.PageKind.TheVariants.{Leaf, Inner}

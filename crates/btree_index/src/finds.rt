@@ -1,4 +1,4 @@
-ghost use Rattle.std.specs.Prelude.{ℕ, ◌≡◌, List, Some, IfOk, MatchOption};
+ghost use Rattle.std.specs.Prelude.{ℕ, ◌≡◌, ◌+◌, ◌<◌, List, Some, IfOk, MatchOption};
 ghost use Rattle.page_store.specs.Sources.{IsExcused};
 ghost use Rattle.btree_index.specs.Keys.{Key};
 ghost use Rattle.btree_index.specs.Pairs.{value_at, cell_value, choice};
@@ -21,6 +21,7 @@ pub fn find<P: PageSource>(
 ) -> Result<Option<Cell>, PageFault>
     ensures found { (list : List (Key × List ℕ)) → TreeList (P.pages pages.old) root list → IfOk result (λ v. v ≡ value_at key.now list) }
     ensures pages { P.pages pages.new ≡ P.pages pages.old }
+    ensures below { P.below pages.new ≡ P.below pages.old }
     ensures excused { IsExcused result (P.losses pages.old) (P.losses pages.new) }
 {
     leaf_for(pages, root, key)?;
@@ -38,10 +39,13 @@ pub(crate) fn leaf_for<P: PageSource>(
     ensures leaf { IfOk result (λ id. (P.pages pages.old id).head.kind ≡ Leaf) }
     ensures loaded { IfOk result (λ id. P.loaded pages.new ≡ Some (P.pages pages.old id)) }
     ensures pages { P.pages pages.new ≡ P.pages pages.old }
+    ensures below { P.below pages.new ≡ P.below pages.old }
     ensures excused { IsExcused result (P.losses pages.old) (P.losses pages.new) }
 {
+    pages.load(root)?;
+    let turns = turns_from(pages.page().head().level);
     let mut id = root;
-    'down: for _ in 0..u64::MAX {
+    'down: for _ in 0..turns {
         pages.load(id)?;
         let page = pages.page();
         match page.head().kind {
@@ -53,8 +57,19 @@ pub(crate) fn leaf_for<P: PageSource>(
             _ => return Err(PageFault::NoMemory),
         }
     }
-    // no tree is so high
+    // no tree is higher than its root says
     Err(PageFault::NoMemory)
+}
+
+/// How many pages the way down from a root has at most, by its level; 255 stands for 255 and more.
+pub(crate) fn turns_from(level: u8) -> u64
+    ensures { level < 255 → result ≡ level + 1 }
+{
+    if level == u8::MAX {
+        u64::MAX
+    } else {
+        u64::from(level) + 1
+    }
 }
 
 /// The value of a key in the cells of a leaf.

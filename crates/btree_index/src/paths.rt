@@ -4,7 +4,7 @@ ghost use Rattle.btree_index.specs.Pairs.{cell_value, HasKeyAt};
 ghost use Rattle.btree_index.specs.Changes.{IsWay};
 
 use crate::cells::key_in;
-use crate::finds::child_for;
+use crate::finds::{child_for, turns_from};
 use crate::keys::is_same;
 use page_store::{Page, PageKind, PageSource};
 use page_workspace::{EditFault, Workspace};
@@ -31,9 +31,11 @@ pub(crate) fn way_for<P: PageSource>(
     ensures base { P.pages space.new.base ≡ P.pages space.old.base }
     ensures excused { IsExcused result (P.losses space.old.base) (P.losses space.new.base) }
 {
+    space.load_to_edit(root)?;
+    let turns = turns_from(space.page().head().level);
     let mut leaf = root;
     let mut roomy = None;
-    'down: for _ in 0..u64::MAX {
+    'down: for _ in 0..turns {
         space.load_to_edit(leaf)?;
         let page = space.page();
         match page.head().kind {
@@ -48,7 +50,7 @@ pub(crate) fn way_for<P: PageSource>(
             _ => return Err(EditFault::Unfit),
         }
     }
-    // no tree is so high
+    // no tree is higher than its root says
     Err(EditFault::Unfit)
 }
 

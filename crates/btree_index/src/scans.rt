@@ -22,6 +22,7 @@ pub fn scan<P: PageSource>(
     ensures found { (list : List (Key × List ℕ)) → TreeList (P.pages pages.old) root list →
         IfOk result (λ v. v.items ≡ between low.now (option_copied high.entry) list) }
     ensures pages { P.pages pages.new ≡ P.pages pages.old }
+    ensures below { P.below pages.new ≡ P.below pages.old }
     ensures excused { IsExcused result (P.losses pages.old) (P.losses pages.new) }
 {
     let mut id = leaf_for(pages, root, low)?;

@@ -1,5 +1,7 @@
 use super::*;
 use page_store::{Cell, Edit, Head, MemPages, Page, PageKind, apply};
+use page_workspace::Workspace;
+use std::process::Abort;
 use std::test::Fail;
 
 /// A page of this kind with these cells.
@@ -111,5 +113,40 @@ fn scans_two_levels(rt: HostRuntime) -> Result<(), Fail> {
         assert_eq!(rt; pair.0.as_slice(), *key);
     }
     assert!(rt; scan(rt.alloc(), &mut pages, 1, b"n", Some(b"z".as_slice()))?.is_empty());
+    Ok(())
+}
+
+/// A workspace over an empty tree: page 0 is the meta page of two pages, page 1 the root, a leaf without cells.
+fn empty_tree(rt: &HostRuntime) -> Result<Workspace<MemPages>, Fail> {
+    let meta = Head {
+        kind: PageKind::Meta,
+        level: 0,
+        right: 0,
+    };
+    let leaf = Head {
+        kind: PageKind::Leaf,
+        level: 0,
+        right: 0,
+    };
+    let counters = b"\0\0\0\0\0\0\0\x07\0\0\0\0\0\0\0\x02\0\0\0\0\0\0\0\0".as_slice();
+    let pages = vec![in rt.alloc(); page_of(rt, meta, &[counters])?, page_of(rt, leaf, &[])?]?;
+    Ok(Workspace::new(rt.alloc(), MemPages::new(rt.alloc(), pages)?))
+}
+
+/// Pairs are put once each, in order, and taken once each; all edits come out.
+#[test]
+fn puts_and_takes(rt: HostRuntime) -> Result<(), Fail> {
+    let mut space = empty_tree(&rt)?;
+    insert(rt.alloc(), &mut space, 1, b"b", b"2")?;
+    insert(rt.alloc(), &mut space, 1, b"a", b"1")?;
+    let twice = insert(rt.alloc(), &mut space, 1, b"a", b"3");
+    assert!(rt; matches!(twice, Err(InsertFault::Duplicate)));
+    let all = scan(rt.alloc(), &mut space, 1, b"", None)?;
+    assert_eq!(rt; all.len(), 2);
+    assert!(rt; remove(rt.alloc(), &mut space, 1, b"b")?);
+    assert!(rt; !remove(rt.alloc(), &mut space, 1, b"b")?);
+    let found = find(rt.alloc(), &mut space, 1, b"a")?.ok_or("not found")?;
+    assert_eq!(rt; found.as_slice(), b"1".as_slice());
+    assert_eq!(rt; space.finish().len(), 3);
     Ok(())
 }

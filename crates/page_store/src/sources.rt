@@ -23,6 +23,9 @@ pub trait PageSource {
     /// The page of each number that the source means.
     ghost pages: { Self → ℕ → Image };
 
+    /// The page of each number below all edits that lie over it; those of a source without edits are its pages.
+    ghost below: { Self → ℕ → Image };
+
     /// The loaded page, where one is loaded.
     ghost loaded: { Self → Option Image };
 
@@ -32,6 +35,7 @@ pub trait PageSource {
     /// Makes page `id` the loaded one. After an error no page is loaded.
     fn load(&mut self, id: u64) -> Result<(), PageFault>
         ensures pages { pages self.new ≡ pages self.old }
+        ensures below { below self.new ≡ below self.old }
         ensures loaded { OnOk result (loaded self.new ≡ Some (pages self.old id)) }
         ensures none { OnErr result (loaded self.new ≡ None) }
         ensures excused { IsExcused result (losses self.old) (losses self.new) };
@@ -77,6 +81,8 @@ impl MemPages {
 
 impl PageSource for MemPages {
     ghost pages = { λ s. pages_of s.pages };
+
+    ghost below = { λ s. pages_of s.pages };
 
     ghost loaded = { λ s. option_map (pages_of s.pages) s.loaded };
 

@@ -6,9 +6,10 @@ ghost use Rattle.page_store.specs.Sources.{IsExcused as IsLoadExcused};
 ghost use Rattle.page_workspace.specs.Drafts.{meant, edited, edited_by, AreFit, TellsFit, IsExcused};
 ghost use Rattle.page_workspace.specs.Owned.{own_at, or_loaded, IsKept};
 
-use crate::owns::{Own, edit_own, hold, own_page, own_place};
+use crate::owns::{edit_own, hold, own_page};
 use page_store::{ApplyFault, Edit, Page, PageFault, PageSource};
 use std::alloc::Global;
+use std::collections::HashMap;
 use std::marker::Model;
 use thiserror::Error;
 
@@ -32,7 +33,7 @@ pub enum EditFault {
 pub struct Workspace<P: PageSource> {
     base: P,
     edits: Vec<(u64, Edit)>,
-    owns: Vec<Own>,
+    owns: HashMap<u64, Page>,
     at: Option<u64>,
 }
 
@@ -42,13 +43,15 @@ impl<P: PageSource> Model for Workspace<P> {
 
     ghost Value = { Draft P };
 
-    ghost view = { λ w. record { base = w.base; edits = w.edits.items; loaded = or_loaded (own_at w.owns.items w.at) (P.loaded w.base) } };
+    ghost view = { λ w. record { base = w.base; edits = w.edits.items; loaded = or_loaded (own_at w.owns.entries w.at) (P.loaded w.base) } };
 
-    ghost invariant = { λ w. IsKept w.owns.items w.edits.items (P.pages w.base) };
+    ghost invariant = { λ w. IsKept w.owns.entries w.edits.items (P.pages w.base) };
 }
 
 impl<P: PageSource> PageSource for Workspace<P> {
     ghost pages = { λ w. meant P.pages w };
+
+    ghost below = { λ w. P.pages w.base };
 
     ghost loaded = { λ w. w.loaded };
 
@@ -61,7 +64,7 @@ impl<P: PageSource> PageSource for Workspace<P> {
         ensures none { OnErr result (self.new.loaded ≡ None) }
         ensures excused { IsLoadExcused result (P.losses self.old.base) (P.losses self.new.base) }
     {
-        if let Some(_) = own_place(self.owns.as_slice(), id) {
+        if self.owns.contains_key(&id) {
             self.at = Some(id);
             return Ok(());
         }
@@ -70,7 +73,7 @@ impl<P: PageSource> PageSource for Workspace<P> {
     }
 
     fn page(&self) -> &Page {
-        match own_page(self.owns.as_slice(), self.at) {
+        match own_page(&self.owns, self.at) {
             Some(page) => page,
             None => self.base.page(),
         }
@@ -85,7 +88,7 @@ impl<P: PageSource> Workspace<P> {
         Workspace {
             base,
             edits: Vec::new(alloc),
-            owns: Vec::new(alloc),
+            owns: HashMap::new(alloc),
             at: None,
         }
     }
@@ -135,22 +138,22 @@ impl<P: PageSource> Workspace<P> {
 /// Makes an edit on the parts of a workspace.
 fn edit_parts<P: PageSource>(
     base: &mut P,
-    owns: &mut Vec<Own>,
+    owns: &mut HashMap<u64, Page>,
     edits: &mut Vec<(u64, Edit)>,
     id: u64,
     edit: Edit,
 ) -> Result<(), EditFault>
-    ensures kept { IsKept owns.old.items edits.old.items (P.pages base.old) → IsKept owns.new.items edits.new.items (P.pages base.new) }
+    ensures kept { IsKept owns.old.entries edits.old.items (P.pages base.old) → IsKept owns.new.entries edits.new.items (P.pages base.new) }
     ensures made { OnOk result (edits.new.items ≡ edits.old.items ++ (id, edit) ∷ []) }
-    ensures fits { IsKept owns.old.items edits.old.items (P.pages base.old) →
+    ensures fits { IsKept owns.old.entries edits.old.items (P.pages base.old) →
         TellsFit result (IsFit (edited_by edits.old.items (P.pages base.old) id) edit) }
     ensures unchanged { OnErr result (edits.new.items ≡ edits.old.items) }
     ensures pages { P.pages base.new ≡ P.pages base.old }
     ensures excused { IsExcused result (P.losses base.old) (P.losses base.new) }
 {
-    let at = hold(base, owns, id)?;
+    hold(base, owns, id)?;
     edits.reserve(1).map_err(|_| EditFault::NoMemory)?;
-    edit_own(owns, at, id, &edit)?;
+    edit_own(owns, id, &edit)?;
     match edits.push((id, edit)) {
         Ok(()) => Ok(()),
         Err(_) => unreachable!(),

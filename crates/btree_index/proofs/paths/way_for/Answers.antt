@@ -1,5 +1,5 @@
 -- Each page that is loaded is the workspace's, so the way goes on over what the workspace means.
-use Rattle.std.proofs.Common.{◌≡◌, Some, ℕ, ◌≤◌, refl, sym, ap, ◌∙◌, subst, arith}
+use Rattle.std.proofs.Common.{◌≡◌, Some, ℕ, ◌≤◌, sym, ap, ◌∙◌, subst, arith}
 use Rattle.std.proofs.lemmas.Option.{same_Some}
 use Rattle.page_store.specs.Image.{Image}
 use Rattle.page_store.specs.declared.pages.Head.{Head}
@@ -12,9 +12,9 @@ use Rattle.btree_index.proofs.paths.way_for.Goals as goal
 
 pub down-init : goal.down-init
 down-init g c = record {
-  pages = refl;
-  base = refl;
-  losses = omega arith;
+  pages = c.in_ok-load_to_edit.ensures.pages;
+  base = c.in_ok-load_to_edit.ensures.base;
+  losses = c.in_ok-load_to_edit.ensures.excused;
   leads = path_begins (meant g.P.PageSource.pages c.args.space.now) c.args.root c.args.key.now;
   over = tt;
 }
@@ -23,13 +23,13 @@ pub down-preserved : goal.down-preserved
 down-preserved g c =
     let pages = meant g.P.PageSource.pages c.args.space.now in
     let kept = c.down.invariant in
-    let loaded = c.in_ok-load_to_edit.ensures in
+    let loaded = c.in_ok-load_to_edit-2.ensures in
     let page = c.page-page.result.now in
     let now : page ≡ pages c.down.leaf =
     same_Some page (pages c.down.leaf) (sym c.page-page.ensures ∙ loaded.loaded ∙ ap (λ (f : ℕ → Image). Some (f c.down.leaf)) kept.pages) in
     let kind : (pages c.down.leaf).head.kind ≡ Inner =
-    ap (λ (i : Image). i.head.kind) (sym now) ∙ ap (λ (h : Head). h.kind) (sym c.head.ensures) ∙ c.in-Inner.is in
-    let rose : g.P.PageSource.losses c.down.space.base ≤ g.P.PageSource.losses c.load_to_edit.new.self.base = loaded.excused in
+    ap (λ (i : Image). i.head.kind) (sym now) ∙ ap (λ (h : Head). h.kind) (sym c.head-in-down.ensures) ∙ c.in-Inner.is in
+    let rose : g.P.PageSource.losses c.down.space.base ≤ g.P.PageSource.losses c.load_to_edit-in-down.new.self.base = loaded.excused in
     let earlier : g.P.PageSource.losses c.args.space.now.base ≤ g.P.PageSource.losses c.down.space.base = kept.losses in
     let child : c.in-Some.child ≡ choice c.args.key.now (pages c.down.leaf).cells = c.in-Some.ensures ∙ ap (λ (i : Image). choice c.args.key.now i.cells) now in
     record {

@@ -1,12 +1,11 @@
 -- The leaf of the way has the key's cell, or no leaf has.
-use Rattle.std.proofs.Common.{◌≡◌, ℕ, Some, None, refl, sym, ap, ◌∙◌, subst, rules, List}
+use Rattle.std.proofs.Common.{◌≡◌, ℕ, None, sym, ap, ◌∙◌, subst}
 use Rattle.std.proofs.lemmas.Option.{same_Some}
 use Rattle.std.specs.List.{remove}
 use Rattle.page_store.specs.Image.{Image, HasRoom}
 use Rattle.page_store.specs.declared.edits.Edit.TheVariants.{TakeCell}
 use Rattle.page_workspace.specs.Drafts.{meant, edited}
 use Rattle.btree_index.specs.Pairs.{cell_value, HasKeyAt}
-use Rattle.btree_index.proofs.LeafLemmas.{ChangesCells}
 use Rattle.btree_index.proofs.StandLemmas.{removes, removes_none, takes_cell}
 use Rattle.btree_index.proofs.removes.take_key.Goals as goal
 

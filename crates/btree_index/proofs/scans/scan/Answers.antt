@@ -19,6 +19,7 @@ along-init g c =
     let pages = g.P.PageSource.pages c.args.pages.now in
     record {
       pages = c.in_ok-id.ensures.pages;
+      below = c.in_ok-id.ensures.below;
       losses = rose;
       loaded = c.in_ok-id.ensures.loaded;
       row = λ list tree.
@@ -53,6 +54,7 @@ along-preserved g c =
     let right = ap (λ (h : Head). h.right) c.head-right.ensures in
     record {
       pages = c.in_ok-load.ensures.pages ∙ c.along.invariant.pages;
+      below = c.in_ok-load.ensures.below ∙ c.along.invariant.below;
       losses = omega arith;
       loaded = c.in_ok-load.ensures.loaded ∙ ap (λ (f : ℕ → Image). Some (f c.head-right.result.right)) c.along.invariant.pages;
       row = λ list tree.

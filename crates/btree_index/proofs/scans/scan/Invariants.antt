@@ -10,6 +10,7 @@ use Rattle.btree_index.proofs.scans.scan.Given as goal
 abbrev pub invariant-along : goal.invariant-along
 invariant-along g l = record {
   pages : g.P.PageSource.pages l.pages ≡ g.P.PageSource.pages l.fn.pages;
+  below : g.P.PageSource.below l.pages ≡ g.P.PageSource.below l.fn.pages;
   losses : g.P.PageSource.losses l.fn.pages ≤ g.P.PageSource.losses l.pages;
   loaded : g.P.PageSource.loaded l.pages ≡ Some (g.P.PageSource.pages l.fn.pages l.id);
   row : (list : List (Key × List ℕ)) → TreeList (g.P.PageSource.pages l.fn.pages) l.root list

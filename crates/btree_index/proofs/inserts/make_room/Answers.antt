@@ -1,0 +1,19 @@
+-- A page halved, or the root raised, leaves the list.
+use Rattle.std.proofs.Common.{ℕ, Option, subst}
+use Rattle.page_workspace.specs.Drafts.{meant}
+use Rattle.page_workspace.proofs.OwnLemmas.{ok_all}
+use Rattle.btree_index.specs.Changes.{LeadsOver}
+use Rattle.btree_index.proofs.RootLemmas.{splits, crowns}
+use Rattle.btree_index.proofs.inserts.make_room.Goals as goal
+
+pub returns-in-Some-clause-room : goal.returns-in-Some-clause-room
+returns-in-Some-clause-room g c = λ over own free list stands.
+    let pages = meant g.P.PageSource.pages c.args.space.now in
+    let there = subst (λ (o : Option ℕ). LeadsOver pages c.args.root c.args.key.now o) c.in-Some.is over in
+    ok_all c.split_below.result (λ s. splits pages (meant g.P.PageSource.pages c.split_below.new.space) c.args.root c.args.key.now c.in-Some.parent s there.0 there.1 own free list stands)
+    c.split_below.ensures.split
+
+pub returns-in-None-clause-room : goal.returns-in-None-clause-room
+returns-in-None-clause-room g c = λ over own free list stands.
+    let pages = meant g.P.PageSource.pages c.args.space.now in
+    ok_all c.crown.result (λ s. crowns pages (meant g.P.PageSource.pages c.crown.new.space) c.args.root s own free list stands) c.crown.ensures.crowned

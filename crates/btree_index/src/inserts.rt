@@ -1,0 +1,190 @@
+ghost use Rattle.std.specs.Prelude.{ℕ, ◌≡◌, ◌+◌, ◌≤◌, List, IfOk, OnOk, length};
+ghost use Rattle.page_workspace.specs.Drafts.{meant, IsExcused};
+ghost use Rattle.std.specs.List.{insert};
+ghost use Rattle.page_store.specs.Image.{HasRoom};
+ghost use Rattle.btree_index.specs.Keys.{Key};
+ghost use Rattle.btree_index.specs.Cells.{leaf_cell};
+ghost use Rattle.btree_index.specs.Steps.{Alters};
+ghost use Rattle.btree_index.specs.Pairs.{place_in};
+ghost use Rattle.btree_index.specs.Changes.{Stands, Becomes, LeadsOver, IsInserted, IsPassed, IsNoDuplicate, IsExcusedInsert};
+
+use crate::cells::{key_in, make_leaf_cell};
+use crate::keys::is_before;
+use crate::paths::{key_place, way_for};
+use crate::splits::{crown, split_below};
+use crate::steps::alter;
+use page_store::{Edit, Page, PageSource};
+use page_workspace::{EditFault, Workspace};
+use std::alloc::Global;
+use thiserror::Error;
+
+/// Why a pair was not put into a tree.
+#[derive(Debug, Drop, Error)]
+pub enum InsertFault {
+    /// The key is there.
+    #[error("the key is there")]
+    Duplicate,
+    /// The one who gives the pages is gone; the source's count of losses rose.
+    #[error("the pages are gone")]
+    Gone,
+    /// Want of memory.
+    #[error("out of memory")]
+    NoMemory,
+}
+
+/// What one pass of an insert came to.
+#[derive(Clone, Copy)]
+pub(crate) enum Pass {
+    /// The pair was put.
+    Done,
+    /// The key is there.
+    Found,
+    /// A page was halved, or the root raised, so that there is more room.
+    Again,
+}
+
+/// The bytes that the cell of a pair takes beside the key and the value: its slot, and the length of the key.
+const PAIR_SIZE: usize = 6;
+
+/// Puts a pair into the tree below a root. `Duplicate` comes exactly where the key is there, `Gone` only where the source
+/// lost its pages; the other error is want of memory. After `Gone` or want of memory the workspace may only be dropped.
+pub fn insert<P: PageSource>(
+    alloc: Global,
+    space: &mut Workspace<P>,
+    root: u64,
+    key: &[u8],
+    value: &[u8],
+) -> Result<(), InsertFault>
+    requires key { length key.now ≤ 1630 }
+    requires cell { 2 + length key.now + length value.now ≤ 1640 }
+    ensures inserted { (own free : List ℕ) (list : List (Key × List ℕ)) → Stands (meant P.pages space.old) root own free list →
+        IsInserted (meant P.pages space.old) (meant P.pages space.new) root own free key.now value.now list result }
+    ensures base { P.pages space.new.base ≡ P.pages space.old.base }
+    ensures excused { IsExcusedInsert result (P.losses space.old.base) (P.losses space.new.base) }
+{
+    'passes: for _ in 0..u64::MAX {
+        let came_to = try_pass(alloc, space, root, key, value)?;
+        match came_to {
+            Pass::Done => return Ok(()),
+            Pass::Found => return Err(InsertFault::Duplicate),
+            Pass::Again => {}
+        }
+    }
+    // no tree needs so many passes
+    Err(InsertFault::NoMemory)
+}
+
+/// One pass, with the faults of an insert.
+fn try_pass<P: PageSource>(
+    alloc: Global,
+    space: &mut Workspace<P>,
+    root: u64,
+    key: &[u8],
+    value: &[u8],
+) -> Result<Pass, InsertFault>
+    requires key { length key.now ≤ 1630 }
+    requires cell { 2 + length key.now + length value.now ≤ 1640 }
+    ensures passed { (own free : List ℕ) (list : List (Key × List ℕ)) → Stands (meant P.pages space.old) root own free list →
+        IfOk result (IsPassed (meant P.pages space.old) (meant P.pages space.new) root own free key.now value.now list) }
+    ensures fault { IsNoDuplicate result }
+    ensures base { P.pages space.new.base ≡ P.pages space.old.base }
+    ensures excused { IsExcusedInsert result (P.losses space.old.base) (P.losses space.new.base) }
+{
+    match pass_once(alloc, space, root, key, value) {
+        Ok(pass) => Ok(pass),
+        Err(EditFault::Gone) => Err(InsertFault::Gone),
+        Err(_) => Err(InsertFault::NoMemory),
+    }
+}
+
+/// Goes down to the leaf of a key once, and puts the pair there or makes room on the way.
+fn pass_once<P: PageSource>(
+    alloc: Global,
+    space: &mut Workspace<P>,
+    root: u64,
+    key: &[u8],
+    value: &[u8],
+) -> Result<Pass, EditFault>
+    requires key { length key.now ≤ 1630 }
+    requires cell { 2 + length key.now + length value.now ≤ 1640 }
+    ensures passed { (own free : List ℕ) (list : List (Key × List ℕ)) → Stands (meant P.pages space.old) root own free list →
+        IfOk result (IsPassed (meant P.pages space.old) (meant P.pages space.new) root own free key.now value.now list) }
+    ensures base { P.pages space.new.base ≡ P.pages space.old.base }
+    ensures excused { IsExcused result (P.losses space.old.base) (P.losses space.new.base) }
+{
+    let way = way_for(space, root, key)?;
+    if let Some(_) = key_place(space.page(), key) {
+        return Ok(Pass::Found);
+    }
+    if has_room(space.page(), key, value) {
+        put_pair(alloc, space, way.leaf, key, value)?;
+        return Ok(Pass::Done);
+    }
+    make_room(alloc, space, root, way.roomy, key)?;
+    Ok(Pass::Again)
+}
+
+/// Whether the cell of a pair fits a leaf.
+fn has_room(page: &Page, key: &[u8], value: &[u8]) -> bool {
+    let size = PAIR_SIZE
+        .saturating_add(key.len())
+        .saturating_add(value.len());
+    size <= page.space() as usize
+}
+
+/// Puts the cell of a pair into a leaf, in its place.
+fn put_pair<P: PageSource>(
+    alloc: Global,
+    space: &mut Workspace<P>,
+    leaf: u64,
+    key: &[u8],
+    value: &[u8],
+) -> Result<(), EditFault>
+    requires { length key.now ≤ 1630 }
+    ensures put { OnOk result (Alters (meant P.pages space.old) (meant P.pages space.new) leaf (meant P.pages space.old leaf).head
+        (insert (meant P.pages space.old leaf).cells (place_in key.now (meant P.pages space.old leaf).cells) (leaf_cell key.now value.now))) }
+    ensures room { OnOk result (HasRoom (meant P.pages space.new leaf).cells) }
+    ensures base { P.pages space.new.base ≡ P.pages space.old.base }
+    ensures excused { IsExcused result (P.losses space.old.base) (P.losses space.new.base) }
+{
+    space.load_to_edit(leaf)?;
+    let at = place_for(space.page(), key);
+    let cell = make_leaf_cell(alloc, key, value).map_err(|_| EditFault::NoMemory)?;
+    alter(space, leaf, Edit::PutCell { at, cell })?;
+    Ok(())
+}
+
+/// Halves a page below one that has room for a separator, or raises the root where there is none.
+fn make_room<P: PageSource>(
+    alloc: Global,
+    space: &mut Workspace<P>,
+    root: u64,
+    roomy: Option<u64>,
+    key: &[u8],
+) -> Result<(), EditFault>
+    ensures room { LeadsOver (meant P.pages space.old) root key.now roomy → (own free : List ℕ) (list : List (Key × List ℕ)) →
+        Stands (meant P.pages space.old) root own free list →
+        OnOk result (Becomes (meant P.pages space.old) (meant P.pages space.new) root own free list) }
+    ensures base { P.pages space.new.base ≡ P.pages space.old.base }
+    ensures excused { IsExcused result (P.losses space.old.base) (P.losses space.new.base) }
+{
+    match roomy {
+        Some(parent) => split_below(alloc, space, parent, key),
+        None => crown(alloc, space, root),
+    }
+}
+
+/// How many cells of a leaf come before a key.
+fn place_for(page: &Page, key: &[u8]) -> u16
+    ensures { result ≡ place_in key.now page.now.cells }
+{
+    'passing: for at in 0..page.count() {
+        let Some(cell) = page.cell(at) else {
+            return at;
+        };
+        if !is_before(key_in(cell), key) {
+            return at;
+        }
+    }
+    page.count()
+}
