@@ -1,0 +1,114 @@
+//! Scripts that have each kind of line, cut after each byte and changed in each: both readers tell the same.
+
+use super::second_reader::second_refusal;
+use super::told::{first_refusal, is_told};
+use std::alloc::{AllocError, Global};
+use std::test::Fail;
+
+/// A script that runs.
+const RICH: &[u8] = b"nodes 1
+session a 1
+session a_ 1
+create table t(id int primary key, v int not null, key k (v, id));\r
+Create table u(a integer)
+# \xc3\xa9
+
+a: begin
+a_:insert into t values(1, -20)
+a: update t set v = 3 where id=1
+\ta: select * from t \t
+a_: delete from u where a = 2
+a: commit
+a:set transaction snapshot
+a_: rollback";
+
+/// Scripts with the other lines of the language.
+static MORE: [&[u8]; 13] = [
+    b"nodes 1\ncluster ab",
+    b"nodes 1\nworkers 64\n",
+    b"nodes 1\nsession a 1 hasql",
+    b"nodes 1\ncreate table t(a int)\nwatch t",
+    b"nodes 1\ncreate table t(a text, b blob not null unique, primary key (a))",
+    b"nodes 1\nsession a 1\narm a row 1",
+    b"nodes 1\nsession a 1\narm a append",
+    b"nodes 1\nsession a 1\narm a ship",
+    b"nodes 1\ncreate table t(a int not null, unique u (a))",
+    b"nodes 1\nstop 1",
+    b"nodes 1\nstart 1",
+    b"nodes 1\nbarrier",
+    b"nodes 1\nfeed",
+];
+
+/// The bytes that each byte is changed to.
+static TELLING: [u8; 12] = [
+    b'\n', b'\r', b' ', b'#', b',', b'-', b'0', b'2', b':', b'A', b'a', 0xff,
+];
+
+/// Whether both readers tell the same of the bytes.
+fn is_alike(alloc: Global, bytes: &[u8]) -> Result<bool, AllocError> {
+    Ok(first_refusal(alloc, bytes)? == second_refusal(alloc, bytes)?)
+}
+
+/// How many bytes are left where the readers differ first.
+fn unlike_cut(alloc: Global, bytes: &[u8]) -> Result<Option<usize>, AllocError> {
+    for size in 0..=bytes.len() {
+        if let Some(cut) = bytes.get(..size) {
+            if !is_alike(alloc, cut)? {
+                return Ok(Some(size));
+            }
+        }
+    }
+    Ok(None)
+}
+
+/// The bytes with another at one place.
+fn changed(alloc: Global, bytes: &[u8], place: usize, byte: u8) -> Result<Vec<u8>, AllocError> {
+    let mut other = Vec::new(alloc);
+    for (index, old) in bytes.iter().enumerate() {
+        other.push(if index == place { byte } else { *old })?;
+    }
+    Ok(other)
+}
+
+/// The first telling byte at a place with which the readers differ.
+fn unlike_at(alloc: Global, bytes: &[u8], place: usize) -> Result<Option<u8>, AllocError> {
+    for byte in &TELLING {
+        let other = changed(alloc, bytes, place, *byte)?;
+        if !is_alike(alloc, other.as_slice())? {
+            return Ok(Some(*byte));
+        }
+    }
+    Ok(None)
+}
+
+/// The first place, with its byte, whose change makes the readers differ.
+fn unlike_changed(alloc: Global, bytes: &[u8]) -> Result<Option<(usize, u8)>, AllocError> {
+    for place in 0..bytes.len() {
+        if let Some(byte) = unlike_at(alloc, bytes, place)? {
+            return Ok(Some((place, byte)));
+        }
+    }
+    Ok(None)
+}
+
+#[test]
+fn each_cut_is_told_alike(rt: HostRuntime) -> Result<(), Fail> {
+    assert!(rt; is_told(rt.alloc(), RICH, None)?);
+    assert_eq!(rt; unlike_cut(rt.alloc(), RICH)?, None);
+    Ok(())
+}
+
+#[test]
+fn each_changed_byte_is_told_alike(rt: HostRuntime) -> Result<(), Fail> {
+    assert_eq!(rt; unlike_changed(rt.alloc(), RICH)?, None);
+    Ok(())
+}
+
+#[test]
+fn the_other_lines_are_told_alike(rt: HostRuntime) -> Result<(), Fail> {
+    for bytes in &MORE {
+        assert_eq!(rt; unlike_cut(rt.alloc(), *bytes)?, None);
+        assert_eq!(rt; unlike_changed(rt.alloc(), *bytes)?, None);
+    }
+    Ok(())
+}
