@@ -1,0 +1,91 @@
+//! Keys in an order of their own, and cells of the greatest size.
+
+use super::drawn::{KEY_SIZE, PAIR_SIZE};
+use super::trees::{empty_pages, grown_from_nothing, put_in_both, root_level, settle};
+use std::alloc::{AllocError, Global};
+use std::test::Fail;
+
+/// How many keys are put in an order.
+const KEYS: u32 = 1000;
+
+/// Bytes of one letter.
+fn letters(alloc: Global, size: usize) -> Result<Vec<u8>, AllocError> {
+    let mut letters = Vec::new(alloc);
+    for _ in 0..size {
+        letters.push(b'x')?;
+    }
+    Ok(letters)
+}
+
+/// A number as a key of so many bytes, four and more.
+pub(crate) fn numbered(alloc: Global, number: u32, size: usize) -> Result<Vec<u8>, AllocError> {
+    let mut key = number.to_be_bytes().to_vec(alloc)?;
+    key.extend_from_slice(letters(alloc, size.saturating_sub(4))?.as_slice())?;
+    Ok(key)
+}
+
+/// So many bytes of one letter, with a number behind.
+fn behind_letters(alloc: Global, number: u32, size: usize) -> Result<Vec<u8>, AllocError> {
+    let mut key = letters(alloc, size.saturating_sub(4))?;
+    key.extend_from_slice(&number.to_be_bytes())?;
+    Ok(key)
+}
+
+#[test]
+fn ascending_keys(rt: HostRuntime) -> Result<(), Fail> {
+    let alloc = rt.alloc();
+    let mut grown = grown_from_nothing(alloc)?;
+    for number in 0..KEYS {
+        let key = numbered(alloc, number, 40)?;
+        put_in_both(&rt, alloc, &mut grown, key.as_slice(), b"ascending")?;
+    }
+    assert!(rt; root_level(&mut grown.space)? > 0);
+    settle(&rt, alloc, empty_pages(alloc)?, grown)?;
+    Ok(())
+}
+
+#[test]
+fn descending_keys(rt: HostRuntime) -> Result<(), Fail> {
+    let alloc = rt.alloc();
+    let mut grown = grown_from_nothing(alloc)?;
+    for number in 0..KEYS {
+        let key = numbered(alloc, KEYS.saturating_sub(number), 40)?;
+        put_in_both(&rt, alloc, &mut grown, key.as_slice(), b"descending")?;
+    }
+    assert!(rt; root_level(&mut grown.space)? > 0);
+    settle(&rt, alloc, empty_pages(alloc)?, grown)?;
+    Ok(())
+}
+
+/// Keys that begin alike and differ in their last bytes, and keys of which each begins the next.
+#[test]
+fn keys_that_begin_alike(rt: HostRuntime) -> Result<(), Fail> {
+    let alloc = rt.alloc();
+    let mut grown = grown_from_nothing(alloc)?;
+    for number in 0..60u32 {
+        let key = behind_letters(alloc, number.wrapping_mul(0x1_0301), 1000)?;
+        put_in_both(&rt, alloc, &mut grown, key.as_slice(), b"")?;
+        let key = letters(alloc, number as usize * 27)?;
+        put_in_both(&rt, alloc, &mut grown, key.as_slice(), b"a beginning")?;
+    }
+    settle(&rt, alloc, empty_pages(alloc)?, grown)?;
+    Ok(())
+}
+
+/// Cells of the greatest size, of which a page has two: with the longest keys, of which a page above the leaves has two
+/// as well, and with short ones. So the tree has four levels and more.
+#[test]
+fn cells_of_the_greatest_size(rt: HostRuntime) -> Result<(), Fail> {
+    let alloc = rt.alloc();
+    let mut grown = grown_from_nothing(alloc)?;
+    for number in 0..200u32 {
+        let number = number.wrapping_mul(0x9e37_79b1);
+        let size = if number % 4 == 0 { 4 } else { KEY_SIZE };
+        let key = numbered(alloc, number, size)?;
+        let value = letters(alloc, PAIR_SIZE.saturating_sub(key.len()))?;
+        put_in_both(&rt, alloc, &mut grown, key.as_slice(), value.as_slice())?;
+    }
+    assert!(rt; root_level(&mut grown.space)? >= 3);
+    settle(&rt, alloc, empty_pages(alloc)?, grown)?;
+    Ok(())
+}
