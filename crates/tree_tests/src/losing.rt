@@ -40,6 +40,8 @@ impl LosingPages {
 impl PageSource for LosingPages {
     ghost pages = { λ s. pages_of s.below.pages };
 
+    ghost below = { λ s. pages_of s.below.pages };
+
     ghost loaded = { λ s. if s.is_open then option_map (pages_of s.below.pages) s.below.loaded else None };
 
     ghost losses = { λ s. if s.is_lost then 1 else 0 };
