@@ -47,10 +47,10 @@ fn said_by(text: &str) -> Option<(&str, &str)> {
     }
 }
 
-fn begins_with_create(alloc: Global, text: &str) -> Result<bool, AllocError> {
-    let words = tokens(alloc, text)?;
-    let first = first_piece(words.as_str());
-    Ok(first.as_bytes().eq_ignore_ascii_case(b"create"))
+fn begins_with_create(words: &str) -> bool {
+    first_piece(words)
+        .as_bytes()
+        .eq_ignore_ascii_case(b"create")
 }
 
 fn first_piece(text: &str) -> &str {
@@ -60,15 +60,15 @@ fn first_piece(text: &str) -> &str {
     }
 }
 
-/// The part in which a line stands, 0 for none.
-fn part_of(alloc: Global, text: &str) -> Result<u8, AllocError> {
+/// The part in which a line of these tokens stands, 0 for none.
+fn part_of(text: &str, words: &str) -> u8 {
     if said_by(text).is_some() {
-        return Ok(7);
+        return 7;
     }
-    if begins_with_create(alloc, text)? {
-        return Ok(5);
+    if begins_with_create(words) {
+        return 5;
     }
-    Ok(match first_piece(text) {
+    match first_piece(text) {
         "nodes" => 1,
         "cluster" => 2,
         "workers" => 3,
@@ -76,7 +76,7 @@ fn part_of(alloc: Global, text: &str) -> Result<u8, AllocError> {
         "watch" => 6,
         "stop" | "start" | "arm" | "barrier" | "feed" => 7,
         _ => 0,
-    })
+    }
 }
 
 fn cluster(pieces: &[&str]) -> u8 {
@@ -185,8 +185,8 @@ impl Told {
         Ok(if plain { None } else { Some(10) })
     }
 
-    fn create(&mut self, alloc: Global, text: &str) -> Result<Option<u8>, AllocError> {
-        let Some(table) = table_of(alloc, text)? else {
+    fn create(&mut self, alloc: Global, words: &str) -> Result<Option<u8>, AllocError> {
+        let Some(table) = table_of(alloc, words)? else {
             return Ok(Some(7));
         };
         if has_text(self.tables.as_slice(), table.name.as_str()) {
@@ -253,7 +253,7 @@ impl Told {
     }
 
     /// Why a line is refused that stands in its part.
-    fn judge(&mut self, alloc: Global, text: &str) -> Result<Option<u8>, AllocError> {
+    fn judge(&mut self, alloc: Global, text: &str, words: &str) -> Result<Option<u8>, AllocError> {
         let pieces = pieces_of(alloc, text)?;
         let pieces = pieces.as_slice();
         match self.part {
@@ -261,7 +261,7 @@ impl Told {
             2 => Ok(Some(cluster(pieces))),
             3 => Ok(Some(workers(pieces))),
             4 => self.session(alloc, pieces),
-            5 => self.create(alloc, text),
+            5 => self.create(alloc, words),
             6 => Ok(Some(self.watch(pieces))),
             _ => match said_by(text) {
                 Some((name, said)) => self.say(alloc, name, said),
@@ -283,12 +283,13 @@ impl Told {
         if text.is_empty() || text.starts_with('#') {
             return Ok(None);
         }
-        let part = part_of(alloc, text)?;
+        let words = tokens(alloc, text)?;
+        let part = part_of(text, words.as_str());
         if !self.admits(part) {
             return Ok(Some(3));
         }
         self.part = part;
-        self.judge(alloc, text)
+        self.judge(alloc, text, words.as_str())
     }
 }
 

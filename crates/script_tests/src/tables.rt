@@ -1,6 +1,6 @@
 //! The table that a `create` line defines, read by its tokens, and every statement that runs on it.
 
-use crate::tokens::{is_free, tokens};
+use crate::tokens::is_free;
 use std::alloc::{AllocError, Global};
 
 #[derive(Drop)]
@@ -328,11 +328,10 @@ fn has_name(names: &str, wanted: &str) -> bool {
     false
 }
 
-/// The table that a `create` line defines, if it is a lawful one.
-pub(crate) fn table_of(alloc: Global, text: &str) -> Result<Option<Table>, AllocError> {
-    let lower = text.to_ascii_lowercase(alloc)?;
-    let words = tokens(alloc, lower.as_str())?;
-    let Some((name, parts)) = name_and_parts(words.as_str()) else {
+/// The table that a `create` line of these tokens defines, if it is a lawful one.
+pub(crate) fn table_of(alloc: Global, words: &str) -> Result<Option<Table>, AllocError> {
+    let lower = words.to_ascii_lowercase(alloc)?;
+    let Some((name, parts)) = name_and_parts(lower.as_str()) else {
         return Ok(None);
     };
     let mut table = Table::named(alloc, name)?;

@@ -3,27 +3,30 @@
 use super::second_reader::second_refusal;
 use super::told::{first_refusal, is_told};
 use std::alloc::{AllocError, Global};
+use std::ops::Range;
 use std::test::Fail;
 
 /// A script that runs.
 const RICH: &[u8] = b"nodes 1
 session a 1
 session a_ 1
-create table t(id int primary key, v int not null, key k (v, id));\r
-Create table u(a integer)
+Create table t(a int primary key,v int,key k(v,a));\r
 # \xc3\xa9
 
-a: begin
-a_:insert into t values(1, -20)
-a: update t set v = 3 where id=1
+a:begin
+a_: insert into t values(1,-20)
+a: update t set v = 3 where a=1
 \ta: select * from t \t
-a_: delete from u where a = 2
-a: commit
+a_:delete from t where v= 2
+a:commit
 a:set transaction snapshot
-a_: rollback";
+a_:rollback";
+
+/// About half of its bytes.
+const HALF: usize = 130;
 
 /// Scripts with the other lines of the language.
-static MORE: [&[u8]; 13] = [
+static MORE: [&[u8]; 14] = [
     b"nodes 1\ncluster ab",
     b"nodes 1\nworkers 64\n",
     b"nodes 1\nsession a 1 hasql",
@@ -33,6 +36,7 @@ static MORE: [&[u8]; 13] = [
     b"nodes 1\nsession a 1\narm a append",
     b"nodes 1\nsession a 1\narm a ship",
     b"nodes 1\ncreate table t(a int not null, unique u (a))",
+    b"nodes 1\ncreate table t(a int)\nCREATE table a(t integer)",
     b"nodes 1\nstop 1",
     b"nodes 1\nstart 1",
     b"nodes 1\nbarrier",
@@ -81,9 +85,13 @@ fn unlike_at(alloc: Global, bytes: &[u8], place: usize) -> Result<Option<u8>, Al
     Ok(None)
 }
 
-/// The first place, with its byte, whose change makes the readers differ.
-fn unlike_changed(alloc: Global, bytes: &[u8]) -> Result<Option<(usize, u8)>, AllocError> {
-    for place in 0..bytes.len() {
+/// The first of these places, with its byte, whose change makes the readers differ.
+fn unlike_changed(
+    alloc: Global,
+    bytes: &[u8],
+    places: Range<usize>,
+) -> Result<Option<(usize, u8)>, AllocError> {
+    for place in places {
         if let Some(byte) = unlike_at(alloc, bytes, place)? {
             return Ok(Some((place, byte)));
         }
@@ -99,8 +107,14 @@ fn each_cut_is_told_alike(rt: HostRuntime) -> Result<(), Fail> {
 }
 
 #[test]
-fn each_changed_byte_is_told_alike(rt: HostRuntime) -> Result<(), Fail> {
-    assert_eq!(rt; unlike_changed(rt.alloc(), RICH)?, None);
+fn each_changed_byte_of_the_first_lines_is_told_alike(rt: HostRuntime) -> Result<(), Fail> {
+    assert_eq!(rt; unlike_changed(rt.alloc(), RICH, 0..HALF)?, None);
+    Ok(())
+}
+
+#[test]
+fn each_changed_byte_of_the_last_lines_is_told_alike(rt: HostRuntime) -> Result<(), Fail> {
+    assert_eq!(rt; unlike_changed(rt.alloc(), RICH, HALF..RICH.len())?, None);
     Ok(())
 }
 
@@ -108,7 +122,7 @@ fn each_changed_byte_is_told_alike(rt: HostRuntime) -> Result<(), Fail> {
 fn the_other_lines_are_told_alike(rt: HostRuntime) -> Result<(), Fail> {
     for bytes in &MORE {
         assert_eq!(rt; unlike_cut(rt.alloc(), *bytes)?, None);
-        assert_eq!(rt; unlike_changed(rt.alloc(), *bytes)?, None);
+        assert_eq!(rt; unlike_changed(rt.alloc(), *bytes, 0..bytes.len())?, None);
     }
     Ok(())
 }

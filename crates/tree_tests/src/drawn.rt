@@ -9,7 +9,7 @@ pub(crate) const KEY_SIZE: usize = 1630;
 pub(crate) const PAIR_SIZE: usize = 1638;
 
 /// How many keys there are to draw from.
-const KEYS: u64 = 1200;
+const KEYS: u64 = 800;
 
 /// What is done in a turn.
 #[derive(Clone, Copy)]

@@ -1,8 +1,11 @@
 //! Keys in an order of their own, and cells of the greatest size.
 
 use super::drawn::{KEY_SIZE, PAIR_SIZE};
-use super::trees::{empty_pages, grown_from_nothing, put_in_both, root_level, settle};
+use super::trees::{
+    Grown, empty_pages, finds_list, grown_from_nothing, put_in_both, root_level, settle,
+};
 use std::alloc::{AllocError, Global};
+use std::process::Abort;
 use std::test::Fail;
 
 /// How many keys are put in an order.
@@ -31,6 +34,13 @@ fn behind_letters(alloc: Global, number: u32, size: usize) -> Result<Vec<u8>, Al
     Ok(key)
 }
 
+/// The tree finds each pair of the list, and the edits of the workspace make it on the pages below.
+fn compare_at_the_end(stop: &impl Abort, alloc: Global, mut grown: Grown) -> Result<(), Fail> {
+    assert!(stop; finds_list(alloc, &mut grown.space, &grown.list)?, "a find");
+    settle(stop, alloc, empty_pages(alloc)?, grown)?;
+    Ok(())
+}
+
 #[test]
 fn ascending_keys(rt: HostRuntime) -> Result<(), Fail> {
     let alloc = rt.alloc();
@@ -40,8 +50,7 @@ fn ascending_keys(rt: HostRuntime) -> Result<(), Fail> {
         put_in_both(&rt, alloc, &mut grown, key.as_slice(), b"ascending")?;
     }
     assert!(rt; root_level(&mut grown.space)? > 0);
-    settle(&rt, alloc, empty_pages(alloc)?, grown)?;
-    Ok(())
+    compare_at_the_end(&rt, alloc, grown)
 }
 
 #[test]
@@ -53,8 +62,7 @@ fn descending_keys(rt: HostRuntime) -> Result<(), Fail> {
         put_in_both(&rt, alloc, &mut grown, key.as_slice(), b"descending")?;
     }
     assert!(rt; root_level(&mut grown.space)? > 0);
-    settle(&rt, alloc, empty_pages(alloc)?, grown)?;
-    Ok(())
+    compare_at_the_end(&rt, alloc, grown)
 }
 
 /// Keys that begin alike and differ in their last bytes, and keys of which each begins the next.
@@ -68,8 +76,7 @@ fn keys_that_begin_alike(rt: HostRuntime) -> Result<(), Fail> {
         let key = letters(alloc, number as usize * 27)?;
         put_in_both(&rt, alloc, &mut grown, key.as_slice(), b"a beginning")?;
     }
-    settle(&rt, alloc, empty_pages(alloc)?, grown)?;
-    Ok(())
+    compare_at_the_end(&rt, alloc, grown)
 }
 
 /// Cells of the greatest size, of which a page has two: with the longest keys, of which a page above the leaves has two
@@ -86,6 +93,5 @@ fn cells_of_the_greatest_size(rt: HostRuntime) -> Result<(), Fail> {
         put_in_both(&rt, alloc, &mut grown, key.as_slice(), value.as_slice())?;
     }
     assert!(rt; root_level(&mut grown.space)? >= 3);
-    settle(&rt, alloc, empty_pages(alloc)?, grown)?;
-    Ok(())
+    compare_at_the_end(&rt, alloc, grown)
 }

@@ -1,7 +1,9 @@
 //! Seeded runs of inserts, removes, finds and scans.
 
 use super::drawn::{Act, Turn, key_of, next_number, turn_of, value_of};
-use super::trees::{Grown, ROOT, are_same, copies, empty_pages, holds_list, put_in_both, settle};
+use super::trees::{
+    Grown, ROOT, are_same, copies, empty_pages, finds_list, holds_list, put_in_both, settle,
+};
 use btree_index::{find, remove, scan};
 use page_store::{Cell, MemPages, Page};
 use page_workspace::Workspace;
@@ -97,6 +99,8 @@ fn a_seeded_run_answers_as_a_list(rt: HostRuntime) -> Result<(), Fail> {
     for seed in 0..5 {
         (pages, list) = run_turns(&rt, alloc, pages, list, seed)?;
     }
+    let mut below = MemPages::new(alloc, pages)?;
+    assert!(rt; finds_list(alloc, &mut below, &list)?, "a find");
     assert!(rt;
         list.scan(alloc, b"", None)?.len() > 300,
         "few keys are left"

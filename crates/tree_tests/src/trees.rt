@@ -190,10 +190,6 @@ pub(crate) fn settle(
         holds_list(alloc, &mut space, &list)?,
         "the tree in the workspace"
     );
-    assert!(stop;
-        finds_list(alloc, &mut space, &list)?,
-        "a find in the workspace"
-    );
     let edits = space.finish();
     let pages = settled(alloc, pages, edits.as_slice())?;
     let mut below = MemPages::new(alloc, copies(alloc, pages.as_slice())?)?;
