@@ -22,21 +22,25 @@ a:commit
 a:set transaction snapshot
 a_:rollback";
 
-/// About half of its bytes.
-const HALF: usize = 130;
+/// A quarter of its bytes, rounded up.
+const QUARTER: usize = 66;
 
-/// Scripts with the other lines of the language.
-static MORE: [&[u8]; 14] = [
+/// Scripts with the other lines of a head.
+static HEADS: [&[u8]; 7] = [
     b"nodes 1\ncluster ab",
     b"nodes 1\nworkers 64\n",
     b"nodes 1\nsession a 1 hasql",
     b"nodes 1\ncreate table t(a int)\nwatch t",
     b"nodes 1\ncreate table t(a text, b blob not null unique, primary key (a))",
+    b"nodes 1\ncreate table t(a int not null, unique u (a))",
+    b"nodes 1\ncreate table t(a int)\nCREATE table a(t integer)",
+];
+
+/// Scripts with the other lines of a body.
+static BODIES: [&[u8]; 7] = [
     b"nodes 1\nsession a 1\narm a row 1",
     b"nodes 1\nsession a 1\narm a append",
     b"nodes 1\nsession a 1\narm a ship",
-    b"nodes 1\ncreate table t(a int not null, unique u (a))",
-    b"nodes 1\ncreate table t(a int)\nCREATE table a(t integer)",
     b"nodes 1\nstop 1",
     b"nodes 1\nstart 1",
     b"nodes 1\nbarrier",
@@ -99,6 +103,19 @@ fn unlike_changed(
     Ok(None)
 }
 
+/// The first of some scripts that is told unlike where it is cut, or changed in a byte.
+fn unlike_script(alloc: Global, scripts: &[&[u8]]) -> Result<Option<usize>, AllocError> {
+    for (index, bytes) in scripts.iter().enumerate() {
+        if unlike_cut(alloc, *bytes)?.is_some() {
+            return Ok(Some(index));
+        }
+        if unlike_changed(alloc, *bytes, 0..bytes.len())?.is_some() {
+            return Ok(Some(index));
+        }
+    }
+    Ok(None)
+}
+
 #[test]
 fn each_cut_is_told_alike(rt: HostRuntime) -> Result<(), Fail> {
     assert!(rt; is_told(rt.alloc(), RICH, None)?);
@@ -107,22 +124,46 @@ fn each_cut_is_told_alike(rt: HostRuntime) -> Result<(), Fail> {
 }
 
 #[test]
-fn each_changed_byte_of_the_first_lines_is_told_alike(rt: HostRuntime) -> Result<(), Fail> {
-    assert_eq!(rt; unlike_changed(rt.alloc(), RICH, 0..HALF)?, None);
+fn each_changed_byte_of_the_first_quarter_is_told_alike(rt: HostRuntime) -> Result<(), Fail> {
+    assert_eq!(rt; unlike_changed(rt.alloc(), RICH, 0..QUARTER)?, None);
     Ok(())
 }
 
 #[test]
-fn each_changed_byte_of_the_last_lines_is_told_alike(rt: HostRuntime) -> Result<(), Fail> {
-    assert_eq!(rt; unlike_changed(rt.alloc(), RICH, HALF..RICH.len())?, None);
+fn each_changed_byte_of_the_second_quarter_is_told_alike(rt: HostRuntime) -> Result<(), Fail> {
+    assert_eq!(rt;
+        unlike_changed(rt.alloc(), RICH, QUARTER..2 * QUARTER)?,
+        None
+    );
     Ok(())
 }
 
 #[test]
-fn the_other_lines_are_told_alike(rt: HostRuntime) -> Result<(), Fail> {
-    for bytes in &MORE {
-        assert_eq!(rt; unlike_cut(rt.alloc(), *bytes)?, None);
-        assert_eq!(rt; unlike_changed(rt.alloc(), *bytes, 0..bytes.len())?, None);
-    }
+fn each_changed_byte_of_the_third_quarter_is_told_alike(rt: HostRuntime) -> Result<(), Fail> {
+    assert_eq!(rt;
+        unlike_changed(rt.alloc(), RICH, 2 * QUARTER..3 * QUARTER)?,
+        None
+    );
+    Ok(())
+}
+
+#[test]
+fn each_changed_byte_of_the_last_quarter_is_told_alike(rt: HostRuntime) -> Result<(), Fail> {
+    assert_eq!(rt;
+        unlike_changed(rt.alloc(), RICH, 3 * QUARTER..RICH.len())?,
+        None
+    );
+    Ok(())
+}
+
+#[test]
+fn the_other_lines_of_heads_are_told_alike(rt: HostRuntime) -> Result<(), Fail> {
+    assert_eq!(rt; unlike_script(rt.alloc(), &HEADS)?, None);
+    Ok(())
+}
+
+#[test]
+fn the_other_lines_of_bodies_are_told_alike(rt: HostRuntime) -> Result<(), Fail> {
+    assert_eq!(rt; unlike_script(rt.alloc(), &BODIES)?, None);
     Ok(())
 }
