@@ -16,56 +16,50 @@ fn are_same(xs: &[Value], ys: &[Value]) -> bool {
     xs.len() == ys.len() && xs.iter().zip(ys.iter()).all(|(x, y)| order(x, y).is_eq())
 }
 
+/// Whether these values have this code, and it reads back to them.
+fn is_code(alloc: Global, values: &[Value], code: &[u8]) -> Result<bool, AllocError> {
+    let made = encode_key(alloc, values)?;
+    if made.as_bytes() != code || key_size(values) != code.len() as u64 {
+        return Ok(false);
+    }
+    Ok(match decode_key(alloc, code)? {
+        Some(read) => are_same(read.as_slice(), values),
+        None => false,
+    })
+}
+
+/// Numbers of the table that the crate's first page shows, and their codes.
+static NUMBERS: [(i64, &[u8]); 4] = [
+    (1, b"\x01\x80\0\0\0\0\0\0\x01"),
+    (-1, b"\x01\x7f\xff\xff\xff\xff\xff\xff\xff"),
+    (i64::MIN, b"\x01\0\0\0\0\0\0\0\0"),
+    (i64::MAX, b"\x01\xff\xff\xff\xff\xff\xff\xff\xff"),
+];
+
+/// Texts of that table, and their codes.
+static TEXTS: [(&str, &[u8]); 4] = [
+    ("a", b"\x02a\0\0"),
+    ("a\0", b"\x02a\0\xff\0\0"),
+    ("\0\0", b"\x02\0\xff\0\xff\0\0"),
+    ("\u{1f600}", b"\x02\xf0\x9f\x98\x80\0\0"),
+];
+
 /// The codes of the table that the crate's first page shows, and their reading.
 #[test]
 fn keys_of_the_table(rt: HostRuntime) -> Result<(), Fail> {
     let alloc = rt.alloc();
-    let table = vec![in alloc;
-        (
-            vec![in alloc; Value::Int(1)]?,
-            b"\x01\x80\0\0\0\0\0\0\x01".as_slice()
-        ),
-        (
-            vec![in alloc; Value::Int(-1)]?,
-            b"\x01\x7f\xff\xff\xff\xff\xff\xff\xff".as_slice()
-        ),
-        (vec![in alloc; text(alloc, b"a")?]?, b"\x02a\0\0".as_slice()),
-        (
-            vec![in alloc; text(alloc, b"a\0")?]?,
-            b"\x02a\0\xff\0\0".as_slice()
-        ),
-        (
-            vec![in alloc; Value::Null, Value::Int(1)]?,
-            b"\0\x01\x80\0\0\0\0\0\0\x01".as_slice()
-        ),
-        (
-            vec![in alloc; Value::Int(i64::MIN)]?,
-            b"\x01\0\0\0\0\0\0\0\0".as_slice()
-        ),
-        (
-            vec![in alloc; Value::Int(i64::MAX)]?,
-            b"\x01\xff\xff\xff\xff\xff\xff\xff\xff".as_slice()
-        ),
-        (
-            vec![in alloc; text(alloc, b"")?, blob(alloc, b"")?]?,
-            b"\x02\0\0\x03\0\0".as_slice()
-        ),
-        (
-            vec![in alloc; text(alloc, b"\0\0")?]?,
-            b"\x02\0\xff\0\xff\0\0".as_slice()
-        ),
-        (
-            vec![in alloc; text(alloc, "\u{1f600}".as_bytes())?]?,
-            b"\x02\xf0\x9f\x98\x80\0\0".as_slice()
-        ),
-    ]?;
-    for (values, code) in table.iter() {
-        let made = encode_key(alloc, values.as_slice())?;
-        assert_eq!(rt; made.as_bytes(), *code);
-        assert_eq!(rt; key_size(values.as_slice()), code.len() as u64);
-        let read = decode_key(alloc, code)?.ok_or("no code")?;
-        assert!(rt; are_same(read.as_slice(), values.as_slice()));
+    for (number, code) in &NUMBERS {
+        let values = vec![in alloc; Value::Int(*number)]?;
+        assert!(rt; is_code(alloc, values.as_slice(), *code)?);
     }
+    for (letters, code) in &TEXTS {
+        let values = vec![in alloc; text(alloc, letters.as_bytes())?]?;
+        assert!(rt; is_code(alloc, values.as_slice(), *code)?);
+    }
+    let values = vec![in alloc; Value::Null, Value::Int(1)]?;
+    assert!(rt; is_code(alloc, values.as_slice(), b"\0\x01\x80\0\0\0\0\0\0\x01")?);
+    let values = vec![in alloc; text(alloc, b"")?, blob(alloc, b"")?]?;
+    assert!(rt; is_code(alloc, values.as_slice(), b"\x02\0\0\x03\0\0")?);
     Ok(())
 }
 
@@ -168,6 +162,33 @@ fn end_of(bytes: &[u8], from: usize) -> Option<usize> {
     None
 }
 
+/// The number of eight bytes, of which the first is the highest and has its top bit turned.
+fn number_of(digits: &[u8]) -> i64 {
+    let number = digits
+        .iter()
+        .fold(0u64, |n, d| n.wrapping_mul(256).wrapping_add(*d as u64));
+    (number as i128 - (1i128 << 63)) as i64
+}
+
+/// The bytes from a place to an end, without those that only mark a zero or the end.
+fn plain_bytes(
+    alloc: Global,
+    bytes: &[u8],
+    from: usize,
+    end: usize,
+) -> Result<Vec<u8>, AllocError> {
+    let mut plain = Vec::new(alloc);
+    let mut last = 1;
+    for byte in bytes.iter().take(end).skip(from) {
+        if !(last == 0 && *byte == 255) {
+            plain.push(*byte)?;
+        }
+        last = *byte;
+    }
+    plain.pop();
+    Ok(plain)
+}
+
 /// A slower decoder of keys, which finds the end of a value first.
 fn decode_slowly(alloc: Global, bytes: &[u8]) -> Result<Option<Vec<Value>>, AllocError> {
     let mut values = Vec::new(alloc);
@@ -184,25 +205,14 @@ fn decode_slowly(alloc: Global, bytes: &[u8]) -> Result<Option<Vec<Value>>, Allo
                 let Some(digits) = bytes.get(at + 1..at + 9) else {
                     return Ok(None);
                 };
-                let number = digits
-                    .iter()
-                    .fold(0u64, |n, d| n.wrapping_mul(256).wrapping_add(*d as u64));
-                values.push(Value::Int((number as i128 - (1i128 << 63)) as i64))?;
+                values.push(Value::Int(number_of(digits)))?;
                 skip = at + 9;
             }
             tag => {
                 let Some(end) = end_of(bytes, at + 1) else {
                     return Ok(None);
                 };
-                let mut plain = Vec::new(alloc);
-                let mut last = 1;
-                for byte in bytes.iter().take(end).skip(at + 1) {
-                    if !(last == 0 && *byte == 255) {
-                        plain.push(*byte)?;
-                    }
-                    last = *byte;
-                }
-                plain.pop();
+                let plain = plain_bytes(alloc, bytes, at + 1, end)?;
                 skip = end.saturating_add(1);
                 match tag {
                     2 if str::from_utf8(plain.as_slice()).is_ok() => values.push(text(

@@ -86,64 +86,66 @@ fn one_script_in_three_spellings(rt: HostRuntime) -> Result<(), Fail> {
     Ok(())
 }
 
+/// What is said behind the head, and what is reported.
+static ROWS: [(&str, &str); 10] = [
+    // An insert and a select, each a transaction of its own.
+    (
+        "a: insert into t values(1, 10) ; a: select * from t",
+        "a 1 begin 1 ; a 1 changed 1 ; a 1 committed 2 ; a 2 begin 2 ; a 2 row 1|10 ; a 2 done 1 ; a 2 committed 2 ; entry 1 schema ; entry 2 a 1 1 snapshot ; end 2",
+    ),
+    // Two updates of one row: the second commit would lose the first.
+    (
+        "a: insert into t values(1, 10) ; a: begin ; b: begin ; a: update t set v = 11 where id = 1 ; b: update t set v = 12 where id = 1 ; a: commit ; b: commit",
+        "a 1 begin 1 ; a 1 changed 1 ; a 1 committed 2 ; a 2 begin 2 ; b 1 begin 2 ; a 2 changed 1 ; b 1 changed 1 ; a 2 committed 3 ; b 1 conflict 3 genid t 1 ; entry 1 schema ; entry 2 a 1 1 snapshot ; entry 3 a 2 2 snapshot ; end 3",
+    ),
+    // A duplicate key; then the key freed and taken again within one transaction.
+    (
+        "a: begin ; a: insert into t values(1, 1) ; b: insert into t values(1, 2) ; a: commit ; a: begin ; a: delete from t where id = 1 ; a: insert into t values(1, 3) ; a: commit",
+        "a 1 begin 1 ; a 1 changed 1 ; b 1 begin 1 ; b 1 changed 1 ; b 1 committed 2 ; a 1 duplicate 2 t pk ; a 2 begin 2 ; a 2 changed 1 ; a 2 changed 1 ; a 2 committed 3 ; entry 1 schema ; entry 2 b 1 1 snapshot ; entry 3 a 2 2 snapshot ; end 3",
+    ),
+    // A transaction reads its own writes, and commits where it began since it undid them.
+    (
+        "a: insert into t values(1, 10) ; a: begin ; a: insert into t values(2, 20) ; a: update t set v = 21 where id = 2 ; a: select * from t ; a: delete from t where id = 2 ; a: select * from t ; a: commit",
+        "a 1 begin 1 ; a 1 changed 1 ; a 1 committed 2 ; a 2 begin 2 ; a 2 changed 1 ; a 2 changed 1 ; a 2 row 1|10 ; a 2 row 2|21 ; a 2 done 2 ; a 2 changed 1 ; a 2 row 1|10 ; a 2 done 1 ; a 2 committed 2 ; entry 1 schema ; entry 2 a 1 1 snapshot ; end 2",
+    ),
+    // A second row of a key; the run goes on, and the next transaction begins there.
+    (
+        "a: insert into t values(1, 10) ; a: insert into t values(1, 20) ; b: select * from t where id = 1",
+        "a 1 begin 1 ; a 1 changed 1 ; a 1 committed 2 ; a 2 begin 2 ; a 2 changed 1 ; a 2 duplicate 2 t pk ; b 1 begin 2 ; b 1 row 1|10 ; b 1 done 1 ; b 1 committed 2 ; entry 1 schema ; entry 2 a 1 1 snapshot ; end 2",
+    ),
+    // A snapshot does not move, and one that only read commits where it began.
+    (
+        "a: insert into t values(1, 10) ; a: begin ; b: update t set v = 11 ; a: select * from t ; a: commit ; a: select * from t",
+        "a 1 begin 1 ; a 1 changed 1 ; a 1 committed 2 ; a 2 begin 2 ; b 1 begin 2 ; b 1 changed 1 ; b 1 committed 3 ; a 2 row 1|10 ; a 2 done 1 ; a 2 committed 2 ; a 3 begin 3 ; a 3 row 1|11 ; a 3 done 1 ; a 3 committed 3 ; entry 1 schema ; entry 2 a 1 1 snapshot ; entry 3 b 1 2 snapshot ; end 3",
+    ),
+    // What is rolled back was never there; a transaction that is open at the end is dropped.
+    (
+        "a: begin ; a: insert into t values(1, 10) ; a: rollback ; a: select * from t ; b: begin ; b: insert into t values(1, 20)",
+        "a 1 begin 1 ; a 1 changed 1 ; a 1 rolledback ; a 2 begin 1 ; a 2 done 0 ; a 2 committed 1 ; b 1 begin 1 ; b 1 changed 1 ; entry 1 schema ; end 1",
+    ),
+    // Lines that do not fit change nothing, and the numbers go on from there.
+    (
+        "a: commit ; a: rollback ; a: set transaction snapshot ; a: begin ; a: begin ; a: set transaction snapshot ; a: insert into t values(1, 10) ; a: commit",
+        "a 0 error state ; a 0 error state ; a 0 level snapshot ; a 1 begin 1 ; a 1 error state ; a 1 error state ; a 1 changed 1 ; a 1 committed 2 ; entry 1 schema ; entry 2 a 1 1 snapshot ; end 2",
+    ),
+    // Two updates exchange two keys: keys are tested on the rows after the last operation.
+    (
+        "a: begin ; a: insert into t values(1, 10) ; a: insert into t values(2, 20) ; a: commit ; a: begin ; a: update t set id = 2 where v = 10 ; a: update t set id = 1 where v = 20 ; a: commit ; a: select * from t",
+        "a 1 begin 1 ; a 1 changed 1 ; a 1 changed 1 ; a 1 committed 2 ; a 2 begin 2 ; a 2 changed 1 ; a 2 changed 1 ; a 2 committed 3 ; a 3 begin 3 ; a 3 row 2|10 ; a 3 row 1|20 ; a 3 done 2 ; a 3 committed 3 ; entry 1 schema ; entry 2 a 1 1 snapshot ; entry 3 a 2 2 snapshot ; end 3",
+    ),
+    // A transaction with a conflict and a broken key is told the conflict: the first entry
+    // that took one of its versions, and of these the first that it used itself.
+    (
+        "a: insert into t values(1, 10) ; a: insert into t values(2, 20) ; b: begin ; b: delete from t where id = 2 ; b: delete from t where id = 1 ; b: insert into t values(3, 0) ; a: update t set v = 11 where id = 1 ; a: update t set v = 21 where id = 2 ; a: insert into t values(3, 30) ; b: commit",
+        "a 1 begin 1 ; a 1 changed 1 ; a 1 committed 2 ; a 2 begin 2 ; a 2 changed 1 ; a 2 committed 3 ; b 1 begin 3 ; b 1 changed 1 ; b 1 changed 1 ; b 1 changed 1 ; a 3 begin 3 ; a 3 changed 1 ; a 3 committed 4 ; a 4 begin 4 ; a 4 changed 1 ; a 4 committed 5 ; a 5 begin 5 ; a 5 changed 1 ; a 5 committed 6 ; b 1 conflict 4 genid t 1 ; entry 1 schema ; entry 2 a 1 1 snapshot ; entry 3 a 2 2 snapshot ; entry 4 a 3 3 snapshot ; entry 5 a 4 4 snapshot ; entry 6 a 5 5 snapshot ; end 6",
+    ),
+];
+
 #[test]
 fn worked_scripts_have_their_reports(rt: HostRuntime) -> Result<(), Fail> {
-    let rows = [
-        // An insert and a select, each a transaction of its own.
-        (
-            "a: insert into t values(1, 10) ; a: select * from t",
-            "a 1 begin 1 ; a 1 changed 1 ; a 1 committed 2 ; a 2 begin 2 ; a 2 row 1|10 ; a 2 done 1 ; a 2 committed 2 ; entry 1 schema ; entry 2 a 1 1 snapshot ; end 2",
-        ),
-        // Two updates of one row: the second commit would lose the first.
-        (
-            "a: insert into t values(1, 10) ; a: begin ; b: begin ; a: update t set v = 11 where id = 1 ; b: update t set v = 12 where id = 1 ; a: commit ; b: commit",
-            "a 1 begin 1 ; a 1 changed 1 ; a 1 committed 2 ; a 2 begin 2 ; b 1 begin 2 ; a 2 changed 1 ; b 1 changed 1 ; a 2 committed 3 ; b 1 conflict 3 genid t 1 ; entry 1 schema ; entry 2 a 1 1 snapshot ; entry 3 a 2 2 snapshot ; end 3",
-        ),
-        // A duplicate key; then the key freed and taken again within one transaction.
-        (
-            "a: begin ; a: insert into t values(1, 1) ; b: insert into t values(1, 2) ; a: commit ; a: begin ; a: delete from t where id = 1 ; a: insert into t values(1, 3) ; a: commit",
-            "a 1 begin 1 ; a 1 changed 1 ; b 1 begin 1 ; b 1 changed 1 ; b 1 committed 2 ; a 1 duplicate 2 t pk ; a 2 begin 2 ; a 2 changed 1 ; a 2 changed 1 ; a 2 committed 3 ; entry 1 schema ; entry 2 b 1 1 snapshot ; entry 3 a 2 2 snapshot ; end 3",
-        ),
-        // A transaction reads its own writes, and commits where it began since it undid them.
-        (
-            "a: insert into t values(1, 10) ; a: begin ; a: insert into t values(2, 20) ; a: update t set v = 21 where id = 2 ; a: select * from t ; a: delete from t where id = 2 ; a: select * from t ; a: commit",
-            "a 1 begin 1 ; a 1 changed 1 ; a 1 committed 2 ; a 2 begin 2 ; a 2 changed 1 ; a 2 changed 1 ; a 2 row 1|10 ; a 2 row 2|21 ; a 2 done 2 ; a 2 changed 1 ; a 2 row 1|10 ; a 2 done 1 ; a 2 committed 2 ; entry 1 schema ; entry 2 a 1 1 snapshot ; end 2",
-        ),
-        // A second row of a key; the run goes on, and the next transaction begins there.
-        (
-            "a: insert into t values(1, 10) ; a: insert into t values(1, 20) ; b: select * from t where id = 1",
-            "a 1 begin 1 ; a 1 changed 1 ; a 1 committed 2 ; a 2 begin 2 ; a 2 changed 1 ; a 2 duplicate 2 t pk ; b 1 begin 2 ; b 1 row 1|10 ; b 1 done 1 ; b 1 committed 2 ; entry 1 schema ; entry 2 a 1 1 snapshot ; end 2",
-        ),
-        // A snapshot does not move, and one that only read commits where it began.
-        (
-            "a: insert into t values(1, 10) ; a: begin ; b: update t set v = 11 ; a: select * from t ; a: commit ; a: select * from t",
-            "a 1 begin 1 ; a 1 changed 1 ; a 1 committed 2 ; a 2 begin 2 ; b 1 begin 2 ; b 1 changed 1 ; b 1 committed 3 ; a 2 row 1|10 ; a 2 done 1 ; a 2 committed 2 ; a 3 begin 3 ; a 3 row 1|11 ; a 3 done 1 ; a 3 committed 3 ; entry 1 schema ; entry 2 a 1 1 snapshot ; entry 3 b 1 2 snapshot ; end 3",
-        ),
-        // What is rolled back was never there; a transaction that is open at the end is dropped.
-        (
-            "a: begin ; a: insert into t values(1, 10) ; a: rollback ; a: select * from t ; b: begin ; b: insert into t values(1, 20)",
-            "a 1 begin 1 ; a 1 changed 1 ; a 1 rolledback ; a 2 begin 1 ; a 2 done 0 ; a 2 committed 1 ; b 1 begin 1 ; b 1 changed 1 ; entry 1 schema ; end 1",
-        ),
-        // Lines that do not fit change nothing, and the numbers go on from there.
-        (
-            "a: commit ; a: rollback ; a: set transaction snapshot ; a: begin ; a: begin ; a: set transaction snapshot ; a: insert into t values(1, 10) ; a: commit",
-            "a 0 error state ; a 0 error state ; a 0 level snapshot ; a 1 begin 1 ; a 1 error state ; a 1 error state ; a 1 changed 1 ; a 1 committed 2 ; entry 1 schema ; entry 2 a 1 1 snapshot ; end 2",
-        ),
-        // Two updates exchange two keys: keys are tested on the rows after the last operation.
-        (
-            "a: begin ; a: insert into t values(1, 10) ; a: insert into t values(2, 20) ; a: commit ; a: begin ; a: update t set id = 2 where v = 10 ; a: update t set id = 1 where v = 20 ; a: commit ; a: select * from t",
-            "a 1 begin 1 ; a 1 changed 1 ; a 1 changed 1 ; a 1 committed 2 ; a 2 begin 2 ; a 2 changed 1 ; a 2 changed 1 ; a 2 committed 3 ; a 3 begin 3 ; a 3 row 2|10 ; a 3 row 1|20 ; a 3 done 2 ; a 3 committed 3 ; entry 1 schema ; entry 2 a 1 1 snapshot ; entry 3 a 2 2 snapshot ; end 3",
-        ),
-        // A transaction with a conflict and a broken key is told the conflict: the first entry
-        // that took one of its versions, and of these the first that it used itself.
-        (
-            "a: insert into t values(1, 10) ; a: insert into t values(2, 20) ; b: begin ; b: delete from t where id = 2 ; b: delete from t where id = 1 ; b: insert into t values(3, 0) ; a: update t set v = 11 where id = 1 ; a: update t set v = 21 where id = 2 ; a: insert into t values(3, 30) ; b: commit",
-            "a 1 begin 1 ; a 1 changed 1 ; a 1 committed 2 ; a 2 begin 2 ; a 2 changed 1 ; a 2 committed 3 ; b 1 begin 3 ; b 1 changed 1 ; b 1 changed 1 ; b 1 changed 1 ; a 3 begin 3 ; a 3 changed 1 ; a 3 committed 4 ; a 4 begin 4 ; a 4 changed 1 ; a 4 committed 5 ; a 5 begin 5 ; a 5 changed 1 ; a 5 committed 6 ; b 1 conflict 4 genid t 1 ; entry 1 schema ; entry 2 a 1 1 snapshot ; entry 3 a 2 2 snapshot ; entry 4 a 3 3 snapshot ; entry 5 a 4 4 snapshot ; entry 6 a 5 5 snapshot ; end 6",
-        ),
-    ];
-    for (body, report) in rows {
-        let text = reported(rt.alloc(), body)?;
-        let want = lines(rt.alloc(), report)?;
+    for (body, report) in &ROWS {
+        let text = reported(rt.alloc(), *body)?;
+        let want = lines(rt.alloc(), *report)?;
         assert_eq!(rt; text.as_str(), want.as_str(), "for {body}");
     }
     Ok(())
