@@ -24,52 +24,30 @@ fn page_of(rt: &HostRuntime, head: Head, cells: &[&[u8]]) -> Result<Page, Fail> 
     Ok(page)
 }
 
+/// A head of this kind, level and right link.
+fn head_of(kind: PageKind, level: u8, right: u64) -> Head {
+    Head { kind, level, right }
+}
+
 /// The tree of two levels that the crate's first page shows.
 fn two_levels(rt: &HostRuntime) -> Result<MemPages, Fail> {
-    let inner = Head {
-        kind: PageKind::Inner,
-        level: 1,
-        right: 0,
-    };
-    let left = Head {
-        kind: PageKind::Leaf,
-        level: 0,
-        right: 3,
-    };
-    let right = Head {
-        kind: PageKind::Leaf,
-        level: 0,
-        right: 0,
-    };
-    let pages = MemPages::new(
-        rt.alloc(),
-        vec![in rt.alloc();
-            Page::blank(rt.alloc())?,
-            page_of(
-                rt,
-                inner,
-                &[
-                    b"\0\0\0\0\0\0\0\0\0\x02".as_slice(),
-                    b"\0\x01m\0\0\0\0\0\0\0\x03".as_slice()
-                ]
-            )?,
-            page_of(
-                rt,
-                left,
-                &[
-                    b"\0\x01a1".as_slice(),
-                    b"\0\x01c2".as_slice(),
-                    b"\0\x01k".as_slice()
-                ]
-            )?,
-            page_of(
-                rt,
-                right,
-                &[b"\0\x01m34".as_slice(), b"\0\x01z5".as_slice()]
-            )?,
-        ]?,
-    )?;
-    Ok(pages)
+    let inner = [
+        b"\0\0\0\0\0\0\0\0\0\x02".as_slice(),
+        b"\0\x01m\0\0\0\0\0\0\0\x03".as_slice(),
+    ];
+    let left = [
+        b"\0\x01a1".as_slice(),
+        b"\0\x01c2".as_slice(),
+        b"\0\x01k".as_slice(),
+    ];
+    let right = [b"\0\x01m34".as_slice(), b"\0\x01z5".as_slice()];
+    let pages = vec![in rt.alloc();
+        Page::blank(rt.alloc())?,
+        page_of(rt, head_of(PageKind::Inner, 1, 0), &inner)?,
+        page_of(rt, head_of(PageKind::Leaf, 0, 3), &left)?,
+        page_of(rt, head_of(PageKind::Leaf, 0, 0), &right)?,
+    ]?;
+    Ok(MemPages::new(rt.alloc(), pages)?)
 }
 
 /// Each key is found with its value, and no other.
@@ -118,18 +96,11 @@ fn scans_two_levels(rt: HostRuntime) -> Result<(), Fail> {
 
 /// A workspace over an empty tree: page 0 is the meta page of two pages, page 1 the root, a leaf without cells.
 fn empty_tree(rt: &HostRuntime) -> Result<Workspace<MemPages>, Fail> {
-    let meta = Head {
-        kind: PageKind::Meta,
-        level: 0,
-        right: 0,
-    };
-    let leaf = Head {
-        kind: PageKind::Leaf,
-        level: 0,
-        right: 0,
-    };
     let counters = b"\0\0\0\0\0\0\0\x07\0\0\0\0\0\0\0\x02\0\0\0\0\0\0\0\0".as_slice();
-    let pages = vec![in rt.alloc(); page_of(rt, meta, &[counters])?, page_of(rt, leaf, &[])?]?;
+    let pages = vec![in rt.alloc();
+        page_of(rt, head_of(PageKind::Meta, 0, 0), &[counters])?,
+        page_of(rt, head_of(PageKind::Leaf, 0, 0), &[])?,
+    ]?;
     Ok(Workspace::new(rt.alloc(), MemPages::new(rt.alloc(), pages)?))
 }
 
