@@ -42,17 +42,18 @@ pub record Becomes (old new : ℕ → Image) (root : ℕ) (own free : List ℕ) 
   pub stands : Stands new root more spare list
   pub changes : Changes old new own more free spare
 
--- an answer of an insert: the pair stands in the list where its key was not there before, and `Duplicate` comes where it was
+-- an answer of an insert: the pair stands in the list where its key was not there before; `Duplicate` comes where it was, and
+-- leaves the list
 abbrev pub IsInserted : (ℕ → Image) → (ℕ → Image) → ℕ → List ℕ → List ℕ → Key → List ℕ → List (Key × List ℕ) → Result (Unit {0}) InsertFault → Type 0
 IsInserted old new root own free key value list (Ok x) = (value_at key list ≡ None) × Becomes old new root own free (with_pair key value list)
-IsInserted old new root own free key value list (Err Duplicate) = is_some (value_at key list) ≡ true
+IsInserted old new root own free key value list (Err Duplicate) = (is_some (value_at key list) ≡ true) × Becomes old new root own free list
 IsInserted old new root own free key value list (Err Gone) = Unit {0}
 IsInserted old new root own free key value list (Err NoMemory) = Unit {0}
 
 -- one pass of an insert: it put the pair, found its key, or made room and left the list
 abbrev pub IsPassed : (ℕ → Image) → (ℕ → Image) → ℕ → List ℕ → List ℕ → Key → List ℕ → List (Key × List ℕ) → Pass → Type 0
 IsPassed old new root own free key value list Done = (value_at key list ≡ None) × Becomes old new root own free (with_pair key value list)
-IsPassed old new root own free key value list Found = is_some (value_at key list) ≡ true
+IsPassed old new root own free key value list Found = (is_some (value_at key list) ≡ true) × Becomes old new root own free list
 IsPassed old new root own free key value list Again = Becomes old new root own free list
 
 -- a pass fails for want of pages or memory alone

@@ -46,8 +46,9 @@ pub(crate) enum Pass {
 /// The bytes that the cell of a pair takes beside the key and the value: its slot, and the length of the key.
 const PAIR_SIZE: usize = 6;
 
-/// Puts a pair into the tree below a root. `Duplicate` comes exactly where the key is there, `Gone` only where the source
-/// lost its pages; the other error is want of memory. After `Gone` or want of memory the workspace may only be dropped.
+/// Puts a pair into the tree below a root. `Duplicate` comes exactly where the key is there, and leaves the tree's list;
+/// `Gone` comes only where the source lost its pages; the other error is want of memory. After `Gone` or want of memory the
+/// workspace may only be dropped.
 pub fn insert<P: PageSource>(
     alloc: Global,
     space: &mut Workspace<P>,

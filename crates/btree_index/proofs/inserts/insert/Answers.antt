@@ -38,8 +38,9 @@ returns-in-Found-clause-inserted g c = λ own free list stands.
     let now = meant g.P.PageSource.pages c.passes.space in
     let next = meant g.P.PageSource.pages c.try_pass.new.space in
     let before : Becomes old now c.args.root own free list = c.passes.invariant.becomes own free list stands in
-    subst (λ (p : Pass). IsPassed now next c.args.root before.more before.spare c.args.key.now c.args.value.now list p) c.in-Found.is
-    (c.in_ok-came_to.ensures.passed before.more before.spare list before.stands)
+    let found = subst (λ (p : Pass). IsPassed now next c.args.root before.more before.spare c.args.key.now c.args.value.now list p) c.in-Found.is
+    (c.in_ok-came_to.ensures.passed before.more before.spare list before.stands) in
+    (found.0, becomes_after old now next c.args.root own free list list before found.1)
 
 pub passes-preserved : goal.passes-preserved
 passes-preserved g c =

@@ -8,7 +8,7 @@ use Rattle.btree_index.specs.Cells.{leaf_cell}
 use Rattle.btree_index.specs.Pairs.{cell_value, place_in, HasKeyAt}
 use Rattle.btree_index.specs.Changes.{Stands, Becomes, LeadsOver}
 use Rattle.btree_index.specs.Steps.{Alters}
-use Rattle.btree_index.proofs.StandLemmas.{found_there, puts}
+use Rattle.btree_index.proofs.StandLemmas.{becomes_none, found_there, puts}
 use Rattle.btree_index.proofs.inserts.pass_once.Goals as goal
 
 pub returns-in-Some-clause-passed : goal.returns-in-Some-clause-passed
@@ -19,8 +19,10 @@ returns-in-Some-clause-passed g c = λ own free list stands.
     let image = c.page.result.now in
     let is : image ≡ old way.leaf = same_Some image (old way.leaf) (sym c.page.ensures ∙ said.loaded) in
     let has : HasKeyAt c.args.key.now (old way.leaf).cells c.in-Some.field-0 =
-    subst (λ (i : Image). HasKeyAt c.args.key.now i.cells c.in-Some.field-0) is c.in-Some.ensures in
-    found_there old c.args.root c.args.key.now way.leaf c.in-Some.field-0 said.way.leaf said.way.kind has own free list stands
+    subst (λ (i : Image). HasKeyAt c.args.key.now i.cells c.in-Some.field-0) is c.in-Some.ensures in (
+      found_there old c.args.root c.args.key.now way.leaf c.in-Some.field-0 said.way.leaf said.way.kind has own free list stands,
+      subst (λ (f : ℕ → Image). Becomes old f c.args.root own free list) (sym said.pages) (becomes_none old c.args.root own free list stands),
+    )
 
 pub returns-then-has_room-clause-passed : goal.returns-then-has_room-clause-passed
 returns-then-has_room-clause-passed g c = λ own free list stands.
