@@ -3,7 +3,7 @@
 -- A table is a list of row versions by rising genid. An insert adds a version with the next genid
 -- at the end, a delete takes its target away, and an update does both. Genids are drawn from 1
 -- upwards over all tables, and none is given twice. There are no pages, trees or keys here.
-use Rattle.std.specs.Prelude.{ℕ, ◌+◌, ◌==◌, ◌++◌, ◌∷◌, [], List, Bool, false, ◌&&◌, not, if◌then◌else◌, unwrap_or, slice_get, slice_set, map, filter}
+use Rattle.std.specs.Prelude.{ℕ, ◌+◌, ◌==◌, ◌++◌, ◌∷◌, [], List, Bool, false, ◌&&◌, not, if◌then◌else◌, unwrap_or, slice_get, slice_set, map, filter, Option, Some, None}
 use Rattle.std.specs.List.{list_any}
 use Rattle.cdb_values.specs.declared.rows.RowOp.{RowOp}
 use Rattle.cdb_values.specs.declared.rows.RowOp.TheVariants.{Insert, Update, Delete}
@@ -77,3 +77,9 @@ written table (Delete place target old ∷ ops) = written table ops
 -- take away, by rising genid, and then its own in the order in which they were written
 abbrev pub view : Rows → List RowOp → ℕ → List (List Value)
 view rows ops table = map (λ v. v.row) (filter (λ v. not (list_any (takes table v.genid) ops)) (versions_of rows table)) ++ written table ops
+
+-- the row that an operation writes to a table, if it writes one there
+abbrev pub row_written : ℕ → RowOp → Option (List Value)
+row_written table (Insert place row) = if place == table then Some row else None
+row_written table (Update place target old row) = if place == table then Some row else None
+row_written table (Delete place target old) = None

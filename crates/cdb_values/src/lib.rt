@@ -9,9 +9,17 @@
 //! | the order of values: NULL, integers, texts, blobs | `order` | `specs/Order.antt` |
 //! | the rows of all tables, and what an operation makes of them | | `specs/Rows.antt` |
 //! | a good state: types, NULLs, sizes and keys | | `specs/Good.antt` |
-//! | a lawful table, and the limits of a schema | `Schema::add` | `specs/Tables.antt` |
+//! | which version an operation takes away, and the row that it writes | `RowOp::takes`, `RowOp::row_written` | `specs/Rows.antt` |
+//! | what a transaction sees is what its operations make of the rows | `views_are_applied` | `specs/Views.antt` |
+//! | the changes of operations, and the genids that they take and give | `genids_rise` | `specs/Changes.antt` |
+//! | two rows with the same values at a key | `KeyDef::has_same_values` | `specs/Good.antt` |
+//! | a lawful table, and the limits of a schema | `Schema::add`, `limits` | `specs/Tables.antt` |
+//! | a table by its name, and a column by its name | `Schema::named`, `TableDef::column` | `specs/Named.antt`, `specs/Columns.antt` |
 #![tactic(auto)]
 
+mod items;
+mod laws;
+pub mod limits;
 mod lists;
 mod rows;
 mod schemas;
@@ -20,8 +28,10 @@ mod tables;
 mod tests;
 mod values;
 
+pub use items::GenidItem;
+pub use laws::{genids_rise, the_changes_take_what_the_operations_take, views_are_applied};
 pub use lists::{Bytes, List, Name, Text};
 pub use rows::{Change, Level, Row, RowOp, RowRef, StatementError, Version};
-pub use schemas::{AddFault, Schema};
+pub use schemas::{AddFault, Found, Schema};
 pub use tables::{ColumnDef, ColumnType, KeyDef, TableDef};
 pub use values::{Value, order};

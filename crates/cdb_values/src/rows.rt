@@ -1,3 +1,7 @@
+ghost use Rattle.std.specs.Prelude.{◌≡◌, []};
+ghost use Rattle.std.specs.Option.{option_copied};
+ghost use Rattle.cdb_values.specs.Rows.{takes as takes_of, row_written as row_written_of};
+
 use super::lists::List;
 use super::values::Value;
 
@@ -41,6 +45,63 @@ pub enum RowOp {
         target: RowRef,
         old: Row,
     },
+}
+
+impl RowOp {
+    /// Whether the operation takes the version of a genid away from the table at a place.
+    pub fn takes(&self, table: usize, genid: u64) -> bool
+        ensures { result ≡ takes_of table genid self.now }
+    {
+        match self {
+            RowOp::Insert { .. } => false,
+            RowOp::Update {
+                table: place,
+                target,
+                ..
+            } => is_target(*place, target, table, genid),
+            RowOp::Delete {
+                table: place,
+                target,
+                ..
+            } => is_target(*place, target, table, genid),
+        }
+    }
+
+    /// The row that the operation writes to the table at a place; `None` exactly where it writes none there.
+    pub fn row_written(&self, table: usize) -> Option<&Row>
+        ensures { option_copied result ≡ row_written_of table self.now }
+    {
+        match self {
+            RowOp::Insert { table: place, row } => row_at(*place, row, table),
+            RowOp::Update {
+                table: place,
+                row,
+                ..
+            } => row_at(*place, row, table),
+            RowOp::Delete { .. } => None,
+        }
+    }
+}
+
+/// Whether a target in the table at a place is the version of a genid in that table.
+fn is_target(place: u16, target: &RowRef, table: usize, genid: u64) -> bool
+    ensures { result ≡ takes_of table genid (RowOp.Delete place target.now []) }
+{
+    match *target {
+        RowRef::Base(found) => place as usize == table && found == genid,
+        RowRef::Own(_) => false,
+    }
+}
+
+/// A row of the table at a place, where it is that table.
+fn row_at(place: u16, row: &Row, table: usize) -> Option<&Row>
+    ensures { option_copied result ≡ row_written_of table (RowOp.Insert place row.now) }
+{
+    if place as usize == table {
+        Some(row)
+    } else {
+        None
+    }
 }
 
 /// One change of a committed transaction: an operation with the genids that it took away and gave.

@@ -1,24 +1,15 @@
-ghost use Rattle.std.specs.Prelude.{◌≡◌, ◌≤◌, ◌||◌, ◌++◌, ◌∷◌, [], ◌==◌, ◌<◌, map, length, Some, None, nat_lt, IfOk, OnOk, OnErr, option_map, IsErrOf, ◌↔◌, slice_get};
+ghost use Rattle.std.specs.Prelude.{◌≡◌, ◌≤◌, ◌||◌, ◌++◌, ◌∷◌, [], ◌==◌, ◌<◌, map, length, Some, None, nat_lt, IfOk, OnOk, OnErr, option_map, IsErrOf, ◌↔◌, slice_get, IfSome};
 ghost use Rattle.std.specs.Option.{option_copied};
 ghost use Rattle.std.specs.Str.{bytes_eq};
+ghost use Rattle.cdb_values.specs.Named.{table_named, place_in};
 ghost use Rattle.cdb_values.specs.Tables.{add_fault, place_of, is_named, has_twice, is_bad_column, are_bad_columns, are_bad_keys, is_unlawful, is_long_name, are_long_names, are_long_keys, is_past_limits};
 
+use super::limits::{MOST_COLUMNS, MOST_KEY_COLUMNS, MOST_KEYS, MOST_NAME_BYTES, MOST_TABLES};
 use super::lists::{List, Name};
 use super::tables::{ColumnDef, KeyDef, TableDef};
 use std::alloc::{AllocError, Global};
 use std::marker::Model;
 use thiserror::Error;
-
-/// The most tables of a schema.
-pub const MOST_TABLES: usize = 64;
-/// The most columns of a table.
-pub const MOST_COLUMNS: usize = 64;
-/// The most keys of a table.
-pub const MOST_KEYS: usize = 8;
-/// The most columns of a key.
-pub const MOST_KEY_COLUMNS: usize = 8;
-/// The most bytes of a name.
-pub const MOST_NAME_BYTES: usize = 32;
 
 /// Why a table was not added, in the order in which the causes are told.
 #[derive(Clone, Copy, Debug, PartialEq, Eq, Error)]
@@ -36,6 +27,13 @@ pub enum AddFault {
     /// Want of memory.
     #[error("out of memory")]
     NoMemory,
+}
+
+/// A table of a schema, and its place there.
+#[derive(Clone, Copy)]
+pub struct Found<'a> {
+    pub place: u16,
+    pub table: &'a TableDef,
 }
 
 /// The tables of a database, in the order of their declaration. Contracts see the list of tables.
@@ -101,6 +99,16 @@ impl Schema {
             at += 1;
         }
         None
+    }
+
+    /// The table with that name and its place; `None` exactly where there is none.
+    pub fn named(&self, name: &Name) -> Option<Found<'_>>
+        ensures found { place_in result ≡ table_named self.now name.now }
+        ensures within { IfSome result (λ f. f.place < length self.now) }
+    {
+        let place = self.table(name)?;
+        let table = self.at(place)?;
+        Some(Found { place, table })
     }
 
     /// Whether a table has that name.

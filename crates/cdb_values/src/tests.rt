@@ -1,8 +1,8 @@
 //! Each public call once with ample memory, and the faults of a table in their order.
 
 use super::{
-    AddFault, Bytes, ColumnDef, ColumnType, KeyDef, List, Name, Schema, TableDef, Text, Value,
-    order,
+    AddFault, Bytes, ColumnDef, ColumnType, KeyDef, List, Name, RowOp, RowRef, Schema, TableDef,
+    Text, Value, order,
 };
 use std::alloc::{AllocError, Global};
 use std::cmp::Ordering;
@@ -90,5 +90,46 @@ fn tables_are_added_or_refused(rt: HostRuntime) -> Result<(), Fail> {
     assert_eq!(rt; schema.table(&name(alloc, b"w")?), None);
     assert_eq!(rt; schema.tables().len(), 2);
     assert!(rt; schema.at(1).is_some() && schema.at(2).is_none());
+    Ok(())
+}
+
+fn row(alloc: Global, value: i64) -> Result<List<Value>, AllocError> {
+    Ok(List::from_vec(vec![in alloc; Value::Int(value)]?))
+}
+
+#[test]
+fn tables_and_columns_are_found_by_name(rt: HostRuntime) -> Result<(), Fail> {
+    let alloc = rt.alloc();
+    let mut schema = Schema::new(alloc);
+    assert_eq!(rt; schema.add(table(alloc, b"t", false, 0)?), Ok(()));
+    assert!(rt; schema.named(&name(alloc, b"u")?).is_none());
+    let Some(found) = schema.named(&name(alloc, b"t")?) else {
+        assert!(rt; false);
+        return Ok(());
+    };
+    assert!(rt; found.place == 0 && found.table.name.is(b"t".as_slice()));
+    assert_eq!(rt; found.table.column(b"id".as_slice()), Some(0));
+    assert_eq!(rt; found.table.column(b"v".as_slice()), None);
+    Ok(())
+}
+
+#[test]
+fn an_update_takes_and_writes(rt: HostRuntime) -> Result<(), Fail> {
+    let alloc = rt.alloc();
+    let update = RowOp::Update {
+        table: 1,
+        target: RowRef::Base(5),
+        old: row(alloc, 7)?,
+        row: row(alloc, 8)?,
+    };
+    assert!(rt; update.takes(1, 5) && !update.takes(0, 5) && !update.takes(1, 6));
+    assert!(rt; update.row_written(0).is_none());
+    let Some(written) = update.row_written(1) else {
+        assert!(rt; false);
+        return Ok(());
+    };
+    let key = key(alloc, 0)?;
+    assert!(rt; key.has_same_values(written.as_slice(), row(alloc, 8)?.as_slice()));
+    assert!(rt; !key.has_same_values(written.as_slice(), row(alloc, 7)?.as_slice()));
     Ok(())
 }

@@ -1,13 +1,12 @@
 -- A table's versions are taken out of the list of tables, changed and put back.
-use Rattle.std.proofs.Common.{◌≡◌, ℕ, ◌+◌, ◌-◌, ◌<◌, ◌++◌, ◌∷◌, [], List, length, refl, sym, ◌∙◌, ap, subst, arith, length-append}
+use Rattle.std.proofs.Common.{◌≡◌, ℕ, ◌+◌, ◌<◌, ◌++◌, ◌∷◌, [], List, length, refl, sym, ◌∙◌, ap, subst}
 use Rattle.std.specs.Prelude.{slice_set, slice_get, unwrap_or, Some}
 use Rattle.std.proofs.Math.ListN.{length-set}
-use Rattle.std.proofs.lemmas.List.{set-set, set-get_or, get_or-set_same, take_at}
-use Rattle.std.proofs.lemmas.Option.{get_or_from_slice_get, slice_get-get_or, unwrap_or-slice_get}
+use Rattle.std.proofs.lemmas.List.{set-set, set-get_or, get_or-set_same}
+use Rattle.std.proofs.lemmas.Option.{get_or_from_slice_get, slice_get-get_or}
 use Rattle.cdb_values.specs.Rows.{Rows, without, taken, added, version}
 use Rattle.cdb_values.specs.declared.rows.Version.{Version}
 use Rattle.cdb_values.specs.declared.values.Value.{Value}
-use Rattle.genid_rows.specs.Targets.{popped, without_last}
 
 -- what is put back twice is what was put last
 pub placed : (xs ys zs : List (List Version)) (i : ℕ) (a b : List Version) → ys ≡ slice_set xs i a → zs ≡ slice_set ys i b → zs ≡ slice_set xs i b
@@ -48,14 +47,6 @@ taken_is rows xs ys zs next genid i vs new stands was first second is =
     placed xs ys zs i [] new first second ∙ ap (λ v. slice_set xs i v) (is ∙ ap (λ v. without genid v) (sym (found xs i vs was))) in
     subst P stands (ap (λ l. rows_of l next) p)
 
-pub popped_is : (rows : Rows) (xs ys zs : List (List Version)) (next i : ℕ) (vs new : List Version) → rows_of xs next ≡ rows
-    → slice_get xs i ≡ Some vs → ys ≡ slice_set xs i [] → zs ≡ slice_set ys i new → new ≡ without_last vs → rows_of zs (next - 1) ≡ popped rows i
-popped_is rows xs ys zs next i vs new stands was first second is =
-    let P : Rows → Type 0 = λ r. rows_of zs (next - 1) ≡ popped r i in
-    let p : zs ≡ slice_set xs i (without_last (unwrap_or (slice_get xs i) [])) =
-    placed xs ys zs i [] new first second ∙ ap (λ v. slice_set xs i v) (is ∙ ap without_last (sym (found xs i vs was))) in
-    subst P stands (ap (λ l. rows_of l (next - 1)) p)
-
 -- an update: the version is taken away, and then the row is added
 pub replaced_is : (rows : Rows) (xs ys zs : List (List Version)) (next genid target i : ℕ) (vs new : List Version) (row : List Value) → rows_of xs next ≡ rows
     → i < length xs → genid ≡ rows.next → slice_get xs i ≡ Some vs → ys ≡ slice_set xs i [] → zs ≡ slice_set ys i new
@@ -69,20 +60,3 @@ replaced_is rows xs ys zs next genid target i vs new row stands within fresh was
     ap (λ l. slice_set l i new) first ∙ set-set xs i [] new
     ∙ sym (ap (λ l. slice_set l i new) (set-set xs i (without target (unwrap_or (slice_get xs i) [])) []) ∙ set-set xs i [] new) in
     added_is (taken rows i target) ts (slice_set ts i []) zs next genid i (without target vs) new row (subst P stands refl) fresh found_now refl (second ∙ over) is
-
--- the versions without the one that was added last
-without_added : (vs : List Version) (v : Version) → without_last (vs ++ v ∷ []) ≡ vs
-without_added vs v = take_at vs (v ∷ []) (length (vs ++ v ∷ []) - 1) (omega (arith, length-append vs (v ∷ [])))
-
--- what undoes an insert
-pub undone : (rows before : Rows) (i : ℕ) (row : List Value) → i < length rows.tables → rows ≡ added before i row → popped rows i ≡ before
-undone rows before i row within is =
-    let vs : List Version = unwrap_or (slice_get before.tables i) [] in
-    let all : List Version = vs ++ version before.next row ∷ [] in
-    let inside : i < length before.tables = subst (λ n. i < n) (ap (λ r. length r.tables) is ∙ length-set before.tables i all) within in
-    let last : without_last (unwrap_or (slice_get (slice_set before.tables i all) i) []) ≡ vs =
-    ap without_last (found (slice_set before.tables i all) i all (get_placed before.tables i all inside)) ∙ without_added vs (version before.next row) in
-    let same : slice_set (slice_set before.tables i all) i vs ≡ before.tables =
-    unplaced before.tables (slice_set before.tables i all) _ i all vs (slice_get-get_or before.tables i [] inside ∙ ap Some (sym (unwrap_or-slice_get before.tables i []))) refl refl in
-    let one : before.next + 1 - 1 ≡ before.next = omega arith in
-    ap (λ r. popped r i) is ∙ (λ j. rows_of ((ap (λ v. slice_set (slice_set before.tables i all) i v) last ∙ same) j) (one j))

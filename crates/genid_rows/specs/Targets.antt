@@ -1,15 +1,14 @@
--- The version that an operation takes away, and the rows before the last insert.
+-- The version that an operation takes away.
 --
 -- An operation names its target by a genid, or by the number of an own earlier write, from 1.
 -- `made` has the genid that each write of the transaction gave, in order, and 0 for a delete. An
 -- own write that is not there, or that gave no genid, names nothing.
-use Rattle.std.specs.Prelude.{ℕ, ◌-◌, ◌==◌, List, Bool, true, false, if◌then◌else◌, slice_get, slice_set, Option, Some, None, take, length}
-use Rattle.cdb_values.specs.Rows.{Rows, versions_of, is_live}
+use Rattle.std.specs.Prelude.{ℕ, ◌-◌, ◌==◌, List, Bool, true, false, if◌then◌else◌, slice_get, Option, Some, None}
+use Rattle.cdb_values.specs.Rows.{Rows, is_live}
 use Rattle.cdb_values.specs.declared.rows.RowOp.{RowOp}
 use Rattle.cdb_values.specs.declared.rows.RowOp.TheVariants.{Insert, Update, Delete}
 use Rattle.cdb_values.specs.declared.rows.RowRef.{RowRef}
 use Rattle.cdb_values.specs.declared.rows.RowRef.TheVariants.{Base, Own}
-use Rattle.cdb_values.specs.declared.rows.Version.{Version}
 
 -- a genid, where it is one: genids are drawn from 1 upwards
 abbrev pub genid_of : Option ℕ → Option ℕ
@@ -58,11 +57,3 @@ abbrev pub given : Rows → RowOp → Option ℕ
 given rows (Insert table row) = Some rows.next
 given rows (Update table target old row) = Some rows.next
 given rows (Delete table target old) = None
-
--- these versions without the last one
-abbrev pub without_last : List Version → List Version
-without_last versions = take (length versions - 1) versions
-
--- the rows without the last version of a table, and with the next genid one lower
-abbrev pub popped : Rows → ℕ → Rows
-popped rows table = record { tables = slice_set rows.tables table (without_last (versions_of rows table)); next = rows.next - 1 }

@@ -1,4 +1,4 @@
-//! The rows of all tables in memory, what an operation makes of them, and their keys.
+//! The rows of all tables in memory, and what an operation makes of them.
 //!
 //! A `State` holds for each table its row versions by rising genid, and the next genid, which no
 //! version has yet. An operation of a transaction names what it takes away by a genid, or by the
@@ -9,21 +9,16 @@
 //! |---|---|---|
 //! | the version that an operation takes away | `apply_op` | `specs/Targets.antt` |
 //! | what an operation makes of the rows | `apply_op` | `Rows` of `cdb_values` |
-//! | the rows before the last insert | `State::pop` | `specs/Targets.antt` |
-//! | the first broken key | `broken_key` | `Good` of `cdb_values` |
-//! | the key that a new row would break | `key_broken_by` | `specs/Taken.antt` |
 //!
 //! For example: with one table, and 1 as the next genid, `insert (7)` and `insert (8)` give the
 //! versions `1: (7)`, `2: (8)` and the next genid 3. An update of the first own write to `(9)`,
 //! with `made` as `1, 2`, takes version 1 away and adds `3: (9)` at the end: `2: (8)`, `3: (9)`.
 #![tactic(auto)]
 
-mod keys;
 mod operations;
 mod state;
 #[cfg(test)]
 mod tests;
 
-pub use keys::{BrokenKey, broken_key, first_taken, is_taken, key_broken_by};
 pub use operations::{OpFault, apply_op};
 pub use state::State;

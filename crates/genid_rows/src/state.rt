@@ -1,15 +1,10 @@
-ghost use Rattle.std.specs.Prelude.{◌≡◌, ℕ, List, ◌<◌, ◌+◌, ◌^◌, ◌++◌, ◌∷◌, [], true, false, length, IfOk, OnOk, OnErr};
-ghost use Rattle.std.specs.List.{list_any};
-ghost use Rattle.cdb_values.specs.Rows.{Rows, no_rows, versions_of, is_live, without, taken, added};
-ghost use Rattle.cdb_values.specs.declared.values.Value.{Value};
-ghost use Rattle.genid_rows.specs.Targets.{popped, without_last};
+ghost use Rattle.std.specs.Prelude.{◌≡◌, ◌<◌, ◌+◌, ◌^◌, ◌++◌, ◌∷◌, [], true, false, length, IfOk, OnOk, OnErr};
+ghost use Rattle.cdb_values.specs.Rows.{no_rows, versions_of, is_live, without, taken, added};
 
+use cdb_values::limits::GENID_LIMIT;
 use cdb_values::{List, Row, TableDef, Version};
 use std::alloc::{AllocError, Global};
 use std::marker::Model;
-
-/// Every genid is below this number, and so is the next one.
-const GENID_LIMIT: u64 = 0x4000_0000_0000_0000;
 
 /// The rows of all tables and the next genid. Contracts see the record `Rows`.
 #[derive(Drop)]
@@ -64,43 +59,17 @@ impl State {
     {
         self.next
     }
-
-    /// Takes the last version of a table away again, with its genid: what undoes the insert that
-    /// came last. Takes no memory.
-    pub fn pop(&mut self, alloc: Global, table: u16)
-        requires table { table < length self.old.tables }
-        requires next { 0 < self.old.next }
-        ensures popped { self.new ≡ popped self.old table }
-        ensures undoes { (before : Rows) (row : List Value) → self.old ≡ added before table row → self.new ≡ before }
-    {
-        let versions = self.tables.replace_at(table as usize, List::new(alloc));
-        let versions = shortened(versions);
-        let _empty = self.tables.replace_at(table as usize, versions);
-        self.next -= 1;
-    }
 }
 
 impl State {
-    /// The versions of each table.
-    pub(super) fn lists(&self) -> &[List<Version>]
-        ensures { result.now ≡ self.now.tables }
-    {
-        self.tables.as_slice()
-    }
-
     /// Whether a version with that genid is in the table now.
     pub(super) fn is_live(&self, table: u16, genid: u64) -> bool
         requires { table < length self.now.tables }
         ensures { result ≡ is_live self.now table genid }
     {
-        let mut rest = self.versions(table);
-        'versions: while let Some((version, after)) = rest.split_first() {
-            if version.genid == genid {
-                return true;
-            }
-            rest = after;
-        }
-        false
+        self.versions(table)
+            .iter()
+            .any(|version| version.genid == genid)
     }
 
     /// Writes a row at the end of a table, and gives its genid.
@@ -176,15 +145,6 @@ fn copied(row: &Row) -> Result<Row, AllocError>
     ensures { IfOk result (λ copy. copy ≡ row.now) }
 {
     row.clone()
-}
-
-/// These versions without the last one. Takes no memory.
-fn shortened(versions: List<Version>) -> List<Version>
-    ensures { result ≡ without_last versions }
-{
-    let mut items = versions.into_vec();
-    let _last = items.pop();
-    List::from_vec(items)
 }
 
 /// These versions with another at the end, and true; or the same versions, and false, for want of

@@ -126,35 +126,3 @@ fn own_writes_are_updated_and_deleted(rt: HostRuntime) {
     }
     assert_eq!(rt; state.next(), 4);
 }
-
-#[test]
-fn a_second_equal_key_is_broken_and_taken_back(rt: HostRuntime) {
-    let alloc = rt.alloc();
-    let tables = vec![in alloc; numbers(alloc).expect(&rt, "memory")].expect(&rt, "memory");
-    let mut state = State::new(alloc, tables.as_slice()).expect(&rt, "memory");
-    let mut made = List::new(alloc);
-    let seven = insert(alloc, 7).expect(&rt, "memory");
-    let again = row(alloc, 7).expect(&rt, "memory");
-    let other = row(alloc, 8).expect(&rt, "memory");
-    assert_eq!(rt; apply(alloc, &mut state, &seven, &mut made), Ok(Some(1)));
-    assert!(rt; broken_key(tables.as_slice(), &state).is_none());
-    if state.tables() == 0 || tables.as_slice().len() == 0 {
-        return;
-    }
-    let keys = tables[0].keys.as_slice();
-    assert!(rt; first_taken(keys, again.as_slice(), state.versions(0)).is_some());
-    assert!(rt; first_taken(keys, other.as_slice(), state.versions(0)).is_none());
-    assert_eq!(rt; apply(alloc, &mut state, &seven, &mut made), Ok(Some(2)));
-    let Some(broken) = broken_key(tables.as_slice(), &state) else {
-        assert!(rt; false);
-        return;
-    };
-    assert!(rt;
-        broken.table.as_bytes() == b"t".as_slice() && broken.key.as_bytes() == b"pk".as_slice()
-    );
-    if state.tables() == 0 || state.next() == 0 {
-        return;
-    }
-    state.pop(alloc, 0);
-    assert!(rt; broken_key(tables.as_slice(), &state).is_none() && state.next() == 2);
-}

@@ -11,7 +11,7 @@ use Rattle.cdb_values.specs.declared.rows.RowOp.TheVariants.{Insert, Update, Del
 use Rattle.cdb_values.specs.declared.rows.Version.{Version}
 use Rattle.cdb_values.specs.declared.values.Value.{Value}
 use Rattle.net_writes.specs.Net.{standing}
-use Rattle.net_writes.specs.Views.{IsOnBase}
+use Rattle.cdb_values.specs.Views.{IsOnBase}
 
 -- the version that a write of this genid left in a table, if it left one there
 abbrev pub own_one : ℕ → ℕ → Option RowOp → List Version

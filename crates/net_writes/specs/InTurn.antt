@@ -16,7 +16,7 @@ use Rattle.cdb_values.specs.declared.rows.RowRef.TheVariants.{Base, Own}
 use Rattle.cdb_values.specs.declared.tables.TableDef.{TableDef}
 use Rattle.genid_rows.specs.Targets.{based, given, is_target_live, table_of}
 use Rattle.net_writes.specs.Net.{net_of}
-use Rattle.net_writes.specs.Views.{rows_in}
+use Rattle.cdb_values.specs.Views.{rows_in}
 
 -- the genid that a write gave, and 0 for a write that gave none
 abbrev pub recorded : Option ℕ → ℕ

@@ -16,7 +16,6 @@
 #![tactic(auto)]
 
 ghost use Rattle.std.specs.Prelude.{◌≡◌, ◌++◌, ◌∷◌, [], IfOk, OnOk, Some, None};
-ghost use Rattle.net_writes.specs.Views.{ViewsAreApplied};
 ghost use Rattle.net_writes.specs.InTurn.{NetIsInTurn, NoRowsAreNumbered, StaysNumbered};
 ghost use Rattle.net_writes.specs.Net.{held_at, taken_out, rewritten, undone, held_with, standing, net_of};
 
@@ -35,12 +34,6 @@ pub fn net(alloc: Global, ops: &[RowOp]) -> Result<List<RowOp>, AllocError>
     }
     still_standing(alloc, held)
 }
-
-/// A law for the crates above: what a transaction sees of its operations on a base is what they
-/// make of the base when they are applied one after the other.
-pub fn views_are_applied()
-    ensures { ViewsAreApplied }
-{}
 
 /// A law for the crates above: on every base whose genids are below its next one, the net operations
 /// of writes that apply one after the other give the same rows, in the same order, as the writes do.

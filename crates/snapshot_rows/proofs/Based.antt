@@ -9,8 +9,7 @@ use Rattle.cdb_values.specs.declared.rows.RowOp.TheVariants.{Insert, Update, Del
 use Rattle.cdb_values.specs.declared.rows.RowRef.TheVariants.{Base, Own}
 use Rattle.cdb_values.specs.declared.tables.KeyDef.{KeyDef}
 use Rattle.cdb_values.specs.declared.tables.TableDef.{TableDef}
-use Rattle.net_writes.specs.Views.{IsOnBase}
-use Rattle.snapshot_rows.specs.Ages.{IsBased}
+use Rattle.cdb_values.specs.Views.{IsOnBase, IsBased}
 
 -- operations on a base name their targets by genid
 pub on_base_is_based : (tables next : ℕ) (ops : List RowOp) → AllByRecursion (IsOnBase tables next) ops → AllByRecursion (IsBased tables) ops

@@ -12,8 +12,8 @@ use Rattle.cdb_values.specs.declared.rows.Version.{Version}
 use Rattle.cdb_values.specs.declared.tables.KeyDef.{KeyDef}
 use Rattle.cdb_values.specs.declared.tables.TableDef.{TableDef}
 use Rattle.cdb_values.specs.declared.values.Value.{Value}
-use Rattle.net_writes.specs.Views.{IsOnBase}
-use Rattle.net_writes.proofs.ViewLemmas.{view_applied}
+use Rattle.cdb_values.specs.Views.{IsOnBase}
+use Rattle.cdb_values.proofs.ViewLaws.{view_applied}
 use Rattle.snapshot_rows.specs.Ages.{is_seen, seen_in, seen}
 use Rattle.snapshot_rows.specs.Broken.{is_row_taken, are_rows_apart, is_left, rows_left, breaks_key, key_broken, first_key_broken}
 use Rattle.snapshot_rows.specs.declared.ages.Age.{Age}

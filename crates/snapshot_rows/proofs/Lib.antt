@@ -2,7 +2,6 @@ pub mod AgeLemmas
 pub mod Undo
 pub mod Tables
 pub mod Placed
-pub mod KeyLemmas
 pub mod BrokenLemmas
 pub mod WriteLemmas
 pub mod Based

@@ -3,12 +3,12 @@ use Rattle.std.proofs.Common.{◌≡◌, ℕ, ◌+◌, ◌<◌, ◌==◌, ◌++�
 use Rattle.std.specs.Prelude.{if◌then◌else◌, Some, None}
 use Rattle.std.proofs.lemmas.List.{take_more, drop_more}
 use Rattle.cdb_values.specs.Good.{key_of, same_values}
-use Rattle.cdb_values.specs.Rows.{written}
+use Rattle.cdb_values.specs.Rows.{row_written, written}
 use Rattle.cdb_values.specs.declared.rows.RowOp.{RowOp}
 use Rattle.cdb_values.specs.declared.rows.RowOp.TheVariants.{Insert, Update, Delete}
 use Rattle.cdb_values.specs.declared.tables.KeyDef.{KeyDef}
 use Rattle.cdb_values.specs.declared.values.Value.{Value}
-use Rattle.snapshot_rows.specs.Broken.{row_written, is_row_taken, are_rows_apart}
+use Rattle.snapshot_rows.specs.Broken.{is_row_taken, are_rows_apart}
 use Rattle.snapshot_rows.proofs.BrokenLemmas.{apart_append, not_true}
 use Rattle.snapshot_rows.proofs.Tables.{some_same}
 

@@ -3,13 +3,9 @@
 -- A version is written at one position and taken away at a later one, or it lives still. It is kept
 -- once, with both positions: its age. The rows at a position are the versions that were written by
 -- then and not yet taken away, in the order in which they were written.
-use Rattle.std.specs.Prelude.{ℕ, ◌≤◌, ◌<◌, ◌==◌, [], List, Bool, ◌&&◌, ◌||◌, nat_le, nat_lt, map, filter, unwrap_or, slice_get}
+use Rattle.std.specs.Prelude.{ℕ, ◌≤◌, ◌==◌, [], List, Bool, ◌&&◌, ◌||◌, nat_le, nat_lt, map, filter, unwrap_or, slice_get}
 use Rattle.std.specs.List.{AllByRecursion}
 use Rattle.cdb_values.specs.Rows.{Rows}
-use Rattle.cdb_values.specs.declared.rows.RowOp.{RowOp}
-use Rattle.cdb_values.specs.declared.rows.RowOp.TheVariants.{Insert, Update, Delete}
-use Rattle.cdb_values.specs.declared.rows.RowRef.{RowRef}
-use Rattle.cdb_values.specs.declared.rows.RowRef.TheVariants.{Base, Own}
 use Rattle.cdb_values.specs.declared.rows.Version.{Version}
 use Rattle.cdb_values.specs.declared.tables.TableDef.{TableDef}
 use Rattle.snapshot_rows.specs.declared.ages.Age.{Age}
@@ -50,14 +46,3 @@ IsAgeUpTo last age = (age.born ≤ last) × (age.died ≤ last)
 -- nothing has happened after that position
 abbrev pub IsUpTo : ℕ → Ages → Type 0
 IsUpTo last ages = AllByRecursion (AllByRecursion (IsAgeUpTo last)) ages.tables
-
--- a target that is named by its genid
-abbrev pub IsByGenid : RowRef → Type 0
-IsByGenid (Base genid) = Unit {0}
-IsByGenid (Own write) = ⊥
-
--- an operation on one of so many tables, whose target is named by its genid
-abbrev pub IsBased : ℕ → RowOp → Type 0
-IsBased tables (Insert table row) = table < tables
-IsBased tables (Update table target old row) = (table < tables) × IsByGenid target
-IsBased tables (Delete table target old) = (table < tables) × IsByGenid target

@@ -3,24 +3,17 @@
 -- A key speaks of the rows alone, and not of their genids. Where no key is broken, operations break
 -- a unique key of a table exactly where a row that they write there has the same values as a row that
 -- they leave there, or as one that they wrote there before.
-use Rattle.std.specs.Prelude.{ℕ, ◌+◌, ◌++◌, ◌∷◌, [], List, Bool, true, ◌&&◌, not, ◌==◌, if◌then◌else◌, map, filter, Option, Some, None}
+use Rattle.std.specs.Prelude.{ℕ, ◌+◌, ◌++◌, ◌∷◌, [], List, Bool, true, ◌&&◌, not, if◌then◌else◌, map, filter, Option, Some, None}
 use Rattle.std.specs.List.{list_any}
 use Rattle.cdb_values.specs.Good.{key_of, same_values, KeyName, or_broken}
 use Rattle.cdb_values.specs.Rows.{takes, written}
 use Rattle.cdb_values.specs.declared.rows.RowOp.{RowOp}
-use Rattle.cdb_values.specs.declared.rows.RowOp.TheVariants.{Insert, Update, Delete}
 use Rattle.cdb_values.specs.declared.tables.KeyDef.{KeyDef}
 use Rattle.cdb_values.specs.declared.tables.TableDef.{TableDef}
 use Rattle.cdb_values.specs.declared.values.Value.{Value}
 use Rattle.snapshot_rows.specs.Ages.{is_seen}
 use Rattle.snapshot_rows.specs.declared.ages.Age.{Age}
 use Rattle.snapshot_rows.specs.declared.keys.BrokenKey.{BrokenKey}
-
--- the row that an operation writes to a table, if it writes one there
-abbrev pub row_written : ℕ → RowOp → Option (List Value)
-row_written table (Insert place row) = if place == table then Some row else None
-row_written table (Update place target old row) = if place == table then Some row else None
-row_written table (Delete place target old) = None
 
 -- whether one of these rows has the same values at the key as this row
 abbrev pub is_row_taken : KeyDef → List Value → List (List Value) → Bool

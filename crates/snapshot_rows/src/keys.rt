@@ -1,18 +1,15 @@
-ghost use Rattle.std.specs.Prelude.{◌≡◌, ◌++◌, ◌∷◌, [], length, not, slice_get, unwrap_or, None};
+ghost use Rattle.std.specs.Prelude.{◌≡◌, ◌++◌, ◌∷◌, [], length, not, None};
 ghost use Rattle.std.specs.List.{list_any, AllByRecursion};
 ghost use Rattle.std.specs.Option.{option_copied};
-ghost use Rattle.std.specs.Ordering.{is_eq};
-ghost use Rattle.cdb_values.specs.Order.{value_order};
-ghost use Rattle.cdb_values.specs.Good.{key_of, same_values, first_broken};
-ghost use Rattle.cdb_values.specs.Rows.{takes as takes_of, written, apply_all};
-ghost use Rattle.net_writes.specs.Views.{IsOnBase};
+ghost use Rattle.cdb_values.specs.Good.{first_broken};
+ghost use Rattle.cdb_values.specs.Rows.{takes, written, apply_all};
+ghost use Rattle.cdb_values.specs.Views.{IsOnBase};
 ghost use Rattle.snapshot_rows.specs.Ages.{seen, rows_seen};
-ghost use Rattle.snapshot_rows.specs.Broken.{row_written as row_written_of, is_row_taken, are_rows_apart, is_left as is_left_of, rows_left, breaks_key, key_broken, first_key_broken, name_of};
+ghost use Rattle.snapshot_rows.specs.Broken.{is_row_taken, are_rows_apart, is_left as is_left_of, rows_left, breaks_key, key_broken, first_key_broken, name_of};
 
 use super::ages::Age;
 use super::snapshots::Snapshots;
-use cdb_values::{KeyDef, List, Name, Row, RowOp, RowRef, TableDef, Value, order};
-use std::cmp::Ordering;
+use cdb_values::{KeyDef, List, Name, RowOp, TableDef, Value};
 
 /// A unique key that is broken: two rows of the table have the same values there.
 #[derive(Clone, Copy)]
@@ -122,7 +119,7 @@ fn is_write_taken(
 ) -> bool
     ensures { result ≡ not (are_rows_apart key.now (rows_left at ops.now table ages.now ++ written table before.now) (written table (op.now ∷ []))) }
 {
-    match row_written(op, table) {
+    match op.row_written(table) {
         None => false,
         Some(row) => {
             is_taken_by_left(key, row.as_slice(), ages, table, at, ops)
@@ -144,7 +141,7 @@ fn is_taken_by_left(
 {
     let mut rest = ages;
     'ages: while let Some((age, after)) = rest.split_first() {
-        if is_same_key(key, row, age.version.row.as_slice()) && is_left(age, table, at, ops) {
+        if key.has_same_values(row, age.version.row.as_slice()) && is_left(age, table, at, ops) {
             return true;
         }
         rest = after;
@@ -161,45 +158,9 @@ fn is_left(age: &Age, table: usize, at: u64, ops: &[RowOp]) -> bool
 
 /// Whether one of these operations takes the version of a genid away from a table.
 fn is_taken_away(genid: u64, table: usize, ops: &[RowOp]) -> bool
-    ensures { result ≡ list_any (takes_of table genid) ops.now }
+    ensures { result ≡ list_any (takes table genid) ops.now }
 {
-    let mut rest = ops;
-    'ops: while let Some((op, after)) = rest.split_first() {
-        if takes(op, table, genid) {
-            return true;
-        }
-        rest = after;
-    }
-    false
-}
-
-/// Whether an operation takes the version of a genid away from a table.
-fn takes(op: &RowOp, table: usize, genid: u64) -> bool
-    ensures { result ≡ takes_of table genid op.now }
-{
-    match op {
-        RowOp::Insert { .. } => false,
-        RowOp::Update {
-            table: place,
-            target,
-            ..
-        } => is_target(*place, target, table, genid),
-        RowOp::Delete {
-            table: place,
-            target,
-            ..
-        } => is_target(*place, target, table, genid),
-    }
-}
-
-/// Whether a target in the table at a place is the version of a genid in that table.
-fn is_target(place: u16, target: &RowRef, table: usize, genid: u64) -> bool
-    ensures { result ≡ takes_of table genid (RowOp.Delete place target.now []) }
-{
-    match *target {
-        RowRef::Base(found) => place as usize == table && found == genid,
-        RowRef::Own(_) => false,
-    }
+    ops.iter().any(|op| op.takes(table, genid))
 }
 
 /// Whether one of these operations writes a row to a table with the same values at the key as this
@@ -221,69 +182,8 @@ fn is_taken_by_writes(key: &KeyDef, row: &[Value], ops: &[RowOp], table: usize) 
 fn is_taken_by_write(key: &KeyDef, row: &[Value], op: &RowOp, table: usize) -> bool
     ensures { result ≡ is_row_taken key.now row.now (written table (op.now ∷ [])) }
 {
-    match row_written(op, table) {
+    match op.row_written(table) {
         None => false,
-        Some(other) => is_same_key(key, row, other.as_slice()),
-    }
-}
-
-/// The row that an operation writes to a table, if it writes one there.
-fn row_written(op: &RowOp, table: usize) -> Option<&Row>
-    ensures { option_copied result ≡ row_written_of table op.now }
-{
-    match op {
-        RowOp::Insert { table: place, row } => row_at(*place, row, table),
-        RowOp::Update {
-            table: place,
-            row,
-            ..
-        } => row_at(*place, row, table),
-        RowOp::Delete { .. } => None,
-    }
-}
-
-/// A row of the table at a place, where it is that table.
-fn row_at(place: u16, row: &Row, table: usize) -> Option<&Row>
-    ensures { option_copied result ≡ row_written_of table (RowOp.Insert place row.now) }
-{
-    if place as usize == table {
-        Some(row)
-    } else {
-        None
-    }
-}
-
-/// Whether two rows have the same values at a key.
-#[tactic(auto, using(crate::proofs::KeyLemmas::same_more, crate::proofs::KeyLemmas::same_stops))]
-fn is_same_key(key: &KeyDef, a: &[Value], b: &[Value]) -> bool
-    ensures { result ≡ same_values (key_of key.now a.now) (key_of key.now b.now) }
-{
-    let mut rest = key.columns.as_slice();
-    'columns: while let Some((column, after)) = rest.split_first() {
-        if !is_same_at(*column, a, b) {
-            return false;
-        }
-        rest = after;
-    }
-    true
-}
-
-/// Whether two rows have the same value in a column. A row without that column has NULL there.
-fn is_same_at(column: u8, a: &[Value], b: &[Value]) -> bool
-    ensures { result ≡ is_eq (value_order (unwrap_or (slice_get a.now column) Value.Null) (unwrap_or (slice_get b.now column) Value.Null)) }
-{
-    let null = Value::Null;
-    let a = a.get(column as usize).unwrap_or(&null);
-    let b = b.get(column as usize).unwrap_or(&null);
-    is_equal(order(a, b))
-}
-
-/// Whether an order is that of equal values.
-fn is_equal(order: Ordering) -> bool
-    ensures { result ≡ is_eq order }
-{
-    match order {
-        Ordering::Equal => true,
-        Ordering::Less | Ordering::Greater => false,
+        Some(other) => key.has_same_values(row, other.as_slice()),
     }
 }

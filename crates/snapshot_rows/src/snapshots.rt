@@ -1,17 +1,16 @@
-ghost use Rattle.std.specs.Prelude.{◌≡◌, ℕ, ◌<◌, ◌≤◌, ◌+◌, ◌-◌, ◌^◌, [], length, map, unwrap_or, slice_get, IfOk, OnOk, OnErr};
+ghost use Rattle.std.specs.Prelude.{◌≡◌, ℕ, ◌<◌, ◌≤◌, ◌+◌, ◌-◌, ◌^◌, [], length, map, IfOk, OnOk, OnErr};
 ghost use Rattle.std.specs.List.{AllByRecursion};
 ghost use Rattle.cdb_values.specs.Rows.{apply_all, no_rows, versions_of};
-ghost use Rattle.snapshot_rows.specs.Ages.{Ages, IsUpTo, IsBased, seen_in, seen, rows_seen, no_ages, ages_of};
+ghost use Rattle.cdb_values.specs.Views.{IsBased};
+ghost use Rattle.snapshot_rows.specs.Ages.{Ages, IsUpTo, seen_in, seen, rows_seen, no_ages, ages_of};
 ghost use Rattle.snapshot_rows.specs.Commits.{ended, with_death, with_birth, after_op, after_ops, before_in, before};
 
 use super::ages::{Age, before_in, ended};
+use cdb_values::limits::GENID_LIMIT;
 use cdb_values::{List, Row, RowOp, RowRef, TableDef, Version};
 use std::alloc::{AllocError, Global};
 use std::marker::Model;
 use std::mem;
-
-/// Every genid is below this number, and so is the next one.
-const GENID_LIMIT: u64 = 0x4000_0000_0000_0000;
 
 /// The rows of all tables at every position, and the next genid. Contracts see the record `Ages`.
 #[derive(Drop)]

@@ -1,7 +1,7 @@
 ghost use Rattle.std.specs.Prelude.{◌≡◌, ℕ, ◌<◌, ◌+◌, length, true, false, None, IfOk};
 ghost use Rattle.std.specs.List.{AllByRecursion};
 ghost use Rattle.cdb_values.specs.Good.{first_broken};
-ghost use Rattle.net_writes.specs.Views.{IsOnBase};
+ghost use Rattle.cdb_values.specs.Views.{IsOnBase};
 ghost use Rattle.snapshot_rows.specs.Ages.{IsUpTo, seen};
 
 use super::*;

@@ -6,7 +6,7 @@ use Rattle.cdb_values.specs.Tables.{place_of}
 use Rattle.cdb_values.specs.declared.values.Value.{Value}
 use Rattle.cdb_values.specs.declared.values.Value.TheVariants as values
 use Rattle.cdb_values.specs.declared.tables.TableDef.{TableDef}
-use Rattle.statement_read.specs.Columns.{column_at}
+use Rattle.cdb_values.specs.Columns.{column_at}
 use Rattle.statement_read.specs.declared.statements.Filter.{Filter}
 use Rattle.statement_read.specs.declared.statements.Statement.{Statement}
 use Rattle.statement_read.specs.declared.statements.Statement.TheVariants as statements

@@ -19,15 +19,12 @@
 //! | Notion | Definition |
 //! |---|---|
 //! | the statement of a text, and what it is to transactions | `specs/Statements.antt` |
-//! | the place of a column | `specs/Columns.antt` |
 //! | a statement on the tables of a schema | `specs/OnTables.antt` |
 #![tactic(auto)]
 
-mod columns;
 mod statements;
 mod verbs;
 
-pub use columns::find_column;
 pub use statements::{Filter, Statement, TextKind, kind_of_text, read_statement};
 
 #[cfg(test)]

@@ -92,47 +92,26 @@ fn is_not_null(mark: Mark) -> bool
 fn forbid_null(marks: &[Mark]) -> bool
     ensures { result ≡ list_any not_null marks.now }
 {
-    let mut rest = marks;
-    'marks: while let Some((mark, after)) = rest.split_first() {
-        if is_not_null(*mark) {
-            return true;
-        }
-        rest = after;
-    }
-    false
+    marks.iter().any(|mark| is_not_null(*mark))
 }
 
 /// Whether a primary key of these is over this column.
 fn is_in_primary(keys: &[WrittenKey], column: &[u8]) -> bool
     ensures { result ≡ in_primary keys.now column.now }
 {
-    let mut rest = keys;
-    'keys: while let Some((key, after)) = rest.split_first() {
-        if is_primary(key, column) {
-            return true;
-        }
-        rest = after;
-    }
-    false
+    keys.iter().any(|key| is_primary(key, column))
 }
 
 /// Whether this is a primary key, over this column.
 fn is_primary(key: &WrittenKey, column: &[u8]) -> bool
     ensures { result ≡ is_primary_over column.now key.now }
 {
-    key.name.as_bytes() == PRIMARY && is_among(column, key.columns.as_slice())
+    key.name.is(PRIMARY) && is_among(column, key.columns.as_slice())
 }
 
 /// Whether a name is among these.
 fn is_among(name: &[u8], names: &[Name]) -> bool
     ensures { result ≡ is_named name.now names.now }
 {
-    let mut rest = names;
-    'names: while let Some((other, after)) = rest.split_first() {
-        if other.as_bytes() == name {
-            return true;
-        }
-        rest = after;
-    }
-    false
+    names.iter().any(|other| other.is(name))
 }

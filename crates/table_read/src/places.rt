@@ -9,11 +9,9 @@ ghost use Rattle.table_read.specs.StandIns.{is_bad_name, is_bad_key, stand_in};
 ghost use Rattle.table_read.specs.Verdict.{judged};
 
 use crate::keys::WrittenKey;
+use cdb_values::limits::MOST_COLUMNS;
 use cdb_values::{ColumnDef, KeyDef, List, Name};
 use std::alloc::{AllocError, Global};
-
-/// The most columns of a table.
-const MOST_COLUMNS: usize = 64;
 
 /// The keys of a table of these columns. Of a table of more than 64 columns, which is refused in
 /// any case, they are stand-ins for which it is refused as for its own keys.
@@ -83,7 +81,7 @@ fn place(columns: &[ColumnDef], name: &Name) -> u8
     let mut rest = columns;
     let mut at = 0u8;
     'columns: while let Some((column, after)) = rest.split_first() {
-        if column.name.as_bytes() == name.as_bytes() {
+        if column.name.is(name.as_bytes()) {
             return at;
         }
         rest = after;
@@ -139,14 +137,9 @@ fn is_bad(columns: &[ColumnDef], key: &WrittenKey) -> bool
 fn has_bad_name(columns: &[ColumnDef], unique: bool, names: &[Name]) -> bool
     ensures { result ≡ list_any (is_bad_name columns.now unique) names.now }
 {
-    let mut rest = names;
-    'names: while let Some((name, after)) = rest.split_first() {
-        if is_refused(unique, column_named(columns, name)) {
-            return true;
-        }
-        rest = after;
-    }
-    false
+    names
+        .iter()
+        .any(|name| is_refused(unique, column_named(columns, name)))
 }
 
 /// Whether no such key can be over this column.
@@ -165,7 +158,7 @@ fn column_named<'a>(columns: &'a [ColumnDef], name: &Name) -> Option<&'a ColumnD
 {
     let mut rest = columns;
     'columns: while let Some((column, after)) = rest.split_first() {
-        if column.name.as_bytes() == name.as_bytes() {
+        if column.name.is(name.as_bytes()) {
             return Some(column);
         }
         rest = after;

@@ -3,7 +3,7 @@ use Rattle.std.specs.List.{AllByRecursion}
 use Rattle.cdb_values.specs.Good.{first_broken}
 use Rattle.cdb_values.specs.Rows.{Rows}
 use Rattle.cdb_values.specs.declared.rows.RowOp.{RowOp}
-use Rattle.net_writes.specs.Views.{IsOnBase}
+use Rattle.cdb_values.specs.Views.{IsOnBase}
 use Rattle.snapshot_rows.proofs.Based.{none_broken}
 use Rattle.snapshot_rows.proofs.tests.each_position_keeps_its_rows.Goals as goal
 

@@ -2,7 +2,8 @@ use Rattle.std.proofs.Common.{List, length, ap, sym, subst, ◌∙◌}
 use Rattle.std.specs.List.{AllByRecursion}
 use Rattle.std.specs.Vec.Iter.{into_iter_items}
 use Rattle.cdb_values.specs.declared.rows.RowOp.{RowOp}
-use Rattle.snapshot_rows.specs.Ages.{Ages, IsBased}
+use Rattle.cdb_values.specs.Views.{IsBased}
+use Rattle.snapshot_rows.specs.Ages.{Ages}
 use Rattle.snapshot_rows.specs.Commits.{after_ops}
 use Rattle.snapshot_rows.proofs.snapshots.Snapshots.write_ops.Goals as goal
 

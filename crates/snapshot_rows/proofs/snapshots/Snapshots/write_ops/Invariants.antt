@@ -1,7 +1,7 @@
 use Rattle.std.proofs.Common.{◌≡◌, ◌<◌, ◌^◌, ℕ, length}
 use Rattle.std.specs.List.{AllByRecursion}
 use Rattle.std.specs.Vec.Iter.{into_iter_items}
-use Rattle.snapshot_rows.specs.Ages.{IsBased}
+use Rattle.cdb_values.specs.Views.{IsBased}
 use Rattle.snapshot_rows.specs.Commits.{after_ops, before}
 use Rattle.snapshot_rows.proofs.snapshots.Snapshots.write_ops.Given as goal
 

@@ -1,0 +1,16 @@
+//! The limits of the database, each number once.
+
+/// The most tables of a schema.
+pub const MOST_TABLES: usize = 64;
+/// The most columns of a table.
+pub const MOST_COLUMNS: usize = 64;
+/// The most keys of a table.
+pub const MOST_KEYS: usize = 8;
+/// The most columns of a key.
+pub const MOST_KEY_COLUMNS: usize = 8;
+/// The most bytes of a name.
+pub const MOST_NAME_BYTES: usize = 32;
+/// Every genid is below this number, 2^62, and so is the next one.
+pub const GENID_LIMIT: u64 = 0x4000_0000_0000_0000;
+/// Every position of the history is below this number, 2^62.
+pub const POSITION_LIMIT: u64 = GENID_LIMIT;
