@@ -16,7 +16,7 @@ use Rattle.script_read.proofs.OnTableLemmas.{and_first, and_second, declared, ta
 use Rattle.script_read.specs.Answers.{Refusal}
 use Rattle.script_read.specs.Bodies.{said_of, say_said, stop_said, start_said, arm_of, arm_said, barrier_said, feed_said}
 use Rattle.script_read.specs.Built.{is_built, has_integers}
-use Rattle.script_read.specs.CanRun.{AreTaken, IsSaid, CanRun}
+use Rattle.script_form.specs.CanRun.{AreTaken, IsSaid, CanRun}
 use Rattle.script_read.specs.Heads.{only_number, only_fitting, is_declared, is_node, nodes_said, cluster_said, workers_said, session_of, session_said, tabled, table_said, watched, watch_said}
 use Rattle.script_read.specs.Kinds.{kind_of, keyword_part, part_of, may_come}
 use Rattle.script_read.specs.Lawful.{AreNew, IsNode, NamesDeclared, Rise, IsLawful}
@@ -28,13 +28,13 @@ use Rattle.script_read.specs.declared.kinds.LineKind.{LineKind}
 use Rattle.script_read.specs.declared.kinds.LineKind.TheVariants as lines
 use Rattle.script_read.specs.declared.said.Said.{Said}
 use Rattle.script_read.specs.declared.said.Said.TheVariants as said
-use Rattle.script_read.specs.declared.scripts.Act.{Act}
-use Rattle.script_read.specs.declared.scripts.Act.TheVariants as acts
-use Rattle.script_read.specs.declared.scripts.BodyLine.{BodyLine}
-use Rattle.script_read.specs.declared.scripts.Moment.{Moment}
-use Rattle.script_read.specs.declared.scripts.Script.{Script}
-use Rattle.script_read.specs.declared.scripts.SessionLine.{SessionLine}
-use Rattle.script_read.specs.declared.scripts.TableLine.{TableLine}
+use Rattle.script_form.specs.declared.scripts.Act.{Act}
+use Rattle.script_form.specs.declared.scripts.Act.TheVariants as acts
+use Rattle.script_form.specs.declared.scripts.BodyLine.{BodyLine}
+use Rattle.script_form.specs.declared.scripts.Moment.{Moment}
+use Rattle.script_form.specs.declared.scripts.Script.{Script}
+use Rattle.script_form.specs.declared.scripts.SessionLine.{SessionLine}
+use Rattle.script_form.specs.declared.scripts.TableLine.{TableLine}
 
 -- what an answer without a refusal says of its parts
 and_ok : {A B : Type 0} (read : Result A Refusal) (next : A → Result B Refusal) (y : B) → and_then read next ≡ Ok y → (x : A) × ((read ≡ Ok x) × (next x ≡ Ok y))

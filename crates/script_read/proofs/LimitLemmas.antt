@@ -6,7 +6,7 @@ use Rattle.script_words.specs.Lines.{lines_of, but_last}
 use Rattle.script_read.specs.Answers.{Refusal, refusal}
 use Rattle.script_read.specs.ScriptText.{script_of, whole_script, past_limit, and_then, read_lines, no_draft, most_bytes}
 use Rattle.script_read.specs.declared.drafts.Draft.{Draft}
-use Rattle.script_read.specs.declared.scripts.Script.{Script}
+use Rattle.script_form.specs.declared.scripts.Script.{Script}
 
 -- the script of bytes with any limit
 abbrev pub script_within : ℕ → Draft → List ℕ → Result Script Refusal

@@ -10,15 +10,15 @@ use Rattle.cdb_values.specs.declared.tables.ColumnType.TheVariants as types
 use Rattle.cdb_values.specs.declared.tables.TableDef.{TableDef}
 use Rattle.script_words.specs.Words.{◌>>=◌}
 use Rattle.statement_read.proofs.IntegerLemmas.{HasInteger, HasIntegers}
-use Rattle.statement_read.specs.Columns.{column_at}
+use Rattle.cdb_values.specs.Columns.{column_at}
 use Rattle.statement_read.specs.OnTables.{IsColumn, IsFilterOn, IsOn}
 use Rattle.statement_read.specs.declared.statements.Filter.{Filter}
 use Rattle.statement_read.specs.declared.statements.Statement.{Statement}
 use Rattle.statement_read.specs.declared.statements.Statement.TheVariants as statements
 use Rattle.script_read.specs.Built.{is_integer, is_there, has_column, is_filter_on, has_integers, takes_row, takes_filter, takes_change, is_on}
-use Rattle.script_read.specs.CanRun.{IsDeclared}
+use Rattle.script_form.specs.CanRun.{IsDeclared}
 use Rattle.script_read.specs.Heads.{is_declared}
-use Rattle.script_read.specs.declared.scripts.SessionLine.{SessionLine}
+use Rattle.script_form.specs.declared.scripts.SessionLine.{SessionLine}
 
 same_bytes : (xs ys : List ℕ) → bytes_eq xs ys ≡ true → xs ≡ ys
 same_bytes xs ys e = (bytes_eq-Decides xs ys).0 e

@@ -4,7 +4,7 @@ use Rattle.std.specs.Str.{is_utf8, chars}
 use Rattle.script_read.specs.Answers.{refusal}
 use Rattle.script_read.specs.Heads.{session_of}
 use Rattle.script_read.specs.ScriptText.{script_of, read_lines, read_line}
-use Rattle.script_read.specs.declared.scripts.Act.TheVariants.{Say}
+use Rattle.script_form.specs.declared.scripts.Act.TheVariants.{Say}
 
 -- lines, each with its LF
 abbrev lines : List (List ℕ) → List ℕ

@@ -19,9 +19,9 @@ use Rattle.script_read.specs.Heads.{fitting_at, alone, only_number, is_declared,
 use Rattle.script_read.specs.declared.drafts.Draft.{Draft}
 use Rattle.script_read.specs.declared.said.Said.{Said}
 use Rattle.script_read.specs.declared.said.Said.TheVariants as said
-use Rattle.script_read.specs.declared.scripts.Act.TheVariants as acts
-use Rattle.script_read.specs.declared.scripts.Moment.{Moment}
-use Rattle.script_read.specs.declared.scripts.Moment.TheVariants as moments
+use Rattle.script_form.specs.declared.scripts.Act.TheVariants as acts
+use Rattle.script_form.specs.declared.scripts.Moment.{Moment}
+use Rattle.script_form.specs.declared.scripts.Moment.TheVariants as moments
 
 -- the name at the front, and the text behind the colon that stands directly behind it
 abbrev pub said_of : List ℕ → Option (List ℕ × List ℕ)

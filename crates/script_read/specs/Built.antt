@@ -10,15 +10,15 @@ use Rattle.cdb_values.specs.declared.tables.ColumnType.{ColumnType}
 use Rattle.cdb_values.specs.declared.tables.ColumnType.TheVariants as types
 use Rattle.cdb_values.specs.declared.tables.TableDef.{TableDef}
 use Rattle.script_words.specs.Words.{◌>>=◌}
-use Rattle.statement_read.specs.Columns.{column_at}
+use Rattle.cdb_values.specs.Columns.{column_at}
 use Rattle.statement_read.specs.Statements.{statement_of}
 use Rattle.statement_read.specs.declared.statements.Filter.{Filter}
 use Rattle.statement_read.specs.declared.statements.Statement.{Statement}
 use Rattle.statement_read.specs.declared.statements.Statement.TheVariants as statements
 use Rattle.script_read.specs.declared.said.Said.{Said}
 use Rattle.script_read.specs.declared.said.Said.TheVariants as said
-use Rattle.script_read.specs.declared.scripts.Act.{Act}
-use Rattle.script_read.specs.declared.scripts.Act.TheVariants as acts
+use Rattle.script_form.specs.declared.scripts.Act.{Act}
+use Rattle.script_form.specs.declared.scripts.Act.TheVariants as acts
 
 abbrev pub is_integer : ColumnType → Bool
 is_integer types.Integer = true

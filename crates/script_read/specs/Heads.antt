@@ -20,7 +20,7 @@ use Rattle.script_read.specs.Answers.{Refusal, refusal}
 use Rattle.script_read.specs.declared.drafts.Draft.{Draft}
 use Rattle.script_read.specs.declared.said.Said.{Said}
 use Rattle.script_read.specs.declared.said.Said.TheVariants as said
-use Rattle.script_read.specs.declared.scripts.SessionLine.{SessionLine}
+use Rattle.script_form.specs.declared.scripts.SessionLine.{SessionLine}
 
 -- the piece that comes next, where it fits the rule of names, and what stands behind it
 abbrev pub fitting_at : List ℕ → Option (List ℕ × List ℕ)

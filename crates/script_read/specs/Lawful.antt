@@ -2,12 +2,12 @@
 -- name tables, each line of the body names a declared session or a node, and lines rise.
 use Rattle.std.specs.Prelude.{◌≡◌, ℕ, ◌≤◌, ◌<◌, ◌∷◌, ◌++◌, [], List, length, map, false}
 use Rattle.std.specs.List.{AllByRecursion}
-use Rattle.script_read.specs.CanRun.{IsDeclared, AreTaken, tables_of}
+use Rattle.script_form.specs.CanRun.{IsDeclared, AreTaken, tables_of}
 use Rattle.script_read.specs.Heads.{is_declared}
-use Rattle.script_read.specs.declared.scripts.Act.{Act}
-use Rattle.script_read.specs.declared.scripts.Act.TheVariants as acts
-use Rattle.script_read.specs.declared.scripts.Script.{Script}
-use Rattle.script_read.specs.declared.scripts.SessionLine.{SessionLine}
+use Rattle.script_form.specs.declared.scripts.Act.{Act}
+use Rattle.script_form.specs.declared.scripts.Act.TheVariants as acts
+use Rattle.script_form.specs.declared.scripts.Script.{Script}
+use Rattle.script_form.specs.declared.scripts.SessionLine.{SessionLine}
 
 -- sessions none of which has the name of one before it
 abbrev pub AreNew : List SessionLine → List SessionLine → Type 0

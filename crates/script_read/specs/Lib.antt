@@ -4,5 +4,4 @@ pub mod Heads
 pub mod Bodies
 pub mod Built
 pub mod ScriptText
-pub mod CanRun
 pub mod Lawful

@@ -34,7 +34,7 @@ use Rattle.script_read.specs.declared.kinds.LineKind.{LineKind}
 use Rattle.script_read.specs.declared.kinds.LineKind.TheVariants as lines
 use Rattle.script_read.specs.declared.said.Said.{Said}
 use Rattle.script_read.specs.declared.said.Said.TheVariants as said
-use Rattle.script_read.specs.declared.scripts.Script.{Script}
+use Rattle.script_form.specs.declared.scripts.Script.{Script}
 
 -- the most bytes of a script
 abbrev pub most_bytes : ℕ

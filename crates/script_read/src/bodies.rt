@@ -8,8 +8,9 @@ use super::drafts::Draft;
 use super::heads::{is_among_sessions, is_number_of_node, lone_number, take_fitting};
 use super::reasons::{NO_LINE, WRONG_NODE, WRONG_SESSION};
 use super::said::Said;
-use super::scripts::{Act, Moment, ScriptStop};
+use super::scripts::ScriptStop;
 use cdb_values::{Name, Text};
+use script_form::{Act, Moment};
 use script_words::{WordByte, fits_name_rule, is_at_end, next_piece, split_while, take_byte, trim};
 use std::alloc::Global;
 

@@ -4,9 +4,9 @@ ghost use Rattle.statement_read.specs.Statements.{statement_of};
 ghost use Rattle.script_read.specs.Built.{is_integer, has_integers, has_column, is_filter_on, table_named, takes_row, takes_filter, takes_change, is_on, runs, is_built};
 
 use super::said::Said;
-use super::scripts::Act;
 use cdb_values::{ColumnDef, ColumnType, Name, Schema, TableDef};
-use statement_read::{Filter, Statement, find_column, read_statement};
+use script_form::Act;
+use statement_read::{Filter, Statement, read_statement};
 use std::alloc::{AllocError, Global};
 
 /// Whether what a line says runs today, behind the tables of a schema.
@@ -140,8 +140,5 @@ fn is_filter_of(table: &TableDef, filter: &Option<Filter>) -> bool
 fn is_column_of(table: &TableDef, column: &Name) -> bool
     ensures { result ≡ has_column table.now column.now }
 {
-    match find_column(table.columns.as_slice(), column.as_bytes()) {
-        None => false,
-        Some(_) => true,
-    }
+    table.column(column.as_bytes()).is_some()
 }

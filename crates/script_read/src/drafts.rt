@@ -14,8 +14,9 @@ use super::heads::{cluster_line, nodes_line, session_line, watch_line, workers_l
 use super::kinds::{Keyword, LineKind, line_kind, line_part, may_follow};
 use super::reasons::{LIMIT, LONG_LINE, NO_LINE, NO_NODES, NOT_BUILT, NOT_TEXT, WRONG_TABLE};
 use super::said::Said;
-use super::scripts::{BodyLine, Script, ScriptStop, SessionLine, TableLine};
+use super::scripts::ScriptStop;
 use cdb_values::{List, Name, Schema, TableDef};
+use script_form::{BodyLine, Script, SessionLine, TableLine};
 use script_words::{is_comment, line_text, next_piece};
 use std::alloc::{AllocError, Global};
 use table_read::{TableStop, read_table};

@@ -9,8 +9,9 @@ ghost use Rattle.script_read.specs.Heads.{fitting_at, numeral_at, only_number, o
 use super::drafts::Draft;
 use super::reasons::{LIMIT, NO_LINE, NO_NODES, WRONG_NODE, WRONG_SESSION, WRONG_TABLE};
 use super::said::Said;
-use super::scripts::{ScriptStop, SessionLine};
+use super::scripts::ScriptStop;
 use cdb_values::Name;
+use script_form::SessionLine;
 use script_words::{fits_name_rule, is_at_end, is_name_word, next_piece, piece_number};
 use std::alloc::Global;
 

@@ -1,10 +1,10 @@
 //! Facts of all scripts, each the contract of a function that does nothing.
 
 ghost use Rattle.std.specs.Prelude.{◌≡◌, ◌<◌, ◌++◌, ℕ, List, length};
-ghost use Rattle.script_read.specs.CanRun.{CanRun};
+ghost use Rattle.script_form.specs.CanRun.{CanRun};
 ghost use Rattle.script_read.specs.Lawful.{IsLawful};
 ghost use Rattle.script_read.specs.ScriptText.{script_of, most_bytes};
-ghost use Rattle.script_read.specs.declared.scripts.Script.{Script};
+ghost use Rattle.script_form.specs.declared.scripts.Script.{Script};
 
 /// Of a script that is read, the names of sessions and of tables are distinct, watches name tables,
 /// each line of the body names a declared session or a node, and lines rise.

@@ -61,7 +61,8 @@ mod scripts;
 
 pub use laws::{later_bytes_do_not_matter, scripts_are_lawful, scripts_can_run};
 pub use reading::read_script;
-pub use scripts::{Act, BodyLine, Moment, Script, ScriptStop, SessionLine, TableLine};
+pub use script_form::{Act, BodyLine, Moment, Script, SessionLine, TableLine};
+pub use scripts::ScriptStop;
 
 #[cfg(test)]
 mod tests;

@@ -5,7 +5,8 @@ ghost use Rattle.script_read.specs.ScriptText.{script_of, read_lines, no_draft, 
 
 use super::drafts::{Draft, finish, line_after};
 use super::reasons::LIMIT;
-use super::scripts::{Script, ScriptStop};
+use super::scripts::ScriptStop;
+use script_form::Script;
 use script_words::{before_last_line, next_line};
 use std::alloc::Global;
 

@@ -1,5 +1,5 @@
-use super::scripts::{Act, SessionLine};
 use cdb_values::Name;
+use script_form::{Act, SessionLine};
 
 /// What a line of a script says, but for tables.
 #[derive(Drop)]

@@ -7,10 +7,10 @@ use Rattle.cdb_values.specs.declared.tables.ColumnType.TheVariants.{Integer}
 use Rattle.cdb_values.specs.declared.tables.TableDef.{TableDef}
 use Rattle.statement_read.specs.OnTables.{IsOn}
 use Rattle.statement_read.specs.Statements.{statement_of}
-use Rattle.script_read.specs.declared.scripts.Act.{Act}
-use Rattle.script_read.specs.declared.scripts.Act.TheVariants as acts
-use Rattle.script_read.specs.declared.scripts.Script.{Script}
-use Rattle.script_read.specs.declared.scripts.SessionLine.{SessionLine}
+use Rattle.script_form.specs.declared.scripts.Act.{Act}
+use Rattle.script_form.specs.declared.scripts.Act.TheVariants as acts
+use Rattle.script_form.specs.declared.scripts.Script.{Script}
+use Rattle.script_form.specs.declared.scripts.SessionLine.{SessionLine}
 
 -- a name that one of these sessions has
 abbrev pub IsDeclared : List ℕ → List SessionLine → Type 0
