@@ -1,21 +1,18 @@
 -- What a transaction was told stays right when the history grows by an entry.
-use Rattle.std.proofs.Common.{◌≡◌, ℕ, ◌+◌, ◌≤◌, List, [], ◌∷◌, ◌++◌, length, refl, sym, subst, ap, arith, ◌∙◌, inl, inr}
+use Rattle.std.proofs.Common.{◌≡◌, ℕ, ◌≤◌, List, [], ◌∷◌, ◌++◌, refl, sym, ap, arith, ◌∙◌, inl, inr}
 use Rattle.cdb_values.specs.Rows.{Rows}
-use Rattle.script_read.specs.declared.scripts.Script.{Script}
-use Rattle.report_laws.specs.Answer.{alone}
-use Rattle.report_laws.specs.History.{Origin, nothing_before}
+use Rattle.report_laws.specs.History.{Basis, alone_on, used_by, last_position}
 use Rattle.report_laws.specs.Lawful.{IsAnswered}
-use Rattle.report_laws.specs.Outcome.{IsRight}
-use Rattle.report_laws.specs.Told.{IsTold, IsWhole, IsCut, EndsRight, alone_at}
-use Rattle.report_laws.specs.Work.{Transaction, Item, Does, Lone, tables_of}
+use Rattle.report_laws.specs.Told.{IsTold, IsWhole, IsCut, alone_at}
+use Rattle.report_laws.specs.Work.{Transaction, Item, Does, Lone}
 use Rattle.report_text.specs.declared.reports.EntryLine.{EntryLine}
 use Rattle.report_text.specs.declared.reports.EntryLine.TheVariants.{Setup, Commit}
 use Rattle.report_text.specs.declared.reports.Line.{Line}
 use Rattle.report_text.specs.declared.reports.ReplyLine.{ReplyLine}
 use Rattle.report_text.specs.declared.reports.ReplyLine.TheVariants as reply
 use Rattle.report_laws.proofs.EachLemmas.{stands_more}
-use Rattle.report_laws.proofs.HistoryLemmas.{rows_stay}
-use Rattle.report_laws.proofs.OutcomeLemmas.{last_more, right_stays}
+use Rattle.report_laws.proofs.HistoryLemmas.{last_more, rows_stay}
+use Rattle.report_laws.proofs.OutcomeLemmas.{all_right_stay}
 
 -- lists that end by one member each end by the same one where they are the same
 last_of : {A : Type 0} → A → List A → A
@@ -36,72 +33,50 @@ first_begin a b xs ys is = cc
 pub first_rest : (a b : ℕ) (xs ys : List ReplyLine) → reply.Begin a ∷ xs ≡ reply.Begin b ∷ ys → xs ≡ ys
 first_rest a b xs ys is = cc
 
--- the end of a transaction's replies is right where they end by an outcome that is right
-pub ends_by : (script : Script) (origin : Origin) (entries : List EntryLine) (name : List ℕ) (t : Transaction) (begin : ℕ) (replies : List ReplyLine) (outcome : ReplyLine) →
-    IsRight script origin entries name t begin (alone_at script origin entries t begin).ops outcome → EndsRight script origin entries name (Does t) (reply.Begin begin ∷ (replies ++ outcome ∷ []))
-ends_by script origin entries name t begin replies outcome right b front o is =
-    subst (λ (b : ℕ). IsRight script origin entries name t b (alone_at script origin entries t b).ops o) (first_begin begin b _ _ is)
-    (subst (λ (o : ReplyLine). IsRight script origin entries name t begin (alone_at script origin entries t begin).ops o) (same_last replies front outcome o (first_rest begin b _ _ is)) right)
+module _ (basis : Basis) (es : List EntryLine) (e : EntryLine) where
+  -- a transaction run alone at a position gives what it gave
+  pub alone_stays : (t : Transaction) (begin : ℕ) → begin ≤ last_position basis.origin es → alone_at basis (es ++ e ∷ []) t begin ≡ alone_at basis es t begin
+  alone_stays t begin within = ap (λ (rows : Rows). alone_on basis rows t.texts) (rows_stay basis es e begin within)
 
--- the end of a transaction that was cut short is right
-pub cut_ends : (script : Script) (origin : Origin) (entries : List EntryLine) (name : List ℕ) (t : Transaction) (mine : List ReplyLine) →
-    IsCut script origin entries t mine → EndsRight script origin entries name (Does t) mine
-cut_ends script origin entries name t mine was begin front outcome is =
-    subst (λ (o : ReplyLine). IsRight script origin entries name t begin (alone_at script origin entries t begin).ops o)
-    (same_last was.front (reply.Begin begin ∷ front) reply.NoMemory outcome (sym was.says ∙ is)) tt
+  pub whole_stays : (name : List ℕ) (t : Transaction) (mine : List ReplyLine) → IsWhole basis es name t mine → IsWhole basis (es ++ e ∷ []) name t mine
+  whole_stays name t mine was =
+      let within : was.begin ≤ last_position basis.origin es = was.within in
+      record {
+        begin = was.begin;
+        base = was.base;
+        within = omega (arith, within, last_more basis.origin es e);
+        ran = was.ran;
+        is_ran = was.is_ran ∙ sym (alone_stays t was.begin within);
+        last = was.last;
+        ends = was.ends;
+        right = all_right_stay basis es e name t was.begin (used_by was.ran) was.base was.ran.ops was.last was.right;
+        says = was.says;
+      }
 
-pub whole_stays : (script : Script) (es : List EntryLine) (e : EntryLine) (t : Transaction) (mine : List ReplyLine) → IsWhole script nothing_before es t mine → IsWhole script nothing_before (es ++ e ∷ []) t mine
-whole_stays script es e t mine was =
-    let within : was.begin ≤ 0 + length es = was.within in
-    record {
-      begin = was.begin;
-      within = omega (arith, within, last_more nothing_before es e);
-      last = was.last;
-      ends = was.ends;
-      says = subst (λ (rows : Rows). mine ≡ reply.Begin was.begin ∷ ((alone (tables_of script) rows t.texts).replies ++ was.last)) (sym (rows_stay script es e was.begin (omega (arith, within)))) was.says;
-    }
+  pub cut_stays : (t : Transaction) (mine : List ReplyLine) → IsCut basis es t mine → IsCut basis (es ++ e ∷ []) t mine
+  cut_stays t mine was =
+      let within : was.begin ≤ last_position basis.origin es = was.within in
+      record {
+        begin = was.begin;
+        base = was.base;
+        within = omega (arith, within, last_more basis.origin es e);
+        ran = was.ran;
+        is_ran = was.is_ran ∙ sym (alone_stays t was.begin within);
+        front = was.front;
+        rest = was.rest;
+        fits = was.fits;
+        cause = was.cause;
+        is_cause = was.is_cause;
+        says = was.says;
+      }
 
-pub cut_stays : (script : Script) (es : List EntryLine) (e : EntryLine) (t : Transaction) (mine : List ReplyLine) → IsCut script nothing_before es t mine → IsCut script nothing_before (es ++ e ∷ []) t mine
-cut_stays script es e t mine was =
-    let within : was.begin ≤ 0 + length es = was.within in
-    record {
-      begin = was.begin;
-      within = omega (arith, within, last_more nothing_before es e);
-      front = was.front;
-      rest = was.rest;
-      fits = subst (λ (rows : Rows). was.front ++ was.rest ≡ reply.Begin was.begin ∷ (alone (tables_of script) rows t.texts).replies) (sym (rows_stay script es e was.begin (omega (arith, within)))) was.fits;
-      says = was.says;
-    }
-
--- what an item was told is told of it still
-pub told_stays : (script : Script) (es : List EntryLine) (e : EntryLine) (item : Item) (mine : List ReplyLine) → IsTold script nothing_before es item mine → IsTold script nothing_before (es ++ e ∷ []) item mine
-told_stays script es e (Does t) mine (inl was) = inl (whole_stays script es e t mine was)
-told_stays script es e (Does t) mine (inr was) = inr (cut_stays script es e t mine was)
-told_stays script es e (Lone answer) mine was = was
-
--- a right outcome at a begin in the history stays right, by the same operations
-outcome_stays : (script : Script) (es : List EntryLine) (e : EntryLine) (name : List ℕ) (t : Transaction) (begin : ℕ) (outcome : ReplyLine) → begin ≤ length es →
-    IsRight script nothing_before es name t begin (alone_at script nothing_before es t begin).ops outcome →
-    IsRight script nothing_before (es ++ e ∷ []) name t begin (alone_at script nothing_before (es ++ e ∷ []) t begin).ops outcome
-outcome_stays script es e name t begin outcome within was =
-    subst (λ (rows : Rows). IsRight script nothing_before (es ++ e ∷ []) name t begin (alone (tables_of script) rows t.texts).ops outcome) (sym (rows_stay script es e begin within))
-    (right_stays script es e name t begin (alone_at script nothing_before es t begin).ops outcome was)
-
-whole_ends_stay : (script : Script) (es : List EntryLine) (e : EntryLine) (name : List ℕ) (t : Transaction) (mine : List ReplyLine) → IsWhole script nothing_before es t mine →
-    EndsRight script nothing_before es name (Does t) mine → EndsRight script nothing_before (es ++ e ∷ []) name (Does t) mine
-whole_ends_stay script es e name t mine told was begin front outcome is =
-    let at : begin ≡ told.begin = first_begin begin told.begin _ _ (sym is ∙ told.says) in
-    let within : told.begin ≤ 0 + length es = told.within in
-    outcome_stays script es e name t begin outcome (omega (arith, at, within)) (was begin front outcome is)
-
--- the end of what an item was told stays right
-pub ends_stay : (script : Script) (es : List EntryLine) (e : EntryLine) (name : List ℕ) (item : Item) (mine : List ReplyLine) → IsTold script nothing_before es item mine →
-    EndsRight script nothing_before es name item mine → EndsRight script nothing_before (es ++ e ∷ []) name item mine
-ends_stay script es e name (Does t) mine (inl told) was = whole_ends_stay script es e name t mine told was
-ends_stay script es e name (Does t) mine (inr told) was = cut_ends script nothing_before (es ++ e ∷ []) name t mine (cut_stays script es e t mine told)
-ends_stay script es e name (Lone answer) mine told was = tt
+  -- what an item was told is told of it still
+  pub told_stays : (name : List ℕ) (item : Item) (mine : List ReplyLine) → IsTold basis es name item mine → IsTold basis (es ++ e ∷ []) name item mine
+  told_stays name (Does t) mine (inl was) = inl (whole_stays name t mine was)
+  told_stays name (Does t) mine (inr was) = inr (cut_stays t mine was)
+  told_stays name (Lone answer) mine was = was
 
 -- an entry's transaction was answered in each longer list of lines
 pub answered_more : (lines more : List Line) (e : EntryLine) → IsAnswered lines e → IsAnswered (lines ++ more) e
 answered_more lines more (Setup position) was = tt
-answered_more lines more (Commit position session txn begin level) was = stands_more lines more _ was
+answered_more lines more (Commit position session txn begin level) was = (stands_more lines more _ was.0, stands_more lines more _ was.1)

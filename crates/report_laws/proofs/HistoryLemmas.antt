@@ -1,71 +1,62 @@
 -- How the history and what speaks of it stay when it grows by an entry.
-use Rattle.std.proofs.Common.{◌≡◌, ℕ, ◌+◌, ◌-◌, ◌<◌, ◌≤◌, List, [], ◌∷◌, ◌++◌, length, refl, ap, arith, ◌∙◌, Option, Some, unwrap_or, take}
-use Rattle.std.proofs.lemmas.List.{length-append, take-append-le}
+use Rattle.std.proofs.Common.{◌≡◌, ℕ, ◌+◌, ◌-◌, ◌<◌, ◌≤◌, List, [], ◌∷◌, ◌++◌, length, refl, ap, arith, ◌∙◌, Option, Some, take}
+use Rattle.std.proofs.lemmas.List.{length-append}
 use Rattle.std.proofs.Math.Seq.{take-append_seam}
-use Rattle.std.specs.List.{slice_get}
 use Rattle.cdb_values.specs.Rows.{Rows}
-use Rattle.script_read.specs.declared.scripts.Script.{Script}
-use Rattle.report_laws.specs.History.{Origin, nothing_before, rows_after, rows_among, states_from, states_of, rows_at, ops_of, entry_at, entries_before, taken_by, taken_by_entry, taken_at, first_touched, IsUntouched}
-use Rattle.report_laws.specs.declared.items.GenidItem.{GenidItem}
+use Rattle.cdb_values.specs.Changes.{genids_taken, taken_by}
+use Rattle.cdb_values.proofs.ChangeLaws.{take_the_same}
+use Rattle.report_laws.specs.History.{Origin, Basis, rows_after, rows_among, states_of, rows_at, ops_of, entry_at, changes_by, changes_at, taken_at, first_touched, last_position, IsUntouched}
+use Rattle.cdb_values.specs.declared.items.GenidItem.{GenidItem}
 use Rattle.report_text.specs.declared.reports.EntryLine.{EntryLine}
-use Rattle.report_laws.proofs.EachLemmas.{get_front, get_next}
+use Rattle.report_text.specs.declared.reports.EntryLine.TheVariants.{Setup, Commit}
+use Rattle.report_laws.proofs.FrontLemmas.{rows_front, entry_front, taken_front, entry_next, rows_next}
 
--- the states after an entry more
-pub states_more : (script : Script) (origin : Origin) (states : List Rows) (es : List EntryLine) (e : EntryLine) →
-    states_from script origin states (es ++ e ∷ []) ≡ states_from script origin states es ++ rows_after script origin (states_from script origin states es) e ∷ []
-states_more script origin states [] e = refl
-states_more script origin states (d ∷ es) e = states_more script origin (states ++ rows_after script origin states d ∷ []) es e
+-- the history with an entry more is one position longer
+pub last_more : (origin : Origin) (es : List EntryLine) (e : EntryLine) → last_position origin (es ++ e ∷ []) ≡ last_position origin es + 1
+last_more origin es e = omega (arith, length-append es (e ∷ []))
 
-pub states_count : (script : Script) (origin : Origin) (states : List Rows) (es : List EntryLine) → length (states_from script origin states es) ≡ length states + length es
-states_count script origin states [] = omega arith
-states_count script origin states (e ∷ es) =
-    let more = states_count script origin (states ++ rows_after script origin states e ∷ []) es in
-    omega (arith, more, length-append states (rows_after script origin states e ∷ []))
+-- an entry takes away what its operations take away
+taken_by_one : (basis : Basis) (states : List Rows) (e : EntryLine) → genids_taken (changes_by basis states (Some e)) ≡ taken_by (ops_of basis states e)
+taken_by_one basis states (Setup position) = refl
+taken_by_one basis states (Commit position session txn begin level) =
+    take_the_same (ops_of basis states (Commit position session txn begin level)) (rows_among basis.origin states (position - 1)).next
 
--- the rows at the positions up to now stay
-pub rows_stay : (script : Script) (es : List EntryLine) (e : EntryLine) (b : ℕ) → b ≤ length es → rows_at script nothing_before (es ++ e ∷ []) b ≡ rows_at script nothing_before es b
-rows_stay script es e b within =
-    let count = states_count script nothing_before (nothing_before.rows ∷ []) es in
-    let inside : b - 0 < length (states_of script nothing_before es) = omega (arith, count, within) in
-    ap (λ (states : List Rows). rows_among nothing_before states b) (states_more script nothing_before (nothing_before.rows ∷ []) es e)
-    ∙ ap (λ found. unwrap_or found nothing_before.rows) (get_front (states_of script nothing_before es) _ (b - 0) inside)
+module _ (basis : Basis) (es : List EntryLine) (e : EntryLine) where
+  abbrev now : ℕ
+  now = last_position basis.origin es
 
--- the rows at the next position
-pub rows_new : (script : Script) (es : List EntryLine) (e : EntryLine) →
-    rows_at script nothing_before (es ++ e ∷ []) (length es + 1) ≡ rows_after script nothing_before (states_of script nothing_before es) e
-rows_new script es e =
-    let count = states_count script nothing_before (nothing_before.rows ∷ []) es in
-    let at : length es + 1 - 0 ≡ length (states_of script nothing_before es) = omega (arith, count) in
-    ap (λ (states : List Rows). rows_among nothing_before states (length es + 1)) (states_more script nothing_before (nothing_before.rows ∷ []) es e)
-    ∙ ap (λ k. unwrap_or (slice_get (states_of script nothing_before es ++ rows_after script nothing_before (states_of script nothing_before es) e ∷ []) k) nothing_before.rows) at
-    ∙ ap (λ found. unwrap_or found nothing_before.rows) (get_next (states_of script nothing_before es) (rows_after script nothing_before (states_of script nothing_before es) e) [])
+  -- the rows at the positions up to now stay
+  pub rows_stay : (b : ℕ) → b ≤ now → rows_at basis (es ++ e ∷ []) b ≡ rows_at basis es b
+  rows_stay b within = rows_front basis es (e ∷ []) b within
 
--- an entry keeps its place
-pub entry_stays : (es : List EntryLine) (e : EntryLine) (k : ℕ) → 1 ≤ k → k ≤ length es → entry_at nothing_before (es ++ e ∷ []) k ≡ entry_at nothing_before es k
-entry_stays es e k first within = get_front es (e ∷ []) (k - 1) (omega (arith, first, within))
+  -- the rows at the next position
+  pub rows_new : rows_at basis (es ++ e ∷ []) (now + 1) ≡ rows_after basis (states_of basis es) e
+  rows_new = rows_next basis es [] e
 
--- and the new one stands at the next position
-pub entry_new : (es : List EntryLine) (e : EntryLine) → entry_at nothing_before (es ++ e ∷ []) (length es + 1) ≡ Some e
-entry_new es e =
-    let at : length es + 1 - 1 ≡ length es = omega arith in
-    ap (λ k. slice_get (es ++ e ∷ []) k) at ∙ get_next es e []
+  -- an entry keeps its place
+  pub entry_stays : (k : ℕ) → basis.origin.position < k → k ≤ now → entry_at basis.origin (es ++ e ∷ []) k ≡ entry_at basis.origin es k
+  entry_stays k first within = entry_front basis es (e ∷ []) k first within
 
--- so what an entry takes away stays
-pub taken_stays : (script : Script) (es : List EntryLine) (e : EntryLine) (k : ℕ) → 1 ≤ k → k ≤ length es → taken_at script nothing_before (es ++ e ∷ []) k ≡ taken_at script nothing_before es k
-taken_stays script es e k first within =
-    let inside : k - 1 ≤ length es = omega (arith, within) in
-    ap (λ (before : List EntryLine). taken_by_entry script nothing_before (states_of script nothing_before before) (entry_at nothing_before (es ++ e ∷ []) k)) (take-append-le (k - 1) es (e ∷ []) inside)
-    ∙ ap (λ (found : Option EntryLine). taken_by_entry script nothing_before (states_of script nothing_before (entries_before nothing_before es k)) found) (entry_stays es e k first within)
+  -- and the new one stands at the next position
+  pub entry_new : entry_at basis.origin (es ++ e ∷ []) (now + 1) ≡ Some e
+  entry_new = entry_next basis.origin es [] e
 
-pub taken_new : (script : Script) (es : List EntryLine) (e : EntryLine) → taken_at script nothing_before (es ++ e ∷ []) (length es + 1) ≡ taken_by (ops_of script nothing_before (states_of script nothing_before es) e)
-taken_new script es e =
-    let at : length es + 1 - 1 ≡ length es = omega arith in
-    ap (λ k. taken_by_entry script nothing_before (states_of script nothing_before (take k (es ++ e ∷ []))) (entry_at nothing_before (es ++ e ∷ []) (length es + 1))) at
-    ∙ ap (λ (before : List EntryLine). taken_by_entry script nothing_before (states_of script nothing_before before) (entry_at nothing_before (es ++ e ∷ []) (length es + 1))) (take-append_seam es (e ∷ []))
-    ∙ ap (λ (found : Option EntryLine). taken_by_entry script nothing_before (states_of script nothing_before es) found) (entry_new es e)
+  -- so what an entry takes away stays
+  pub taken_stays : (k : ℕ) → basis.origin.position < k → k ≤ now → taken_at basis (es ++ e ∷ []) k ≡ taken_at basis es k
+  taken_stays k first within = taken_front basis es (e ∷ []) k first within
 
--- what no entry touched stays so
-pub untouched_stays : (script : Script) (es : List EntryLine) (e : EntryLine) (begin position : ℕ) (used : List GenidItem) → position ≤ length es + 1 →
-    IsUntouched script nothing_before es begin position used → IsUntouched script nothing_before (es ++ e ∷ []) begin position used
-untouched_stays script es e begin position used within was = λ j after before.
-    ap (λ (taken : List GenidItem). first_touched taken used) (taken_stays script es e j (omega (arith, after)) (omega (arith, before, within))) ∙ was j after before
+  changes_new : changes_at basis (es ++ e ∷ []) (now + 1) ≡ changes_by basis (states_of basis es) (Some e)
+  changes_new =
+      let at : basis.origin.position + length es + 1 - (basis.origin.position + 1) ≡ length es = omega arith in
+      ap (λ k. changes_by basis (states_of basis (take k (es ++ e ∷ []))) (entry_at basis.origin (es ++ e ∷ []) (now + 1))) at
+      ∙ ap (λ (before : List EntryLine). changes_by basis (states_of basis before) (entry_at basis.origin (es ++ e ∷ []) (now + 1))) (take-append_seam es (e ∷ []))
+      ∙ ap (λ (found : Option EntryLine). changes_by basis (states_of basis es) found) entry_new
+
+  -- and what the new one takes away is what its operations take away
+  pub taken_new : taken_at basis (es ++ e ∷ []) (now + 1) ≡ taken_by (ops_of basis (states_of basis es) e)
+  taken_new = ap genids_taken changes_new ∙ taken_by_one basis (states_of basis es) e
+
+  -- what no entry touched stays so
+  pub untouched_stays : (begin position : ℕ) (used : List GenidItem) → basis.origin.position ≤ begin → position ≤ now + 1 → IsUntouched basis es begin position used → IsUntouched basis (es ++ e ∷ []) begin position used
+  untouched_stays begin position used base within was = λ j after before.
+      ap (λ (taken : List GenidItem). first_touched taken used) (taken_stays j (omega (arith, base, after)) (omega (arith, before, within))) ∙ was j after before

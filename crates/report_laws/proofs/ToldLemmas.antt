@@ -1,8 +1,8 @@
 -- How what sessions were told grows by the lines of one more piece.
-use Rattle.std.proofs.Common.{◌≡◌, ℕ, List, [], ◌∷◌, ◌++◌, refl, sym, subst, ap, ◌∙◌, Bool, true, false, append_assoc, if◌then◌else◌}
+use Rattle.std.proofs.Common.{◌≡◌, ℕ, List, [], ◌∷◌, ◌++◌, refl, sym, subst, ap, ◌∙◌, true, false, append_assoc}
 use Rattle.std.proofs.lemmas.List.{append-nil, map-append}
 use Rattle.std.specs.Str.{bytes_eq}
-use Rattle.report_laws.specs.Told.{told, Along, Numbered, numbered, lines_of}
+use Rattle.report_laws.specs.Told.{told, told_by, Along, Numbered, numbered, lines_of}
 use Rattle.report_laws.specs.Work.{Item, number_of}
 use Rattle.report_text.specs.declared.reports.Line.{Line}
 use Rattle.report_text.specs.declared.reports.Line.TheVariants as line
@@ -10,16 +10,7 @@ use Rattle.report_text.specs.declared.reports.ReplyLine.{ReplyLine}
 
 pub told_append : (name : List ℕ) (xs ys : List Line) → told name (xs ++ ys) ≡ told name xs ++ told name ys
 told_append name [] ys = refl
-told_append name (line.Session session txn answer ∷ xs) ys = go (bytes_eq session name) (told_append name xs ys)
-  where
-    go : (b : Bool) → told name (xs ++ ys) ≡ told name xs ++ told name ys →
-        (if b then (txn, answer) ∷ told name (xs ++ ys) else told name (xs ++ ys)) ≡ (if b then (txn, answer) ∷ told name xs else told name xs) ++ told name ys
-    go true is = ap (λ rest. (txn, answer) ∷ rest) is
-    go false is = is
-told_append name (line.Down count node fault ∷ xs) ys = told_append name xs ys
-told_append name (line.Up node ∷ xs) ys = told_append name xs ys
-told_append name (line.Barrier ∷ xs) ys = told_append name xs ys
-told_append name (line.Fed position ∷ xs) ys = told_append name xs ys
+told_append name (x ∷ xs) ys = ap (λ (rest : List Numbered). told_by name x ++ rest) (told_append name xs ys) ∙ sym (append_assoc (told_by name x) (told name xs) (told name ys))
 
 -- a session is told its own lines
 pub told_own : (name session : List ℕ) (number : ℕ) (replies : List ReplyLine) → bytes_eq session name ≡ true → told name (lines_of session number replies) ≡ numbered number replies

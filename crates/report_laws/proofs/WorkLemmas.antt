@@ -4,13 +4,10 @@ use Rattle.std.proofs.lemmas.Bool.{eq-eqb, ne_eqb}
 use Rattle.std.proofs.lemmas.List.{append-nil, append_cancel_left}
 use Rattle.std.specs.List.{AllByRecursion}
 use Rattle.std.specs.Str.{bytes_eq}
-use Rattle.cdb_values.specs.declared.rows.Level.TheVariants.{Snapshot}
-use Rattle.statement_read.specs.Statements.{statement_of, kind_of}
-use Rattle.statement_read.specs.declared.statements.TextKind.{TextKind}
-use Rattle.statement_read.specs.declared.statements.TextKind.TheVariants as kind
-use Rattle.script_read.specs.declared.scripts.BodyLine.{BodyLine}
-use Rattle.script_read.specs.declared.scripts.Act.{Act}
-use Rattle.script_read.specs.declared.scripts.Act.TheVariants as act
+use Rattle.report_laws.specs.Language.{Language, Kind, BeginText, CommitText, RollbackText, LevelText, OtherText}
+use Rattle.script_form.specs.declared.scripts.BodyLine.{BodyLine}
+use Rattle.script_form.specs.declared.scripts.Act.{Act}
+use Rattle.script_form.specs.declared.scripts.Act.TheVariants as act
 use Rattle.report_laws.specs.Work.{Transaction, Item, Does, Lone, Place, start, next_by, next_place, place_from, place_after, said, said_by, open_item, items_at, numbered_among, transaction_of}
 use Rattle.report_text.specs.declared.reports.ReplyLine.{ReplyLine}
 use Rattle.report_laws.proofs.EachLemmas.{all_append, all_map}
@@ -40,65 +37,45 @@ said_own name session text l is same = rw is (rw same refl)
 pub said_other : (name session text : List ℕ) (l : BodyLine) → l.act ≡ act.Say session text → bytes_eq session name ≡ false → said name (l ∷ []) ≡ []
 said_other name session text l is other = rw is (rw other refl)
 
-pub place_append : (p : Place) (xs ys : List (List ℕ)) → place_from p (xs ++ ys) ≡ place_from (place_from p xs) ys
-place_append p [] ys = refl
-place_append p (x ∷ xs) ys = place_append (next_place p x) xs ys
+pub place_append : (language : Language) (p : Place) (xs ys : List (List ℕ)) → place_from language p (xs ++ ys) ≡ place_from language (place_from language p xs) ys
+place_append language p [] ys = refl
+place_append language p (x ∷ xs) ys = place_append language (next_place language p x) xs ys
 
 -- where a session is after lines and then others
-pub after_more : (name : List ℕ) (done more : List BodyLine) → place_after name (done ++ more) ≡ place_from (place_after name done) (said name more)
-after_more name done more = ap (λ (texts : List (List ℕ)). place_from start texts) (said_append name done more) ∙ place_append start (said name done) (said name more)
+pub after_more : (language : Language) (name : List ℕ) (done more : List BodyLine) → place_after language name (done ++ more) ≡ place_from language (place_after language name done) (said name more)
+after_more language name done more = ap (λ (texts : List (List ℕ)). place_from language start texts) (said_append name done more) ∙ place_append language start (said name done) (said name more)
 
 -- after a line of its own a session is one place further
-pub after_own : (name session text : List ℕ) (l : BodyLine) (done : List BodyLine) → l.act ≡ act.Say session text → bytes_eq session name ≡ true →
-    place_after name (done ++ l ∷ []) ≡ next_place (place_after name done) text
-after_own name session text l done is same =
-    after_more name done (l ∷ []) ∙ ap (λ (texts : List (List ℕ)). place_from (place_after name done) texts) (said_own name session text l is same)
+pub after_own : (language : Language) (name session text : List ℕ) (l : BodyLine) (done : List BodyLine) → l.act ≡ act.Say session text → bytes_eq session name ≡ true →
+    place_after language name (done ++ l ∷ []) ≡ next_place language (place_after language name done) text
+after_own language name session text l done is same =
+    after_more language name done (l ∷ []) ∙ ap (λ (texts : List (List ℕ)). place_from language (place_after language name done) texts) (said_own name session text l is same)
 
 -- after one of another it is where it was
-pub after_other : (name session text : List ℕ) (l : BodyLine) (done : List BodyLine) → l.act ≡ act.Say session text → bytes_eq session name ≡ false →
-    place_after name (done ++ l ∷ []) ≡ place_after name done
-after_other name session text l done is other =
-    after_more name done (l ∷ []) ∙ ap (λ (texts : List (List ℕ)). place_from (place_after name done) texts) (said_other name session text l is other)
+pub after_other : (language : Language) (name session text : List ℕ) (l : BodyLine) (done : List BodyLine) → l.act ≡ act.Say session text → bytes_eq session name ≡ false →
+    place_after language name (done ++ l ∷ []) ≡ place_after language name done
+after_other language name session text l done is other =
+    after_more language name done (l ∷ []) ∙ ap (λ (texts : List (List ℕ)). place_from language (place_after language name done) texts) (said_other name session text l is other)
 
 -- what is over stays over
-over_next : (p : Place) (text : List ℕ) (k : TextKind) (pending : Option (List (List ℕ))) → (more : List Item) × ((next_by p text k pending).over ≡ p.over ++ more)
-over_next p text kind.Begin None = ([], sym (append-nil p.over))
-over_next p text kind.Commit None = (_, refl)
-over_next p text kind.Rollback None = (_, refl)
-over_next p text kind.SetSnapshot None = (_, refl)
-over_next p text kind.Other None = (_, refl)
-over_next p text kind.Begin (Some texts) = ([], sym (append-nil p.over))
-over_next p text kind.Commit (Some texts) = (_, refl)
-over_next p text kind.Rollback (Some texts) = (_, refl)
-over_next p text kind.SetSnapshot (Some texts) = ([], sym (append-nil p.over))
-over_next p text kind.Other (Some texts) = ([], sym (append-nil p.over))
+over_next : (p : Place) (text : List ℕ) (k : Kind) (pending : Option (List (List ℕ))) → (more : List Item) × ((next_by p text k pending).over ≡ p.over ++ more)
+over_next p text BeginText None = ([], sym (append-nil p.over))
+over_next p text CommitText None = (_, refl)
+over_next p text RollbackText None = (_, refl)
+over_next p text (LevelText level) None = (_, refl)
+over_next p text OtherText None = (_, refl)
+over_next p text BeginText (Some texts) = ([], sym (append-nil p.over))
+over_next p text CommitText (Some texts) = (_, refl)
+over_next p text RollbackText (Some texts) = (_, refl)
+over_next p text (LevelText level) (Some texts) = ([], sym (append-nil p.over))
+over_next p text OtherText (Some texts) = ([], sym (append-nil p.over))
 
-pub over_grows : (p : Place) (texts : List (List ℕ)) → (more : List Item) × ((place_from p texts).over ≡ p.over ++ more)
-over_grows p [] = ([], sym (append-nil p.over))
-over_grows p (text ∷ texts) =
-    let step : (more : List Item) × ((next_place p text).over ≡ p.over ++ more) = over_next p text (kind_of (statement_of text)) p.pending in
-    let rest : (more : List Item) × ((place_from (next_place p text) texts).over ≡ (next_place p text).over ++ more) = over_grows (next_place p text) texts in
+pub over_grows : (language : Language) (p : Place) (texts : List (List ℕ)) → (more : List Item) × ((place_from language p texts).over ≡ p.over ++ more)
+over_grows language p [] = ([], sym (append-nil p.over))
+over_grows language p (text ∷ texts) =
+    let step : (more : List Item) × ((next_place language p text).over ≡ p.over ++ more) = over_next p text (language.kind text) p.pending in
+    let rest : (more : List Item) × ((place_from language (next_place language p text) texts).over ≡ (next_place language p text).over ++ more) = over_grows language (next_place language p text) texts in
     (step.0 ++ rest.0, rest.1 ∙ ap (λ (front : List Item). front ++ rest.0) step.1 ∙ append_assoc p.over step.0 rest.0)
-
--- the level of a session is snapshot at each place
-level_next : (p : Place) (text : List ℕ) (k : TextKind) (pending : Option (List (List ℕ))) → p.level ≡ Snapshot → (next_by p text k pending).level ≡ Snapshot
-level_next p text kind.Begin None is = is
-level_next p text kind.Commit None is = is
-level_next p text kind.Rollback None is = is
-level_next p text kind.SetSnapshot None is = refl
-level_next p text kind.Other None is = is
-level_next p text kind.Begin (Some texts) is = is
-level_next p text kind.Commit (Some texts) is = is
-level_next p text kind.Rollback (Some texts) is = is
-level_next p text kind.SetSnapshot (Some texts) is = is
-level_next p text kind.Other (Some texts) is = is
-
-pub level_from : (p : Place) (texts : List (List ℕ)) → p.level ≡ Snapshot → (place_from p texts).level ≡ Snapshot
-level_from p [] is = is
-level_from p (text ∷ texts) is = level_from (next_place p text) texts (level_next p text (kind_of (statement_of text)) p.pending is)
-
-pub level_stays : (texts : List (List ℕ)) → (place_from start texts).level ≡ Snapshot
-level_stays texts = level_from start texts refl
 
 -- a transaction found by its number is found in each longer work
 pub numbered_front : (n : ℕ) (t : Transaction) (xs ys : List Item) → numbered_among n xs ≡ Some t → numbered_among n (xs ++ ys) ≡ Some t
@@ -141,72 +118,72 @@ pub record AreNumbered (p : Place) : Type 0 where
   pub below : AllByRecursion (IsBelow (first_left p.number p.pending)) p.over
   pub begun : IsBegun p.number p.pending
 
-below_more : (a b : ℕ) (xs : List Item) → a ≤ b → AllByRecursion (IsBelow a) xs → AllByRecursion (IsBelow b) xs
+pub below_more : (a b : ℕ) (xs : List Item) → a ≤ b → AllByRecursion (IsBelow a) xs → AllByRecursion (IsBelow b) xs
 below_more a b xs le all = all_map (IsBelow a) (IsBelow b) up xs all
   where
     up : (x : Item) → IsBelow a x → IsBelow b x
     up (Does t) is = (is.0, (let h : t.number < a = is.1 in omega (arith, h, le)))
     up (Lone answer) is = tt
 
-below_next : (p : Place) (text : List ℕ) (k : TextKind) (pending : Option (List (List ℕ))) → AllByRecursion (IsBelow (first_left p.number pending)) p.over → IsBegun p.number pending →
+below_next : (p : Place) (text : List ℕ) (k : Kind) (pending : Option (List (List ℕ))) → AllByRecursion (IsBelow (first_left p.number pending)) p.over → IsBegun p.number pending →
     AllByRecursion (IsBelow (first_left (next_by p text k pending).number (next_by p text k pending).pending)) (next_by p text k pending).over
-below_next p text kind.Begin None all begun = all
-below_next p text kind.Commit None all begun = all_append (IsBelow (p.number + 1)) p.over _ all (tt, tt)
-below_next p text kind.Rollback None all begun = all_append (IsBelow (p.number + 1)) p.over _ all (tt, tt)
-below_next p text kind.SetSnapshot None all begun = all_append (IsBelow (p.number + 1)) p.over _ all (tt, tt)
-below_next p text kind.Other None all begun =
+below_next p text BeginText None all begun = all
+below_next p text CommitText None all begun = all_append (IsBelow (p.number + 1)) p.over _ all (tt, tt)
+below_next p text RollbackText None all begun = all_append (IsBelow (p.number + 1)) p.over _ all (tt, tt)
+below_next p text (LevelText level) None all begun = all_append (IsBelow (p.number + 1)) p.over _ all (tt, tt)
+below_next p text OtherText None all begun =
     all_append (IsBelow (p.number + 1 + 1)) p.over _ (below_more (p.number + 1) (p.number + 1 + 1) p.over (omega arith) all) ((omega arith, omega arith), tt)
-below_next p text kind.Begin (Some texts) all begun = all
-below_next p text kind.Commit (Some texts) all begun =
+below_next p text BeginText (Some texts) all begun = all
+below_next p text CommitText (Some texts) all begun =
     all_append (IsBelow (p.number + 1)) p.over _ (below_more p.number (p.number + 1) p.over (omega arith) all) ((begun, omega arith), tt)
-below_next p text kind.Rollback (Some texts) all begun =
+below_next p text RollbackText (Some texts) all begun =
     all_append (IsBelow (p.number + 1)) p.over _ (below_more p.number (p.number + 1) p.over (omega arith) all) ((begun, omega arith), tt)
-below_next p text kind.SetSnapshot (Some texts) all begun = all
-below_next p text kind.Other (Some texts) all begun = all
+below_next p text (LevelText level) (Some texts) all begun = all
+below_next p text OtherText (Some texts) all begun = all
 
-begun_next : (p : Place) (text : List ℕ) (k : TextKind) (pending : Option (List (List ℕ))) → IsBegun p.number pending → IsBegun (next_by p text k pending).number (next_by p text k pending).pending
-begun_next p text kind.Begin None begun = omega arith
-begun_next p text kind.Commit None begun = tt
-begun_next p text kind.Rollback None begun = tt
-begun_next p text kind.SetSnapshot None begun = tt
-begun_next p text kind.Other None begun = tt
-begun_next p text kind.Begin (Some texts) begun = begun
-begun_next p text kind.Commit (Some texts) begun = tt
-begun_next p text kind.Rollback (Some texts) begun = tt
-begun_next p text kind.SetSnapshot (Some texts) begun = begun
-begun_next p text kind.Other (Some texts) begun = begun
+pub begun_next : (p : Place) (text : List ℕ) (k : Kind) (pending : Option (List (List ℕ))) → IsBegun p.number pending → IsBegun (next_by p text k pending).number (next_by p text k pending).pending
+begun_next p text BeginText None begun = omega arith
+begun_next p text CommitText None begun = tt
+begun_next p text RollbackText None begun = tt
+begun_next p text (LevelText level) None begun = tt
+begun_next p text OtherText None begun = tt
+begun_next p text BeginText (Some texts) begun = begun
+begun_next p text CommitText (Some texts) begun = tt
+begun_next p text RollbackText (Some texts) begun = tt
+begun_next p text (LevelText level) (Some texts) begun = begun
+begun_next p text OtherText (Some texts) begun = begun
 
-pub are_numbered_next : (p : Place) (text : List ℕ) → AreNumbered p → AreNumbered (next_place p text)
-are_numbered_next p text was = record {
-  below = below_next p text (kind_of (statement_of text)) p.pending was.below was.begun;
-  begun = begun_next p text (kind_of (statement_of text)) p.pending was.begun;
+pub are_numbered_next : (language : Language) (p : Place) (text : List ℕ) → AreNumbered p → AreNumbered (next_place language p text)
+are_numbered_next language p text was = record {
+  below = below_next p text (language.kind text) p.pending was.below was.begun;
+  begun = begun_next p text (language.kind text) p.pending was.begun;
 }
 
-pub are_numbered_from : (p : Place) (texts : List (List ℕ)) → AreNumbered p → AreNumbered (place_from p texts)
-are_numbered_from p [] was = was
-are_numbered_from p (text ∷ texts) was = are_numbered_from (next_place p text) texts (are_numbered_next p text was)
+pub are_numbered_from : (language : Language) (p : Place) (texts : List (List ℕ)) → AreNumbered p → AreNumbered (place_from language p texts)
+are_numbered_from language p [] was = was
+are_numbered_from language p (text ∷ texts) was = are_numbered_from language (next_place language p text) texts (are_numbered_next language p text was)
 
-pub are_numbered : (texts : List (List ℕ)) → AreNumbered (place_from start texts)
-are_numbered texts = are_numbered_from start texts (record { below = tt; begun = tt })
+pub are_numbered : (language : Language) (texts : List (List ℕ)) → AreNumbered (place_from language start texts)
+are_numbered language texts = are_numbered_from language start texts (record { below = tt; begun = tt })
 
 -- a line with which a transaction is over has a number above those that were over before
 lone_or_does : (xs : List Item) (answer : ReplyLine) (t : Transaction) → xs ++ Lone answer ∷ [] ≡ xs ++ Does t ∷ [] → ⊥
 lone_or_does xs answer t is = let same = append_cancel_left xs (Lone answer ∷ []) (Does t ∷ []) is in cc
 
-above_next : (p : Place) (text : List ℕ) (k : TextKind) (pending : Option (List (List ℕ))) (t : Transaction) → (next_by p text k pending).over ≡ p.over ++ Does t ∷ [] →
+above_next : (p : Place) (text : List ℕ) (k : Kind) (pending : Option (List (List ℕ))) (t : Transaction) → (next_by p text k pending).over ≡ p.over ++ Does t ∷ [] →
     first_left p.number pending ≤ (next_by p text k pending).number
-above_next p text kind.Begin None t is = omega arith
-above_next p text kind.Commit None t is = absurd (lone_or_does p.over _ t is)
-above_next p text kind.Rollback None t is = absurd (lone_or_does p.over _ t is)
-above_next p text kind.SetSnapshot None t is = absurd (lone_or_does p.over _ t is)
-above_next p text kind.Other None t is = omega arith
-above_next p text kind.Begin (Some texts) t is = omega arith
-above_next p text kind.Commit (Some texts) t is = omega arith
-above_next p text kind.Rollback (Some texts) t is = omega arith
-above_next p text kind.SetSnapshot (Some texts) t is = omega arith
-above_next p text kind.Other (Some texts) t is = omega arith
+above_next p text BeginText None t is = omega arith
+above_next p text CommitText None t is = absurd (lone_or_does p.over _ t is)
+above_next p text RollbackText None t is = absurd (lone_or_does p.over _ t is)
+above_next p text (LevelText level) None t is = absurd (lone_or_does p.over _ t is)
+above_next p text OtherText None t is = omega arith
+above_next p text BeginText (Some texts) t is = omega arith
+above_next p text CommitText (Some texts) t is = omega arith
+above_next p text RollbackText (Some texts) t is = omega arith
+above_next p text (LevelText level) (Some texts) t is = omega arith
+above_next p text OtherText (Some texts) t is = omega arith
 
-others_below : (bound n : ℕ) (xs : List Item) → bound ≤ n → AllByRecursion (IsBelow bound) xs → AllByRecursion (HasOther n) xs
+pub others_below : (bound n : ℕ) (xs : List Item) → bound ≤ n → AllByRecursion (IsBelow bound) xs → AllByRecursion (HasOther n) xs
 others_below bound n xs le all = all_map (IsBelow bound) (HasOther n) other xs all
   where
     other : (x : Item) → IsBelow bound x → HasOther n x
@@ -214,23 +191,23 @@ others_below bound n xs le all = all_map (IsBelow bound) (HasOther n) other xs a
     other (Lone answer) is = tt
 
 -- the transaction that ends with a line, in the work of the whole script
-pub its_transaction : (name session text : List ℕ) (body done left : List BodyLine) (l : BodyLine) (t : Transaction) →
+pub its_transaction : (language : Language) (name session text : List ℕ) (body done left : List BodyLine) (l : BodyLine) (t : Transaction) →
     body ≡ done ++ l ∷ left → l.act ≡ act.Say session text → bytes_eq session name ≡ true →
-    (place_after name (done ++ l ∷ [])).over ≡ (place_after name done).over ++ Does t ∷ [] → t.number ≡ (place_after name (done ++ l ∷ [])).number →
-    transaction_of name t.number body ≡ Some t
-its_transaction name session text body done left l t is_body is_act same ends is =
-    let before : Place = place_after name done in
-    let now : Place = place_after name (done ++ l ∷ []) in
-    let step : now ≡ next_place before text = after_own name session text l done is_act same in
-    let above : first_left before.number before.pending ≤ (next_place before text).number =
-    above_next before text (kind_of (statement_of text)) before.pending t (subst (λ (p : Place). p.over ≡ before.over ++ Does t ∷ []) step ends) in
-    let number : t.number ≡ (next_place before text).number = is ∙ ap (λ (p : Place). p.number) step in
+    (place_after language name (done ++ l ∷ [])).over ≡ (place_after language name done).over ++ Does t ∷ [] → t.number ≡ (place_after language name (done ++ l ∷ [])).number →
+    transaction_of language name t.number body ≡ Some t
+its_transaction language name session text body done left l t is_body is_act same ends is =
+    let before : Place = place_after language name done in
+    let now : Place = place_after language name (done ++ l ∷ []) in
+    let step : now ≡ next_place language before text = after_own language name session text l done is_act same in
+    let above : first_left before.number before.pending ≤ (next_place language before text).number =
+    above_next before text (language.kind text) before.pending t (subst (λ (p : Place). p.over ≡ before.over ++ Does t ∷ []) step ends) in
+    let number : t.number ≡ (next_place language before text).number = is ∙ ap (λ (p : Place). p.number) step in
     let others : AllByRecursion (HasOther t.number) before.over =
-    others_below (first_left before.number before.pending) t.number before.over (omega (arith, above, number)) (are_numbered (said name done)).below in
+    others_below (first_left before.number before.pending) t.number before.over (omega (arith, above, number)) (are_numbered language (said name done)).below in
     let split : body ≡ (done ++ l ∷ []) ++ left = is_body ∙ sym (append_assoc done (l ∷ []) left) in
-    let last : place_after name body ≡ place_from now (said name left) = ap (λ (b : List BodyLine). place_after name b) split ∙ after_more name (done ++ l ∷ []) left in
-    let grows : (more : List Item) × ((place_from now (said name left)).over ≡ now.over ++ more) = over_grows now (said name left) in
-    let final : Place = place_from now (said name left) in
+    let last : place_after language name body ≡ place_from language now (said name left) = ap (λ (b : List BodyLine). place_after language name b) split ∙ after_more language name (done ++ l ∷ []) left in
+    let grows : (more : List Item) × ((place_from language now (said name left)).over ≡ now.over ++ more) = over_grows language now (said name left) in
+    let final : Place = place_from language now (said name left) in
     let items : items_at final ≡ before.over ++ Does t ∷ (grows.0 ++ open_item final final.pending) =
     ap (λ (front : List Item). front ++ open_item final final.pending) (grows.1 ∙ ap (λ (front : List Item). front ++ grows.0) ends ∙ append_assoc before.over (Does t ∷ []) grows.0)
     ∙ append_assoc before.over (Does t ∷ grows.0) (open_item final final.pending) in

@@ -4,10 +4,9 @@
 use Rattle.std.specs.Prelude.{◌≡◌, ℕ, ◌≤◌, ◌++◌, ◌∷◌, ◌==◌, [], List, Bool, true, false, Option, Some, None, if◌then◌else◌}
 use Rattle.std.specs.List.{AllByRecursion}
 use Rattle.std.specs.Str.{bytes_eq}
-use Rattle.script_read.specs.declared.scripts.Script.{Script}
 use Rattle.report_laws.specs.Each.{EachAfter, StandsIn}
-use Rattle.report_laws.specs.History.{Origin, IsEntryAfter, last_position}
-use Rattle.report_laws.specs.Told.{told, Along, IsTold, EndsRight}
+use Rattle.report_laws.specs.History.{Origin, Basis, IsEntryAfter, last_position}
+use Rattle.report_laws.specs.Told.{told, Along, IsTold}
 use Rattle.report_laws.specs.Work.{work}
 use Rattle.report_text.specs.declared.reports.Report.{Report}
 use Rattle.report_text.specs.declared.reports.EntryLine.{EntryLine}
@@ -71,11 +70,11 @@ abbrev pub IsFreshLine : Origin → List Line → Line → Type 0
 IsFreshLine origin before (line.Session name txn answer) = IsFreshAnswer origin before name answer
 IsFreshLine origin before _ = Unit {0}
 
--- an entry's transaction was answered that it is committed there
+-- an entry's transaction was told its begin, and answered that it is committed there
 abbrev pub IsAnswered : List Line → EntryLine → Type 0
 IsAnswered lines (Setup position) = Unit {0}
 IsAnswered lines (Commit position session txn begin level) =
-    StandsIn lines (line.Session session txn (reply.Committed position))
+    StandsIn lines (line.Session session txn (reply.Begin begin)) × StandsIn lines (line.Session session txn (reply.Committed position))
 
 -- only sessions are told anything: no node goes down or comes up, and there is no barrier and no feed
 abbrev pub IsOfSession : Line → Type 0
@@ -85,21 +84,19 @@ IsOfSession _ = ⊥
 abbrev pub base_line : ℕ → Option ℕ
 base_line position = if position == 0 then None else Some position
 
-pub record Lawful (script : Script) (origin : Origin) (report : Report) : Type 0 where
+pub record Lawful (basis : Basis) (report : Report) : Type 0 where
   -- what each session was told are its transactions and other lines, in order, each transaction with the
-  -- replies at its begin position
-  pub replies : (name : List ℕ) → Along (IsTold script origin report.entries) (work name script.body) (told name report.lines)
+  -- replies at its begin position and with a right outcome
+  pub replies : (name : List ℕ) → Along (IsTold basis report.entries name) (work basis.language name basis.script.body) (told name report.lines)
   -- every begin is fresh
-  pub begins : EachAfter (IsFreshLine origin) [] report.lines
-  -- every outcome is right
-  pub outcomes : (name : List ℕ) → Along (EndsRight script origin report.entries name) (work name script.body) (told name report.lines)
+  pub begins : EachAfter (IsFreshLine basis.origin) [] report.lines
   -- every entry is right after those before it, so each transaction stands in the history once
-  pub history : EachAfter (IsEntryAfter script origin) [] report.entries
+  pub history : EachAfter (IsEntryAfter basis) [] report.entries
   -- every entry's transaction was answered so
   pub answered : AllByRecursion (IsAnswered report.lines) report.entries
   -- no node, barrier or feed has a line
   pub sessions : AllByRecursion IsOfSession report.lines
   pub feeds : report.feeds ≡ []
   -- the base and the length of the history are told
-  pub base : report.base ≡ base_line origin.position
-  pub end : report.end ≡ last_position origin report.entries
+  pub base : report.base ≡ base_line basis.origin.position
+  pub end : report.end ≡ last_position basis.origin report.entries

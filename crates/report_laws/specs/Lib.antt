@@ -1,11 +1,12 @@
-pub mod Answer
+pub mod Answers
+pub mod Cut
 pub mod Each
 pub mod History
+pub mod Language
 pub mod Lawful
+pub mod One
 pub mod Outcome
 pub mod Paced
 pub mod Play
 pub mod Told
 pub mod Work
-pub mod Worked
-pub mod WorkedWrong

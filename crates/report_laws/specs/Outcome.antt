@@ -11,9 +11,9 @@ use Rattle.cdb_values.specs.Good.{IsGood, first_broken, KeyName}
 use Rattle.cdb_values.specs.Rows.{apply_all}
 use Rattle.cdb_values.specs.declared.rows.RowOp.{RowOp}
 use Rattle.cdb_values.specs.declared.tables.TableDef.{TableDef}
-use Rattle.script_read.specs.declared.scripts.Script.{Script}
-use Rattle.report_laws.specs.History.{Origin, rows_at, entry_at, last_position, taken_at, taken_by, first_touched, IsUntouched, genid_item}
-use Rattle.report_laws.specs.Work.{Transaction, End, ByCommit, ByRollback, WithItsLine, Nowhere, tables_of}
+use Rattle.report_laws.specs.History.{Basis, rows_at, entry_at, last_position, taken_at, first_touched, IsUntouched}
+use Rattle.report_laws.specs.Work.{Transaction, End, ByCommit, ByRollback, WithItsLine, Nowhere}
+use Rattle.cdb_values.specs.declared.items.GenidItem.{GenidItem}
 use Rattle.report_text.specs.declared.reports.EntryLine.{EntryLine}
 use Rattle.report_text.specs.declared.reports.EntryLine.TheVariants.{Commit}
 use Rattle.report_text.specs.declared.reports.ReplyLine.{ReplyLine}
@@ -21,16 +21,16 @@ use Rattle.report_text.specs.declared.reports.ReplyLine.TheVariants as reply
 
 -- a transaction with operations is committed at a position: its entry stands there, no entry between
 -- touches what it uses, and the rows there are good
-pub record IsEntered (script : Script) (origin : Origin) (entries : List EntryLine) (name : List ℕ) (t : Transaction) (begin position : ℕ) (ops : List RowOp) : Type 0 where
+pub record IsEntered (basis : Basis) (entries : List EntryLine) (name : List ℕ) (t : Transaction) (begin position : ℕ) (used : List GenidItem) : Type 0 where
   pub later : begin < position
-  pub stands : entry_at origin entries position ≡ Some (Commit position name t.number begin t.level)
-  pub untouched : IsUntouched script origin entries begin position (taken_by ops)
-  pub is_good : IsGood (tables_of script) (rows_at script origin entries position).tables
+  pub stands : entry_at basis.origin entries position ≡ Some (Commit position name t.number begin t.level)
+  pub untouched : IsUntouched basis entries begin position used
+  pub is_good : IsGood basis.origin.tables (rows_at basis entries position).tables
 
 -- committed at a position, by its operations
-abbrev pub IsCommitted : Script → Origin → List EntryLine → List ℕ → Transaction → ℕ → ℕ → List RowOp → Type 0
-IsCommitted script origin entries name t begin position [] = position ≡ begin
-IsCommitted script origin entries name t begin position (op ∷ ops) = IsEntered script origin entries name t begin position (op ∷ ops)
+abbrev pub IsCommitted : Basis → List EntryLine → List ℕ → Transaction → ℕ → ℕ → List GenidItem → List RowOp → Type 0
+IsCommitted basis entries name t begin position used [] = position ≡ begin
+IsCommitted basis entries name t begin position used (op ∷ ops) = IsEntered basis entries name t begin position used
 
 -- the name of a table, by its place
 abbrev pub name_or_none : Option TableDef → Option (List ℕ)
@@ -40,15 +40,24 @@ name_or_none (Some table) = Some table.name
 abbrev pub name_of_table : List TableDef → ℕ → Option (List ℕ)
 name_of_table tables place = name_or_none (slice_get tables place)
 
--- the entry at a position is the first since its begin that touches a version that it uses, and the
--- version is the first of these
-pub record IsConflict (script : Script) (origin : Origin) (entries : List EntryLine) (begin position : ℕ) (ops : List RowOp) (table : List ℕ) (genid : ℕ) : Type 0 where
+-- how a conflict over an item is told: by the name of its table, and its genid
+abbrev pub line_by : ℕ → ℕ → Option (List ℕ) → Option ReplyLine
+line_by position genid None = None
+line_by position genid (Some table) = Some (reply.ConflictGenid position table genid)
+
+abbrev pub conflict_line : List TableDef → ℕ → GenidItem → Option ReplyLine
+conflict_line tables position item = line_by position item.genid (name_of_table tables item.table)
+
+-- the entry at a position is the first since its begin that touches an item that it uses, the item is
+-- the first of these, and the line tells it
+pub record IsConflict (basis : Basis) (entries : List EntryLine) (begin position : ℕ) (used : List GenidItem) (ops : List RowOp) (told : ReplyLine) : Type 0 where
+  pub has_ops : ops ≢ []
   pub later : begin < position
-  pub within : position ≤ last_position origin entries
-  pub place : ℕ
-  pub named : name_of_table (tables_of script) place ≡ Some table
-  pub touched : first_touched (taken_at script origin entries position) (taken_by ops) ≡ Some (genid_item place genid)
-  pub untouched : IsUntouched script origin entries begin position (taken_by ops)
+  pub within : position ≤ last_position basis.origin entries
+  pub item : GenidItem
+  pub touched : first_touched (taken_at basis entries position) used ≡ Some item
+  pub untouched : IsUntouched basis entries begin position used
+  pub is_told : conflict_line basis.origin.tables position item ≡ Some told
 
 -- a key by its names
 abbrev pub key_name : List ℕ → List ℕ → KeyName
@@ -56,29 +65,29 @@ key_name table key = record { table = table; key = key }
 
 -- at a position of the history up to which no entry touches what it uses, its operations break that
 -- key, and none before it in order
-pub record IsDuplicate (script : Script) (origin : Origin) (entries : List EntryLine) (begin position : ℕ) (ops : List RowOp) (table key : List ℕ) : Type 0 where
+pub record IsDuplicate (basis : Basis) (entries : List EntryLine) (begin position : ℕ) (used : List GenidItem) (ops : List RowOp) (table key : List ℕ) : Type 0 where
   pub has_ops : ops ≢ []
   pub begun : begin ≤ position
-  pub within : position ≤ last_position origin entries
-  pub untouched : IsUntouched script origin entries begin (position + 1) (taken_by ops)
-  pub breaks : first_broken (tables_of script) (apply_all (rows_at script origin entries position) ops).tables ≡ Some (key_name table key)
+  pub within : position ≤ last_position basis.origin entries
+  pub untouched : IsUntouched basis entries begin (position + 1) used
+  pub breaks : first_broken basis.origin.tables (apply_all (rows_at basis entries position) ops).tables ≡ Some (key_name table key)
 
--- a line that is an outcome is right, for the transaction's operations; another line is none
-abbrev pub IsRight : Script → Origin → List EntryLine → List ℕ → Transaction → ℕ → List RowOp → ReplyLine → Type 0
-IsRight script origin entries name t begin ops (reply.Begin position) = Unit {0}
-IsRight script origin entries name t begin ops (reply.Row row) = Unit {0}
-IsRight script origin entries name t begin ops (reply.Done rows) = Unit {0}
-IsRight script origin entries name t begin ops (reply.Changed rows) = Unit {0}
-IsRight script origin entries name t begin ops (reply.Error cause) = Unit {0}
-IsRight script origin entries name t begin ops (reply.Level level) = Unit {0}
-IsRight script origin entries name t begin ops reply.RolledBack = t.end ≡ ByRollback
-IsRight script origin entries name t begin ops (reply.Committed position) = IsCommitted script origin entries name t begin position ops
-IsRight script origin entries name t begin ops (reply.ConflictGenid position table genid) = IsConflict script origin entries begin position ops table genid
-IsRight script origin entries name t begin ops (reply.ConflictRange position table key) = ⊥
-IsRight script origin entries name t begin ops (reply.Duplicate position table key) = IsDuplicate script origin entries begin position ops table key
-IsRight script origin entries name t begin ops (reply.Lost node down) = ⊥
-IsRight script origin entries name t begin ops (reply.NoMajority up nodes) = ⊥
-IsRight script origin entries name t begin ops reply.NoMemory = Unit {0}
+-- a line that is an outcome is right, for what the transaction uses and its operations; another line is none
+abbrev pub IsRight : Basis → List EntryLine → List ℕ → Transaction → ℕ → List GenidItem → List RowOp → ReplyLine → Type 0
+IsRight basis entries name t begin used ops (reply.Begin position) = Unit {0}
+IsRight basis entries name t begin used ops (reply.Row row) = Unit {0}
+IsRight basis entries name t begin used ops (reply.Done rows) = Unit {0}
+IsRight basis entries name t begin used ops (reply.Changed rows) = Unit {0}
+IsRight basis entries name t begin used ops (reply.Error cause) = Unit {0}
+IsRight basis entries name t begin used ops (reply.Level level) = Unit {0}
+IsRight basis entries name t begin used ops reply.RolledBack = t.end ≡ ByRollback
+IsRight basis entries name t begin used ops (reply.Committed position) = IsCommitted basis entries name t begin position used ops
+IsRight basis entries name t begin used ops (reply.ConflictGenid position table genid) = IsConflict basis entries begin position used ops (reply.ConflictGenid position table genid)
+IsRight basis entries name t begin used ops (reply.ConflictRange position table key) = IsConflict basis entries begin position used ops (reply.ConflictRange position table key)
+IsRight basis entries name t begin used ops (reply.Duplicate position table key) = IsDuplicate basis entries begin position used ops table key
+IsRight basis entries name t begin used ops (reply.Lost node down) = ⊥
+IsRight basis entries name t begin used ops (reply.NoMajority up nodes) = ⊥
+IsRight basis entries name t begin used ops reply.NoMemory = ⊥
 
 -- whether a line tells a decision on a commit
 abbrev pub IsDecided : ReplyLine → Type 0

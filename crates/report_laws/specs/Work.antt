@@ -1,28 +1,20 @@
--- The work of a session: its transactions and its other lines, from the script alone.
+-- The work of a session: its transactions and its other lines, from the script and its language alone.
 --
 -- A session's transactions are numbered from 1. `begin` opens one, which `commit` or `rollback` ends.
 -- Any other line outside a transaction is a transaction of its own, except `commit` and `rollback`,
 -- which do not fit there, and a line that sets the level of later transactions: these have the number 0.
 -- A transaction that is open at the end of the script stays without an end.
-use Rattle.std.specs.Prelude.{ℕ, ◌+◌, ◌==◌, ◌++◌, ◌∷◌, [], List, Option, Some, None, map, if◌then◌else◌}
+use Rattle.std.specs.Prelude.{ℕ, ◌+◌, ◌==◌, ◌++◌, ◌∷◌, [], List, Option, Some, None, if◌then◌else◌}
 use Rattle.std.specs.Str.{bytes_eq}
 use Rattle.cdb_values.specs.declared.rows.Level.{Level}
 use Rattle.cdb_values.specs.declared.rows.Level.TheVariants.{Snapshot}
 use Rattle.cdb_values.specs.declared.rows.StatementError.TheVariants.{State}
-use Rattle.cdb_values.specs.declared.tables.TableDef.{TableDef}
-use Rattle.statement_read.specs.Statements.{statement_of, kind_of}
-use Rattle.statement_read.specs.declared.statements.TextKind.{TextKind}
-use Rattle.statement_read.specs.declared.statements.TextKind.TheVariants as kind
-use Rattle.script_read.specs.declared.scripts.Script.{Script}
-use Rattle.script_read.specs.declared.scripts.BodyLine.{BodyLine}
-use Rattle.script_read.specs.declared.scripts.Act.{Act}
-use Rattle.script_read.specs.declared.scripts.Act.TheVariants as act
+use Rattle.script_form.specs.declared.scripts.BodyLine.{BodyLine}
+use Rattle.script_form.specs.declared.scripts.Act.{Act}
+use Rattle.script_form.specs.declared.scripts.Act.TheVariants as act
+use Rattle.report_laws.specs.Language.{Language, Kind, BeginText, CommitText, RollbackText, LevelText, OtherText}
 use Rattle.report_text.specs.declared.reports.ReplyLine.{ReplyLine}
 use Rattle.report_text.specs.declared.reports.ReplyLine.TheVariants as reply
-
--- the tables of a script
-abbrev pub tables_of : Script → List TableDef
-tables_of script = map (λ t. t.table) script.tables
 
 -- how a transaction ends: by a commit, by a rollback, with the one line that it is, or not at all
 pub data End : Type 0 where
@@ -74,24 +66,24 @@ abbrev pub with_open : Place → Option (List (List ℕ)) → ℕ → Place
 with_open p pending number = record { over = p.over; number = number; level = p.level; pending = pending }
 
 -- one more line
-abbrev pub next_by : Place → List ℕ → TextKind → Option (List (List ℕ)) → Place
-next_by p text kind.Begin None = with_open p (Some []) (p.number + 1)
-next_by p text kind.Commit None = with_item p (Lone (reply.Error State))
-next_by p text kind.Rollback None = with_item p (Lone (reply.Error State))
-next_by p text kind.SetSnapshot None = with_item (record p { level = Snapshot }) (Lone (reply.Level Snapshot))
-next_by p text kind.Other None = with_own_line p text
-next_by p text kind.Begin (Some texts) = with_open p (Some (texts ++ text ∷ [])) p.number
-next_by p text kind.Commit (Some texts) = closed p texts ByCommit
-next_by p text kind.Rollback (Some texts) = closed p texts ByRollback
-next_by p text kind.SetSnapshot (Some texts) = with_open p (Some (texts ++ text ∷ [])) p.number
-next_by p text kind.Other (Some texts) = with_open p (Some (texts ++ text ∷ [])) p.number
+abbrev pub next_by : Place → List ℕ → Kind → Option (List (List ℕ)) → Place
+next_by p text BeginText None = with_open p (Some []) (p.number + 1)
+next_by p text CommitText None = with_item p (Lone (reply.Error State))
+next_by p text RollbackText None = with_item p (Lone (reply.Error State))
+next_by p text (LevelText level) None = with_item (record p { level = level }) (Lone (reply.Level level))
+next_by p text OtherText None = with_own_line p text
+next_by p text BeginText (Some texts) = with_open p (Some (texts ++ text ∷ [])) p.number
+next_by p text CommitText (Some texts) = closed p texts ByCommit
+next_by p text RollbackText (Some texts) = closed p texts ByRollback
+next_by p text (LevelText level) (Some texts) = with_open p (Some (texts ++ text ∷ [])) p.number
+next_by p text OtherText (Some texts) = with_open p (Some (texts ++ text ∷ [])) p.number
 
-abbrev pub next_place : Place → List ℕ → Place
-next_place p text = next_by p text (kind_of (statement_of text)) p.pending
+abbrev pub next_place : Language → Place → List ℕ → Place
+next_place language p text = next_by p text (language.kind text) p.pending
 
-abbrev pub place_from : Place → List (List ℕ) → Place
-place_from p [] = p
-place_from p (text ∷ texts) = place_from (next_place p text) texts
+abbrev pub place_from : Language → Place → List (List ℕ) → Place
+place_from language p [] = p
+place_from language p (text ∷ texts) = place_from language (next_place language p text) texts
 
 abbrev pub said_by : List ℕ → Act → List (List ℕ) → List (List ℕ)
 said_by name (act.Say session text) later = if bytes_eq session name then text ∷ later else later
@@ -107,8 +99,8 @@ said name [] = []
 said name (l ∷ ls) = said_by name l.act (said name ls)
 
 -- where a session is after these lines of the script
-abbrev pub place_after : List ℕ → List BodyLine → Place
-place_after name body = place_from start (said name body)
+abbrev pub place_after : Language → List ℕ → List BodyLine → Place
+place_after language name body = place_from language start (said name body)
 
 -- the transaction that is open there, if one is
 abbrev pub open_item : Place → Option (List (List ℕ)) → List Item
@@ -120,8 +112,8 @@ abbrev pub items_at : Place → List Item
 items_at p = p.over ++ open_item p p.pending
 
 -- the work of a session, in order
-abbrev pub work : List ℕ → List BodyLine → List Item
-work name body = items_at (place_after name body)
+abbrev pub work : Language → List ℕ → List BodyLine → List Item
+work language name body = items_at (place_after language name body)
 
 -- the number under which an item is told
 abbrev pub number_of : Item → ℕ
@@ -138,5 +130,5 @@ numbered_among number (Does t ∷ items) = if_numbered number t (numbered_among 
 numbered_among number (Lone answer ∷ items) = numbered_among number items
 
 -- the transaction of a session of that number
-abbrev pub transaction_of : List ℕ → ℕ → List BodyLine → Option Transaction
-transaction_of name number body = numbered_among number (work name body)
+abbrev pub transaction_of : Language → List ℕ → ℕ → List BodyLine → Option Transaction
+transaction_of language name number body = numbered_among number (work language name body)

@@ -1,68 +1,48 @@
-//! The worked examples: facts of their reports, each a clause of a function that does nothing.
+//! Laws of reports, each a clause of a function that does nothing.
 
-ghost use Rattle.std.specs.Prelude.{◌≡◌, []};
-ghost use Rattle.report_laws.specs.History.{nothing_before};
-ghost use Rattle.report_laws.specs.Lawful.{Lawful};
+ghost use Rattle.std.specs.Prelude.{◌≡◌, ◌++◌, ◌∷◌, ℕ, List};
+ghost use Rattle.cdb_values.specs.declared.rows.Level.{Level};
+ghost use Rattle.report_laws.specs.Answers.{Answers};
+ghost use Rattle.report_laws.specs.Each.{StandsIn};
+ghost use Rattle.report_laws.specs.History.{Basis};
+ghost use Rattle.report_laws.specs.Lawful.{Lawful, NameUpTo};
+ghost use Rattle.report_laws.specs.One.{IsUncut};
 ghost use Rattle.report_laws.specs.Play.{InPlayOrder};
-ghost use Rattle.report_laws.specs.Worked.{empty_report, insert_select, insert_select_report, insert_select_text, two_updates, two_updates_report, key_again, key_again_report, own_writes, own_writes_report, two_selects};
-ghost use Rattle.report_laws.specs.WorkedWrong.{IsRefusedBy, RepliesAreRight, BeginsAreFresh, OutcomesAreRight, HistoryIsRight, wrong_value, missing_row, out_of_order, early_row, late, wrong_position, entry_twice, begin_too_old, untouched_row, refused_entry};
-ghost use Rattle.report_text.specs.Text.{report_text};
-ghost use Rattle.script_read.specs.declared.scripts.Script.{Script};
+ghost use Rattle.report_text.specs.declared.reports.EntryLine.{EntryLine};
+ghost use Rattle.report_text.specs.declared.reports.EntryLine.TheVariants as entries;
+ghost use Rattle.report_text.specs.declared.reports.Line.{Line};
+ghost use Rattle.report_text.specs.declared.reports.Line.TheVariants as line;
+ghost use Rattle.report_text.specs.declared.reports.ReplyLine.{ReplyLine};
+ghost use Rattle.report_text.specs.declared.reports.ReplyLine.TheVariants as reply;
+ghost use Rattle.report_text.specs.declared.reports.Report.{Report};
 
-/// The empty report is lawful and in the order of play where the script has no line to be run.
-pub fn empty_report_is_lawful()
-    ensures lawful { (script : Script) → script.body ≡ [] → Lawful script nothing_before empty_report }
-    ensures order { (script : Script) → script.body ≡ [] → InPlayOrder script nothing_before empty_report }
+/// A script has one report: two reports of it over the same language and the same history before it, both
+/// lawful, in the order of play and without a transaction that is cut short, are the same.
+#[tactic(auto, using(crate::proofs::OneLemmas::one_report))]
+pub fn reports_are_one()
+    ensures one { (basis : Basis) (report other : Report) → Answers basis.language → Lawful basis report → InPlayOrder basis report → IsUncut report → Lawful basis other → InPlayOrder basis other → IsUncut other → report ≡ other }
 {}
 
-/// The report of an insert and a select has its ten lines as text, is lawful and in the order of play.
-pub fn insert_select_is_lawful()
-    ensures text { report_text insert_select_report ≡ insert_select_text }
-    ensures lawful { Lawful insert_select nothing_before insert_select_report }
-    ensures order { InPlayOrder insert_select nothing_before insert_select_report }
+/// A begin of a lawful report is at least every position that was named before an earlier line of its session.
+#[tactic(auto, using(crate::proofs::LawLemmas::begins_reach))]
+pub fn begins_reach_what_was_told()
+    ensures reach { (basis : Basis) (report : Report) (name : List ℕ) (first second third : List Line) (earlier later : ℕ) (answer : ReplyLine) (begin : ℕ) → Lawful basis report → report.lines ≡ first ++ line.Session name earlier answer ∷ (second ++ line.Session name later (reply.Begin begin) ∷ third) → NameUpTo begin first }
 {}
 
-/// What makes the report of an insert and a select wrong, and by which law: another value in the row,
-/// no row, the number of rows before the row, the row where the select begins before the insert; the
-/// insert committed at another position; the insert in the history twice.
-pub fn wrong_insert_selects_are_refused()
-    ensures wrong_value { IsRefusedBy (RepliesAreRight insert_select wrong_value) insert_select wrong_value }
-    ensures missing_row { IsRefusedBy (RepliesAreRight insert_select missing_row) insert_select missing_row }
-    ensures out_of_order { IsRefusedBy (RepliesAreRight insert_select out_of_order) insert_select out_of_order }
-    ensures early_row { IsRefusedBy (RepliesAreRight insert_select early_row) insert_select early_row }
-    ensures wrong_position { IsRefusedBy (OutcomesAreRight insert_select wrong_position) insert_select wrong_position }
-    ensures entry_twice { IsRefusedBy (HistoryIsRight insert_select entry_twice) insert_select entry_twice }
+/// The transaction of each entry of a lawful report was told that it begins where the entry says, and that it
+/// is committed at the entry.
+pub fn entries_are_told()
+    ensures told { (basis : Basis) (report : Report) (position : ℕ) (session : List ℕ) (txn begin : ℕ) (level : Level) → Lawful basis report → StandsIn report.entries (entries.Commit position session txn begin level) → StandsIn report.lines (line.Session session txn (reply.Begin begin)) × StandsIn report.lines (line.Session session txn (reply.Committed position)) }
 {}
 
-/// Where the select begins before the insert and is told no row, the report is lawful, since what a
-/// session's last line itself named does not bind its next begin; but it is not in the order of play.
-/// A begin of that session below what its line before named is refused: it is not fresh.
-pub fn begins_are_fresh()
-    ensures late { Lawful insert_select nothing_before late }
-    ensures late_order { InPlayOrder insert_select nothing_before late → ⊥ }
-    ensures begin_too_old { IsRefusedBy (BeginsAreFresh begin_too_old) two_selects begin_too_old }
+/// No transaction has two entries in a lawful report.
+#[tactic(auto, using(crate::proofs::LawLemmas::stand_once))]
+pub fn transactions_stand_once()
+    ensures once { (basis : Basis) (report : Report) (session : List ℕ) (txn : ℕ) (first second third : List EntryLine) (p q begin again : ℕ) (level other : Level) → Lawful basis report → report.entries ≡ first ++ entries.Commit p session txn begin level ∷ (second ++ entries.Commit q session txn again other ∷ third) → ⊥ }
 {}
 
-/// The report of two transactions, open at once, that update the same row, of which the second one to
-/// end conflicts with the first, is lawful and in the order of play. It is refused with a conflict that
-/// names a version which the first did not touch, and with an entry of the second in the history.
-pub fn two_updates_are_lawful()
-    ensures lawful { Lawful two_updates nothing_before two_updates_report }
-    ensures order { InPlayOrder two_updates nothing_before two_updates_report }
-    ensures untouched_row { IsRefusedBy (OutcomesAreRight two_updates untouched_row) two_updates untouched_row }
-    ensures refused_entry { IsRefusedBy (HistoryIsRight two_updates refused_entry) two_updates refused_entry }
-{}
-
-/// The report of two inserts of the same key, of which the second one to end is a duplicate, and of a
-/// transaction that frees the key and takes it again, is lawful and in the order of play.
-pub fn key_again_is_lawful()
-    ensures lawful { Lawful key_again nothing_before key_again_report }
-    ensures order { InPlayOrder key_again nothing_before key_again_report }
-{}
-
-/// The report of a transaction that reads the rows that it wrote, changed and took away, is lawful and
-/// in the order of play.
-pub fn own_writes_are_lawful()
-    ensures lawful { Lawful own_writes nothing_before own_writes_report }
-    ensures order { InPlayOrder own_writes nothing_before own_writes_report }
+/// In the order of play a history that begins with the run has the schema's entry at its front.
+#[tactic(auto, using(crate::proofs::LawLemmas::schema_first))]
+pub fn the_schema_stands_first()
+    ensures first { (basis : Basis) (report : Report) → basis.origin.position ≡ 0 → InPlayOrder basis report → (later : List EntryLine) × (report.entries ≡ entries.Setup 1 ∷ later) }
 {}

@@ -1,1 +1,2 @@
+pub mod ReportedLemmas
 pub mod WrittenLemmas

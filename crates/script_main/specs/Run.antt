@@ -9,11 +9,12 @@ use Rattle.cdb_outside.specs.Parts.{IsFront, AppendsFront}
 use Rattle.cdb_outside.specs.Faults.{Rose}
 use Rattle.script_read.specs.Answers.{Refusal, refusal}
 use Rattle.script_read.specs.ScriptText.{script_of}
-use Rattle.script_read.specs.declared.scripts.Script.{Script}
-use Rattle.report_laws.specs.History.{nothing_before}
+use Rattle.script_form.specs.declared.scripts.Script.{Script}
 use Rattle.report_laws.specs.Lawful.{Lawful}
+use Rattle.report_laws.specs.One.{IsUncut}
 use Rattle.report_laws.specs.Play.{InPlayOrder}
 use Rattle.report_text.specs.Text.{report_text}
+use Rattle.transaction_answers.specs.Answer.{from_nothing}
 use Rattle.report_text.specs.declared.reports.Report.{Report}
 use Rattle.script_main.specs.declared.statuses.Status.{Status}
 use Rattle.script_main.specs.declared.statuses.Status.TheVariants as status
@@ -30,12 +31,14 @@ usage_text = codes "usage: cdb play|run|fill N [--stores DIR]" ++ (10 ∷ [])
 abbrev pub refused_text : ℕ → ℕ → List ℕ
 refused_text line why = codes "refused " ++ (decimal line ++ (32 ∷ (decimal why ++ (10 ∷ []))))
 
--- the text of a report that is lawful over the script and over a history that begins with the run,
--- and whose lines stand in the order of play
+-- the text of a report that is lawful over the script, the language of the statements that run and a
+-- history that begins with the run, and whose lines stand in the order of play; where no transaction
+-- is cut short, there is no other such report
 pub record IsReported (script : Script) (text : List ℕ) : Type 0 where
   pub report : Report
-  pub lawful : Lawful script nothing_before report
-  pub in_order : InPlayOrder script nothing_before report
+  pub lawful : Lawful (from_nothing script) report
+  pub in_order : InPlayOrder (from_nothing script) report
+  pub one : (other : Report) → IsUncut report → Lawful (from_nothing script) other → InPlayOrder (from_nothing script) other → IsUncut other → report ≡ other
   pub is_text : text ≡ report_text report
 
 -- the text that belongs to a status; the other statuses have none

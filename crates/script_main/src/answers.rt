@@ -1,15 +1,16 @@
 //! What a script's bytes are answered: a status and the text that belongs to it.
 ghost use Rattle.std.specs.Prelude.{true, IfOk};
 ghost use Rattle.script_read.specs.Answers.{refusal};
-ghost use Rattle.script_read.specs.CanRun.{CanRun};
+ghost use Rattle.script_form.specs.CanRun.{CanRun};
 ghost use Rattle.script_read.specs.ScriptText.{script_of};
 ghost use Rattle.script_main.specs.Run.{IsText};
 
 use super::statuses::Status;
 use cdb_values::Bytes;
 use report_text::print;
+use script_form::Script;
 use script_play::play;
-use script_read::{Script, ScriptStop, read_script, scripts_can_run};
+use script_read::{ScriptStop, read_script, scripts_can_run};
 use std::alloc::{AllocError, Global};
 
 /// A status, and the text that is to be written.
@@ -39,6 +40,7 @@ pub(crate) fn answer_script(
 }
 
 /// The answer to a script that was read.
+#[tactic(auto, using(crate::proofs::ReportedLemmas::reported))]
 fn played(alloc: Global, script: &Script) -> Result<Answer, AllocError>
     requires { CanRun script.now }
     ensures { IfOk result (λ a. IsText true (Ok script.now) a.status a.text) }

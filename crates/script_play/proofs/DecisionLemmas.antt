@@ -5,17 +5,21 @@ use Rattle.std.specs.List.{slice_get}
 use Rattle.std.specs.Prelude.{drop}
 use Rattle.cdb_values.specs.Good.{first_broken, KeyName}
 use Rattle.cdb_values.specs.Rows.{Rows, apply_all}
+use Rattle.cdb_values.specs.declared.rows.Level.{Level}
 use Rattle.cdb_values.specs.declared.rows.RowOp.{RowOp}
 use Rattle.snapshot_rows.specs.Ages.{Ages, rows_seen}
-use Rattle.script_read.specs.declared.scripts.Script.{Script}
+use Rattle.script_form.specs.declared.scripts.Script.{Script}
 use Rattle.report_text.specs.declared.reports.EntryLine.{EntryLine}
 use Rattle.report_text.specs.declared.reports.ReplyLine.{ReplyLine}
 use Rattle.report_text.specs.declared.reports.ReplyLine.TheVariants as reply
-use Rattle.report_laws.specs.History.{nothing_before, taken_by, first_touched}
-use Rattle.report_laws.specs.Outcome.{IsRight, IsDecided, IsConflict, IsDuplicate, name_of_table}
+use Rattle.cdb_values.specs.Changes.{taken_by}
+use Rattle.report_laws.specs.History.{first_touched}
+use Rattle.report_laws.specs.Outcome.{IsRight, IsDecided, IsConflict, IsDuplicate, line_by, name_of_table}
 use Rattle.report_laws.specs.Paced.{Paced}
-use Rattle.report_laws.specs.Work.{Transaction, tables_of}
-use Rattle.report_laws.specs.declared.items.GenidItem.{GenidItem}
+use Rattle.script_form.specs.CanRun.{tables_of}
+use Rattle.report_laws.specs.Work.{Transaction}
+use Rattle.transaction_answers.specs.Answer.{from_nothing}
+use Rattle.cdb_values.specs.declared.items.GenidItem.{GenidItem}
 use Rattle.transaction_answers.specs.Decisions.{first_conflict, Touched, decision, judged, by_key, added_by}
 use Rattle.transaction_answers.proofs.ConflictLemmas.{one_since, IsFirstSince}
 use Rattle.transaction_answers.proofs.SoundLemmas.{named}
@@ -24,28 +28,28 @@ use Rattle.script_play.specs.Step.{IsKept}
 use Rattle.script_play.proofs.StoredLemmas.{Commits, entry_of, untouched_now, stored_more, committed_right, next_is}
 
 -- the entries after a decision, and what they took away
-abbrev pub entries_after : List EntryLine → List ℕ → ℕ → ℕ → List (List RowOp) → List EntryLine
-entries_after entries name number begin added = entries ++ map (λ ops. entry_of name number begin (length entries)) added
+abbrev pub entries_after : List EntryLine → List ℕ → ℕ → ℕ → Level → List (List RowOp) → List EntryLine
+entries_after entries name number begin level added = entries ++ map (λ ops. entry_of name number begin level (length entries)) added
 
 abbrev pub taken_after : List (List GenidItem) → List (List RowOp) → List (List GenidItem)
 taken_after taken added = taken ++ map taken_by added
 
 -- a decision is right
 pub record Decided (script : Script) (entries : List EntryLine) (taken : List (List GenidItem)) (ages ages' : Ages) (name : List ℕ) (t : Transaction) (begin : ℕ) (ops : List RowOp) (outcome : ReplyLine) (added : List (List RowOp)) : Type 0 where
-  pub right : IsRight script nothing_before (entries_after entries name t.number begin added) name t begin ops outcome
+  pub right : IsRight (from_nothing script) (entries_after entries name t.number begin t.level added) name t begin (taken_by ops) ops outcome
   pub decided : IsDecided outcome
-  pub stored : Stored script (entries_after entries name t.number begin added) (taken_after taken added) ages'
-  pub paced : Paced (length entries) (length (entries_after entries name t.number begin added)) (outcome ∷ [])
+  pub stored : Stored script (entries_after entries name t.number begin t.level added) (taken_after taken added) ages'
+  pub paced : Paced (length entries) (length (entries_after entries name t.number begin t.level added)) (outcome ∷ [])
   pub grows : ages.next ≤ ages'.next
   pub told : (added ≡ []) ⊎ ((o : List RowOp) × (added ≡ o ∷ []) × (outcome ≡ reply.Committed (length entries + 1)))
 
 module _ (script : Script) (entries : List EntryLine) (taken : List (List GenidItem)) (ages ages' : Ages) (name : List ℕ) (t : Transaction) (begin : ℕ) where
   -- a decision that adds nothing
   nothing_added : (ops : List RowOp) (outcome : ReplyLine) → Stored script entries taken ages → ages' ≡ ages → IsDecided outcome →
-      IsRight script nothing_before entries name t begin ops outcome → Paced (length entries) (length entries) (outcome ∷ []) →
+      IsRight (from_nothing script) entries name t begin (taken_by ops) ops outcome → Paced (length entries) (length entries) (outcome ∷ []) →
       Decided script entries taken ages ages' name t begin ops outcome []
   nothing_added ops outcome stored same decided right paced = record {
-    right = subst (λ es. IsRight script nothing_before es name t begin ops outcome) (sym (append-nil entries)) right;
+    right = subst (λ es. IsRight (from_nothing script) es name t begin (taken_by ops) ops outcome) (sym (append-nil entries)) right;
     decided = decided;
     stored = subst (λ (a : Ages). Stored script (entries ++ []) (taken ++ []) a) (sym same)
         (subst (λ es. Stored script es (taken ++ []) ages) (sym (append-nil entries)) (subst (λ ts. Stored script entries ts ages) (sym (append-nil taken)) stored));
@@ -66,14 +70,15 @@ module _ (script : Script) (entries : List EntryLine) (taken : List (List GenidI
     Follows outcome = IsKept (length entries) ages ages' (added_by outcome ops) → Decided script entries taken ages ages' name t begin ops outcome (added_by outcome ops)
 
     conflict : (touched : Touched) (table : List ℕ) → name_of_table (tables_of script) touched.item.table ≡ Some table → first_conflict begin (drop begin taken) (taken_by ops) ≡ Some touched →
-        IsConflict script nothing_before entries begin touched.position ops table touched.item.genid
+        IsConflict (from_nothing script) entries begin touched.position (taken_by ops) ops (reply.ConflictGenid touched.position table touched.item.genid)
     conflict touched table has is = record {
+      has_ops = some;
       later = since.0;
       within = let w : touched.position ≤ length entries = within in omega (arith, w);
-      place = touched.item.table;
-      named = has;
+      item = touched.item;
       touched = ap (λ (items : List GenidItem). first_touched items (taken_by ops)) (sym (c.stored.taken_are touched.position (let l = since.0 in omega (arith, l)) within)) ∙ since.2;
       untouched = λ j after before. ap (λ (items : List GenidItem). first_touched items (taken_by ops)) (sym (c.stored.taken_are j (omega (arith, after)) (omega (arith, before, within)))) ∙ since.3 j after before;
+      is_told = ap (line_by touched.position touched.item.genid) has;
     }
       where
         since : IsFirstSince begin taken (taken_by ops) touched
@@ -83,7 +88,7 @@ module _ (script : Script) (entries : List EntryLine) (taken : List (List GenidI
         within = let w = since.1 in let same = c.stored.taken_length in omega (arith, w, same)
 
     duplicate : (key : KeyName) → first_conflict begin (drop begin taken) (taken_by ops) ≡ None → first_broken (tables_of script) (apply_all (rows_seen ages (length entries)) ops).tables ≡ Some key →
-        IsDuplicate script nothing_before entries begin (length entries) ops key.table key.key
+        IsDuplicate (from_nothing script) entries begin (length entries) (taken_by ops) ops key.table key.key
     duplicate key clear broken = record {
       has_ops = some;
       begun = c.within;
@@ -103,8 +108,8 @@ module _ (script : Script) (entries : List EntryLine) (taken : List (List GenidI
       told = inr (ops, refl, refl);
     }
       where
-        count : length (entries ++ entry_of name t.number begin (length entries) ∷ []) ≡ length entries + 1
-        count = omega (arith, length-append entries (entry_of name t.number begin (length entries) ∷ []))
+        count : length (entries ++ entry_of name t.number begin t.level (length entries) ∷ []) ≡ length entries + 1
+        count = omega (arith, length-append entries (entry_of name t.number begin t.level (length entries) ∷ []))
 
     by_conflict : (found : Option Touched) → first_conflict begin (drop begin taken) (taken_by ops) ≡ found → Follows (judged (tables_of script) (rows_seen ages (length entries)) (length entries) ops found)
     by_conflict None clear kept = by_its_key (first_broken (tables_of script) (apply_all (rows_seen ages (length entries)) ops).tables) refl clear kept

@@ -10,25 +10,26 @@ use Rattle.snapshot_rows.specs.Ages.{Ages, seen}
 use Rattle.snapshot_rows.specs.declared.ages.Age.{Age}
 use Rattle.statement_read.specs.OnTables.{IsOn}
 use Rattle.statement_read.specs.Statements.{statement_of}
-use Rattle.script_read.specs.CanRun.{IsDeclared, IsSaid}
-use Rattle.script_read.specs.declared.scripts.Script.{Script}
-use Rattle.script_read.specs.declared.scripts.Act.{Act}
-use Rattle.script_read.specs.declared.scripts.Act.TheVariants.{Say}
-use Rattle.script_read.specs.declared.scripts.BodyLine.{BodyLine}
-use Rattle.script_read.specs.declared.scripts.SessionLine.{SessionLine}
-use Rattle.script_read.specs.declared.scripts.TableLine.{TableLine}
+use Rattle.script_form.specs.CanRun.{IsDeclared, IsSaid, tables_of}
+use Rattle.script_form.specs.declared.scripts.Script.{Script}
+use Rattle.script_form.specs.declared.scripts.Act.{Act}
+use Rattle.script_form.specs.declared.scripts.Act.TheVariants.{Say}
+use Rattle.script_form.specs.declared.scripts.BodyLine.{BodyLine}
+use Rattle.script_form.specs.declared.scripts.SessionLine.{SessionLine}
+use Rattle.script_form.specs.declared.scripts.TableLine.{TableLine}
 use Rattle.report_text.specs.declared.reports.EntryLine.{EntryLine}
 use Rattle.report_text.specs.declared.reports.Line.{Line}
 use Rattle.report_text.specs.declared.reports.ReplyLine.{ReplyLine}
-use Rattle.report_laws.specs.Work.{Place, place_after, tables_of}
-use Rattle.report_laws.specs.declared.items.GenidItem.{GenidItem}
+use Rattle.report_laws.specs.Work.{Place, place_after}
+use Rattle.transaction_answers.specs.Answer.{statement_language}
+use Rattle.cdb_values.specs.declared.items.GenidItem.{GenidItem}
 use Rattle.transaction_answers.proofs.SoundLemmas.{sound_length}
 use Rattle.script_play.specs.Ready.{IsReady, IsReadyToGo}
-use Rattle.script_play.specs.SoFar.{IsBefore, IsDoing, SoFar, Stored, site_of, session_from, session_at}
+use Rattle.script_play.specs.SoFar.{IsBefore, IsDoing, SoFar, Stored, state_of, session_from, session_at}
 use Rattle.script_play.specs.Step.{IsTaken, world_of}
-use Rattle.script_play.specs.declared.sites.Site.{Site}
-use Rattle.script_play.specs.declared.sites.Doing.{Doing}
-use Rattle.script_play.specs.declared.sites.Doing.TheVariants as doing
+use Rattle.script_play.specs.declared.states.SessionState.{SessionState}
+use Rattle.script_play.specs.declared.states.InTransaction.{InTransaction}
+use Rattle.script_play.specs.declared.states.InTransaction.TheVariants as doing
 use Rattle.script_play.proofs.RunLemmas.{same_itself, same_name, turned_keeps, cut_keeps}
 
 -- the place is counted on from a number
@@ -63,52 +64,52 @@ declared k name (s ∷ ss) (inr more) none = pick (bytes_eq s.name name) (declar
     pick false later found = later found
 
 -- the session at its place is there
-pub found_site : (k : ℕ) (name : List ℕ) (ss : List SessionLine) (sites : List Site) (at i : ℕ) (x : Site) → session_from k name ss ≡ Some at → at ≡ k + i → slice_get sites i ≡ Some x → site_of name ss sites ≡ x
-found_site k name [] sites at i x is place has = absurd cc
-found_site k name (s ∷ ss) [] at i x is place has = absurd cc
-found_site k name (s ∷ ss) (y ∷ ys) at zero x is place has = pick (bytes_eq s.name name) is
+pub found_state : (k : ℕ) (name : List ℕ) (ss : List SessionLine) (states : List SessionState) (at i : ℕ) (x : SessionState) → session_from k name ss ≡ Some at → at ≡ k + i → slice_get states i ≡ Some x → state_of name ss states ≡ x
+found_state k name [] states at i x is place has = absurd cc
+found_state k name (s ∷ ss) [] at i x is place has = absurd cc
+found_state k name (s ∷ ss) (y ∷ ys) at zero x is place has = pick (bytes_eq s.name name) is
   where
-    pick : (b : Bool) → (if b then Some k else session_from (k + 1) name ss) ≡ Some at → (if b then y else site_of name ss ys) ≡ x
+    pick : (b : Bool) → (if b then Some k else session_from (k + 1) name ss) ≡ Some at → (if b then y else state_of name ss ys) ≡ x
     pick true found = cc
     pick false found = let least = from_least (k + 1) name ss at found in absurd (omega (arith, least, place))
-found_site k name (s ∷ ss) (y ∷ ys) at (suc i) x is place has = pick (bytes_eq s.name name) (λ found. found_site (k + 1) name ss ys at i x found (omega (arith, place)) has) is
+found_state k name (s ∷ ss) (y ∷ ys) at (suc i) x is place has = pick (bytes_eq s.name name) (λ found. found_state (k + 1) name ss ys at i x found (omega (arith, place)) has) is
   where
-    pick : (b : Bool) → (session_from (k + 1) name ss ≡ Some at → site_of name ss ys ≡ x) → (if b then Some k else session_from (k + 1) name ss) ≡ Some at → (if b then y else site_of name ss ys) ≡ x
+    pick : (b : Bool) → (session_from (k + 1) name ss ≡ Some at → state_of name ss ys ≡ x) → (if b then Some k else session_from (k + 1) name ss) ≡ Some at → (if b then y else state_of name ss ys) ≡ x
     pick true later found = let same : k ≡ at = cc in absurd (omega (arith, same, place))
     pick false later found = later found
 
 -- a session that is put there is there
-pub set_site : (k : ℕ) (name : List ℕ) (ss : List SessionLine) (sites : List Site) (at i : ℕ) (x : Site) → session_from k name ss ≡ Some at → at ≡ k + i → i < length sites → site_of name ss (slice_set sites i x) ≡ x
-set_site k name [] sites at i x is place inside = absurd cc
-set_site k name (s ∷ ss) [] at i x is place inside = absurd (omega (arith, inside))
-set_site k name (s ∷ ss) (y ∷ ys) at zero x is place inside = pick (bytes_eq s.name name) is
+pub set_state : (k : ℕ) (name : List ℕ) (ss : List SessionLine) (states : List SessionState) (at i : ℕ) (x : SessionState) → session_from k name ss ≡ Some at → at ≡ k + i → i < length states → state_of name ss (slice_set states i x) ≡ x
+set_state k name [] states at i x is place inside = absurd cc
+set_state k name (s ∷ ss) [] at i x is place inside = absurd (omega (arith, inside))
+set_state k name (s ∷ ss) (y ∷ ys) at zero x is place inside = pick (bytes_eq s.name name) is
   where
-    pick : (b : Bool) → (if b then Some k else session_from (k + 1) name ss) ≡ Some at → (if b then x else site_of name ss ys) ≡ x
+    pick : (b : Bool) → (if b then Some k else session_from (k + 1) name ss) ≡ Some at → (if b then x else state_of name ss ys) ≡ x
     pick true found = refl
     pick false found = let least = from_least (k + 1) name ss at found in absurd (omega (arith, least, place))
-set_site k name (s ∷ ss) (y ∷ ys) at (suc i) x is place inside = pick (bytes_eq s.name name) (λ found. set_site (k + 1) name ss ys at i x found (omega (arith, place)) (omega (arith, inside))) is
+set_state k name (s ∷ ss) (y ∷ ys) at (suc i) x is place inside = pick (bytes_eq s.name name) (λ found. set_state (k + 1) name ss ys at i x found (omega (arith, place)) (omega (arith, inside))) is
   where
-    pick : (b : Bool) → (session_from (k + 1) name ss ≡ Some at → site_of name ss (slice_set ys i x) ≡ x) → (if b then Some k else session_from (k + 1) name ss) ≡ Some at → (if b then y else site_of name ss (slice_set ys i x)) ≡ x
+    pick : (b : Bool) → (session_from (k + 1) name ss ≡ Some at → state_of name ss (slice_set ys i x) ≡ x) → (if b then Some k else session_from (k + 1) name ss) ≡ Some at → (if b then y else state_of name ss (slice_set ys i x)) ≡ x
     pick true later found = let same : k ≡ at = cc in absurd (omega (arith, same, place))
     pick false later found = later found
 
 -- and every other session is where it was
-pub other_site : (k : ℕ) (name m : List ℕ) (ss : List SessionLine) (sites : List Site) (at i : ℕ) (x : Site) → session_from k name ss ≡ Some at → at ≡ k + i → bytes_eq name m ≡ false → site_of m ss (slice_set sites i x) ≡ site_of m ss sites
-other_site k name m [] sites at i x is place differs = absurd cc
-other_site k name m (s ∷ ss) [] at i x is place differs = refl
-other_site k name m (s ∷ ss) (y ∷ ys) at zero x is place differs = pick (bytes_eq s.name name) refl is
+pub other_state : (k : ℕ) (name m : List ℕ) (ss : List SessionLine) (states : List SessionState) (at i : ℕ) (x : SessionState) → session_from k name ss ≡ Some at → at ≡ k + i → bytes_eq name m ≡ false → state_of m ss (slice_set states i x) ≡ state_of m ss states
+other_state k name m [] states at i x is place differs = absurd cc
+other_state k name m (s ∷ ss) [] at i x is place differs = refl
+other_state k name m (s ∷ ss) (y ∷ ys) at zero x is place differs = pick (bytes_eq s.name name) refl is
   where
-    pick : (b : Bool) → bytes_eq s.name name ≡ b → (if b then Some k else session_from (k + 1) name ss) ≡ Some at → (if bytes_eq s.name m then x else site_of m ss ys) ≡ (if bytes_eq s.name m then y else site_of m ss ys)
+    pick : (b : Bool) → bytes_eq s.name name ≡ b → (if b then Some k else session_from (k + 1) name ss) ≡ Some at → (if bytes_eq s.name m then x else state_of m ss ys) ≡ (if bytes_eq s.name m then y else state_of m ss ys)
     pick true same found = let no : bytes_eq s.name m ≡ false = ap (λ n. bytes_eq n m) (same_name s.name name same) ∙ differs in rw no refl
     pick false other found = let least = from_least (k + 1) name ss at found in absurd (omega (arith, least, place))
-other_site k name m (s ∷ ss) (y ∷ ys) at (suc i) x is place differs = pick (bytes_eq s.name name) (λ found. other_site (k + 1) name m ss ys at i x found (omega (arith, place)) differs) is
+other_state k name m (s ∷ ss) (y ∷ ys) at (suc i) x is place differs = pick (bytes_eq s.name name) (λ found. other_state (k + 1) name m ss ys at i x found (omega (arith, place)) differs) is
   where
-    go : (b : Bool) → site_of m ss (slice_set ys i x) ≡ site_of m ss ys → (if b then y else site_of m ss (slice_set ys i x)) ≡ (if b then y else site_of m ss ys)
+    go : (b : Bool) → state_of m ss (slice_set ys i x) ≡ state_of m ss ys → (if b then y else state_of m ss (slice_set ys i x)) ≡ (if b then y else state_of m ss ys)
     go true same = refl
     go false same = same
 
-    pick : (b : Bool) → (session_from (k + 1) name ss ≡ Some at → site_of m ss (slice_set ys i x) ≡ site_of m ss ys) → (if b then Some k else session_from (k + 1) name ss) ≡ Some at →
-        (if bytes_eq s.name m then y else site_of m ss (slice_set ys i x)) ≡ (if bytes_eq s.name m then y else site_of m ss ys)
+    pick : (b : Bool) → (session_from (k + 1) name ss ≡ Some at → state_of m ss (slice_set ys i x) ≡ state_of m ss ys) → (if b then Some k else session_from (k + 1) name ss) ≡ Some at →
+        (if bytes_eq s.name m then y else state_of m ss (slice_set ys i x)) ≡ (if bytes_eq s.name m then y else state_of m ss ys)
     pick true later found = let same : k ≡ at = cc in absurd (omega (arith, same, place))
     pick false later found = go (bytes_eq s.name m) (later found)
 
@@ -132,28 +133,28 @@ ready script entries taken ages stored = record {
   kept = stored.kept;
 }
 
-doing_ready : (script : Script) (entries : List EntryLine) (next : ℕ) (p : Place) (q : Option (List (List ℕ))) (d : Doing) (mine : List ReplyLine) → IsDoing script entries next p q d mine → IsReadyToGo (tables_of script) (length entries) next d
-doing_ready script entries next p None doing.Idle mine is = tt
+doing_ready : (script : Script) (entries : List EntryLine) (next : ℕ) (p : Place) (q : Option (List (List ℕ))) (d : InTransaction) (mine : List ReplyLine) → IsDoing script entries next p q d mine → IsReadyToGo (tables_of script) (length entries) next d
+doing_ready script entries next p None doing.No mine is = tt
 doing_ready script entries next p None (doing.Open begin ops) mine is = absurd is
-doing_ready script entries next p None doing.Skipping mine is = tt
-doing_ready script entries next p (Some texts) doing.Idle mine is = tt
+doing_ready script entries next p None doing.Aborted mine is = tt
+doing_ready script entries next p (Some texts) doing.No mine is = tt
 doing_ready script entries next p (Some texts) (doing.Open begin ops) mine is = (is.first, is.within, is.sound)
-doing_ready script entries next p (Some texts) doing.Skipping mine is = tt
+doing_ready script entries next p (Some texts) doing.Aborted mine is = tt
 
 -- the run before a line of a session
-pub record Turn (script : Script) (name text : List ℕ) (lines : List Line) (entries : List EntryLine) (ages : Ages) (sites : List Site) : Type 0 where
+pub record Turn (script : Script) (name text : List ℕ) (lines : List Line) (entries : List EntryLine) (ages : Ages) (states : List SessionState) : Type 0 where
   pub ready : IsReady (tables_of script) (length entries) ages
-  pub to_go : (at : ℕ) (x : Site) → session_at name script.sessions ≡ Some at → slice_get sites at ≡ Some x → IsReadyToGo (tables_of script) (length entries) ages.next x.doing
+  pub to_go : (at : ℕ) (x : SessionState) → session_at name script.sessions ≡ Some at → slice_get states at ≡ Some x → IsReadyToGo (tables_of script) (length entries) ages.next x.doing
   pub on : IsOn (tables_of script) (statement_of text)
   pub is_declared : session_at name script.sessions ≡ None → ⊥
-  pub inside : (at : ℕ) → session_at name script.sessions ≡ Some at → at < length sites
+  pub inside : (at : ℕ) → session_at name script.sessions ≡ Some at → at < length states
 
-pub turn_is : (script : Script) (left : List BodyLine) (l : BodyLine) (lines : List Line) (entries : List EntryLine) (taken : List (List GenidItem)) (ages : Ages) (sites : List Site) (name text : List ℕ) →
-    IsBefore script (l ∷ left) lines entries taken ages sites → l.act ≡ Say name text → Turn script name text lines entries ages sites
-turn_is script left l lines entries taken ages sites name text before is_act = record {
+pub turn_is : (script : Script) (left : List BodyLine) (l : BodyLine) (lines : List Line) (entries : List EntryLine) (taken : List (List GenidItem)) (ages : Ages) (states : List SessionState) (name text : List ℕ) →
+    IsBefore script (l ∷ left) lines entries taken ages states → l.act ≡ Say name text → Turn script name text lines entries ages states
+turn_is script left l lines entries taken ages states name text before is_act = record {
   ready = ready script entries taken ages before.so_far.stored;
-  to_go = λ at x found has. subst (λ (y : Site). IsReadyToGo (tables_of script) (length entries) ages.next y.doing) (found_site 0 name script.sessions sites at at x found (omega arith) has)
-      (doing_ready script entries ages.next (place_after name before.done) (place_after name before.done).pending (site_of name script.sessions sites).doing _ (before.so_far.standing name).doing);
+  to_go = λ at x found has. subst (λ (y : SessionState). IsReadyToGo (tables_of script) (length entries) ages.next y.doing) (found_state 0 name script.sessions states at at x found (omega arith) has)
+      (doing_ready script entries ages.next (place_after statement_language name before.done) (place_after statement_language name before.done).pending (state_of name script.sessions states).doing _ (before.so_far.standing name).doing);
   on = said.1;
   is_declared = declared 0 name script.sessions said.0;
   inside = λ at found. let w = within 0 name script.sessions at found in let same = before.same in omega (arith, w, same);
@@ -163,38 +164,38 @@ turn_is script left l lines entries taken ages sites name text before is_act = r
     said = subst (λ (a : Act). IsSaid script.sessions (tables_of script) a) is_act before.said.0
 
 -- a line that was taken keeps the run so far
-pub turn_taken : (script : Script) (left : List BodyLine) (l : BodyLine) (lines lines' : List Line) (entries entries' : List EntryLine) (taken taken' : List (List GenidItem)) (ages ages' : Ages) (sites : List Site) (name text : List ℕ) (at : ℕ) (x after : Site) →
-    IsBefore script (l ∷ left) lines entries taken ages sites → l.act ≡ Say name text → session_at name script.sessions ≡ Some at → slice_get sites at ≡ Some x →
+pub turn_taken : (script : Script) (left : List BodyLine) (l : BodyLine) (lines lines' : List Line) (entries entries' : List EntryLine) (taken taken' : List (List GenidItem)) (ages ages' : Ages) (states : List SessionState) (name text : List ℕ) (at : ℕ) (x after : SessionState) →
+    IsBefore script (l ∷ left) lines entries taken ages states → l.act ≡ Say name text → session_at name script.sessions ≡ Some at → slice_get states at ≡ Some x →
     IsTaken (world_of (tables_of script) ages taken (length entries)) name x text after lines lines' entries entries' taken' ages' →
-    IsBefore script left lines' entries' taken' ages' (slice_set sites at after)
-turn_taken script left l lines lines' entries entries' taken taken' ages ages' sites name text at x after before is_act found has run = record {
+    IsBefore script left lines' entries' taken' ages' (slice_set states at after)
+turn_taken script left l lines lines' entries entries' taken taken' ages ages' states name text at x after before is_act found has run = record {
   can_run = before.can_run;
   said = before.said.1;
-  same = length-set sites at after ∙ before.same;
+  same = length-set states at after ∙ before.same;
   done = before.done ++ l ∷ [];
-  so_far = go (subst (λ (y : Site). IsTaken (world_of (tables_of script) ages taken (length entries)) name y text after lines lines' entries entries' taken' ages') (sym its) run);
+  so_far = go (subst (λ (y : SessionState). IsTaken (world_of (tables_of script) ages taken (length entries)) name y text after lines lines' entries entries' taken' ages') (sym its) run);
 }
   where
-    its : site_of name script.sessions sites ≡ x
-    its = found_site 0 name script.sessions sites at at x found (omega arith) has
+    its : state_of name script.sessions states ≡ x
+    its = found_state 0 name script.sessions states at at x found (omega arith) has
 
-    inside : at < length sites
+    inside : at < length states
     inside = let w = within 0 name script.sessions at found in let same = before.same in omega (arith, w, same)
 
     on : IsOn (tables_of script) (statement_of text)
     on = (subst (λ (a : Act). IsSaid script.sessions (tables_of script) a) is_act before.said.0).1
 
-    own : site_of name script.sessions (slice_set sites at after) ≡ after
-    own = set_site 0 name script.sessions sites at at after found (omega arith) inside
+    own : state_of name script.sessions (slice_set states at after) ≡ after
+    own = set_state 0 name script.sessions states at at after found (omega arith) inside
 
-    others : (m : List ℕ) → bytes_eq name m ≡ false → site_of m script.sessions (slice_set sites at after) ≡ site_of m script.sessions sites
-    others m differs = other_site 0 name m script.sessions sites at at after found (omega arith) differs
+    others : (m : List ℕ) → bytes_eq name m ≡ false → state_of m script.sessions (slice_set states at after) ≡ state_of m script.sessions states
+    others m differs = other_state 0 name m script.sessions states at at after found (omega arith) differs
 
-    go : IsTaken (world_of (tables_of script) ages taken (length entries)) name (site_of name script.sessions sites) text after lines lines' entries entries' taken' ages' →
-        SoFar script (before.done ++ l ∷ []) left lines' entries' taken' ages' (slice_set sites at after)
-    go (inl (done, there)) = turned_keeps script before.done left l lines entries taken ages sites (slice_set sites at after) name text before.so_far is_act before.can_run on (all_integers script.tables before.can_run.integers)
+    go : IsTaken (world_of (tables_of script) ages taken (length entries)) name (state_of name script.sessions states) text after lines lines' entries entries' taken' ages' →
+        SoFar script (before.done ++ l ∷ []) left lines' entries' taken' ages' (slice_set states at after)
+    go (inl (done, there)) = turned_keeps script before.done left l lines entries taken ages states (slice_set states at after) name text before.so_far is_act before.can_run on (all_integers script.tables before.can_run.integers)
         lines' entries' taken' ages' done (own ∙ there) others
-    go (inr (c, is, short, there)) = cut_keeps script before.done left l lines entries taken ages sites (slice_set sites at after) name text before.so_far is_act before.can_run on (all_integers script.tables before.can_run.integers)
+    go (inr (c, is, short, there)) = cut_keeps script before.done left l lines entries taken ages states (slice_set states at after) name text before.so_far is_act before.can_run on (all_integers script.tables before.can_run.integers)
         lines' entries' taken' ages' c is short (own ∙ there) others
 
 -- what is put at a place twice is what was put there last

@@ -1,24 +1,28 @@
 -- The history and the rows stay in order when a transaction comes to its commit.
-use Rattle.std.proofs.Common.{◌≡◌, ◌≢◌, ℕ, ◌+◌, ◌-◌, ◌≤◌, ◌<◌, List, [], ◌∷◌, ◌++◌, length, sym, subst, ap, arith, Option, Some, None, ◌∙◌, false, unwrap_or, ◌⊎◌, inl, inr}
+use Rattle.std.proofs.Common.{◌≡◌, ◌≢◌, ℕ, ◌+◌, ◌-◌, ◌≤◌, ◌<◌, List, [], ◌∷◌, ◌++◌, length, refl, sym, subst, ap, arith, Option, Some, None, ◌∙◌, false, unwrap_or, ◌⊎◌, inl, inr}
 use Rattle.std.proofs.lemmas.List.{length-append}
 use Rattle.std.proofs.Math.Nat.{eq-or-lt_of_le}
 use Rattle.std.specs.List.{AllByRecursion, slice_get}
 use Rattle.std.specs.Prelude.{drop}
 use Rattle.cdb_values.specs.Good.{AllFit, IsGood, first_broken}
 use Rattle.cdb_values.specs.Rows.{Rows, apply_all}
-use Rattle.cdb_values.specs.declared.rows.Level.TheVariants.{Snapshot}
+use Rattle.cdb_values.specs.declared.rows.Level.{Level}
 use Rattle.cdb_values.specs.declared.rows.RowOp.{RowOp}
 use Rattle.cdb_values.specs.declared.rows.Version.{Version}
 use Rattle.snapshot_rows.specs.Ages.{Ages, IsUpTo, seen, rows_seen}
-use Rattle.script_read.specs.declared.scripts.Script.{Script}
+use Rattle.script_form.specs.declared.scripts.Script.{Script}
 use Rattle.report_text.specs.declared.reports.EntryLine.{EntryLine}
 use Rattle.report_text.specs.declared.reports.EntryLine.TheVariants.{Commit}
 use Rattle.report_text.specs.declared.reports.ReplyLine.TheVariants as reply
-use Rattle.report_laws.specs.History.{nothing_before, rows_at, rows_after, states_of, ops_of, ops_alone, taken_at, taken_by, first_touched, IsEntryAfter, IsCommitAfter, IsUntouched, is_entry_of}
+use Rattle.cdb_values.specs.Changes.{taken_by}
+use Rattle.report_laws.specs.History.{last_position, entry_at, rows_at, rows_after, states_of, ops_of, ops_alone, taken_at, used_by, first_touched, IsEntryAfter, IsCommitAfter, IsUntouched, is_entry_of}
 use Rattle.report_laws.specs.Outcome.{IsRight, IsEntered}
 use Rattle.report_laws.specs.Told.{alone_at}
-use Rattle.report_laws.specs.Work.{Transaction, transaction_of, tables_of}
-use Rattle.report_laws.specs.declared.items.GenidItem.{GenidItem}
+use Rattle.script_form.specs.CanRun.{tables_of}
+use Rattle.report_laws.specs.Work.{Transaction, transaction_of}
+use Rattle.transaction_answers.specs.Answer.{from_nothing, statement_language}
+use Rattle.transaction_answers.proofs.LanguageLemmas.{used_alone}
+use Rattle.cdb_values.specs.declared.items.GenidItem.{GenidItem}
 use Rattle.report_laws.proofs.EachLemmas.{each_append, get_front, get_next}
 use Rattle.report_laws.proofs.HistoryLemmas.{rows_stay, rows_new, entry_new, taken_stays, taken_new, untouched_stays}
 use Rattle.transaction_answers.specs.Decisions.{first_conflict}
@@ -29,8 +33,8 @@ use Rattle.script_play.specs.SoFar.{Stored}
 use Rattle.script_play.specs.Step.{World, world_of, IsKept}
 
 -- the entry of a transaction at the next position
-abbrev pub entry_of : List ℕ → ℕ → ℕ → ℕ → EntryLine
-entry_of name number begin now = Commit (now + 1) name number begin Snapshot
+abbrev pub entry_of : List ℕ → ℕ → ℕ → Level → ℕ → EntryLine
+entry_of name number begin level now = Commit (now + 1) name number begin level
 
 abbrev pub world : Script → List EntryLine → List (List GenidItem) → Ages → World
 world script entries taken ages = world_of (tables_of script) ages taken (length entries)
@@ -40,9 +44,8 @@ pub record Commits (script : Script) (entries : List EntryLine) (taken : List (L
   pub stored : Stored script entries taken ages
   pub first : 1 ≤ begin
   pub within : begin ≤ length entries
-  pub is_its : transaction_of name t.number script.body ≡ Some t
-  pub is_snapshot : t.level ≡ Snapshot
-  pub ops_are : ops ≡ (alone_at script nothing_before entries t begin).ops
+  pub is_its : transaction_of statement_language name t.number script.body ≡ Some t
+  pub ops_are : ops ≡ (alone_at (from_nothing script) entries t begin).ops
   pub sound : AllByRecursion (IsSoundOp (tables_of script) ages.next) ops
   pub once : AllByRecursion (λ e. is_entry_of name t.number e ≡ false) entries
   -- applied now, the operations leave sound rows, which fit
@@ -55,13 +58,17 @@ module _ (script : Script) (entries : List EntryLine) (taken : List (List GenidI
   now = length entries
 
   -- what no entry since the begin touches, by the versions that were kept for each entry
-  pub untouched_now : first_conflict begin (drop begin taken) (taken_by ops) ≡ None → IsUntouched script nothing_before entries begin (now + 1) (taken_by ops)
+  pub untouched_now : first_conflict begin (drop begin taken) (taken_by ops) ≡ None → IsUntouched (from_nothing script) entries begin (now + 1) (taken_by ops)
   untouched_now none j after before =
       ap (λ (items : List GenidItem). first_touched items (taken_by ops)) (sym (c.stored.taken_are j (omega (arith, after)) (omega (arith, before))))
       ∙ none_since begin taken (taken_by ops) none j after (let same = c.stored.taken_length in omega (arith, before, same))
 
+  -- what it uses is what its operations take away
+  used_is : used_by (alone_at (from_nothing script) entries t begin) ≡ taken_by ops
+  used_is = used_alone (tables_of script) (rows_at (from_nothing script) entries begin) t.texts ∙ ap (λ (o : List RowOp). taken_by o) (sym c.ops_are)
+
   abbrev pub e : EntryLine
-  e = entry_of name t.number begin now
+  e = entry_of name t.number begin t.level now
 
   abbrev pub more : List EntryLine
   more = entries ++ e ∷ []
@@ -70,33 +77,38 @@ module _ (script : Script) (entries : List EntryLine) (taken : List (List GenidI
   count = omega (arith, length-append entries (e ∷ []))
 
   -- the entry's operations are those that were answered
-  pub its_ops : ops_of script nothing_before (states_of script nothing_before entries) e ≡ ops
-  its_ops = ap (λ (found : Option Transaction). ops_alone script (rows_at script nothing_before entries begin) found) c.is_its ∙ sym c.ops_are
+  pub its_ops : ops_of (from_nothing script) (states_of (from_nothing script) entries) e ≡ ops
+  its_ops = ap (λ (found : Option Transaction). ops_alone (from_nothing script) (rows_at (from_nothing script) entries begin) found) c.is_its ∙ sym c.ops_are
 
-  pub rows_there : rows_after script nothing_before (states_of script nothing_before entries) e ≡ apply_all (rows_seen ages now) ops
+  pub rows_there : rows_after (from_nothing script) (states_of (from_nothing script) entries) e ≡ apply_all (rows_seen ages now) ops
   rows_there =
       let back : now + 1 - 1 ≡ now = omega arith in
-      ap (λ (o : List RowOp). apply_all (rows_at script nothing_before entries (now + 1 - 1)) o) its_ops
-      ∙ ap (λ k. apply_all (rows_at script nothing_before entries k) ops) back
+      ap (λ (o : List RowOp). apply_all (rows_at (from_nothing script) entries (now + 1 - 1)) o) its_ops
+      ∙ ap (λ k. apply_all (rows_at (from_nothing script) entries k) ops) back
       ∙ ap (λ (r : Rows). apply_all r ops) (sym c.stored.now_are)
 
-  pub rows_then : rows_at script nothing_before more (now + 1) ≡ apply_all (rows_seen ages now) ops
-  rows_then = rows_new script entries e ∙ rows_there
+  next_at : now + 1 ≡ last_position (from_nothing script).origin entries + 1
+  next_at = omega arith
+
+  pub rows_then : rows_at (from_nothing script) more (now + 1) ≡ apply_all (rows_seen ages now) ops
+  rows_then = ap (λ k. rows_at (from_nothing script) more k) next_at ∙ rows_new (from_nothing script) entries e ∙ rows_there
 
   module _ (ages' : Ages) (kept : IsKept now ages ages' (ops ∷ [])) (unbroken : first_broken (tables_of script) (apply_all (rows_seen ages now) ops).tables ≡ None) (some : ops ≢ []) (clear : first_conflict begin (drop begin taken) (taken_by ops) ≡ None) where
     good : IsGood (tables_of script) (apply_all (rows_seen ages now) ops).tables
     good = record { rows_fit = c.fits; keys_kept = unbroken }
 
-    its_entry : IsCommitAfter script nothing_before entries (now + 1) name t.number begin Snapshot
+    its_entry : IsCommitAfter (from_nothing script) entries (now + 1) name t.number begin t.level
     its_entry = record {
       placed = omega arith;
       once = c.once;
       begun = (c.first, omega arith, (let w = c.within in omega (arith, w)));
       transaction = t;
       is_its = c.is_its;
-      is_level = sym c.is_snapshot;
+      is_level = refl;
+      ran = alone_at (from_nothing script) entries t begin;
+      is_ran = refl;
       has_ops = subst (λ (o : List RowOp). o ≢ []) c.ops_are some;
-      untouched = subst (λ (o : List RowOp). IsUntouched script nothing_before entries begin (now + 1) (taken_by o)) c.ops_are (untouched_now clear);
+      untouched = subst (λ (items : List GenidItem). IsUntouched (from_nothing script) entries begin (now + 1) items) (sym used_is) (untouched_now clear);
       is_good = subst (λ (r : Rows). IsGood (tables_of script) r.tables) (sym rows_there) good;
     }
 
@@ -117,33 +129,33 @@ module _ (script : Script) (entries : List EntryLine) (taken : List (List GenidI
     abbrev pub taken' : List (List GenidItem)
     taken' = taken ++ taken_by ops ∷ []
 
-    taken_there : unwrap_or (slice_get taken' (now + 1 - 1)) [] ≡ taken_at script nothing_before more (now + 1)
+    taken_there : unwrap_or (slice_get taken' (now + 1 - 1)) [] ≡ taken_at (from_nothing script) more (now + 1)
     taken_there =
         let at : now + 1 - 1 ≡ length taken = let same = c.stored.taken_length in omega (arith, same) in
         ap (λ k. unwrap_or (slice_get taken' k) []) at
         ∙ ap (λ (found : Option (List GenidItem)). unwrap_or found []) (get_next taken (taken_by ops) [])
         ∙ ap (λ (o : List RowOp). taken_by o) (sym its_ops)
-        ∙ sym (taken_new script entries e)
+        ∙ sym (ap (λ k. taken_at (from_nothing script) more k) next_at ∙ taken_new (from_nothing script) entries e)
 
-    taken_before : (k : ℕ) → 1 ≤ k → k ≤ now → unwrap_or (slice_get taken' (k - 1)) [] ≡ taken_at script nothing_before more k
+    taken_before : (k : ℕ) → 1 ≤ k → k ≤ now → unwrap_or (slice_get taken' (k - 1)) [] ≡ taken_at (from_nothing script) more k
     taken_before k first within =
         let inside : k - 1 < length taken = let same = c.stored.taken_length in omega (arith, same, first, within) in
         ap (λ (found : Option (List GenidItem)). unwrap_or found []) (get_front taken (taken_by ops ∷ []) (k - 1) inside)
         ∙ c.stored.taken_are k first within
-        ∙ sym (taken_stays script entries e k first within)
+        ∙ sym (taken_stays (from_nothing script) entries e k (omega (arith, first)) (omega (arith, within)))
 
     -- after the commit
     pub stored_more : Stored script more taken' ages'
     stored_more = record {
       opened = omega (arith, count);
-      history = each_append (IsEntryAfter script nothing_before) [] entries (e ∷ []) c.stored.history (its_entry, tt);
-      rows_are = at_next (λ at. seen at ages'.tables ≡ (rows_at script nothing_before more at).tables)
-          (λ at first within. kept.1 at (omega (arith, within)) ∙ c.stored.rows_are at first within ∙ ap (λ (r : Rows). r.tables) (sym (rows_stay script entries e at within)))
+      history = each_append (IsEntryAfter (from_nothing script)) [] entries (e ∷ []) c.stored.history (its_entry, tt);
+      rows_are = at_next (λ at. seen at ages'.tables ≡ (rows_at (from_nothing script) more at).tables)
+          (λ at first within. kept.1 at (omega (arith, within)) ∙ c.stored.rows_are at first within ∙ ap (λ (r : Rows). r.tables) (sym (rows_stay (from_nothing script) entries e at (omega (arith, within)))))
           (tables_are ∙ ap (λ (r : Rows). r.tables) (sym rows_then));
-      now_are = subst (λ k. rows_seen ages' k ≡ rows_at script nothing_before more k) (sym count) (kept.0 ∙ sym rows_then);
+      now_are = subst (λ k. rows_seen ages' k ≡ rows_at (from_nothing script) more k) (sym count) (kept.0 ∙ sym rows_then);
       up_to = subst (λ k. IsUpTo k ages') (sym count) kept.2;
       taken_length = let same = c.stored.taken_length in omega (arith, count, same, length-append taken (taken_by ops ∷ []));
-      taken_are = at_next (λ k. unwrap_or (slice_get taken' (k - 1)) [] ≡ taken_at script nothing_before more k) taken_before taken_there;
+      taken_are = at_next (λ k. unwrap_or (slice_get taken' (k - 1)) [] ≡ taken_at (from_nothing script) more k) taken_before taken_there;
       sound = at_next (λ at. AreSound (tables_of script) ages'.next (seen at ages'.tables))
           (λ at first within. subst (λ (vs : List (List Version)). AreSound (tables_of script) ages'.next vs) (sym (kept.1 at (omega (arith, within))))
           (sound_later (tables_of script) ages.next ages'.next (seen at ages.tables) (let g = c.grows in let n = next_is in omega (arith, g, n)) (c.stored.sound at first within)))
@@ -152,13 +164,13 @@ module _ (script : Script) (entries : List EntryLine) (taken : List (List GenidI
     }
 
     -- and the outcome is right
-    pub committed_right : (o : RowOp) (os : List RowOp) → ops ≡ o ∷ os → IsRight script nothing_before more name t begin ops (reply.Committed (now + 1))
-    committed_right o os is = subst (λ (all : List RowOp). IsRight script nothing_before more name t begin all (reply.Committed (now + 1))) (sym is) (subst (λ (all : List RowOp). IsEntered script nothing_before more name t begin (now + 1) all) is entered)
+    pub committed_right : (o : RowOp) (os : List RowOp) → ops ≡ o ∷ os → IsRight (from_nothing script) more name t begin (taken_by ops) ops (reply.Committed (now + 1))
+    committed_right o os is = subst (λ (all : List RowOp). IsRight (from_nothing script) more name t begin (taken_by ops) all (reply.Committed (now + 1))) (sym is) entered
       where
-        entered : IsEntered script nothing_before more name t begin (now + 1) ops
+        entered : IsEntered (from_nothing script) more name t begin (now + 1) (taken_by ops)
         entered = record {
           later = let w = c.within in omega (arith, w);
-          stands = entry_new entries e ∙ ap (λ l. Some (Commit (now + 1) name t.number begin l)) (sym c.is_snapshot);
-          untouched = untouched_stays script entries e begin (now + 1) (taken_by ops) (omega arith) (untouched_now clear);
+          stands = ap (λ k. entry_at (from_nothing script).origin more k) next_at ∙ entry_new (from_nothing script) entries e;
+          untouched = untouched_stays (from_nothing script) entries e begin (now + 1) (taken_by ops) (omega arith) (omega arith) (untouched_now clear);
           is_good = subst (λ (r : Rows). IsGood (tables_of script) r.tables) (sym rows_then) good;
         }

@@ -4,9 +4,9 @@ use Rattle.std.proofs.lemmas.List.{append-nil}
 use Rattle.std.proofs.lemmas.Bool.{ne_eqb}
 use Rattle.std.specs.List.{AllByRecursion}
 use Rattle.std.specs.Str.{bytes_eq}
-use Rattle.cdb_values.specs.Rows.{apply_all}
 use Rattle.cdb_values.specs.declared.rows.Level.{Level}
 use Rattle.cdb_values.specs.declared.rows.Level.TheVariants.{Snapshot}
+use Rattle.cdb_values.specs.Rows.{apply_all}
 use Rattle.cdb_values.specs.declared.rows.RowOp.{RowOp}
 use Rattle.cdb_values.specs.declared.rows.StatementError.TheVariants.{State}
 use Rattle.cdb_values.specs.declared.rows.Version.{Version}
@@ -18,34 +18,41 @@ use Rattle.statement_read.specs.OnTables.{IsOn}
 use Rattle.statement_read.specs.Statements.{statement_of}
 use Rattle.statement_read.specs.declared.statements.TextKind.{TextKind}
 use Rattle.statement_read.specs.declared.statements.TextKind.TheVariants as kind
-use Rattle.script_read.specs.CanRun.{AreTaken}
-use Rattle.script_read.specs.declared.scripts.Script.{Script}
+use Rattle.script_form.specs.CanRun.{AreTaken, tables_of}
+use Rattle.script_form.specs.declared.scripts.Script.{Script}
 use Rattle.report_text.specs.declared.reports.EntryLine.{EntryLine}
 use Rattle.report_text.specs.declared.reports.EntryLine.TheVariants.{Setup, Commit}
 use Rattle.report_text.specs.declared.reports.ReplyLine.{ReplyLine}
 use Rattle.report_text.specs.declared.reports.ReplyLine.TheVariants as reply
-use Rattle.report_laws.specs.Answer.{Answered, answer, alone}
+use Rattle.report_laws.specs.Language.{Answered, alone}
+use Rattle.transaction_answers.specs.Answer.{answer, kind_by, from_nothing, statement_language}
 use Rattle.report_laws.specs.Each.{StandsIn}
-use Rattle.report_laws.specs.History.{nothing_before, rows_at, is_entry_of, taken_by}
+use Rattle.cdb_values.specs.Changes.{taken_by}
+use Rattle.report_laws.specs.History.{rows_at, is_entry_of}
+use Rattle.report_laws.specs.Cut.{cuts}
 use Rattle.report_laws.specs.Outcome.{IsRight, IsDecided, Ends}
 use Rattle.report_laws.specs.Paced.{Paced}
-use Rattle.report_laws.specs.Play.{number_by}
-use Rattle.report_laws.specs.Told.{Along, Numbered, IsCut, numbered, alone_at}
-use Rattle.report_laws.specs.Work.{Transaction, Does, Lone, Place, End, ByCommit, ByRollback, WithItsLine, Nowhere, transaction, transaction_of, tables_of, with_open, with_own_line, closed, next_by}
-use Rattle.report_laws.specs.declared.items.GenidItem.{GenidItem}
+use Rattle.report_laws.specs.Play.{number_by, is_own_by, are_up_to, is_last_of}
+use Rattle.report_laws.specs.Told.{Along, Numbered, IsTold, IsWhole, IsCut, numbered, alone_at}
+use Rattle.report_laws.specs.Work.{Transaction, Does, Lone, Place, End, ByCommit, ByRollback, WithItsLine, Nowhere, transaction, transaction_of, with_open, with_own_line, closed, next_by}
+use Rattle.cdb_values.specs.declared.items.GenidItem.{GenidItem}
 use Rattle.report_laws.proofs.AnswerLemmas.{replies_more, ops_more}
-use Rattle.report_laws.proofs.PlainLemmas.{ArePlain, plain_then, plain_paced, plain_answer}
+use Rattle.report_laws.proofs.PieceLemmas.{up_to_last, up_to_one, plain_all_quiet}
+use Rattle.report_laws.proofs.TurnedLemmas.{loud, no_row}
+use Rattle.report_laws.specs.Answers.{ArePlain}
+use Rattle.report_laws.proofs.PlainLemmas.{plain_then, plain_paced}
+use Rattle.transaction_answers.proofs.LanguageLemmas.{statements_answer, used_alone}
 use Rattle.report_laws.proofs.ToldLemmas.{numbered_append}
 use Rattle.transaction_answers.specs.Decisions.{added_by}
 use Rattle.transaction_answers.specs.Sound.{AreSound, IsSoundOp}
 use Rattle.transaction_answers.proofs.AnswerLemmas.{sound_answer}
 use Rattle.transaction_answers.proofs.AppliedLemmas.{sound_applied}
 use Rattle.transaction_answers.proofs.FitLemmas.{sound_fits}
-use Rattle.script_play.specs.SoFar.{Stored, IsDone, IsOver, IsOpen, IsDoing, IsPast, Standing}
-use Rattle.script_play.specs.Step.{World, Turned, site, turned, turn_by, outcome, answer_at, own_line, committed, goes_on, entries_added, IsKept}
-use Rattle.script_play.specs.declared.sites.Site.{Site}
-use Rattle.script_play.specs.declared.sites.Doing.{Doing}
-use Rattle.script_play.specs.declared.sites.Doing.TheVariants as doing
+use Rattle.script_play.specs.SoFar.{Stored, IsOpen, IsDoing, IsPast, Standing}
+use Rattle.script_play.specs.Step.{World, Turned, state, turned, turn_by, outcome, answer_at, own_line, committed, goes_on, entries_added, IsKept}
+use Rattle.script_play.specs.declared.states.SessionState.{SessionState}
+use Rattle.script_play.specs.declared.states.InTransaction.{InTransaction}
+use Rattle.script_play.specs.declared.states.InTransaction.TheVariants as doing
 use Rattle.script_play.proofs.StoredLemmas.{Commits, entry_of, world}
 use Rattle.script_play.proofs.DecisionLemmas.{Decided, decides, entries_after, taken_after}
 use Rattle.script_play.proofs.StandingLemmas.{Grows, alone_on, grows_length, idle_after, in_transaction}
@@ -56,36 +63,41 @@ IsPastOf name number pending (Setup position) = Unit {0}
 IsPastOf name number pending (Commit position session txn begin level) = bytes_eq session name ≡ true → IsPast number pending txn
 
 -- what a line adds to the history: nothing, or the entry of a transaction that it tells as committed
--- there, and that is over behind it
-abbrev pub IsNews : List ℕ → List EntryLine → List EntryLine → Place → Turned → Type 0
-IsNews name entries entries' after t = (entries' ≡ entries) ⊎
-    ((entries' ≡ entries ++ entry_of name t.number t.begin (length entries) ∷ []) × StandsIn t.replies (reply.Committed (length entries + 1)) × IsPast after.number after.pending t.number)
+-- there, was told its begin, and is over behind it
+abbrev pub IsNews : List ℕ → List Numbered → List EntryLine → List EntryLine → Place → Turned → Type 0
+IsNews name lines entries entries' after t = (entries' ≡ entries) ⊎
+    ((entries' ≡ entries ++ entry_of name t.number t.begin t.after.level (length entries) ∷ []) × StandsIn t.replies (reply.Committed (length entries + 1)) × IsPast after.number after.pending t.number
+    × StandsIn (lines ++ numbered t.number t.replies) (t.number, reply.Begin t.begin))
+
+-- the transaction of that number was cut short
+abbrev pub WasCutUnder : List Numbered → ℕ → Type 0
+WasCutUnder lines told = (cause : ReplyLine) × (cuts cause ≡ true) × StandsIn lines (told, cause)
 
 -- what a line does is right
-pub record Turns (script : Script) (entries entries' : List EntryLine) (taken' : List (List GenidItem)) (ages ages' : Ages) (name : List ℕ) (after : Place) (lines : List Numbered) (told : ℕ) (t : Turned) : Type 0 where
+pub record Turns (script : Script) (entries entries' : List EntryLine) (taken' : List (List GenidItem)) (ages ages' : Ages) (name : List ℕ) (after : Place) (lines : List Numbered) (told : ℕ) (own : Bool) (t : Turned) : Type 0 where
   pub stored : Stored script entries' taken' ages'
   pub grows : Grows entries entries'
   pub next : ages.next ≤ ages'.next
   pub stands : Standing script entries' ages'.next name after (lines ++ numbered t.number t.replies) t.after
   pub paced : Paced (length entries) (length entries') t.replies
-  pub number : (t.number ≡ told) ⊎ (t.replies ≡ [])
-  pub news : IsNews name entries entries' after t
+  pub number : t.number ≡ told
+  pub up_to : (are_up_to (is_last_of own) t.replies ≡ true) ⊎ ((t.replies ≡ []) × WasCutUnder lines told)
+  pub news : IsNews name lines entries entries' after t
 
 -- a session before a line of its own
-pub record Comes (script : Script) (entries : List EntryLine) (taken : List (List GenidItem)) (ages : Ages) (name : List ℕ) (p : Place) (pending : Option (List (List ℕ))) (what : Doing) (text : List ℕ) (k : TextKind) (lines : List Numbered) : Type 0 where
+pub record Comes (script : Script) (entries : List EntryLine) (taken : List (List GenidItem)) (ages : Ages) (name : List ℕ) (p : Place) (pending : Option (List (List ℕ))) (what : InTransaction) (text : List ℕ) (k : TextKind) (lines : List Numbered) : Type 0 where
   pub lawful : AreTaken [] (tables_of script)
   pub integers : AllByRecursion (λ (t : TableDef). AllByRecursion (λ (c : ColumnDef). c.kind ≡ Integer) t.columns) (tables_of script)
   pub stored : Stored script entries taken ages
   pub on : IsOn (tables_of script) (statement_of text)
-  pub level : p.level ≡ Snapshot
   pub before : List Numbered
   pub mine : List ReplyLine
   pub is : lines ≡ before ++ numbered p.number mine
-  pub past : Along (IsOver script entries name) p.over before
+  pub past : Along (IsTold (from_nothing script) entries name) p.over before
   pub doing : IsDoing script entries ages.next p pending what mine
   pub entered : AllByRecursion (IsPastOf name p.number pending) entries
   -- a transaction that this line ends is the session's of its number
-  pub its : (t : Transaction) → (next_by p text k pending).over ≡ p.over ++ Does t ∷ [] → t.number ≡ (next_by p text k pending).number → transaction_of name t.number script.body ≡ Some t
+  pub its : (t : Transaction) → (next_by p text (kind_by k) pending).over ≡ p.over ++ Does t ∷ [] → t.number ≡ (next_by p text (kind_by k) pending).number → transaction_of statement_language name t.number script.body ≡ Some t
 
 -- no entry of a session is of a transaction that is not over
 none_past : (name : List ℕ) (number n : ℕ) (pending : Option (List (List ℕ))) → ((txn : ℕ) → IsPast number pending txn → txn < n) → (es : List EntryLine) → AllByRecursion (IsPastOf name number pending) es → AllByRecursion (λ e. is_entry_of name n e ≡ false) es
@@ -107,42 +119,42 @@ module _ (script : Script) (entries : List EntryLine) (taken : List (List GenidI
   w = world script entries taken ages
 
   -- a line that adds nothing to the history
-  quiet : (k : TextKind) (pending : Option (List (List ℕ))) (what : Doing) → Comes script entries taken ages name p pending what text k lines → (after : Place) (told number : ℕ) (replies : List ReplyLine) (at : Site) → ages' ≡ ages →
-      Standing script entries ages.next name after (lines ++ numbered number replies) at → Paced (length entries) (length entries) replies → (number ≡ told) ⊎ (replies ≡ []) →
-      Turns script entries (entries ++ []) (taken ++ []) ages ages' name after lines told (turned number replies at)
-  quiet k pending what c after told number replies at same stands paced number_is =
-      subst (λ (a : Ages). Turns script entries (entries ++ []) (taken ++ []) ages a name after lines told (turned number replies at)) (sym same)
-      (subst (λ es. Turns script entries es (taken ++ []) ages ages name after lines told (turned number replies at)) (sym (append-nil entries))
-      (subst (λ ts. Turns script entries entries ts ages ages name after lines told (turned number replies at)) (sym (append-nil taken)) (record {
+  quiet : (k : TextKind) (pending : Option (List (List ℕ))) (what : InTransaction) → Comes script entries taken ages name p pending what text k lines → (after : Place) (told number : ℕ) (own : Bool) (replies : List ReplyLine) (at : SessionState) → ages' ≡ ages →
+      Standing script entries ages.next name after (lines ++ numbered number replies) at → Paced (length entries) (length entries) replies → number ≡ told → (are_up_to (is_last_of own) replies ≡ true) ⊎ ((replies ≡ []) × WasCutUnder lines told) →
+      Turns script entries (entries ++ []) (taken ++ []) ages ages' name after lines told own (turned number replies at)
+  quiet k pending what c after told number own replies at same stands paced number_is up_to =
+      subst (λ (a : Ages). Turns script entries (entries ++ []) (taken ++ []) ages a name after lines told own (turned number replies at)) (sym same)
+      (subst (λ es. Turns script entries es (taken ++ []) ages ages name after lines told own (turned number replies at)) (sym (append-nil entries))
+      (subst (λ ts. Turns script entries entries ts ages ages name after lines told own (turned number replies at)) (sym (append-nil taken)) (record {
         stored = c.stored;
         grows = inl refl;
         next = omega arith;
         stands = stands;
         paced = paced;
         number = number_is;
+        up_to = up_to;
         news = inl refl;
       })))
 
   -- the answer to a line, at a position of the history
-  answer_is : (k : TextKind) (pending : Option (List (List ℕ))) (what : Doing) → Comes script entries taken ages name p pending what text k lines → (begin : ℕ) → 1 ≤ begin → begin ≤ length entries → (ops : List RowOp) →
-      answer_at w begin ops text ≡ answer (tables_of script) (rows_at script nothing_before entries begin).tables ops text
+  answer_is : (k : TextKind) (pending : Option (List (List ℕ))) (what : InTransaction) → Comes script entries taken ages name p pending what text k lines → (begin : ℕ) → 1 ≤ begin → begin ≤ length entries → (ops : List RowOp) →
+      answer_at w begin ops text ≡ answer (tables_of script) (rows_at (from_nothing script) entries begin).tables ops text
   answer_is k pending what c begin first within ops = ap (λ (vs : List (List Version)). answer (tables_of script) vs ops text) (c.stored.rows_are begin first within)
 
-  answer_sound : (k : TextKind) (pending : Option (List (List ℕ))) (what : Doing) → Comes script entries taken ages name p pending what text k lines → (begin : ℕ) → 1 ≤ begin → begin ≤ length entries → (ops : List RowOp) →
+  answer_sound : (k : TextKind) (pending : Option (List (List ℕ))) (what : InTransaction) → Comes script entries taken ages name p pending what text k lines → (begin : ℕ) → 1 ≤ begin → begin ≤ length entries → (ops : List RowOp) →
       AllByRecursion (IsSoundOp (tables_of script) ages.next) ops → AllByRecursion (IsSoundOp (tables_of script) ages.next) (answer_at w begin ops text).ops
   answer_sound k pending what c begin first within ops all =
       sound_answer (tables_of script) (seen begin ages.tables) ops text ages.next (c.stored.sound begin first within) c.on all
 
   -- a transaction that a line ends comes to its commit
-  comes_to : (k : TextKind) (pending : Option (List (List ℕ))) (what : Doing) → Comes script entries taken ages name p pending what text k lines → (t : Transaction) (begin : ℕ) (ops : List RowOp) → 1 ≤ begin → begin ≤ length entries →
-      transaction_of name t.number script.body ≡ Some t → t.level ≡ Snapshot → ops ≡ (alone_at script nothing_before entries t begin).ops → AllByRecursion (IsSoundOp (tables_of script) ages.next) ops →
+  comes_to : (k : TextKind) (pending : Option (List (List ℕ))) (what : InTransaction) → Comes script entries taken ages name p pending what text k lines → (t : Transaction) (begin : ℕ) (ops : List RowOp) → 1 ≤ begin → begin ≤ length entries →
+      transaction_of statement_language name t.number script.body ≡ Some t → ops ≡ (alone_at (from_nothing script) entries t begin).ops → AllByRecursion (IsSoundOp (tables_of script) ages.next) ops →
       AllByRecursion (λ e. is_entry_of name t.number e ≡ false) entries → Commits script entries taken ages name t begin ops
-  comes_to k pending what c t begin ops first within its level are sound once = record {
+  comes_to k pending what c t begin ops first within its are sound once = record {
     stored = c.stored;
     first = first;
     within = within;
     is_its = its;
-    is_snapshot = level;
     ops_are = are;
     sound = sound;
     once = once;
@@ -156,71 +168,82 @@ module _ (script : Script) (entries : List EntryLine) (taken : List (List GenidI
 
   -- a decision on a transaction that the line ends, behind these replies of it
   decided_turn : (t : Transaction) (begin : ℕ) (ops : List RowOp) (o : ReplyLine) (added : List (List RowOp)) → begin ≤ length entries → 1 ≤ begin →
-      Decided script entries taken ages ages' name t begin ops o added → Grows entries (entries_after entries name t.number begin added)
+      Decided script entries taken ages ages' name t begin ops o added → Grows entries (entries_after entries name t.number begin t.level added)
   decided_turn t begin ops o added within first d = go d.told
     where
-      go : (added ≡ []) ⊎ ((x : List RowOp) × (added ≡ x ∷ []) × (o ≡ reply.Committed (length entries + 1))) → Grows entries (entries_after entries name t.number begin added)
-      go (inl none) = inl (ap (λ (l : List (List RowOp)). entries_after entries name t.number begin l) none ∙ append-nil entries)
-      go (inr (x, one, is)) = inr (entry_of name t.number begin (length entries), ap (λ (l : List (List RowOp)). entries_after entries name t.number begin l) one)
+      go : (added ≡ []) ⊎ ((x : List RowOp) × (added ≡ x ∷ []) × (o ≡ reply.Committed (length entries + 1))) → Grows entries (entries_after entries name t.number begin t.level added)
+      go (inl none) = inl (ap (λ (l : List (List RowOp)). entries_after entries name t.number begin t.level l) none ∙ append-nil entries)
+      go (inr (x, one, is)) = inr (entry_of name t.number begin t.level (length entries), ap (λ (l : List (List RowOp)). entries_after entries name t.number begin t.level l) one)
 
-  news_of : (t : Transaction) (begin : ℕ) (ops : List RowOp) (o : ReplyLine) (added : List (List RowOp)) (after : Place) (turn : Turned) → turn.number ≡ t.number → turn.begin ≡ begin → StandsIn turn.replies o → IsPast after.number after.pending t.number →
-      Decided script entries taken ages ages' name t begin ops o added → IsNews name entries (entries_after entries name t.number begin added) after turn
-  news_of t begin ops o added after turn number at stands past d = go d.told
+  news_of : (t : Transaction) (begin : ℕ) (ops : List RowOp) (o : ReplyLine) (added : List (List RowOp)) (after : Place) (turn : Turned) → turn.number ≡ t.number → turn.begin ≡ begin → turn.after.level ≡ t.level → StandsIn turn.replies o → IsPast after.number after.pending t.number → StandsIn (lines ++ numbered turn.number turn.replies) (turn.number, reply.Begin turn.begin) →
+      Decided script entries taken ages ages' name t begin ops o added → IsNews name lines entries (entries_after entries name t.number begin t.level added) after turn
+  news_of t begin ops o added after turn number at level stands past begins d = go d.told
     where
-      go : (added ≡ []) ⊎ ((x : List RowOp) × (added ≡ x ∷ []) × (o ≡ reply.Committed (length entries + 1))) → IsNews name entries (entries_after entries name t.number begin added) after turn
-      go (inl none) = inl (ap (λ (l : List (List RowOp)). entries_after entries name t.number begin l) none ∙ append-nil entries)
+      go : (added ≡ []) ⊎ ((x : List RowOp) × (added ≡ x ∷ []) × (o ≡ reply.Committed (length entries + 1))) → IsNews name lines entries (entries_after entries name t.number begin t.level added) after turn
+      go (inl none) = inl (ap (λ (l : List (List RowOp)). entries_after entries name t.number begin t.level l) none ∙ append-nil entries)
       go (inr (x, one, is)) = inr (
-        ap (λ (l : List (List RowOp)). entries_after entries name t.number begin l) one
-            ∙ ap (λ n. entries ++ entry_of name n begin (length entries) ∷ []) (sym number) ∙ ap (λ b. entries ++ entry_of name turn.number b (length entries) ∷ []) (sym at),
+        ap (λ (l : List (List RowOp)). entries_after entries name t.number begin t.level l) one
+            ∙ ap (λ n. entries ++ entry_of name n begin t.level (length entries) ∷ []) (sym number) ∙ ap (λ b. entries ++ entry_of name turn.number b t.level (length entries) ∷ []) (sym at)
+            ∙ ap (λ (l : Level). entries ++ entry_of name turn.number turn.begin l (length entries) ∷ []) (sym level),
         subst (λ x. StandsIn turn.replies x) is stands,
         subst (λ n. IsPast after.number after.pending n) (sym number) past,
+        begins,
       )
 
   -- what is kept for a line
   abbrev pub Kept : Turned → Type 0
   Kept t = IsKept (length entries) ages ages' t.added
 
-  abbrev pub Goal : Place → ℕ → Turned → Type 0
-  Goal after told t = Kept t → Turns script entries (entries ++ entries_added name (length entries) t) (taken ++ map taken_by t.added) ages ages' name after lines told t
+  abbrev pub Goal : Place → ℕ → Bool → Turned → Type 0
+  Goal after told own t = Kept t → Turns script entries (entries ++ entries_added name (length entries) t) (taken ++ map taken_by t.added) ages ages' name after lines told own t
 
   -- outside a transaction nothing of one was told
-  pub idle_lines : (k : TextKind) (c : Comes script entries taken ages name p None doing.Idle text k lines) → lines ≡ c.before
+  pub idle_lines : (k : TextKind) (c : Comes script entries taken ages name p None doing.No text k lines) → lines ≡ c.before
   idle_lines k c = c.is ∙ ap (λ rs. c.before ++ numbered p.number rs) c.doing ∙ append-nil c.before
 
-  begun : (c : Comes script entries taken ages name p None doing.Idle text kind.Begin lines) → Goal (next_by p text kind.Begin None) (number_by p.number kind.Begin None) (turn_by w p.number text kind.Begin doing.Idle)
-  begun c kept = quiet kind.Begin None doing.Idle c (with_open p (Some []) (p.number + 1)) (p.number + 1) (p.number + 1) (reply.Begin (length entries) ∷ []) (site (p.number + 1) (doing.Open (length entries) [])) kept
+  begun : (c : Comes script entries taken ages name p None doing.No text kind.Begin lines) → Goal (next_by p text (kind_by kind.Begin) None) (number_by p.number (kind_by kind.Begin) None) false (turn_by w p.number p.level text kind.Begin doing.No)
+  begun c kept = quiet kind.Begin None doing.No c (with_open p (Some []) (p.number + 1)) (p.number + 1) (p.number + 1) false (reply.Begin (length entries) ∷ []) (state (p.number + 1) p.level (doing.Open (length entries) [])) kept
       (in_transaction script entries entries (inl refl) name p c.before c.past [] (reply.Begin (length entries) ∷ []) (lines ++ numbered (p.number + 1) (reply.Begin (length entries) ∷ [])) ages.next (p.number + 1) (doing.Open (length entries) [])
       (record { first = c.stored.opened; within = omega arith; says = refl; ops_are = refl; sound = tt })
       (ap (λ ls. ls ++ numbered (p.number + 1) (reply.Begin (length entries) ∷ [])) (idle_lines kind.Begin c)))
-      (refl, refl) (inl refl)
+      (refl, refl) refl (inl refl)
 
   -- a line outside a transaction has its one reply
-  lone : (k : TextKind) (c : Comes script entries taken ages name p None doing.Idle text k lines) (answered : ReplyLine) (level : Level) → Paced (length entries) (length entries) (answered ∷ []) →
-      Goal (record { over = p.over ++ Lone answered ∷ []; number = p.number; level = level; pending = None }) 0 (turned 0 (answered ∷ []) (site p.number doing.Idle))
-  lone k c answered level paced kept = quiet k None doing.Idle c (record { over = p.over ++ Lone answered ∷ []; number = p.number; level = level; pending = None }) 0 0 (answered ∷ []) (site p.number doing.Idle) kept
+  lone : (k : TextKind) (c : Comes script entries taken ages name p None doing.No text k lines) (answered : ReplyLine) (level : Level) → Paced (length entries) (length entries) (answered ∷ []) → are_up_to (is_last_of false) (answered ∷ []) ≡ true →
+      Goal (record { over = p.over ++ Lone answered ∷ []; number = p.number; level = level; pending = None }) 0 false (turned 0 (answered ∷ []) (state p.number level doing.No))
+  lone k c answered level paced up_to kept = quiet k None doing.No c (record { over = p.over ++ Lone answered ∷ []; number = p.number; level = level; pending = None }) 0 0 false (answered ∷ []) (state p.number level doing.No) kept
       (idle_after script entries entries (inl refl) name p c.before c.past (Lone answered) (answered ∷ []) (lines ++ numbered 0 (answered ∷ [])) ages.next p.number level refl
       (ap (λ ls. ls ++ numbered 0 (answered ∷ [])) (idle_lines k c)))
-      paced (inl refl)
+      paced refl (inl up_to)
 
   -- a transaction was told up to its decision
   ends_with : (t : Transaction) (begin : ℕ) (ops : List RowOp) (front : List ReplyLine) (o : ReplyLine) (added : List (List RowOp)) → 1 ≤ begin → begin ≤ length entries → (IsDecided o → Ends t.end (o ∷ [])) →
-      front ≡ reply.Begin begin ∷ (alone_at script nothing_before entries t begin).replies → ops ≡ (alone_at script nothing_before entries t begin).ops → Decided script entries taken ages ages' name t begin ops o added →
-      IsDone script (entries_after entries name t.number begin added) name t (front ++ o ∷ [])
+      front ≡ reply.Begin begin ∷ (alone_at (from_nothing script) entries t begin).replies → ops ≡ (alone_at (from_nothing script) entries t begin).ops → Decided script entries taken ages ages' name t begin ops o added →
+      IsWhole (from_nothing script) (entries_after entries name t.number begin t.level added) name t (front ++ o ∷ [])
   ends_with t begin ops front o added first within ends says are d = record {
     begin = begin;
-    first = first;
-    within = let le = grows_length entries (entries_after entries name t.number begin added) grows in omega (arith, le, within);
+    base = omega arith;
+    within = let le = grows_length entries longer grows in omega (arith, le, within);
+    ran = alone_at (from_nothing script) longer t begin;
+    is_ran = refl;
     last = o ∷ [];
     ends = ends d.decided;
+    right = (
+      subst (λ (items : List GenidItem). IsRight (from_nothing script) longer name t begin items (alone_at (from_nothing script) longer t begin).ops o) (sym (used_alone (tables_of script) (rows_at (from_nothing script) longer begin) t.texts))
+          (subst (λ (x : List RowOp). IsRight (from_nothing script) longer name t begin (taken_by x) x o) (are ∙ ap (λ (a : Answered). a.ops) (sym same)) d.right),
+      tt,
+    );
     says = ap (λ rs. rs ++ o ∷ []) says ∙ ap (λ (a : Answered). reply.Begin begin ∷ (a.replies ++ o ∷ [])) (sym same);
-    right = (subst (λ (x : List RowOp). IsRight script nothing_before (entries_after entries name t.number begin added) name t begin x o) (are ∙ ap (λ (a : Answered). a.ops) (sym same)) d.right, tt);
   }
     where
-      grows : Grows entries (entries_after entries name t.number begin added)
+      longer : List EntryLine
+      longer = entries_after entries name t.number begin t.level added
+
+      grows : Grows entries longer
       grows = decided_turn t begin ops o added within first d
 
-      same : alone_at script nothing_before (entries_after entries name t.number begin added) t begin ≡ alone_at script nothing_before entries t begin
-      same = alone_on script entries (entries_after entries name t.number begin added) t.texts begin grows within
+      same : alone_at (from_nothing script) longer t begin ≡ alone_at (from_nothing script) entries t begin
+      same = alone_on script entries longer t.texts begin grows within
 
   -- a transaction of one line, by its answer
   abbrev pub own_txn : Transaction
@@ -236,12 +259,12 @@ module _ (script : Script) (entries : List EntryLine) (taken : List (List GenidI
   own_front a = reply.Begin (length entries) ∷ a.replies
 
   abbrev pub own_entries : Answered → List EntryLine
-  own_entries a = entries_after entries name (p.number + 1) (length entries) (own_added a)
+  own_entries a = entries_after entries name (p.number + 1) (length entries) p.level (own_added a)
 
-  own_by : (c : Comes script entries taken ages name p None doing.Idle text kind.Other lines) (a : Answered) → ArePlain a.replies →
-      own_front a ≡ reply.Begin (length entries) ∷ (alone_at script nothing_before entries own_txn (length entries)).replies → a.ops ≡ (alone_at script nothing_before entries own_txn (length entries)).ops →
+  own_by : (c : Comes script entries taken ages name p None doing.No text kind.Other lines) (a : Answered) → ArePlain a.replies →
+      own_front a ≡ reply.Begin (length entries) ∷ (alone_at (from_nothing script) entries own_txn (length entries)).replies → a.ops ≡ (alone_at (from_nothing script) entries own_txn (length entries)).ops →
       Decided script entries taken ages ages' name own_txn (length entries) a.ops (own_outcome a) (own_added a) →
-      Turns script entries (own_entries a) (taken_after taken (own_added a)) ages ages' name (with_own_line p text) lines (p.number + 1) (own_line w (p.number + 1) a)
+      Turns script entries (own_entries a) (taken_after taken (own_added a)) ages ages' name (with_own_line p text) lines (p.number + 1) true (own_line w (p.number + 1) p.level a)
   own_by c a plain says are d = record {
     stored = d.stored;
     grows = decided_turn own_txn (length entries) a.ops (own_outcome a) (own_added a) (omega arith) c.stored.opened d;
@@ -250,26 +273,27 @@ module _ (script : Script) (entries : List EntryLine) (taken : List (List GenidI
         (inl (ends_with own_txn (length entries) a.ops (own_front a) (own_outcome a) (own_added a) c.stored.opened (omega arith) (λ x. x) says are d))
         (ap (λ ls. ls ++ numbered (p.number + 1) (own_front a ++ own_outcome a ∷ [])) (idle_lines kind.Other c));
     paced = (refl, plain_then (length entries) (length (own_entries a)) a.replies (own_outcome a ∷ []) plain d.paced);
-    number = inl refl;
-    news = news_of own_txn (length entries) a.ops (own_outcome a) (own_added a) (with_own_line p text) (own_line w (p.number + 1) a) refl refl (own_front a, [], refl) (omega arith) d;
+    number = refl;
+    up_to = inl (up_to_last (is_last_of true) (own_front a) (own_outcome a) (refl, plain_all_quiet a.replies plain) (loud (own_outcome a) d.decided));
+    news = news_of own_txn (length entries) a.ops (own_outcome a) (own_added a) (with_own_line p text) (own_line w (p.number + 1) p.level a) refl refl refl (own_front a, [], refl) (omega arith) (lines, numbered (p.number + 1) (a.replies ++ own_outcome a ∷ []), refl) d;
   }
 
-  own : (c : Comes script entries taken ages name p None doing.Idle text kind.Other lines) → Goal (next_by p text kind.Other None) (number_by p.number kind.Other None) (turn_by w p.number text kind.Other doing.Idle)
-  own c kept = own_by c (answer_at w (length entries) [] text) (plain_answer (tables_of script) (seen (length entries) ages.tables) [] text) says are
+  own : (c : Comes script entries taken ages name p None doing.No text kind.Other lines) → Goal (next_by p text (kind_by kind.Other) None) (number_by p.number (kind_by kind.Other) None) true (turn_by w p.number p.level text kind.Other doing.No)
+  own c kept = own_by c (answer_at w (length entries) [] text) (statements_answer.plain (tables_of script) (seen (length entries) ages.tables) [] text) says are
       (decides script entries taken ages ages' name own_txn (length entries) (answer_at w (length entries) [] text).ops commits kept)
     where
-      its : answer_at w (length entries) [] text ≡ answer (tables_of script) (rows_at script nothing_before entries (length entries)).tables [] text
-      its = answer_is kind.Other None doing.Idle c (length entries) c.stored.opened (omega arith) []
+      its : answer_at w (length entries) [] text ≡ answer (tables_of script) (rows_at (from_nothing script) entries (length entries)).tables [] text
+      its = answer_is kind.Other None doing.No c (length entries) c.stored.opened (omega arith) []
 
-      says : own_front (answer_at w (length entries) [] text) ≡ reply.Begin (length entries) ∷ (alone_at script nothing_before entries own_txn (length entries)).replies
-      says = ap (λ (x : Answered). reply.Begin (length entries) ∷ x.replies) its ∙ ap (λ rs. reply.Begin (length entries) ∷ rs) (sym (append-nil (answer (tables_of script) (rows_at script nothing_before entries (length entries)).tables [] text).replies))
+      says : own_front (answer_at w (length entries) [] text) ≡ reply.Begin (length entries) ∷ (alone_at (from_nothing script) entries own_txn (length entries)).replies
+      says = ap (λ (x : Answered). reply.Begin (length entries) ∷ x.replies) its ∙ ap (λ rs. reply.Begin (length entries) ∷ rs) (sym (append-nil (answer (tables_of script) (rows_at (from_nothing script) entries (length entries)).tables [] text).replies))
 
-      are : (answer_at w (length entries) [] text).ops ≡ (alone_at script nothing_before entries own_txn (length entries)).ops
+      are : (answer_at w (length entries) [] text).ops ≡ (alone_at (from_nothing script) entries own_txn (length entries)).ops
       are = ap (λ (x : Answered). x.ops) its
 
       commits : Commits script entries taken ages name own_txn (length entries) (answer_at w (length entries) [] text).ops
-      commits = comes_to kind.Other None doing.Idle c own_txn (length entries) (answer_at w (length entries) [] text).ops c.stored.opened (omega arith) (c.its own_txn refl refl) c.level are
-          (answer_sound kind.Other None doing.Idle c (length entries) c.stored.opened (omega arith) [] tt)
+      commits = comes_to kind.Other None doing.No c own_txn (length entries) (answer_at w (length entries) [] text).ops c.stored.opened (omega arith) (c.its own_txn refl refl) are
+          (answer_sound kind.Other None doing.No c (length entries) c.stored.opened (omega arith) [] tt)
           (none_past name p.number (p.number + 1) None (λ txn le. omega (arith, le)) entries c.entered)
 
   -- what was told of an open transaction, and one statement more
@@ -279,28 +303,28 @@ module _ (script : Script) (entries : List EntryLine) (taken : List (List GenidI
       first = c.doing.first;
       within = c.doing.within;
       says = ap (λ rs. rs ++ (answer_at w begin ops text).replies) c.doing.says
-          ∙ ap (λ (a : Answered). reply.Begin begin ∷ ((alone (tables_of script) (rows_at script nothing_before entries begin) texts).replies ++ a.replies)) its
-          ∙ ap (λ rs. reply.Begin begin ∷ rs) (sym (replies_more (tables_of script) (rows_at script nothing_before entries begin).tables [] texts text));
-      ops_are = ap (λ (a : Answered). a.ops) its ∙ sym (ops_more (tables_of script) (rows_at script nothing_before entries begin).tables [] texts text);
+          ∙ ap (λ (a : Answered). reply.Begin begin ∷ ((alone statement_language (tables_of script) (rows_at (from_nothing script) entries begin) texts).replies ++ a.replies)) its
+          ∙ ap (λ rs. reply.Begin begin ∷ rs) (sym (replies_more statement_language (tables_of script) (rows_at (from_nothing script) entries begin).tables [] texts text));
+      ops_are = ap (λ (a : Answered). a.ops) its ∙ sym (ops_more statement_language (tables_of script) (rows_at (from_nothing script) entries begin).tables [] texts text);
       sound = answer_sound k (Some texts) (doing.Open begin ops) c begin c.doing.first c.doing.within ops c.doing.sound;
     }
       where
-        its : answer_at w begin ops text ≡ answer (tables_of script) (rows_at script nothing_before entries begin).tables (alone (tables_of script) (rows_at script nothing_before entries begin) texts).ops text
+        its : answer_at w begin ops text ≡ answer (tables_of script) (rows_at (from_nothing script) entries begin).tables (alone statement_language (tables_of script) (rows_at (from_nothing script) entries begin) texts).ops text
         its = answer_is k (Some texts) (doing.Open begin ops) c begin c.doing.first c.doing.within ops
-            ∙ ap (λ (o : List RowOp). answer (tables_of script) (rows_at script nothing_before entries begin).tables o text) c.doing.ops_are
+            ∙ ap (λ (o : List RowOp). answer (tables_of script) (rows_at (from_nothing script) entries begin).tables o text) c.doing.ops_are
 
-    goes : Goal (with_open p (Some (texts ++ text ∷ [])) p.number) p.number (goes_on p.number begin (answer_at w begin ops text))
-    goes kept = quiet k (Some texts) (doing.Open begin ops) c (with_open p (Some (texts ++ text ∷ [])) p.number) p.number p.number (answer_at w begin ops text).replies (site p.number (doing.Open begin (answer_at w begin ops text).ops)) kept
+    goes : Goal (with_open p (Some (texts ++ text ∷ [])) p.number) p.number false (goes_on p.number p.level begin (answer_at w begin ops text))
+    goes kept = quiet k (Some texts) (doing.Open begin ops) c (with_open p (Some (texts ++ text ∷ [])) p.number) p.number p.number false (answer_at w begin ops text).replies (state p.number p.level (doing.Open begin (answer_at w begin ops text).ops)) kept
         (in_transaction script entries entries (inl refl) name p c.before c.past (texts ++ text ∷ []) (c.mine ++ (answer_at w begin ops text).replies) (lines ++ numbered p.number (answer_at w begin ops text).replies) ages.next p.number (doing.Open begin (answer_at w begin ops text).ops)
         more_open (piece lines c.before p.number c.mine (answer_at w begin ops text).replies c.is))
-        (plain_paced (length entries) (answer_at w begin ops text).replies (plain_answer (tables_of script) (seen begin ages.tables) ops text)) (inl refl)
+        (plain_paced (length entries) (answer_at w begin ops text).replies (statements_answer.plain (tables_of script) (seen begin ages.tables) ops text)) refl (inl (statements_answer.closed (tables_of script) (seen begin ages.tables) ops text))
 
-    rolled : Goal (closed p texts ByRollback) p.number (turned p.number (reply.RolledBack ∷ []) (site p.number doing.Idle))
-    rolled kept = quiet k (Some texts) (doing.Open begin ops) c (closed p texts ByRollback) p.number p.number (reply.RolledBack ∷ []) (site p.number doing.Idle) kept
+    rolled : Goal (closed p texts ByRollback) p.number false (turned p.number (reply.RolledBack ∷ []) (state p.number p.level doing.No))
+    rolled kept = quiet k (Some texts) (doing.Open begin ops) c (closed p texts ByRollback) p.number p.number false (reply.RolledBack ∷ []) (state p.number p.level doing.No) kept
         (idle_after script entries entries (inl refl) name p c.before c.past (Does (transaction p.number texts p.level ByRollback)) (c.mine ++ reply.RolledBack ∷ []) (lines ++ numbered p.number (reply.RolledBack ∷ [])) ages.next p.number p.level
-        (inl (record { begin = begin; first = c.doing.first; within = c.doing.within; last = reply.RolledBack ∷ []; ends = refl; says = ap (λ rs. rs ++ reply.RolledBack ∷ []) c.doing.says; right = (refl, tt) }))
+        (inl (record { begin = begin; base = omega arith; within = (let w = c.doing.within in omega (arith, w)); ran = alone_at (from_nothing script) entries (transaction p.number texts p.level ByRollback) begin; is_ran = refl; last = reply.RolledBack ∷ []; ends = refl; right = (refl, tt); says = ap (λ rs. rs ++ reply.RolledBack ∷ []) c.doing.says }))
         (piece lines c.before p.number c.mine (reply.RolledBack ∷ []) c.is))
-        refl (inl refl)
+        refl refl (inl refl)
 
     abbrev pub ending : Transaction
     ending = transaction p.number texts p.level ByCommit
@@ -309,73 +333,100 @@ module _ (script : Script) (entries : List EntryLine) (taken : List (List GenidI
     last = outcome w begin ops
 
     commits_by : Decided script entries taken ages ages' name ending begin ops last (added_by last ops) →
-        Turns script entries (entries_after entries name p.number begin (added_by last ops)) (taken_after taken (added_by last ops)) ages ages' name (closed p texts ByCommit) lines p.number (committed w p.number begin ops)
+        Turns script entries (entries_after entries name p.number begin p.level (added_by last ops)) (taken_after taken (added_by last ops)) ages ages' name (closed p texts ByCommit) lines p.number false (committed w p.number p.level begin ops)
     commits_by d = record {
       stored = d.stored;
       grows = decided_turn ending begin ops last (added_by last ops) c.doing.within c.doing.first d;
       next = d.grows;
-      stands = idle_after script entries (entries_after entries name p.number begin (added_by last ops)) (decided_turn ending begin ops last (added_by last ops) c.doing.within c.doing.first d) name p c.before c.past (Does ending) (c.mine ++ last ∷ []) (lines ++ numbered p.number (last ∷ [])) ages'.next p.number p.level
+      stands = idle_after script entries (entries_after entries name p.number begin p.level (added_by last ops)) (decided_turn ending begin ops last (added_by last ops) c.doing.within c.doing.first d) name p c.before c.past (Does ending) (c.mine ++ last ∷ []) (lines ++ numbered p.number (last ∷ [])) ages'.next p.number p.level
           (inl (ends_with ending begin ops c.mine last (added_by last ops) c.doing.first c.doing.within (λ x. x) c.doing.says c.doing.ops_are d))
           (piece lines c.before p.number c.mine (last ∷ []) c.is);
       paced = d.paced;
-      number = inl refl;
-      news = news_of ending begin ops last (added_by last ops) (closed p texts ByCommit) (committed w p.number begin ops) refl refl ([], [], refl) (omega arith) d;
+      number = refl;
+      up_to = inl (up_to_one (is_last_of false) last (no_row last d.decided));
+      news = news_of ending begin ops last (added_by last ops) (closed p texts ByCommit) (committed w p.number p.level begin ops) refl refl refl ([], [], refl) (omega arith) its_begin d;
     }
+      where
+        its_begin : StandsIn (lines ++ numbered p.number (last ∷ [])) (p.number, reply.Begin begin)
+        its_begin = (
+          c.before,
+          numbered p.number (alone_at (from_nothing script) entries ending begin).replies ++ numbered p.number (last ∷ []),
+          ap (λ (ls : List Numbered). ls ++ numbered p.number (last ∷ [])) (c.is ∙ ap (λ (rs : List ReplyLine). c.before ++ numbered p.number rs) c.doing.says)
+              ∙ append_assoc c.before (numbered p.number (reply.Begin begin ∷ (alone_at (from_nothing script) entries ending begin).replies)) (numbered p.number (last ∷ [])),
+        )
 
-  comes_to_commit : (texts : List (List ℕ)) (begin : ℕ) (ops : List RowOp) (c : Comes script entries taken ages name p (Some texts) (doing.Open begin ops) text kind.Commit lines) → Goal (closed p texts ByCommit) p.number (committed w p.number begin ops)
+  comes_to_commit : (texts : List (List ℕ)) (begin : ℕ) (ops : List RowOp) (c : Comes script entries taken ages name p (Some texts) (doing.Open begin ops) text kind.Commit lines) → Goal (closed p texts ByCommit) p.number false (committed w p.number p.level begin ops)
   comes_to_commit texts begin ops c kept = commits_by texts begin ops kind.Commit c
       (decides script entries taken ages ages' name (transaction p.number texts p.level ByCommit) begin ops
-      (comes_to kind.Commit (Some texts) (doing.Open begin ops) c (transaction p.number texts p.level ByCommit) begin ops c.doing.first c.doing.within (c.its (transaction p.number texts p.level ByCommit) refl refl) c.level c.doing.ops_are c.doing.sound
+      (comes_to kind.Commit (Some texts) (doing.Open begin ops) c (transaction p.number texts p.level ByCommit) begin ops c.doing.first c.doing.within (c.its (transaction p.number texts p.level ByCommit) refl refl) c.doing.ops_are c.doing.sound
       (none_past name p.number p.number (Some texts) (λ txn less. less) entries c.entered)) kept)
 
   -- lines of a transaction that want of memory ended are skipped
-  module _ (texts : List (List ℕ)) (k : TextKind) (c : Comes script entries taken ages name p (Some texts) doing.Skipping text k lines) where
+  module _ (texts : List (List ℕ)) (k : TextKind) (c : Comes script entries taken ages name p (Some texts) doing.Aborted text k lines) where
     skipped_lines : lines ++ numbered p.number [] ≡ c.before ++ numbered p.number c.mine
     skipped_lines = append-nil lines ∙ c.is
 
-    more_cut : IsCut script nothing_before entries (transaction p.number (texts ++ text ∷ []) p.level Nowhere) c.mine
+    more_cut : IsCut (from_nothing script) entries (transaction p.number (texts ++ text ∷ []) p.level Nowhere) c.mine
     more_cut = record {
       begin = c.doing.begin;
+      base = c.doing.base;
       within = c.doing.within;
+      ran = alone_at (from_nothing script) entries (transaction p.number (texts ++ text ∷ []) p.level Nowhere) c.doing.begin;
+      is_ran = refl;
       front = c.doing.front;
       rest = c.doing.rest ++ more;
+      cause = c.doing.cause;
+      is_cause = c.doing.is_cause;
       fits = sym (append_assoc c.doing.front c.doing.rest more) ∙ ap (λ rs. rs ++ more) c.doing.fits
-          ∙ ap (λ rs. reply.Begin c.doing.begin ∷ rs) (sym (replies_more (tables_of script) (rows_at script nothing_before entries c.doing.begin).tables [] texts text));
+          ∙ ap (λ (a : Answered). (reply.Begin c.doing.begin ∷ a.replies) ++ more) c.doing.is_ran
+          ∙ ap (λ rs. reply.Begin c.doing.begin ∷ rs) (sym (replies_more statement_language (tables_of script) (rows_at (from_nothing script) entries c.doing.begin).tables [] texts text));
       says = c.doing.says;
     }
       where
         more : List ReplyLine
-        more = (answer (tables_of script) (rows_at script nothing_before entries c.doing.begin).tables (alone (tables_of script) (rows_at script nothing_before entries c.doing.begin) texts).ops text).replies
+        more = (answer (tables_of script) (rows_at (from_nothing script) entries c.doing.begin).tables (alone statement_language (tables_of script) (rows_at (from_nothing script) entries c.doing.begin) texts).ops text).replies
 
-    skips : Goal (with_open p (Some (texts ++ text ∷ [])) p.number) p.number (turned p.number [] (site p.number doing.Skipping))
-    skips kept = quiet k (Some texts) doing.Skipping c (with_open p (Some (texts ++ text ∷ [])) p.number) p.number p.number [] (site p.number doing.Skipping) kept
-        (in_transaction script entries entries (inl refl) name p c.before c.past (texts ++ text ∷ []) c.mine (lines ++ numbered p.number []) ages.next p.number doing.Skipping more_cut skipped_lines)
-        refl (inr refl)
+    was_cut : WasCutUnder lines p.number
+    was_cut = (
+      c.doing.cause,
+      c.doing.is_cause,
+      (
+        c.before ++ numbered p.number c.doing.front,
+        [],
+        c.is ∙ ap (λ (rs : List ReplyLine). c.before ++ numbered p.number rs) c.doing.says ∙ ap (λ (ls : List Numbered). c.before ++ ls) (numbered_append p.number c.doing.front (c.doing.cause ∷ []))
+            ∙ sym (append_assoc c.before (numbered p.number c.doing.front) (numbered p.number (c.doing.cause ∷ []))),
+      ),
+    )
 
-    skips_end : (end : End) → Goal (closed p texts end) p.number (turned p.number [] (site p.number doing.Idle))
-    skips_end end kept = quiet k (Some texts) doing.Skipping c (closed p texts end) p.number p.number [] (site p.number doing.Idle) kept
+    skips : Goal (with_open p (Some (texts ++ text ∷ [])) p.number) p.number false (turned p.number [] (state p.number p.level doing.Aborted))
+    skips kept = quiet k (Some texts) doing.Aborted c (with_open p (Some (texts ++ text ∷ [])) p.number) p.number p.number false [] (state p.number p.level doing.Aborted) kept
+        (in_transaction script entries entries (inl refl) name p c.before c.past (texts ++ text ∷ []) c.mine (lines ++ numbered p.number []) ages.next p.number doing.Aborted more_cut skipped_lines)
+        refl refl (inr (refl, was_cut))
+
+    skips_end : (end : End) → Goal (closed p texts end) p.number false (turned p.number [] (state p.number p.level doing.No))
+    skips_end end kept = quiet k (Some texts) doing.Aborted c (closed p texts end) p.number p.number false [] (state p.number p.level doing.No) kept
         (idle_after script entries entries (inl refl) name p c.before c.past (Does (transaction p.number texts p.level end)) c.mine (lines ++ numbered p.number []) ages.next p.number p.level
-        (inr (record { begin = c.doing.begin; within = c.doing.within; front = c.doing.front; rest = c.doing.rest; fits = c.doing.fits; says = c.doing.says })) skipped_lines)
-        refl (inr refl)
+        (inr (record { begin = c.doing.begin; base = c.doing.base; within = c.doing.within; ran = c.doing.ran; is_ran = c.doing.is_ran; front = c.doing.front; rest = c.doing.rest; fits = c.doing.fits; cause = c.doing.cause; is_cause = c.doing.is_cause; says = c.doing.says })) skipped_lines)
+        refl refl (inr (refl, was_cut))
 
   -- whatever the line is, and wherever the session is
-  pub turns : (k : TextKind) (pending : Option (List (List ℕ))) (what : Doing) → Comes script entries taken ages name p pending what text k lines →
-      Goal (next_by p text k pending) (number_by p.number k pending) (turn_by w p.number text k what)
-  turns kind.Begin None doing.Idle c = begun c
-  turns kind.Commit None doing.Idle c = lone kind.Commit c (reply.Error State) p.level refl
-  turns kind.Rollback None doing.Idle c = lone kind.Rollback c (reply.Error State) p.level refl
-  turns kind.SetSnapshot None doing.Idle c = lone kind.SetSnapshot c (reply.Level Snapshot) Snapshot refl
-  turns kind.Other None doing.Idle c = own c
+  pub turns : (k : TextKind) (pending : Option (List (List ℕ))) (what : InTransaction) → Comes script entries taken ages name p pending what text k lines →
+      Goal (next_by p text (kind_by k) pending) (number_by p.number (kind_by k) pending) (is_own_by (kind_by k) pending) (turn_by w p.number p.level text k what)
+  turns kind.Begin None doing.No c = begun c
+  turns kind.Commit None doing.No c = lone kind.Commit c (reply.Error State) p.level refl refl
+  turns kind.Rollback None doing.No c = lone kind.Rollback c (reply.Error State) p.level refl refl
+  turns kind.SetSnapshot None doing.No c = lone kind.SetSnapshot c (reply.Level Snapshot) Snapshot refl refl
+  turns kind.Other None doing.No c = own c
   turns kind.Begin (Some texts) (doing.Open begin ops) c = goes texts begin ops kind.Begin c
   turns kind.Commit (Some texts) (doing.Open begin ops) c = comes_to_commit texts begin ops c
   turns kind.Rollback (Some texts) (doing.Open begin ops) c = rolled texts begin ops kind.Rollback c
   turns kind.SetSnapshot (Some texts) (doing.Open begin ops) c = goes texts begin ops kind.SetSnapshot c
   turns kind.Other (Some texts) (doing.Open begin ops) c = goes texts begin ops kind.Other c
-  turns kind.Begin (Some texts) doing.Skipping c = skips texts kind.Begin c
-  turns kind.Commit (Some texts) doing.Skipping c = skips_end texts kind.Commit c ByCommit
-  turns kind.Rollback (Some texts) doing.Skipping c = skips_end texts kind.Rollback c ByRollback
-  turns kind.SetSnapshot (Some texts) doing.Skipping c = skips texts kind.SetSnapshot c
-  turns kind.Other (Some texts) doing.Skipping c = skips texts kind.Other c
+  turns kind.Begin (Some texts) doing.Aborted c = skips texts kind.Begin c
+  turns kind.Commit (Some texts) doing.Aborted c = skips_end texts kind.Commit c ByCommit
+  turns kind.Rollback (Some texts) doing.Aborted c = skips_end texts kind.Rollback c ByRollback
+  turns kind.SetSnapshot (Some texts) doing.Aborted c = skips texts kind.SetSnapshot c
+  turns kind.Other (Some texts) doing.Aborted c = skips texts kind.Other c
   turns k None (doing.Open begin ops) c = absurd c.doing
-  turns k None doing.Skipping c = absurd c.doing
-  turns k (Some texts) doing.Idle c = absurd c.doing
+  turns k None doing.Aborted c = absurd c.doing
+  turns k (Some texts) doing.No c = absurd c.doing

@@ -1,4 +1,5 @@
-pub mod Plans
+pub mod RunViews
+pub mod Effects
 pub mod Ready
 pub mod SoFar
 pub mod Step

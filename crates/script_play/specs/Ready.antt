@@ -6,8 +6,8 @@ use Rattle.cdb_values.specs.Good.{first_broken}
 use Rattle.cdb_values.specs.declared.tables.TableDef.{TableDef}
 use Rattle.snapshot_rows.specs.Ages.{Ages, IsUpTo, seen}
 use Rattle.transaction_answers.specs.Sound.{AreSound, IsSoundOp}
-use Rattle.script_play.specs.declared.sites.Doing.{Doing}
-use Rattle.script_play.specs.declared.sites.Doing.TheVariants as doing
+use Rattle.script_play.specs.declared.states.InTransaction.{InTransaction}
+use Rattle.script_play.specs.declared.states.InTransaction.TheVariants as doing
 
 -- the rows up to a last position
 pub record IsReady (tables : List TableDef) (now : ℕ) (ages : Ages) : Type 0 where
@@ -18,7 +18,7 @@ pub record IsReady (tables : List TableDef) (now : ℕ) (ages : Ages) : Type 0 w
   pub kept : first_broken tables (seen now ages.tables) ≡ None
 
 -- what a session is doing: its open transaction began at a position of the history, with sound operations
-abbrev pub IsReadyToGo : List TableDef → ℕ → ℕ → Doing → Type 0
-IsReadyToGo tables now next doing.Idle = Unit {0}
+abbrev pub IsReadyToGo : List TableDef → ℕ → ℕ → InTransaction → Type 0
+IsReadyToGo tables now next doing.No = Unit {0}
 IsReadyToGo tables now next (doing.Open begin ops) = (1 ≤ begin) × (begin ≤ now) × AllByRecursion (IsSoundOp tables next) ops
-IsReadyToGo tables now next doing.Skipping = Unit {0}
+IsReadyToGo tables now next doing.Aborted = Unit {0}

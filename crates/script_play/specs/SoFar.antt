@@ -1,85 +1,72 @@
 -- The run so far: what holds of the lines, the history, the rows and the sessions after each line of
 -- the script.
-use Rattle.std.specs.Prelude.{◌≡◌, ℕ, ◌+◌, ◌-◌, ◌≤◌, ◌<◌, ◌++◌, ◌∷◌, [], List, length, Option, Some, None, ◌⊎◌, if◌then◌else◌, slice_get, unwrap_or, map}
+use Rattle.std.specs.Prelude.{◌≡◌, ℕ, ◌+◌, ◌-◌, ◌≤◌, ◌<◌, ◌++◌, ◌∷◌, [], List, length, Option, Some, None, if◌then◌else◌, slice_get, unwrap_or, map}
 use Rattle.std.specs.List.{AllByRecursion}
 use Rattle.std.specs.Str.{bytes_eq}
 use Rattle.cdb_values.specs.Good.{first_broken}
+use Rattle.cdb_values.specs.declared.rows.Level.TheVariants.{Snapshot}
 use Rattle.cdb_values.specs.declared.rows.RowOp.{RowOp}
 use Rattle.snapshot_rows.specs.Ages.{Ages, IsUpTo, seen, rows_seen, no_ages}
-use Rattle.script_read.specs.CanRun.{CanRun, IsSaid}
-use Rattle.script_read.specs.declared.scripts.Script.{Script}
-use Rattle.script_read.specs.declared.scripts.BodyLine.{BodyLine}
-use Rattle.script_read.specs.declared.scripts.SessionLine.{SessionLine}
+use Rattle.script_form.specs.CanRun.{CanRun, IsSaid, tables_of}
+use Rattle.script_form.specs.declared.scripts.Script.{Script}
+use Rattle.script_form.specs.declared.scripts.BodyLine.{BodyLine}
+use Rattle.script_form.specs.declared.scripts.SessionLine.{SessionLine}
 use Rattle.report_text.specs.declared.reports.EntryLine.{EntryLine}
 use Rattle.report_text.specs.declared.reports.EntryLine.TheVariants.{Setup, Commit}
 use Rattle.report_text.specs.declared.reports.Line.{Line}
 use Rattle.report_text.specs.declared.reports.Report.{Report}
 use Rattle.report_text.specs.declared.reports.ReplyLine.{ReplyLine}
 use Rattle.report_text.specs.declared.reports.ReplyLine.TheVariants as reply
-use Rattle.report_laws.specs.Answer.{alone}
+use Rattle.report_laws.specs.Language.{alone}
+use Rattle.transaction_answers.specs.Answer.{from_nothing, statement_language}
 use Rattle.report_laws.specs.Each.{EachAfter}
-use Rattle.report_laws.specs.History.{nothing_before, rows_at, taken_at, IsEntryAfter}
+use Rattle.report_laws.specs.History.{rows_at, taken_at, IsEntryAfter}
 use Rattle.report_laws.specs.Lawful.{IsFreshLine, IsAnswered, IsOfSession, NameUpTo}
-use Rattle.report_laws.specs.Outcome.{IsRight, Ends}
-use Rattle.report_laws.specs.Play.{InOrder, IsLatest, latest}
-use Rattle.report_laws.specs.Told.{Along, Numbered, IsCut, told, numbered, alone_at}
-use Rattle.report_laws.specs.Work.{Transaction, Item, Does, Lone, Place, Nowhere, transaction, place_after, tables_of}
-use Rattle.report_laws.specs.declared.items.GenidItem.{GenidItem}
+use Rattle.report_laws.specs.Play.{InTurns}
+use Rattle.report_laws.specs.Told.{Along, Numbered, IsCut, IsTold, told, numbered}
+use Rattle.report_laws.specs.Work.{Place, Nowhere, transaction, place_after}
+use Rattle.cdb_values.specs.declared.items.GenidItem.{GenidItem}
 use Rattle.transaction_answers.specs.Sound.{AreSound, IsSoundOp}
-use Rattle.script_play.specs.declared.sites.Site.{Site}
-use Rattle.script_play.specs.declared.sites.Doing.{Doing}
-use Rattle.script_play.specs.declared.sites.Doing.TheVariants as doing
-use Rattle.script_play.specs.Step.{site}
+use Rattle.script_play.specs.declared.states.SessionState.{SessionState}
+use Rattle.script_play.specs.declared.states.InTransaction.{InTransaction}
+use Rattle.script_play.specs.declared.states.InTransaction.TheVariants as doing
+use Rattle.script_play.specs.Step.{state}
 
 -- where a session is that has done nothing
-abbrev pub at_start : Site
-at_start = site 0 doing.Idle
+abbrev pub at_start : SessionState
+at_start = state 0 Snapshot doing.No
 
 -- where a session is, by its place among the sessions
-abbrev pub site_of : List ℕ → List SessionLine → List Site → Site
-site_of name [] sites = at_start
-site_of name (s ∷ ss) [] = at_start
-site_of name (s ∷ ss) (x ∷ xs) = if bytes_eq s.name name then x else site_of name ss xs
-
--- a transaction was told whole, and what ends it is right
-pub record IsDone (script : Script) (entries : List EntryLine) (name : List ℕ) (t : Transaction) (mine : List ReplyLine) : Type 0 where
-  pub begin : ℕ
-  pub first : 1 ≤ begin
-  pub within : begin ≤ length entries
-  pub last : List ReplyLine
-  pub ends : Ends t.end last
-  pub says : mine ≡ reply.Begin begin ∷ ((alone_at script nothing_before entries t begin).replies ++ last)
-  pub right : AllByRecursion (IsRight script nothing_before entries name t begin (alone_at script nothing_before entries t begin).ops) last
-
--- something that a session did is over: a transaction was done or cut short, another line was answered
-abbrev pub IsOver : Script → List EntryLine → List ℕ → Item → List ReplyLine → Type 0
-IsOver script entries name (Does t) mine = IsDone script entries name t mine ⊎ IsCut script nothing_before entries t mine
-IsOver script entries name (Lone answer) mine = mine ≡ answer ∷ []
+abbrev pub state_of : List ℕ → List SessionLine → List SessionState → SessionState
+state_of name [] states = at_start
+state_of name (s ∷ ss) [] = at_start
+state_of name (s ∷ ss) (x ∷ xs) = if bytes_eq s.name name then x else state_of name ss xs
 
 -- the open transaction was told so far, and has these operations
 pub record IsOpen (script : Script) (entries : List EntryLine) (next : ℕ) (texts : List (List ℕ)) (begin : ℕ) (ops : List RowOp) (mine : List ReplyLine) : Type 0 where
   pub first : 1 ≤ begin
   pub within : begin ≤ length entries
-  pub says : mine ≡ reply.Begin begin ∷ (alone (tables_of script) (rows_at script nothing_before entries begin) texts).replies
-  pub ops_are : ops ≡ (alone (tables_of script) (rows_at script nothing_before entries begin) texts).ops
+  pub says : mine ≡ reply.Begin begin ∷ (alone statement_language (tables_of script) (rows_at (from_nothing script) entries begin) texts).replies
+  pub ops_are : ops ≡ (alone statement_language (tables_of script) (rows_at (from_nothing script) entries begin) texts).ops
   pub sound : AllByRecursion (IsSoundOp (tables_of script) next) ops
 
 -- what a session is doing, by the transaction that is open in its work
-abbrev pub IsDoing : Script → List EntryLine → ℕ → Place → Option (List (List ℕ)) → Doing → List ReplyLine → Type 0
-IsDoing script entries next p None doing.Idle mine = mine ≡ []
+abbrev pub IsDoing : Script → List EntryLine → ℕ → Place → Option (List (List ℕ)) → InTransaction → List ReplyLine → Type 0
+IsDoing script entries next p None doing.No mine = mine ≡ []
 IsDoing script entries next p None (doing.Open begin ops) mine = ⊥
-IsDoing script entries next p None doing.Skipping mine = ⊥
-IsDoing script entries next p (Some texts) doing.Idle mine = ⊥
+IsDoing script entries next p None doing.Aborted mine = ⊥
+IsDoing script entries next p (Some texts) doing.No mine = ⊥
 IsDoing script entries next p (Some texts) (doing.Open begin ops) mine = IsOpen script entries next texts begin ops mine
-IsDoing script entries next p (Some texts) doing.Skipping mine = IsCut script nothing_before entries (transaction p.number texts p.level Nowhere) mine
+IsDoing script entries next p (Some texts) doing.Aborted mine = IsCut (from_nothing script) entries (transaction p.number texts p.level Nowhere) mine
 
 -- a session's lines are those of its work so far, and it is where its work is
-pub record Standing (script : Script) (entries : List EntryLine) (next : ℕ) (name : List ℕ) (p : Place) (lines : List Numbered) (at : Site) : Type 0 where
+pub record Standing (script : Script) (entries : List EntryLine) (next : ℕ) (name : List ℕ) (p : Place) (lines : List Numbered) (at : SessionState) : Type 0 where
   pub before : List Numbered
   pub mine : List ReplyLine
   pub is : lines ≡ before ++ numbered p.number mine
-  pub past : Along (IsOver script entries name) p.over before
+  pub past : Along (IsTold (from_nothing script) entries name) p.over before
   pub number : at.number ≡ p.number
+  pub level : at.level ≡ p.level
   pub doing : IsDoing script entries next p p.pending at.doing mine
 
 -- a transaction of that number is over where a session has begun so many and one of them is open, or none
@@ -90,53 +77,53 @@ IsPast number (Some texts) txn = txn < number
 -- an entry is of a transaction that is over
 abbrev pub IsEnded : List BodyLine → EntryLine → Type 0
 IsEnded done (Setup position) = Unit {0}
-IsEnded done (Commit position session txn begin level) = IsPast (place_after session done).number (place_after session done).pending txn
+IsEnded done (Commit position session txn begin level) = IsPast (place_after statement_language session done).number (place_after statement_language session done).pending txn
 
 -- the history so far, the versions that each entry took away, and the rows at each position
 pub record Stored (script : Script) (entries : List EntryLine) (taken : List (List GenidItem)) (ages : Ages) : Type 0 where
   pub opened : 1 ≤ length entries
-  pub history : EachAfter (IsEntryAfter script nothing_before) [] entries
-  pub rows_are : (at : ℕ) → 1 ≤ at → at ≤ length entries → seen at ages.tables ≡ (rows_at script nothing_before entries at).tables
-  pub now_are : rows_seen ages (length entries) ≡ rows_at script nothing_before entries (length entries)
+  pub history : EachAfter (IsEntryAfter (from_nothing script)) [] entries
+  pub rows_are : (at : ℕ) → 1 ≤ at → at ≤ length entries → seen at ages.tables ≡ (rows_at (from_nothing script) entries at).tables
+  pub now_are : rows_seen ages (length entries) ≡ rows_at (from_nothing script) entries (length entries)
   pub up_to : IsUpTo (length entries) ages
   pub taken_length : length taken ≡ length entries
-  pub taken_are : (k : ℕ) → 1 ≤ k → k ≤ length entries → unwrap_or (slice_get taken (k - 1)) [] ≡ taken_at script nothing_before entries k
+  pub taken_are : (k : ℕ) → 1 ≤ k → k ≤ length entries → unwrap_or (slice_get taken (k - 1)) [] ≡ taken_at (from_nothing script) entries k
   pub sound : (at : ℕ) → 1 ≤ at → at ≤ length entries → AreSound (tables_of script) ages.next (seen at ages.tables)
   pub kept : first_broken (tables_of script) (seen (length entries) ages.tables) ≡ None
 
 -- after the script's lines `done`, with the lines `left` still to do
-pub record SoFar (script : Script) (done left : List BodyLine) (lines : List Line) (entries : List EntryLine) (taken : List (List GenidItem)) (ages : Ages) (sites : List Site) : Type 0 where
+pub record SoFar (script : Script) (done left : List BodyLine) (lines : List Line) (entries : List EntryLine) (taken : List (List GenidItem)) (ages : Ages) (states : List SessionState) : Type 0 where
   pub body : script.body ≡ done ++ left
   pub stored : Stored script entries taken ages
-  pub standing : (name : List ℕ) → Standing script entries ages.next name (place_after name done) (told name lines) (site_of name script.sessions sites)
-  pub fresh : EachAfter (IsFreshLine nothing_before) [] lines
-  pub are_latest : EachAfter (IsLatest nothing_before) [] lines
-  pub order : InOrder [] done lines
+  pub standing : (name : List ℕ) → Standing script entries ages.next name (place_after statement_language name done) (told name lines) (state_of name script.sessions states)
+  pub fresh : EachAfter (IsFreshLine (from_nothing script).origin) [] lines
+  pub later : List EntryLine
+  pub begins : entries ≡ Setup 1 ∷ later
+  pub order : InTurns (from_nothing script) [] [] (Setup 1 ∷ []) done lines later
   pub named : NameUpTo (length entries) lines
-  pub newest : latest nothing_before lines ≡ length entries
   pub answered : AllByRecursion (IsAnswered lines) entries
   pub ended : AllByRecursion (IsEnded done) entries
   pub of_sessions : AllByRecursion IsOfSession lines
 
 -- the run before a line, with the lines `left` still to do: every line of the script can be run
-pub record IsBefore (script : Script) (left : List BodyLine) (lines : List Line) (entries : List EntryLine) (taken : List (List GenidItem)) (ages : Ages) (sites : List Site) : Type 0 where
+pub record IsBefore (script : Script) (left : List BodyLine) (lines : List Line) (entries : List EntryLine) (taken : List (List GenidItem)) (ages : Ages) (states : List SessionState) : Type 0 where
   pub can_run : CanRun script
   pub said : AllByRecursion (λ l. IsSaid script.sessions (tables_of script) l.act) left
-  pub same : length sites ≡ length script.sessions
+  pub same : length states ≡ length script.sessions
   pub done : List BodyLine
-  pub so_far : SoFar script done left lines entries taken ages sites
+  pub so_far : SoFar script done left lines entries taken ages states
 
 -- the report of lines and of a history that begins with the run
 abbrev pub report_of : List Line → List EntryLine → Report
 report_of lines entries = record { lines = lines; base = None; entries = entries; feeds = []; end = length entries }
 
 -- the run at its opening
-pub record IsOpened (script : Script) (lines : List Line) (entries : List EntryLine) (taken : List (List GenidItem)) (ages : Ages) (sites : List Site) : Type 0 where
+pub record IsOpened (script : Script) (lines : List Line) (entries : List EntryLine) (taken : List (List GenidItem)) (ages : Ages) (states : List SessionState) : Type 0 where
   pub no_lines : lines ≡ []
   pub schema_stands : entries ≡ Setup 1 ∷ []
   pub nothing_taken : taken ≡ [] ∷ []
   pub no_rows : ages ≡ no_ages (tables_of script)
-  pub at_starts : sites ≡ map (λ _. at_start) script.sessions
+  pub at_starts : states ≡ map (λ _. at_start) script.sessions
 
 -- the place of the session with a name, counted on from a number
 abbrev pub session_from : ℕ → List ℕ → List SessionLine → Option ℕ

@@ -6,6 +6,7 @@
 -- that want of memory ended, lines are skipped up to its `commit` or `rollback`.
 use Rattle.std.specs.Prelude.{◌≡◌, ℕ, ◌+◌, ◌<◌, ◌++◌, ◌∷◌, [], List, Option, Some, None, map, length, ◌⊎◌}
 use Rattle.cdb_values.specs.Rows.{apply_all}
+use Rattle.cdb_values.specs.declared.rows.Level.{Level}
 use Rattle.cdb_values.specs.declared.rows.Level.TheVariants.{Snapshot}
 use Rattle.cdb_values.specs.declared.rows.RowOp.{RowOp}
 use Rattle.cdb_values.specs.declared.rows.StatementError.TheVariants.{State}
@@ -19,28 +20,29 @@ use Rattle.report_text.specs.declared.reports.EntryLine.TheVariants.{Commit}
 use Rattle.report_text.specs.declared.reports.Line.{Line}
 use Rattle.report_text.specs.declared.reports.ReplyLine.{ReplyLine}
 use Rattle.report_text.specs.declared.reports.ReplyLine.TheVariants as reply
-use Rattle.report_laws.specs.Answer.{Answered, answer}
-use Rattle.report_laws.specs.History.{taken_by}
+use Rattle.report_laws.specs.Language.{Answered}
+use Rattle.transaction_answers.specs.Answer.{answer}
+use Rattle.cdb_values.specs.Changes.{taken_by}
 use Rattle.report_laws.specs.Told.{lines_of}
-use Rattle.report_laws.specs.declared.items.GenidItem.{GenidItem}
+use Rattle.cdb_values.specs.declared.items.GenidItem.{GenidItem}
 use Rattle.transaction_answers.specs.Decisions.{decision, added_by}
-use Rattle.script_play.specs.declared.sites.Site.{Site}
-use Rattle.script_play.specs.declared.sites.Doing.{Doing}
-use Rattle.script_play.specs.declared.sites.Doing.TheVariants as doing
+use Rattle.script_play.specs.declared.states.SessionState.{SessionState}
+use Rattle.script_play.specs.declared.states.InTransaction.{InTransaction}
+use Rattle.script_play.specs.declared.states.InTransaction.TheVariants as doing
 
-abbrev pub site : ℕ → Doing → Site
-site number what = record { number = number; doing = what }
+abbrev pub state : ℕ → Level → InTransaction → SessionState
+state number level what = record { number = number; level = level; doing = what }
 
 -- what a line adds: its replies and the number that they are told under, where the session is then,
 -- and the operations of the transaction that it commits, if it commits one with operations, begun there
 pub record Turned : Type 0 where
   pub number : ℕ
   pub replies : List ReplyLine
-  pub after : Site
+  pub after : SessionState
   pub begin : ℕ
   pub added : List (List RowOp)
 
-abbrev pub turned : ℕ → List ReplyLine → Site → Turned
+abbrev pub turned : ℕ → List ReplyLine → SessionState → Turned
 turned number replies after = record { number = number; replies = replies; after = after; begin = 0; added = [] }
 
 -- what the run is before a line: the tables, the rows at each position, what each entry took away,
@@ -63,52 +65,52 @@ abbrev pub answer_at : World → ℕ → List RowOp → List ℕ → Answered
 answer_at w begin ops text = answer w.tables (seen begin w.ages.tables) ops text
 
 -- a transaction of one line
-abbrev pub own_line : World → ℕ → Answered → Turned
-own_line w number a = record {
+abbrev pub own_line : World → ℕ → Level → Answered → Turned
+own_line w number level a = record {
   number = number;
   replies = reply.Begin w.now ∷ (a.replies ++ outcome w w.now a.ops ∷ []);
-  after = site number doing.Idle;
+  after = state number level doing.No;
   begin = w.now;
   added = added_by (outcome w w.now a.ops) a.ops;
 }
 
 -- a transaction comes to its commit
-abbrev pub committed : World → ℕ → ℕ → List RowOp → Turned
-committed w number begin ops = record {
+abbrev pub committed : World → ℕ → Level → ℕ → List RowOp → Turned
+committed w number level begin ops = record {
   number = number;
   replies = outcome w begin ops ∷ [];
-  after = site number doing.Idle;
+  after = state number level doing.No;
   begin = begin;
   added = added_by (outcome w begin ops) ops;
 }
 
 -- a statement is answered in an open transaction
-abbrev pub goes_on : ℕ → ℕ → Answered → Turned
-goes_on number begin a = turned number a.replies (site number (doing.Open begin a.ops))
+abbrev pub goes_on : ℕ → Level → ℕ → Answered → Turned
+goes_on number level begin a = turned number a.replies (state number level (doing.Open begin a.ops))
 
-abbrev pub turn_by : World → ℕ → List ℕ → TextKind → Doing → Turned
-turn_by w number text kind.Begin doing.Idle = turned (number + 1) (reply.Begin w.now ∷ []) (site (number + 1) (doing.Open w.now []))
-turn_by w number text kind.Commit doing.Idle = turned 0 (reply.Error State ∷ []) (site number doing.Idle)
-turn_by w number text kind.Rollback doing.Idle = turned 0 (reply.Error State ∷ []) (site number doing.Idle)
-turn_by w number text kind.SetSnapshot doing.Idle = turned 0 (reply.Level Snapshot ∷ []) (site number doing.Idle)
-turn_by w number text kind.Other doing.Idle = own_line w (number + 1) (answer_at w w.now [] text)
-turn_by w number text kind.Begin (doing.Open begin ops) = goes_on number begin (answer_at w begin ops text)
-turn_by w number text kind.Commit (doing.Open begin ops) = committed w number begin ops
-turn_by w number text kind.Rollback (doing.Open begin ops) = turned number (reply.RolledBack ∷ []) (site number doing.Idle)
-turn_by w number text kind.SetSnapshot (doing.Open begin ops) = goes_on number begin (answer_at w begin ops text)
-turn_by w number text kind.Other (doing.Open begin ops) = goes_on number begin (answer_at w begin ops text)
-turn_by w number text kind.Begin doing.Skipping = turned number [] (site number doing.Skipping)
-turn_by w number text kind.Commit doing.Skipping = turned number [] (site number doing.Idle)
-turn_by w number text kind.Rollback doing.Skipping = turned number [] (site number doing.Idle)
-turn_by w number text kind.SetSnapshot doing.Skipping = turned number [] (site number doing.Skipping)
-turn_by w number text kind.Other doing.Skipping = turned number [] (site number doing.Skipping)
+abbrev pub turn_by : World → ℕ → Level → List ℕ → TextKind → InTransaction → Turned
+turn_by w number level text kind.Begin doing.No = turned (number + 1) (reply.Begin w.now ∷ []) (state (number + 1) level (doing.Open w.now []))
+turn_by w number level text kind.Commit doing.No = turned 0 (reply.Error State ∷ []) (state number level doing.No)
+turn_by w number level text kind.Rollback doing.No = turned 0 (reply.Error State ∷ []) (state number level doing.No)
+turn_by w number level text kind.SetSnapshot doing.No = turned 0 (reply.Level Snapshot ∷ []) (state number Snapshot doing.No)
+turn_by w number level text kind.Other doing.No = own_line w (number + 1) level (answer_at w w.now [] text)
+turn_by w number level text kind.Begin (doing.Open begin ops) = goes_on number level begin (answer_at w begin ops text)
+turn_by w number level text kind.Commit (doing.Open begin ops) = committed w number level begin ops
+turn_by w number level text kind.Rollback (doing.Open begin ops) = turned number (reply.RolledBack ∷ []) (state number level doing.No)
+turn_by w number level text kind.SetSnapshot (doing.Open begin ops) = goes_on number level begin (answer_at w begin ops text)
+turn_by w number level text kind.Other (doing.Open begin ops) = goes_on number level begin (answer_at w begin ops text)
+turn_by w number level text kind.Begin doing.Aborted = turned number [] (state number level doing.Aborted)
+turn_by w number level text kind.Commit doing.Aborted = turned number [] (state number level doing.No)
+turn_by w number level text kind.Rollback doing.Aborted = turned number [] (state number level doing.No)
+turn_by w number level text kind.SetSnapshot doing.Aborted = turned number [] (state number level doing.Aborted)
+turn_by w number level text kind.Other doing.Aborted = turned number [] (state number level doing.Aborted)
 
-abbrev pub turn : World → Site → List ℕ → Turned
-turn w before text = turn_by w before.number text (kind_of (statement_of text)) before.doing
+abbrev pub turn : World → SessionState → List ℕ → Turned
+turn w before text = turn_by w before.number before.level text (kind_of (statement_of text)) before.doing
 
 -- the entry of the transaction that a line commits
 abbrev pub entries_added : List ℕ → ℕ → Turned → List EntryLine
-entries_added name now t = map (λ ops. Commit (now + 1) name t.number t.begin Snapshot) t.added
+entries_added name now t = map (λ ops. Commit (now + 1) name t.number t.begin t.after.level) t.added
 
 -- the operations of a commit, if there is one, are written at the next position
 abbrev pub IsKept : ℕ → Ages → Ages → List (List RowOp) → Type 0
@@ -130,23 +132,23 @@ pub record IsTurned (w : World) (name : List ℕ) (t : Turned) (lines lines' : L
 -- lines of the transaction that are still to come
 pub record Cut : Type 0 where
   pub number : ℕ
-  pub after : Site
+  pub after : SessionState
 
-abbrev pub cut : ℕ → Site → Option Cut
+abbrev pub cut : ℕ → SessionState → Option Cut
 cut number after = Some (record { number = number; after = after })
 
-abbrev pub cut_by : ℕ → TextKind → Doing → Option Cut
-cut_by number kind.Begin doing.Idle = cut (number + 1) (site (number + 1) doing.Skipping)
-cut_by number kind.Commit doing.Idle = None
-cut_by number kind.Rollback doing.Idle = None
-cut_by number kind.SetSnapshot doing.Idle = None
-cut_by number kind.Other doing.Idle = cut (number + 1) (site (number + 1) doing.Idle)
-cut_by number kind.Begin (doing.Open begin ops) = cut number (site number doing.Skipping)
-cut_by number kind.Commit (doing.Open begin ops) = cut number (site number doing.Idle)
-cut_by number kind.Rollback (doing.Open begin ops) = cut number (site number doing.Idle)
-cut_by number kind.SetSnapshot (doing.Open begin ops) = cut number (site number doing.Skipping)
-cut_by number kind.Other (doing.Open begin ops) = cut number (site number doing.Skipping)
-cut_by number _ doing.Skipping = None
+abbrev pub cut_by : ℕ → Level → TextKind → InTransaction → Option Cut
+cut_by number level kind.Begin doing.No = cut (number + 1) (state (number + 1) level doing.Aborted)
+cut_by number level kind.Commit doing.No = None
+cut_by number level kind.Rollback doing.No = None
+cut_by number level kind.SetSnapshot doing.No = None
+cut_by number level kind.Other doing.No = cut (number + 1) (state (number + 1) level doing.No)
+cut_by number level kind.Begin (doing.Open begin ops) = cut number (state number level doing.Aborted)
+cut_by number level kind.Commit (doing.Open begin ops) = cut number (state number level doing.No)
+cut_by number level kind.Rollback (doing.Open begin ops) = cut number (state number level doing.No)
+cut_by number level kind.SetSnapshot (doing.Open begin ops) = cut number (state number level doing.Aborted)
+cut_by number level kind.Other (doing.Open begin ops) = cut number (state number level doing.Aborted)
+cut_by number level _ doing.Aborted = None
 
 -- a line was cut short by want of memory, which is all that was told and done
 pub record IsCutShort (w : World) (name : List ℕ) (c : Cut) (lines lines' : List Line) (entries entries' : List EntryLine) (taken' : List (List GenidItem)) (ages' : Ages) : Type 0 where
@@ -156,11 +158,11 @@ pub record IsCutShort (w : World) (name : List ℕ) (c : Cut) (lines lines' : Li
   pub rows_are : ages' ≡ w.ages
 
 -- a line did what it does, or was cut short; and the session is there behind it
-abbrev pub IsTakenBy : World → List ℕ → ℕ → List ℕ → TextKind → Doing → Site → List Line → List Line → List EntryLine → List EntryLine → List (List GenidItem) → Ages → Type 0
-IsTakenBy w name number text k what after lines lines' entries entries' taken' ages' =
-    (IsTurned w name (turn_by w number text k what) lines lines' entries entries' taken' ages' × (after ≡ (turn_by w number text k what).after))
-    ⊎ ((c : Cut) × (cut_by number k what ≡ Some c) × IsCutShort w name c lines lines' entries entries' taken' ages' × (after ≡ c.after))
+abbrev pub IsTakenBy : World → List ℕ → ℕ → Level → List ℕ → TextKind → InTransaction → SessionState → List Line → List Line → List EntryLine → List EntryLine → List (List GenidItem) → Ages → Type 0
+IsTakenBy w name number level text k what after lines lines' entries entries' taken' ages' =
+    (IsTurned w name (turn_by w number level text k what) lines lines' entries entries' taken' ages' × (after ≡ (turn_by w number level text k what).after))
+    ⊎ ((c : Cut) × (cut_by number level k what ≡ Some c) × IsCutShort w name c lines lines' entries entries' taken' ages' × (after ≡ c.after))
 
-abbrev pub IsTaken : World → List ℕ → Site → List ℕ → Site → List Line → List Line → List EntryLine → List EntryLine → List (List GenidItem) → Ages → Type 0
+abbrev pub IsTaken : World → List ℕ → SessionState → List ℕ → SessionState → List Line → List Line → List EntryLine → List EntryLine → List (List GenidItem) → Ages → Type 0
 IsTaken w name before text after lines lines' entries entries' taken' ages' =
-    IsTakenBy w name before.number text (kind_of (statement_of text)) before.doing after lines lines' entries entries' taken' ages'
+    IsTakenBy w name before.number before.level text (kind_of (statement_of text)) before.doing after lines lines' entries entries' taken' ages'

@@ -19,16 +19,17 @@
 //!
 //! | Notion | Code | Definition |
 //! |---|---|---|
-//! | what a line does | `plans`, `courses` | `specs/Step.antt` |
-//! | what a plan says, and what is done of it | `plans`, `courses` | `specs/Plans.antt` |
+//! | what a line does | `effects`, `run` | `specs/Step.antt` |
+//! | what a line is to do, and what is done of it | `effects`, `run` | `specs/Effects.antt` |
+//! | the run so far, as the code keeps it | `run` | `specs/RunViews.antt` |
 //! | what the rows keep from line to line | | `specs/Ready.antt` |
 //! | the run so far | `play` | `specs/SoFar.antt` |
 #![tactic(auto)]
 
-mod courses;
-mod plans;
+mod effects;
+mod lines;
 mod playing;
-mod sites;
-mod turns;
+mod run;
+mod states;
 
 pub use playing::play;

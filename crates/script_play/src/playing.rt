@@ -1,21 +1,21 @@
 //! The lines of a script, done one after the other on one node.
 ghost use Rattle.std.specs.Prelude.{◌≡◌, ◌++◌, ◌∷◌, [], List, OnOk, IfOk, map};
-ghost use Rattle.script_read.specs.CanRun.{CanRun};
-ghost use Rattle.script_read.specs.declared.scripts.BodyLine.{BodyLine};
-ghost use Rattle.report_laws.specs.History.{nothing_before};
+ghost use Rattle.script_form.specs.CanRun.{CanRun, tables_of};
+ghost use Rattle.script_form.specs.declared.scripts.BodyLine.{BodyLine};
 ghost use Rattle.report_laws.specs.Lawful.{Lawful};
 ghost use Rattle.report_laws.specs.Play.{InPlayOrder};
-ghost use Rattle.report_laws.specs.Work.{tables_of};
-ghost use Rattle.script_play.specs.SoFar.{IsBefore, at_start, report_of, session_at};
+ghost use Rattle.transaction_answers.specs.Answer.{from_nothing};
+ghost use Rattle.script_play.specs.RunViews.{IsBeforeLine};
+ghost use Rattle.script_play.specs.SoFar.{at_start, report_of, session_at};
 ghost use Rattle.snapshot_rows.specs.Ages.{no_ages};
 ghost use Rattle.std.specs.Str.{bytes_eq};
 
-use super::courses::Course;
-use super::sites::{Doing, Site};
-use super::turns::take_line;
-use cdb_values::{List, Name, Schema, TableDef};
+use super::lines::run_session_line;
+use super::run::RunSoFar;
+use super::states::{InTransaction, SessionState};
+use cdb_values::{Level, List, Name, Schema, TableDef};
 use report_text::{EntryLine, Report};
-use script_read::{Act, BodyLine, Script, SessionLine, TableLine};
+use script_form::{Act, BodyLine, Script, SessionLine, TableLine};
 use snapshot_rows::Snapshots;
 use std::alloc::{AllocError, Global};
 
@@ -23,18 +23,18 @@ use std::alloc::{AllocError, Global};
 /// of memory.
 pub fn play(alloc: Global, script: &Script) -> Result<Report, AllocError>
     requires { CanRun script.now }
-    ensures lawful { IfOk result (λ report. Lawful script.now nothing_before report) }
-    ensures in_order { IfOk result (λ report. InPlayOrder script.now nothing_before report) }
+    ensures lawful { IfOk result (λ report. Lawful (from_nothing script.now) report) }
+    ensures in_order { IfOk result (λ report. InPlayOrder (from_nothing script.now) report) }
 {
     let schema = schema_of(alloc, script.tables.as_slice())?;
-    let mut course = opened(alloc, &schema)?;
-    let mut sites = starts(alloc, script.sessions.as_slice())?;
+    let mut so_far = opened(alloc, &schema)?;
+    let mut states = starts(alloc, script.sessions.as_slice())?;
     let mut rest = script.body.as_slice();
     'lines: while let Some((line, after)) = rest.split_first() {
-        take_turn(alloc, script, &schema, line, &mut sites, &mut course)?;
+        run_line(alloc, script, &schema, line, &mut states, &mut so_far)?;
         rest = after;
     }
-    Ok(reported(alloc, course))
+    Ok(reported(alloc, so_far))
 }
 
 /// The tables of a script, in order.
@@ -62,18 +62,18 @@ fn add_copy(schema: &mut Schema, table: &TableDef) -> Result<(), AllocError>
 }
 
 /// The run at its opening: the schema stands in the history, and the tables have no rows.
-fn opened(alloc: Global, schema: &Schema) -> Result<Course, AllocError>
-    ensures lines { IfOk result (λ course. course.lines.items ≡ []) }
-    ensures entries { IfOk result (λ course. course.entries.items ≡ EntryLine.Setup 1 ∷ []) }
-    ensures taken { IfOk result (λ course. course.taken.items ≡ [] ∷ []) }
-    ensures rows { IfOk result (λ course. course.rows ≡ no_ages schema.now) }
+fn opened(alloc: Global, schema: &Schema) -> Result<RunSoFar, AllocError>
+    ensures lines { IfOk result (λ run. run.lines.items ≡ []) }
+    ensures entries { IfOk result (λ run. run.entries.items ≡ EntryLine.Setup 1 ∷ []) }
+    ensures taken { IfOk result (λ run. run.taken.items ≡ [] ∷ []) }
+    ensures rows { IfOk result (λ run. run.rows ≡ no_ages schema.now) }
 {
     let mut entries = Vec::new(alloc);
     entries.push(EntryLine::Setup { position: 1 })?;
     let mut taken = Vec::new(alloc);
     taken.push(List::new(alloc))?;
     let rows = Snapshots::new(alloc, schema.tables())?;
-    Ok(Course {
+    Ok(RunSoFar {
         lines: Vec::new(alloc),
         entries,
         taken,
@@ -82,40 +82,41 @@ fn opened(alloc: Global, schema: &Schema) -> Result<Course, AllocError>
 }
 
 /// The sessions at the opening: none has done anything.
-fn starts(alloc: Global, sessions: &[SessionLine]) -> Result<List<Site>, AllocError>
-    ensures { IfOk result (λ sites. sites ≡ map (λ _. at_start) sessions.now) }
+fn starts(alloc: Global, sessions: &[SessionLine]) -> Result<List<SessionState>, AllocError>
+    ensures { IfOk result (λ states. states ≡ map (λ _. at_start) sessions.now) }
 {
-    let mut sites: List<Site> = List::new(alloc);
+    let mut states: List<SessionState> = List::new(alloc);
     let mut rest = sessions;
     'sessions: while let Some((_session, after)) = rest.split_first() {
-        sites.push(at_rest())?;
+        states.push(at_rest())?;
         rest = after;
     }
-    Ok(sites)
+    Ok(states)
 }
 
 /// A session that has done nothing.
-fn at_rest() -> Site
+fn at_rest() -> SessionState
     ensures { result ≡ at_start }
 {
-    Site {
+    SessionState {
         number: 0,
-        doing: Doing::Idle,
+        level: Level::Snapshot,
+        doing: InTransaction::No,
     }
 }
 
 /// Does a line of the script.
-fn take_turn(
+fn run_line(
     alloc: Global,
     script: &Script,
     schema: &Schema,
     line: &BodyLine,
-    sites: &mut List<Site>,
-    course: &mut Course,
+    states: &mut List<SessionState>,
+    run: &mut RunSoFar,
 ) -> Result<(), AllocError>
     requires tables { schema.now ≡ tables_of script.now }
-    requires before { (left : List BodyLine) × IsBefore script.now (line.now ∷ left) course.old.lines.items course.old.entries.items course.old.taken.items course.old.rows sites.old }
-    ensures { OnOk result ((left : List BodyLine) → IsBefore script.now (line.now ∷ left) course.old.lines.items course.old.entries.items course.old.taken.items course.old.rows sites.old → IsBefore script.now left course.new.lines.items course.new.entries.items course.new.taken.items course.new.rows sites.new) }
+    requires before { (left : List BodyLine) × IsBeforeLine script.now (line.now ∷ left) run.old states.old }
+    ensures { OnOk result ((left : List BodyLine) → IsBeforeLine script.now (line.now ∷ left) run.old states.old → IsBeforeLine script.now left run.new states.new) }
 {
     let Act::Say { session, text } = &line.act else {
         return Ok(());
@@ -123,9 +124,9 @@ fn take_turn(
     let Some(at) = find_session(script.sessions.as_slice(), session) else {
         return Ok(());
     };
-    let site = sites.replace_at(at, at_rest());
-    let after = take_line(alloc, schema, session, site, text.as_bytes(), course)?;
-    let _at_rest = sites.replace_at(at, after);
+    let state = states.replace_at(at, at_rest());
+    let after = run_session_line(alloc, schema, session, state, text.as_bytes(), run)?;
+    let _at_rest = states.replace_at(at, after);
     Ok(())
 }
 
@@ -153,16 +154,16 @@ fn is_same(a: &Name, b: &Name) -> bool
 }
 
 /// The report of a run that is done.
-fn reported(alloc: Global, course: Course) -> Report
-    ensures { result ≡ report_of course.lines.items course.entries.items }
+fn reported(alloc: Global, run: RunSoFar) -> Report
+    ensures { result ≡ report_of run.lines.items run.entries.items }
 {
-    let end = course.entries.len() as u64;
-    let Course {
+    let end = run.entries.len() as u64;
+    let RunSoFar {
         lines,
         entries,
         taken: _,
         rows: _,
-    } = course;
+    } = run;
     Report {
         lines: List::from_vec(lines),
         base: None,

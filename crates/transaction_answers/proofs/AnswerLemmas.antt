@@ -10,8 +10,10 @@ use Rattle.cdb_values.specs.declared.rows.RowOp.TheVariants.{Insert, Update, Del
 use Rattle.cdb_values.specs.declared.rows.Version.{Version}
 use Rattle.cdb_values.specs.declared.tables.TableDef.{TableDef}
 use Rattle.cdb_values.specs.declared.values.Value.{Value}
-use Rattle.report_laws.specs.Answer.{Answered, Condition, Place, alone_from, answer, answer_to, chosen, condition_of, deleted, found_at, inserted, is_own, left_by, meets, moving, of_table, on_column, on_condition, on_table, removed, rewritten, selected, set, staying, table_named, undone, updated, with_place}
-use Rattle.statement_read.specs.Columns.{column_at}
+use Rattle.cdb_values.specs.Named.{Place, found_at, table_named, with_place}
+use Rattle.transaction_answers.specs.Answer.{Condition, statement_language, answer, answer_to, chosen, condition_of, deleted, inserted, is_own, left_by, meets, moving, of_table, on_column, on_condition, on_table, removed, rewritten, selected, set, staying, undone, updated}
+use Rattle.report_laws.specs.Language.{Answered, alone_from}
+use Rattle.cdb_values.specs.Columns.{column_at}
 use Rattle.statement_read.specs.OnTables.{IsInteger, IsOn}
 use Rattle.statement_read.specs.Statements.{statement_of}
 use Rattle.statement_read.specs.declared.statements.Statement.{Statement}
@@ -176,7 +178,7 @@ sound_answer tables versions done text next sound on all = statement_sound table
 
 -- and so do several of them
 pub sound_alone : (tables : List TableDef) (versions : List (List Version)) (done : List RowOp) (texts : List (List ℕ)) (next : ℕ) → AreSound tables next versions
-    → AllByRecursion (λ text. IsOn tables (statement_of text)) texts → AllByRecursion (IsSoundOp tables next) done → AllByRecursion (IsSoundOp tables next) (alone_from tables versions done texts).ops
+    → AllByRecursion (λ text. IsOn tables (statement_of text)) texts → AllByRecursion (IsSoundOp tables next) done → AllByRecursion (IsSoundOp tables next) (alone_from statement_language tables versions done texts).ops
 sound_alone tables versions done [] next sound on all = all
 sound_alone tables versions done (text ∷ texts) next sound on all =
     sound_alone tables versions (answer tables versions done text).ops texts next sound on.1 (sound_answer tables versions done text next sound on.0 all)

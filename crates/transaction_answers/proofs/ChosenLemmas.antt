@@ -7,7 +7,7 @@ use Rattle.cdb_values.specs.declared.rows.RowOp.{RowOp}
 use Rattle.cdb_values.specs.declared.rows.RowOp.TheVariants.{Insert, Update, Delete}
 use Rattle.cdb_values.specs.declared.rows.Version.{Version}
 use Rattle.cdb_values.specs.declared.values.Value.{Value}
-use Rattle.report_laws.specs.Answer.{Condition, meets, chosen, left_by, is_own, staying, moving, undone}
+use Rattle.transaction_answers.specs.Answer.{Condition, meets, chosen, left_by, is_own, staying, moving, undone}
 use Rattle.snapshot_rows.specs.Ages.{is_seen, seen_in}
 use Rattle.snapshot_rows.specs.declared.ages.Age.{Age}
 use Rattle.transaction_answers.specs.Views.{chosen_in, is_chosen}

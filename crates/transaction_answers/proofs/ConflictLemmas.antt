@@ -3,7 +3,7 @@ use Rattle.std.proofs.Common.{◌≡◌, ℕ, ◌+◌, ◌-◌, ◌<◌, ◌≤�
 use Rattle.std.specs.Prelude.{slice_get, unwrap_or, Option, Some, None}
 use Rattle.std.proofs.lemmas.List.{length-drop}
 use Rattle.report_laws.specs.History.{first_touched}
-use Rattle.report_laws.specs.declared.items.GenidItem.{GenidItem}
+use Rattle.cdb_values.specs.declared.items.GenidItem.{GenidItem}
 use Rattle.transaction_answers.specs.Decisions.{Touched, first_conflict, or_later}
 
 or_none : (position : ℕ) (here : Option GenidItem) (later : Option Touched) → or_later position here later ≡ None → (here ≡ None) × (later ≡ None)

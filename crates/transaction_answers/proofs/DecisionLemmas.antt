@@ -8,9 +8,10 @@ use Rattle.cdb_values.specs.declared.rows.RowOp.{RowOp}
 use Rattle.cdb_values.specs.declared.rows.RowOp.TheVariants.{Insert, Update, Delete}
 use Rattle.cdb_values.specs.declared.rows.RowRef.TheVariants.{Base, Own}
 use Rattle.cdb_values.specs.declared.tables.TableDef.{TableDef}
-use Rattle.net_writes.specs.Views.{IsOnBase}
-use Rattle.report_laws.specs.History.{taken_by, first_touched}
-use Rattle.report_laws.specs.declared.items.GenidItem.{GenidItem}
+use Rattle.cdb_values.specs.Views.{IsOnBase}
+use Rattle.cdb_values.specs.Changes.{taken_by}
+use Rattle.report_laws.specs.History.{first_touched}
+use Rattle.cdb_values.specs.declared.items.GenidItem.{GenidItem}
 use Rattle.report_text.specs.declared.reports.ReplyLine.TheVariants as reply
 use Rattle.transaction_answers.proofs.SoundLemmas.{sound_on_base}
 use Rattle.transaction_answers.specs.Decisions.{decision, first_conflict, judged, or_later}

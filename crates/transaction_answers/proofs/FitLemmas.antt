@@ -13,7 +13,7 @@ use Rattle.cdb_values.specs.declared.tables.KeyDef.{KeyDef}
 use Rattle.cdb_values.specs.declared.tables.TableDef.{TableDef}
 use Rattle.cdb_values.specs.declared.values.Value.{Value}
 use Rattle.cdb_values.specs.declared.values.Value.TheVariants.{Null, Int, Text, Blob}
-use Rattle.script_read.specs.CanRun.{AreTaken}
+use Rattle.script_form.specs.CanRun.{AreTaken}
 use Rattle.statement_read.specs.OnTables.{IsInteger}
 use Rattle.transaction_answers.specs.Sound.{AreSound, FitsIntegers, IsSoundVersion}
 

@@ -1,7 +1,8 @@
-pub mod ConflictLemmas
-pub mod SoundLemmas
 pub mod AnswerLemmas
 pub mod AppliedLemmas
-pub mod FitLemmas
 pub mod ChosenLemmas
+pub mod ConflictLemmas
 pub mod DecisionLemmas
+pub mod FitLemmas
+pub mod LanguageLemmas
+pub mod SoundLemmas

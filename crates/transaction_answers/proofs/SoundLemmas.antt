@@ -10,11 +10,12 @@ use Rattle.cdb_values.specs.declared.rows.RowRef.{RowRef}
 use Rattle.cdb_values.specs.declared.rows.RowRef.TheVariants.{Base, Own}
 use Rattle.cdb_values.specs.declared.rows.Version.{Version}
 use Rattle.cdb_values.specs.declared.tables.TableDef.{TableDef}
-use Rattle.net_writes.specs.Views.{IsOnBase}
-use Rattle.report_laws.specs.History.{taken_by, first_touched, is_touched}
+use Rattle.cdb_values.specs.Views.{IsOnBase}
+use Rattle.cdb_values.specs.Changes.{taken_by}
+use Rattle.report_laws.specs.History.{first_touched, is_touched}
 use Rattle.report_laws.specs.Outcome.{name_of_table}
-use Rattle.report_laws.specs.declared.items.GenidItem.{GenidItem}
-use Rattle.snapshot_rows.specs.Ages.{IsBased}
+use Rattle.cdb_values.specs.declared.items.GenidItem.{GenidItem}
+use Rattle.cdb_values.specs.Views.{IsBased}
 use Rattle.snapshot_rows.proofs.Based.{on_base_is_based, none_broken}
 use Rattle.transaction_answers.specs.Sound.{AreSound, IsSoundOp, IsSoundVersion, IsBelow}
 

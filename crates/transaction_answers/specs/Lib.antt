@@ -1,3 +1,4 @@
+pub mod Answer
 pub mod Decisions
 pub mod Sound
 pub mod Views

@@ -4,12 +4,12 @@ use Rattle.std.specs.List.{list_any}
 use Rattle.cdb_values.specs.Rows.{takes}
 use Rattle.cdb_values.specs.declared.rows.RowOp.{RowOp}
 use Rattle.cdb_values.specs.declared.rows.Version.{Version}
-use Rattle.report_laws.specs.Answer.{Answered, Condition, Place, meets, chosen, left_by}
+use Rattle.transaction_answers.specs.Answer.{Condition, meets, chosen, left_by}
+use Rattle.report_laws.specs.Language.{Answered}
 use Rattle.snapshot_rows.specs.Ages.{is_seen, seen_in}
 use Rattle.snapshot_rows.specs.declared.ages.Age.{Age}
 use Rattle.transaction_answers.specs.Decisions.{Touched}
 use Rattle.transaction_answers.specs.declared.answers.Answer.{Answer}
-use Rattle.transaction_answers.specs.declared.conditions.Found.{Found}
 use Rattle.transaction_answers.specs.declared.conditions.Wanted.{Wanted}
 use Rattle.transaction_answers.specs.declared.decisions.Conflict.{Conflict}
 
@@ -23,16 +23,12 @@ abbrev pub conditioned : Option (Option Wanted) → Option (Option Condition)
 conditioned None = None
 conditioned (Some w) = Some (condition_in w)
 
--- a table and its place
-abbrev pub place_in : Option Found → Option Place
-place_in None = None
-place_in (Some f) = Some (record { place = f.place; table = f.table.now })
-
 -- whether a version is seen at a position, is left by operations and meets a condition
 abbrev pub is_chosen : ℕ → List RowOp → ℕ → Option Condition → Age → Bool
 is_chosen at done table condition age = is_seen at age && (not (list_any (takes table age.version.genid) done) && meets condition age.version.row)
 
--- the versions of these ages that are
+-- the versions among these ages that a statement chooses: seen at a position, left by operations, and
+-- meeting a condition
 abbrev pub chosen_in : ℕ → List RowOp → ℕ → Option Condition → List Age → List Version
 chosen_in at done table condition ages = chosen condition (left_by done table (seen_in at ages))
 

@@ -1,17 +1,18 @@
 //! The answer of a statement.
 ghost use Rattle.std.specs.Prelude.{◌≡◌, ◌<◌, ◌∷◌, [], length, IfOk};
-ghost use Rattle.report_laws.specs.Answer.{answer, answer_to, refused, selected, set, removed, inserted, on_table, on_column, on_condition, table_named, condition_of};
-ghost use Rattle.statement_read.specs.Columns.{column_at};
+ghost use Rattle.cdb_values.specs.Named.{table_named};
+ghost use Rattle.transaction_answers.specs.Answer.{answer, answer_to, refused, selected, set, removed, inserted, on_table, on_column, on_condition, condition_of};
+ghost use Rattle.cdb_values.specs.Columns.{column_at};
 ghost use Rattle.snapshot_rows.specs.Ages.{seen};
 ghost use Rattle.transaction_answers.specs.Views.{IsAnswer};
 
 use super::changes::{delete, insert, update};
-use super::conditions::{Found, Wanted, find_condition, find_table};
+use super::conditions::{Wanted, find_condition};
 use super::selects::select;
-use cdb_values::{List, Name, Row, RowOp, Schema, StatementError, Value};
+use cdb_values::{Found, List, Name, Row, RowOp, Schema, StatementError, Value};
 use report_text::ReplyLine;
 use snapshot_rows::Snapshots;
-use statement_read::{Filter, Statement, find_column, read_statement};
+use statement_read::{Filter, Statement, read_statement};
 use std::alloc::{AllocError, Global};
 
 /// The reply lines of a statement, and the operations of its transaction after it.
@@ -55,10 +56,7 @@ fn answer_statement(
     ensures { IfOk result (λ a. IsAnswer a (answer_to schema.now (seen begin rows.now.tables) done statement)) }
 {
     match statement {
-        None => Ok(Answer {
-            replies: Vec::new(alloc),
-            ops: done,
-        }),
+        None => refuse(alloc, done, StatementError::Syntax { at: 0 }),
         Some(Statement::Begin) => refuse(alloc, done, StatementError::State),
         Some(Statement::Commit) => refuse(alloc, done, StatementError::State),
         Some(Statement::Rollback) => refuse(alloc, done, StatementError::State),
@@ -101,7 +99,7 @@ fn insert_into(
 ) -> Result<Answer, AllocError>
     ensures { IfOk result (λ a. IsAnswer a (on_table done (table_named schema.now table.now) (λ p. inserted done p.place row))) }
 {
-    match find_table(schema, table) {
+    match schema.named(table) {
         None => refuse(alloc, done, StatementError::Table),
         Some(found) => insert(alloc, done, found.place, row),
     }
@@ -120,7 +118,7 @@ fn select_from(
     requires { length rows.now.tables ≡ length schema.now }
     ensures { IfOk result (λ a. IsAnswer a (on_table done (table_named schema.now table.now) (λ p. on_condition done (condition_of p.table filter.now) (λ c. selected (seen begin rows.now.tables) done p.place c)))) }
 {
-    match find_table(schema, table) {
+    match schema.named(table) {
         None => refuse(alloc, done, StatementError::Table),
         Some(found) => match find_condition(found.table, filter) {
             None => refuse(alloc, done, StatementError::Column),
@@ -144,7 +142,7 @@ fn update_in(
     requires { length rows.now.tables ≡ length schema.now }
     ensures { IfOk result (λ a. IsAnswer a (on_table done (table_named schema.now table.now) (λ p. on_column done (column_at column.now p.table.columns) (λ at. on_condition done (condition_of p.table filter.now) (λ c. set (seen begin rows.now.tables) done p.place c at value.now))))) }
 {
-    match find_table(schema, table) {
+    match schema.named(table) {
         None => refuse(alloc, done, StatementError::Table),
         Some(found) => update_found(alloc, rows, begin, done, found, column, value, filter),
     }
@@ -164,7 +162,7 @@ fn update_found(
     requires { found.place < length rows.now.tables }
     ensures { IfOk result (λ a. IsAnswer a (on_column done (column_at column.now found.entry.table.now.columns) (λ at. on_condition done (condition_of found.entry.table.now filter.now) (λ c. set (seen begin rows.now.tables) done found.entry.place c at value.now)))) }
 {
-    match find_column(found.table.columns.as_slice(), column.as_bytes()) {
+    match found.table.column(column.as_bytes()) {
         None => refuse(alloc, done, StatementError::Column),
         Some(column) => match find_condition(found.table, filter) {
             None => refuse(alloc, done, StatementError::Column),
@@ -194,7 +192,7 @@ fn delete_from(
     requires { length rows.now.tables ≡ length schema.now }
     ensures { IfOk result (λ a. IsAnswer a (on_table done (table_named schema.now table.now) (λ p. on_condition done (condition_of p.table filter.now) (λ c. removed (seen begin rows.now.tables) done p.place c)))) }
 {
-    match find_table(schema, table) {
+    match schema.named(table) {
         None => refuse(alloc, done, StatementError::Table),
         Some(found) => match find_condition(found.table, filter) {
             None => refuse(alloc, done, StatementError::Column),

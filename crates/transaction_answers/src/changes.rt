@@ -1,6 +1,6 @@
 //! The answers of inserts, updates and deletes.
 ghost use Rattle.std.specs.Prelude.{◌≡◌, ◌<◌, ◌++◌, ◌∷◌, [], ◌+◌, length, map, slice_set, IfOk, OnOk};
-ghost use Rattle.report_laws.specs.Answer.{inserted, set, removed, changed as changed_of, updated, rewritten as rewritten_of, deleted, undone as undone_of};
+ghost use Rattle.transaction_answers.specs.Answer.{inserted, set, removed, changed as changed_of, updated, rewritten as rewritten_of, deleted, undone as undone_of};
 ghost use Rattle.snapshot_rows.specs.Ages.{seen};
 ghost use Rattle.transaction_answers.specs.Views.{condition_in, IsAnswer};
 

@@ -1,36 +1,19 @@
-//! Tables and conditions by their names, and the rows that meet a condition.
-ghost use Rattle.std.specs.Prelude.{◌≡◌, ◌<◌, length, IfSome};
+//! Conditions by their names, and the rows that meet one.
+ghost use Rattle.std.specs.Prelude.{◌≡◌};
 ghost use Rattle.std.specs.Ordering.{is_eq};
 ghost use Rattle.cdb_values.specs.Order.{value_order};
-ghost use Rattle.report_laws.specs.Answer.{meets as meets_of, table_named, condition_of};
-ghost use Rattle.transaction_answers.specs.Views.{condition_in, place_in, conditioned};
+ghost use Rattle.transaction_answers.specs.Answer.{meets as meets_of, condition_of};
+ghost use Rattle.transaction_answers.specs.Views.{condition_in, conditioned};
 
-use cdb_values::{Name, Row, Schema, TableDef, Value, order};
-use statement_read::{Filter, find_column};
+use cdb_values::{Row, TableDef, Value, order};
+use statement_read::Filter;
 use std::cmp::Ordering;
-
-/// A table and its place.
-#[derive(Clone, Copy)]
-pub(crate) struct Found<'a> {
-    pub place: u16,
-    pub table: &'a TableDef,
-}
 
 /// What a row has to have: a value in the column at a place.
 #[derive(Clone, Copy)]
 pub(crate) struct Wanted<'a> {
     pub column: usize,
     pub value: &'a Value,
-}
-
-/// The table of that name, where the schema has it.
-pub(crate) fn find_table<'a>(schema: &'a Schema, name: &Name) -> Option<Found<'a>>
-    ensures found { place_in result ≡ table_named schema.now name.now }
-    ensures within { IfSome result (λ f. f.place < length schema.now) }
-{
-    let place = schema.table(name)?;
-    let table = schema.at(place)?;
-    Some(Found { place, table })
 }
 
 /// The condition that a filter states on a table; the outer `None` where its column is not there.
@@ -43,7 +26,7 @@ pub(crate) fn find_condition<'a>(
     match filter {
         None => Some(None),
         Some(filter) => {
-            let column = find_column(table.columns.as_slice(), filter.column.as_bytes())?;
+            let column = table.column(filter.column.as_bytes())?;
             Some(Some(Wanted {
                 column,
                 value: &filter.value,

@@ -10,8 +10,7 @@ ghost use Rattle.transaction_answers.specs.Sound.{IsSoundOp};
 ghost use Rattle.transaction_answers.specs.Views.{touched_by, touched_in};
 
 use super::touches::{first_touched, items_taken};
-use cdb_values::{List, Name, RowOp, Schema};
-use report_laws::GenidItem;
+use cdb_values::{GenidItem, List, Name, RowOp, Schema};
 use report_text::ReplyLine;
 use snapshot_rows::{BrokenKey, Snapshots};
 use std::alloc::{AllocError, Global};

@@ -12,7 +12,7 @@
 //!
 //! | Notion | Definition |
 //! |---|---|
-//! | the answer of a statement | `answer` of `report_laws/specs/Answer.antt` |
+//! | the answer of a statement, and the language of the statements that run | `specs/Answer.antt` |
 //! | what is decided at a commit | `specs/Decisions.antt` |
 //! | sound rows and operations | `specs/Sound.antt` |
 #![tactic(auto)]
@@ -21,6 +21,7 @@ mod answers;
 mod changes;
 mod conditions;
 mod decisions;
+mod laws;
 mod own;
 mod selects;
 mod touches;
@@ -28,4 +29,5 @@ mod versions;
 
 pub use answers::{Answer, answer_text};
 pub use decisions::decide;
+pub use laws::statements_are_a_language;
 pub use touches::items_taken;

@@ -2,7 +2,7 @@
 ghost use Rattle.std.specs.Prelude.{◌≡◌, ◌++◌, ◌∷◌, [], not, ◌&&◌, ◌==◌, filter, option_to_list, is_some, Some, None, if◌then◌else◌, IfOk, OnOk};
 ghost use Rattle.std.specs.Option.{option_copied};
 ghost use Rattle.cdb_values.specs.Rows.{written};
-ghost use Rattle.report_laws.specs.Answer.{meets as meets_of, is_own as is_own_of, staying, moving};
+ghost use Rattle.transaction_answers.specs.Answer.{meets as meets_of, is_own as is_own_of, staying, moving};
 ghost use Rattle.transaction_answers.specs.Views.{condition_in};
 
 use super::conditions::{Wanted, meets};

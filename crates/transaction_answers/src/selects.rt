@@ -1,7 +1,7 @@
 //! The answer of a select.
 ghost use Rattle.std.specs.Prelude.{◌≡◌, ◌<◌, ◌++◌, ◌∷◌, [], length, map, filter, IfOk};
 ghost use Rattle.cdb_values.specs.Rows.{written};
-ghost use Rattle.report_laws.specs.Answer.{meets as meets_of, rows_told as rows_told_of, selected};
+ghost use Rattle.transaction_answers.specs.Answer.{meets as meets_of, rows_told as rows_told_of, selected};
 ghost use Rattle.snapshot_rows.specs.Ages.{seen};
 ghost use Rattle.transaction_answers.specs.Views.{condition_in, IsAnswer};
 

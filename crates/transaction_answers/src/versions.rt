@@ -2,12 +2,12 @@
 ghost use Rattle.std.specs.Prelude.{◌≡◌, ◌<◌, ◌++◌, ◌∷◌, [], length, IfOk, OnOk};
 ghost use Rattle.std.specs.List.{list_any};
 ghost use Rattle.cdb_values.specs.Rows.{takes as takes_of};
-ghost use Rattle.report_laws.specs.Answer.{chosen, left_by, of_table};
+ghost use Rattle.transaction_answers.specs.Answer.{chosen, left_by, of_table};
 ghost use Rattle.snapshot_rows.specs.Ages.{seen};
 ghost use Rattle.transaction_answers.specs.Views.{condition_in, is_chosen as is_chosen_of, chosen_in};
 
 use super::conditions::{Wanted, meets};
-use cdb_values::{RowOp, RowRef, Version};
+use cdb_values::{RowOp, Version};
 use snapshot_rows::{Age, Snapshots};
 use std::alloc::{AllocError, Global};
 
@@ -27,7 +27,8 @@ pub(crate) fn chosen_versions(
     chosen_of(alloc, rows.ages(table), begin, done, table, condition)
 }
 
-/// Copies of the versions of these ages that are.
+/// Copies of the versions among these ages that the statement chooses: seen at `begin`, not taken away by
+/// `done`, and meeting the condition.
 #[tactic(auto, using(crate::proofs::ChosenLemmas::chosen_more))]
 fn chosen_of(
     alloc: Global,
@@ -92,41 +93,5 @@ fn is_chosen(
 fn is_taken(done: &[RowOp], table: u16, genid: u64) -> bool
     ensures { result ≡ list_any (takes_of table genid) done.now }
 {
-    let mut rest = done;
-    'ops: while let Some((op, after)) = rest.split_first() {
-        if takes(op, table, genid) {
-            return true;
-        }
-        rest = after;
-    }
-    false
-}
-
-/// Whether an operation takes the version of a genid away from a table.
-fn takes(op: &RowOp, table: u16, genid: u64) -> bool
-    ensures { result ≡ takes_of table genid op.now }
-{
-    match op {
-        RowOp::Insert { .. } => false,
-        RowOp::Update {
-            table: place,
-            target,
-            ..
-        } => is_target(*place, target, table, genid),
-        RowOp::Delete {
-            table: place,
-            target,
-            ..
-        } => is_target(*place, target, table, genid),
-    }
-}
-
-/// Whether a target in the table at a place is the version of a genid in that table.
-fn is_target(place: u16, target: &RowRef, table: u16, genid: u64) -> bool
-    ensures { result ≡ takes_of table genid (RowOp.Delete place target.now []) }
-{
-    match *target {
-        RowRef::Base(found) => place == table && found == genid,
-        RowRef::Own(_) => false,
-    }
+    done.iter().any(|op| op.takes(table as usize, genid))
 }

@@ -1,6 +1,6 @@
 use Rattle.std.proofs.Common.{◌≡◌, ◌++◌}
 use Rattle.std.specs.Vec.Iter.{into_iter_items}
-use Rattle.report_laws.specs.Answer.{undone}
+use Rattle.transaction_answers.specs.Answer.{undone}
 use Rattle.transaction_answers.proofs.changes.undone.Given as goal
 
 abbrev pub invariant-ops : goal.invariant-ops

@@ -1,6 +1,6 @@
 use Rattle.std.proofs.Common.{◌≡◌, ◌++◌, map}
 use Rattle.std.specs.Vec.Iter.{into_iter_items}
-use Rattle.report_laws.specs.Answer.{updated}
+use Rattle.transaction_answers.specs.Answer.{updated}
 use Rattle.transaction_answers.proofs.changes.updates.Given as goal
 
 abbrev pub invariant-versions : goal.invariant-versions

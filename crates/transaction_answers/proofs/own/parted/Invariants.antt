@@ -1,6 +1,6 @@
 use Rattle.std.proofs.Common.{◌≡◌, ◌++◌}
 use Rattle.std.specs.Vec.Iter.{into_iter_items}
-use Rattle.report_laws.specs.Answer.{staying, moving}
+use Rattle.transaction_answers.specs.Answer.{staying, moving}
 use Rattle.transaction_answers.specs.Views.{condition_in}
 use Rattle.transaction_answers.proofs.own.parted.Given as goal
 

@@ -1,6 +1,6 @@
 use Rattle.std.proofs.Common.{◌≡◌, ◌++◌, filter, length}
 use Rattle.cdb_values.specs.Rows.{written}
-use Rattle.report_laws.specs.Answer.{meets}
+use Rattle.transaction_answers.specs.Answer.{meets}
 use Rattle.transaction_answers.specs.Views.{condition_in}
 use Rattle.transaction_answers.proofs.selects.with_own_rows.Given as goal
 

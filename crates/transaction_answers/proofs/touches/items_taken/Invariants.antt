@@ -1,5 +1,5 @@
 use Rattle.std.proofs.Common.{◌≡◌, ◌++◌, length}
-use Rattle.report_laws.specs.History.{taken_by}
+use Rattle.cdb_values.specs.Changes.{taken_by}
 use Rattle.transaction_answers.proofs.touches.items_taken.Given as goal
 
 abbrev pub invariant-ops : goal.invariant-ops

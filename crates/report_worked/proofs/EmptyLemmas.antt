@@ -1,0 +1,42 @@
+-- The laws hold of the empty report.
+use Rattle.std.proofs.Common.{◌≡◌, ℕ, List, [], ◌∷◌, refl, sym, subst}
+use Rattle.script_form.specs.declared.scripts.Script.{Script}
+use Rattle.script_form.specs.declared.scripts.BodyLine.{BodyLine}
+use Rattle.report_laws.specs.Lawful.{Lawful}
+use Rattle.report_laws.specs.Play.{InPlayOrder, InTurns}
+use Rattle.report_laws.specs.Told.{Along, IsTold}
+use Rattle.report_laws.specs.Work.{Item, work}
+use Rattle.report_worked.specs.Worked.{empty_report, report_with}
+use Rattle.report_text.specs.declared.reports.EntryLine.{EntryLine}
+use Rattle.report_text.specs.declared.reports.EntryLine.TheVariants.{Setup}
+use Rattle.report_text.specs.declared.reports.ReplyLine.{ReplyLine}
+use Rattle.transaction_answers.specs.Answer.{from_nothing, statement_language}
+
+along_none : (P : Item → List ReplyLine → Type 0) (name : List ℕ) (body : List BodyLine) → body ≡ [] → Along P (work statement_language name body) []
+along_none P name body is = subst (λ (b : List BodyLine). Along P (work statement_language name b) []) (sym is) refl
+
+pub empty_is_lawful : (script : Script) → script.body ≡ [] → Lawful (from_nothing script) empty_report
+empty_is_lawful script is = record {
+  replies = λ name. along_none (IsTold (from_nothing script) (Setup 1 ∷ []) name) name script.body is;
+  begins = tt;
+  history = ((refl, refl, refl), tt);
+  answered = (tt, tt);
+  sessions = tt;
+  feeds = refl;
+  base = refl;
+  end = refl;
+}
+
+pub empty_is_in_order : (script : Script) → script.body ≡ [] → InPlayOrder (from_nothing script) empty_report
+empty_is_in_order script is = record {
+  later = [];
+  opened = refl;
+  order = subst (λ (body : List BodyLine). InTurns (from_nothing script) [] [] (Setup 1 ∷ []) body [] []) (sym is) (refl, refl);
+}
+
+-- the schema's entry stands in the history of each run
+no_entry_at_all : (later : List EntryLine) → [] ≡ Setup 1 ∷ later → ⊥
+no_entry_at_all later is = cc
+
+pub no_entry_is_not_in_order : (script : Script) → InPlayOrder (from_nothing script) (report_with [] []) → ⊥
+no_entry_is_not_in_order script order = no_entry_at_all order.later order.opened

@@ -1,0 +1,9 @@
+pub mod EmptyLemmas
+pub mod InsertSelectLemmas
+pub mod InsertSelectWrongLemmas
+pub mod KeyAgainLemmas
+pub mod OwnWritesLemmas
+pub mod SerialLemmas
+pub mod TwoUpdatesLemmas
+pub mod TwoUpdatesWrongLemmas
+pub mod WorkedLemmas

@@ -1,0 +1,163 @@
+-- The report of two updates of one row, computed.
+use Rattle.std.proofs.Common.{◌≡◌, ℕ, List, [], ◌∷◌, refl, sym, subst, arith, codes, inl, inr, take, drop}
+use Rattle.cdb_values.specs.Good.{IsGood}
+use Rattle.cdb_values.specs.declared.rows.Level.TheVariants.{Snapshot}
+use Rattle.statement_read.specs.Statements.{insert_of, insert_head_of, equation_at, where_of, update_of, updated_of}
+use Rattle.report_laws.specs.History.{nothing_before, rows_at}
+use Rattle.report_laws.specs.Lawful.{Lawful}
+use Rattle.report_laws.specs.Play.{InPlayOrder}
+use Rattle.report_text.specs.declared.reports.EntryLine.TheVariants.{Setup}
+use Rattle.report_laws.specs.Told.{told, Along, IsTold}
+use Rattle.report_laws.specs.Work.{Transaction, Item, Does, transaction, ByCommit, WithItsLine, work}
+use Rattle.script_form.specs.CanRun.{tables_of}
+use Rattle.report_worked.specs.Worked.{worked_table, two_updates, two_updates_report, two_updates_entries, insert_text, conflict, of_a, of_b}
+use Rattle.report_text.specs.declared.reports.ReplyLine.{ReplyLine}
+use Rattle.report_text.specs.declared.reports.ReplyLine.TheVariants as reply
+use Rattle.report_laws.proofs.LineLemmas.{fresh_begin}
+use Rattle.report_worked.proofs.WorkedLemmas.{along_each, along_parts, EachPart, whole, in_turns, is_turn}
+use Rattle.transaction_answers.specs.Answer.{from_nothing, statement_language}
+use Rattle.cdb_values.specs.Changes.{genid_item}
+
+-- the transactions of the sessions
+abbrev pub inserting : Transaction
+inserting = transaction 1 (insert_text ∷ []) Snapshot WithItsLine
+
+abbrev pub first_update : Transaction
+first_update = transaction 2 ((codes "update t set v = 11 where id = 1") ∷ []) Snapshot ByCommit
+
+abbrev pub second_update : Transaction
+second_update = transaction 1 ((codes "update t set v = 12 where id = 1") ∷ []) Snapshot ByCommit
+
+abbrev pub items_of_a : List Item
+items_of_a = Does inserting ∷ Does first_update ∷ []
+
+pub work_of_a : work statement_language (codes "a") two_updates.body ≡ items_of_a
+unfolding insert_of insert_head_of equation_at where_of update_of updated_of
+work_of_a = refl
+
+-- and the replies to each of them
+abbrev pub replies_of_a : List (List ReplyLine)
+replies_of_a = ((reply.Begin 1) ∷ (reply.Changed 1) ∷ (reply.Committed 2) ∷ []) ∷ ((reply.Begin 2) ∷ (reply.Changed 1) ∷ (reply.Committed 3) ∷ []) ∷ []
+
+abbrev pub items_of_b : List Item
+items_of_b = Does second_update ∷ []
+
+pub work_of_b : work statement_language (codes "b") two_updates.body ≡ items_of_b
+unfolding insert_of insert_head_of equation_at where_of update_of updated_of
+work_of_b = refl
+
+-- and the replies to each of them
+abbrev pub replies_of_b : List (List ReplyLine)
+replies_of_b = ((reply.Begin 2) ∷ (reply.Changed 1) ∷ conflict ∷ []) ∷ []
+
+-- the laws along each session's work hold where they hold of these
+along_their_work : (P : List ℕ → Item → List ReplyLine → Type 0) → EachPart (P (codes "a")) items_of_a replies_of_a → EachPart (P (codes "b")) items_of_b replies_of_b →
+    (name : List ℕ) → Along (P name) (work statement_language name two_updates.body) (told name two_updates_report.lines)
+along_their_work P of_a of_b =
+    along_each P two_updates.body two_updates_report.lines
+    (inl refl, (inl refl, (inr refl, (inl refl, (inr refl, (inl refl, (inr refl, tt)))))))
+    (inl refl, (inl refl, (inl refl, (inl refl, (inr refl, (inl refl, (inr refl, (inl refl, (inr refl, tt)))))))))
+    (subst (λ (items : List Item). Along (P (codes "a")) items (told (codes "a") two_updates_report.lines)) (sym work_of_a) (along_parts (P (codes "a")) items_of_a replies_of_a of_a))
+    (subst (λ (items : List Item). Along (P (codes "b")) items (told (codes "b") two_updates_report.lines)) (sym work_of_b) (along_parts (P (codes "b")) items_of_b replies_of_b of_b))
+
+-- the rows at the entries are good
+pub good_at_2 : IsGood (tables_of two_updates) (rows_at (from_nothing two_updates) two_updates_entries 2).tables
+unfolding insert_of insert_head_of equation_at where_of update_of updated_of
+good_at_2 = record {
+  rows_fit = ((record { columns = (refl, (refl, tt)); size = omega arith; keys = (omega arith, tt) }, tt), tt);
+  keys_kept = refl;
+}
+
+pub good_at_3 : IsGood (tables_of two_updates) (rows_at (from_nothing two_updates) two_updates_entries 3).tables
+unfolding insert_of insert_head_of equation_at where_of update_of updated_of
+good_at_3 = record {
+  rows_fit = ((record { columns = (refl, (refl, tt)); size = omega arith; keys = (omega arith, tt) }, tt), tt);
+  keys_kept = refl;
+}
+
+pub two_updates_is_lawful : Lawful (from_nothing two_updates) two_updates_report
+unfolding insert_of insert_head_of equation_at where_of update_of updated_of
+two_updates_is_lawful = record {
+  replies = along_their_work (IsTold (from_nothing two_updates) two_updates_entries) (
+    whole 1 (reply.Committed 2) (omega arith) (omega arith) tt (record { later = omega arith; stands = refl; untouched = λ j after before. absurd (omega (arith, after, before)); is_good = good_at_2 }) refl,
+    (whole 2 (reply.Committed 3) (omega arith) (omega arith) tt (record { later = omega arith; stands = refl; untouched = λ j after before. absurd (omega (arith, after, before)); is_good = good_at_3 }) refl, tt),
+  ) (whole 2 conflict (omega arith) (omega arith) tt (record { has_ops = λ is. cc; later = omega arith; within = omega arith; item = genid_item 0 1; touched = refl; untouched = λ j after before. absurd (omega (arith, after, before)); is_told = refl }) refl, tt);
+  begins = (fresh_begin (nothing_before (worked_table ∷ [])) _ (codes "a") 1 (omega arith) (omega arith) tt, (tt, (tt, (fresh_begin (nothing_before (worked_table ∷ [])) _ (codes "a") 2 (omega arith) (omega arith) ((omega arith, tt), (tt, ((omega arith, tt), tt))), (fresh_begin (nothing_before (worked_table ∷ [])) _ (codes "b") 2 (omega arith) (omega arith) ((omega arith, tt), (tt, ((omega arith, tt), ((omega arith, tt), tt)))), (tt, (tt, (tt, (tt, tt)))))))));
+  history = (
+    (refl, refl, refl),
+    (
+      record {
+        placed = refl;
+        once = (refl, tt);
+        begun = (omega arith, omega arith, omega arith);
+        transaction = inserting;
+        is_its = refl;
+        is_level = refl;
+        ran = _;
+        is_ran = refl;
+        has_ops = λ is. cc;
+        untouched = λ j after before. absurd (omega (arith, after, before));
+        is_good = good_at_2;
+      },
+      (
+        record {
+          placed = refl;
+          once = (refl, (refl, tt));
+          begun = (omega arith, omega arith, omega arith);
+          transaction = first_update;
+          is_its = refl;
+          is_level = refl;
+          ran = _;
+          is_ran = refl;
+          has_ops = λ is. cc;
+          untouched = λ j after before. absurd (omega (arith, after, before));
+          is_good = good_at_3;
+        },
+        tt,
+      ),
+    ),
+  );
+  answered = (tt, (((take 0 two_updates_report.lines, drop 1 two_updates_report.lines, refl), (take 2 two_updates_report.lines, drop 3 two_updates_report.lines, refl)), (((take 3 two_updates_report.lines, drop 4 two_updates_report.lines, refl), (take 7 two_updates_report.lines, drop 8 two_updates_report.lines, refl)), tt)));
+  sessions = (tt, (tt, (tt, (tt, (tt, (tt, (tt, (tt, (tt, tt)))))))));
+  feeds = refl;
+  base = refl;
+  end = refl;
+}
+
+pub two_updates_is_in_order : InPlayOrder (from_nothing two_updates) two_updates_report
+unfolding insert_of insert_head_of equation_at where_of update_of updated_of
+two_updates_is_in_order = record {
+  later = of_a 2 1 1 ∷ of_a 3 2 2 ∷ [];
+  opened = refl;
+  order = in_turns (from_nothing two_updates) [] [] (Setup 1 ∷ []) two_updates.body (
+      ((reply.Begin 1) ∷ (reply.Changed 1) ∷ (reply.Committed 2) ∷ [], of_a 2 1 1 ∷ [])
+      ∷ ((reply.Begin 2) ∷ [], [])
+      ∷ ((reply.Begin 2) ∷ [], [])
+      ∷ ((reply.Changed 1) ∷ [], [])
+      ∷ ((reply.Changed 1) ∷ [], [])
+      ∷ ((reply.Committed 3) ∷ [], of_a 3 2 2 ∷ [])
+      ∷ (conflict ∷ [], [])
+      ∷ []
+      ) (
+        is_turn refl (refl, (tt, (omega arith, tt))) (refl, 1, Snapshot, refl, ((reply.Begin 1) ∷ (reply.Changed 1) ∷ [], [], refl)),
+        (
+          is_turn refl (refl, tt) tt,
+          (
+            is_turn refl (refl, tt) tt,
+            (
+              is_turn refl (tt, tt) tt,
+              (
+                is_turn refl (tt, tt) tt,
+                (
+                  is_turn refl (omega arith, tt) (refl, 2, Snapshot, refl, ([], [], refl)),
+                  (
+                    is_turn refl (omega arith, tt) tt,
+                    tt,
+                  ),
+                ),
+              ),
+            ),
+          ),
+        ),
+      );
+}

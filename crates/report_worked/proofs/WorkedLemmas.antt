@@ -1,0 +1,157 @@
+-- How laws along the work of each session are shown of the worked examples, and refuted.
+use Rattle.std.proofs.Common.{◌≡◌, ◌≤◌, ◌+◌, ℕ, List, length, [], ◌∷◌, ◌++◌, refl, sym, subst, ap, Bool, true, false, ◌∙◌, codes, inl, inr, ◌⊎◌}
+use Rattle.std.specs.List.{AllByRecursion}
+use Rattle.std.specs.Str.{bytes_eq}
+use Rattle.std.proofs.lemmas.Slice.Eq.{bytes_eq-Decides}
+use Rattle.script_form.specs.declared.scripts.BodyLine.{BodyLine}
+use Rattle.script_form.specs.declared.scripts.Act.{Act}
+use Rattle.script_form.specs.declared.scripts.Act.TheVariants as act
+use Rattle.report_laws.specs.History.{Basis, last_position, used_by}
+use Rattle.report_laws.specs.Play.{InTurns, IsTurn, IsTurnOf, IsTimely, IsAppended, are_up_to, is_last_of, piece}
+use Rattle.report_laws.specs.Told.{Along, IsTold, told, numbered, Numbered, alone_at}
+use Rattle.report_laws.specs.Work.{Transaction, Item, Does, work, said, said_by, start, place_from, items_at, number_of}
+use Rattle.report_text.specs.declared.reports.EntryLine.{EntryLine}
+use Rattle.report_text.specs.declared.reports.Line.{Line}
+use Rattle.report_text.specs.declared.reports.Line.TheVariants as line
+use Rattle.report_text.specs.declared.reports.ReplyLine.{ReplyLine}
+use Rattle.report_text.specs.declared.reports.ReplyLine.TheVariants as reply
+use Rattle.report_laws.proofs.GrowLemmas.{first_begin, first_rest, same_last}
+use Rattle.transaction_answers.specs.Answer.{statement_language}
+use Rattle.report_laws.specs.Cut.{cuts}
+use Rattle.report_laws.specs.Language.{Answered}
+use Rattle.report_laws.specs.Outcome.{IsRight, Ends}
+
+-- the sessions a and b
+abbrev pub IsTheirs : List ℕ → Type 0
+IsTheirs name = (name ≡ codes "a") ⊎ (name ≡ codes "b")
+
+abbrev pub SaidTheirs : Act → Type 0
+SaidTheirs (act.Say session text) = IsTheirs session
+SaidTheirs (act.Stop node) = ⊥
+SaidTheirs (act.Start node) = ⊥
+SaidTheirs (act.Arm session moment) = ⊥
+SaidTheirs act.Barrier = ⊥
+SaidTheirs act.Feed = ⊥
+
+abbrev pub ToThem : Line → Type 0
+ToThem (line.Session session txn answer) = IsTheirs session
+ToThem (line.Down count node fault) = ⊥
+ToThem (line.Up node) = ⊥
+ToThem line.Barrier = ⊥
+ToThem (line.Fed position) = ⊥
+
+other_name : (name session : List ℕ) → bytes_eq (codes "a") name ≡ false → bytes_eq (codes "b") name ≡ false → IsTheirs session → bytes_eq session name ≡ false
+other_name name session a b (inl is) = ap (λ s. bytes_eq s name) is ∙ a
+other_name name session a b (inr is) = ap (λ s. bytes_eq s name) is ∙ b
+
+-- no other session says or is told anything
+said_none : (name : List ℕ) (body : List BodyLine) → bytes_eq (codes "a") name ≡ false → bytes_eq (codes "b") name ≡ false → AllByRecursion (λ l. SaidTheirs l.act) body → said name body ≡ []
+said_none name [] a b all = refl
+said_none name (l ∷ ls) a b all = go l.act all.0 (said_none name ls a b all.1)
+  where
+    go : (what : Act) → SaidTheirs what → said name ls ≡ [] → said_by name what (said name ls) ≡ []
+    go (act.Say session text) is none = rw (other_name name session a b is) none
+    go (act.Stop node) is none = none
+    go (act.Start node) is none = none
+    go (act.Arm session moment) is none = none
+    go act.Barrier is none = none
+    go act.Feed is none = none
+
+told_none : (name : List ℕ) (lines : List Line) → bytes_eq (codes "a") name ≡ false → bytes_eq (codes "b") name ≡ false → AllByRecursion ToThem lines → told name lines ≡ []
+told_none name [] a b all = refl
+told_none name (line.Session session txn answer ∷ ls) a b all = rw (other_name name session a b all.0) (told_none name ls a b all.1)
+told_none name (line.Down count node fault ∷ ls) a b all = told_none name ls a b all.1
+told_none name (line.Up node ∷ ls) a b all = told_none name ls a b all.1
+told_none name (line.Barrier ∷ ls) a b all = told_none name ls a b all.1
+told_none name (line.Fed position ∷ ls) a b all = told_none name ls a b all.1
+
+-- a law along the work of each session holds where it holds along the work of the sessions a and b
+pub along_each : (P : List ℕ → Item → List ReplyLine → Type 0) (body : List BodyLine) (lines : List Line) →
+    AllByRecursion (λ l. SaidTheirs l.act) body → AllByRecursion ToThem lines →
+    Along (P (codes "a")) (work statement_language (codes "a") body) (told (codes "a") lines) → Along (P (codes "b")) (work statement_language (codes "b") body) (told (codes "b") lines) →
+    (name : List ℕ) → Along (P name) (work statement_language name body) (told name lines)
+along_each P body lines theirs to_them of_a of_b name = go (bytes_eq (codes "a") name) (bytes_eq (codes "b") name) refl refl
+  where
+    go : (a b : Bool) → bytes_eq (codes "a") name ≡ a → bytes_eq (codes "b") name ≡ b → Along (P name) (work statement_language name body) (told name lines)
+    go true b is_a is_b = subst (λ (n : List ℕ). Along (P n) (work statement_language n body) (told n lines)) ((bytes_eq-Decides (codes "a") name).0 is_a) of_a
+    go false true is_a is_b = subst (λ (n : List ℕ). Along (P n) (work statement_language n body) (told n lines)) ((bytes_eq-Decides (codes "b") name).0 is_b) of_b
+    go false false is_a is_b =
+        subst (λ (items : List Item). Along (P name) items (told name lines)) (sym (ap (λ (texts : List (List ℕ)). items_at (place_from statement_language start texts)) (said_none name body is_a is_b theirs)))
+        (told_none name lines is_a is_b to_them)
+
+-- a transaction is told whole, by its begin and its outcome
+pub whole : {basis : Basis} {entries : List EntryLine} {name : List ℕ} {t : Transaction} {mine : List ReplyLine} (begin : ℕ) (o : ReplyLine) → basis.origin.position ≤ begin → begin ≤ last_position basis.origin entries → Ends t.end (o ∷ []) →
+    IsRight basis entries name t begin (used_by (alone_at basis entries t begin)) (alone_at basis entries t begin).ops o → mine ≡ reply.Begin begin ∷ ((alone_at basis entries t begin).replies ++ o ∷ []) → IsTold basis entries name (Does t) mine
+whole {basis} {entries} {name} {t} {mine} begin o base within ends right says = inl (record { begin = begin; base = base; within = within; ran = alone_at basis entries t begin; is_ran = refl; last = o ∷ []; ends = ends; right = (right, tt); says = says })
+
+-- a transaction that is told a begin and an outcome is told the replies at that begin, and its outcome is right
+pub record ToldAt (basis : Basis) (entries : List EntryLine) (name : List ℕ) (t : Transaction) (begin : ℕ) (back : List ReplyLine) : Type 0 where
+  pub last : List ReplyLine
+  pub says : back ≡ (alone_at basis entries t begin).replies ++ last
+  pub right : AllByRecursion (IsRight basis entries name t begin (used_by (alone_at basis entries t begin)) (alone_at basis entries t begin).ops) last
+
+no_cut : (b : Bool) → b ≡ true → b ≡ false → ⊥
+no_cut b cut uncut = cc
+
+pub told_at : (basis : Basis) (entries : List EntryLine) (name : List ℕ) (t : Transaction) (begin : ℕ) (back front : List ReplyLine) (outcome : ReplyLine) → reply.Begin begin ∷ back ≡ front ++ outcome ∷ [] → cuts outcome ≡ false →
+    IsTold basis entries name (Does t) (reply.Begin begin ∷ back) → ToldAt basis entries name t begin back
+told_at basis entries name t begin back front outcome ends uncut (inl was) = record {
+  last = was.last;
+  says = first_rest begin was.begin _ _ was.says
+      ∙ ap (λ (a : Answered). a.replies ++ was.last) was.is_ran
+      ∙ ap (λ (b : ℕ). (alone_at basis entries t b).replies ++ was.last) (sym (first_begin begin was.begin _ _ was.says));
+  right = subst (λ (b : ℕ). AllByRecursion (IsRight basis entries name t b (used_by (alone_at basis entries t b)) (alone_at basis entries t b).ops) was.last) (sym (first_begin begin was.begin _ _ was.says))
+      (subst (λ (a : Answered). AllByRecursion (IsRight basis entries name t was.begin (used_by a) a.ops) was.last) was.is_ran was.right);
+}
+told_at basis entries name t begin back front outcome ends uncut (inr was) =
+    absurd (no_cut (cuts was.cause) was.is_cause (ap cuts (sym (same_last front was.front outcome was.cause (sym ends ∙ was.says))) ∙ uncut))
+
+-- the replies of each of these items, in order, under their numbers
+abbrev pub in_parts : List Item → List (List ReplyLine) → List Numbered
+in_parts [] parts = []
+in_parts (item ∷ items) [] = []
+in_parts (item ∷ items) (mine ∷ parts) = numbered (number_of item) mine ++ in_parts items parts
+
+abbrev pub EachPart : (Item → List ReplyLine → Type 0) → List Item → List (List ReplyLine) → Type 0
+EachPart P [] parts = Unit {0}
+EachPart P (item ∷ items) [] = ⊥
+EachPart P (item ∷ items) (mine ∷ parts) = P item mine × EachPart P items parts
+
+pub along_parts : (P : Item → List ReplyLine → Type 0) (items : List Item) (parts : List (List ReplyLine)) → EachPart P items parts → Along P items (in_parts items parts)
+along_parts P [] parts is = refl
+along_parts P (item ∷ items) [] is = absurd is
+along_parts P (item ∷ items) (mine ∷ parts) is = (mine, in_parts items parts, refl, is.0, along_parts P items parts is.1)
+
+-- what each line of a script is told, and the entries that it appends
+abbrev pub Turn : Type 0
+Turn = List ReplyLine × List EntryLine
+
+-- the lines of these turns, and their entries
+abbrev pub lines_in : Basis → List BodyLine → List BodyLine → List Turn → List Line
+lines_in basis done [] turns = []
+lines_in basis done (b ∷ bs) [] = []
+lines_in basis done (b ∷ bs) (turn ∷ turns) = piece basis.language done b.act turn.0 ++ lines_in basis (done ++ b ∷ []) bs turns
+
+abbrev pub entries_in : List Turn → List EntryLine
+entries_in [] = []
+entries_in (turn ∷ turns) = turn.1 ++ entries_in turns
+
+abbrev pub EachTurn : Basis → List BodyLine → List Line → List EntryLine → List BodyLine → List Turn → Type 0
+EachTurn basis done before history [] [] = Unit {0}
+EachTurn basis done before history [] (turn ∷ turns) = ⊥
+EachTurn basis done before history (b ∷ bs) [] = ⊥
+EachTurn basis done before history (b ∷ bs) (turn ∷ turns) =
+    IsTurnOf basis.language (last_position basis.origin history) done before b.act turn.0 turn.1 × EachTurn basis (done ++ b ∷ []) (before ++ piece basis.language done b.act turn.0) (history ++ turn.1) bs turns
+
+pub in_turns : (basis : Basis) (done : List BodyLine) (before : List Line) (history : List EntryLine) (body : List BodyLine) (turns : List Turn) →
+    EachTurn basis done before history body turns → InTurns basis done before history body (lines_in basis done body turns) (entries_in turns)
+in_turns basis done before history [] [] is = (refl, refl)
+in_turns basis done before history [] (turn ∷ turns) is = absurd is
+in_turns basis done before history (b ∷ bs) [] is = absurd is
+in_turns basis done before history (b ∷ bs) (turn ∷ turns) is =
+    (turn.0, lines_in basis (done ++ b ∷ []) bs turns, turn.1, entries_in turns, refl, refl, is.0, in_turns basis (done ++ b ∷ []) (before ++ piece basis.language done b.act turn.0) (history ++ turn.1) bs turns is.1)
+
+-- a turn that is told up to its last reply
+pub is_turn : {now : ℕ} {before : List Line} {session : List ℕ} {number : ℕ} {own : Bool} {replies : List ReplyLine} {added : List EntryLine} →
+    are_up_to (is_last_of own) replies ≡ true → AllByRecursion (IsTimely now (now + length added)) replies → IsAppended now session number replies added → IsTurn now before session number own replies added
+is_turn told timely appended = record { told = inl told; timely = timely; appended = appended }

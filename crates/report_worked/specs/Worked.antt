@@ -1,0 +1,201 @@
+-- Worked examples: scripts of two sessions over one table, and their reports as data.
+--
+-- Each script begins with the four lines
+--
+--     nodes 1
+--     session a 1
+--     session b 1
+--     create table t(id integer primary key, v integer)
+--
+-- and goes on with the lines of the sessions that stand here.
+use Rattle.std.specs.Prelude.{ℕ, ◌+◌, ◌++◌, ◌∷◌, [], List, length, true, false, None, codes, pos}
+use Rattle.cdb_values.specs.declared.rows.Level.TheVariants.{Snapshot}
+use Rattle.cdb_values.specs.declared.tables.TableDef.{TableDef}
+use Rattle.cdb_values.specs.declared.tables.ColumnType.TheVariants.{Integer}
+use Rattle.cdb_values.specs.declared.values.Value.TheVariants.{Int}
+use Rattle.script_form.specs.declared.scripts.Script.{Script}
+use Rattle.script_form.specs.declared.scripts.BodyLine.{BodyLine}
+use Rattle.script_form.specs.declared.scripts.Act.{Act}
+use Rattle.script_form.specs.declared.scripts.Act.TheVariants.{Say}
+use Rattle.report_text.specs.Text.{ended}
+use Rattle.report_text.specs.declared.reports.Report.{Report}
+use Rattle.report_text.specs.declared.reports.EntryLine.{EntryLine}
+use Rattle.report_text.specs.declared.reports.EntryLine.TheVariants.{Setup, Commit}
+use Rattle.report_text.specs.declared.reports.Line.{Line}
+use Rattle.report_text.specs.declared.reports.Line.TheVariants as line
+use Rattle.report_text.specs.declared.reports.ReplyLine.{ReplyLine}
+use Rattle.report_text.specs.declared.reports.ReplyLine.TheVariants as reply
+
+-- the table t(id integer primary key, v integer)
+abbrev pub worked_table : TableDef
+worked_table = record {
+  name = codes "t";
+  columns = record { name = codes "id"; kind = Integer; nullable = false } ∷ record { name = codes "v"; kind = Integer; nullable = true } ∷ [];
+  keys = record { name = codes "pk"; columns = 0 ∷ []; unique = true } ∷ [];
+}
+
+abbrev pub body_from : ℕ → List Act → List BodyLine
+body_from line [] = []
+body_from line (act ∷ acts) = record { line = line; act = act } ∷ body_from (line + 1) acts
+
+-- the script that goes on with these lines
+abbrev pub script_with : List Act → Script
+script_with acts = record {
+  nodes = 1;
+  cluster = codes "main";
+  workers = 1;
+  sessions = record { line = 2; name = codes "a"; node = 1; hasql = false } ∷ record { line = 3; name = codes "b"; node = 1; hasql = false } ∷ [];
+  tables = record { line = 4; table = worked_table } ∷ [];
+  watches = [];
+  body = body_from 5 acts;
+}
+
+-- what a session says, and what it is told
+abbrev pub a_says : List ℕ → Act
+a_says text = Say (codes "a") text
+
+abbrev pub b_says : List ℕ → Act
+b_says text = Say (codes "b") text
+
+abbrev pub to_a : ℕ → ReplyLine → Line
+to_a txn answer = line.Session (codes "a") txn answer
+
+abbrev pub to_b : ℕ → ReplyLine → Line
+to_b txn answer = line.Session (codes "b") txn answer
+
+-- a row of the table
+abbrev pub row : ℕ → ℕ → ReplyLine
+row id v = reply.Row (Int (pos id) ∷ Int (pos v) ∷ [])
+
+-- the entries of the sessions
+abbrev pub of_a : ℕ → ℕ → ℕ → EntryLine
+of_a position txn begin = Commit position (codes "a") txn begin Snapshot
+
+abbrev pub of_b : ℕ → ℕ → ℕ → EntryLine
+of_b position txn begin = Commit position (codes "b") txn begin Snapshot
+
+-- a report of a run that began with an empty history
+abbrev pub report_with : List Line → List EntryLine → Report
+report_with lines entries = record { lines = lines; base = None; entries = entries; feeds = []; end = length entries }
+
+-- the report of a run that did nothing but open
+abbrev pub empty_report : Report
+empty_report = report_with [] (Setup 1 ∷ [])
+
+abbrev pub insert_text : List ℕ
+insert_text = codes "insert into t values(1, 10)"
+
+abbrev pub select_text : List ℕ
+select_text = codes "select * from t"
+
+-- the lines of the insert, and the entries after it
+abbrev pub inserted_lines : List Line
+inserted_lines = to_a 1 (reply.Begin 1) ∷ to_a 1 (reply.Changed 1) ∷ to_a 1 (reply.Committed 2) ∷ []
+
+abbrev pub inserted_entries : List EntryLine
+inserted_entries = Setup 1 ∷ of_a 2 1 1 ∷ []
+
+-- an insert and then a select
+abbrev pub insert_select : Script
+insert_select = script_with (a_says insert_text ∷ a_says select_text ∷ [])
+
+abbrev pub insert_select_report : Report
+insert_select_report = report_with
+    (inserted_lines ++ to_a 2 (reply.Begin 2) ∷ to_a 2 (row 1 10) ∷ to_a 2 (reply.Done 1) ∷ to_a 2 (reply.Committed 2) ∷ [])
+    inserted_entries
+
+-- its ten lines
+abbrev pub insert_select_text : List ℕ
+insert_select_text = ended (codes "a 1 begin 1")
+    ++ ended (codes "a 1 changed 1")
+    ++ ended (codes "a 1 committed 2")
+    ++ ended (codes "a 2 begin 2")
+    ++ ended (codes "a 2 row 1|10")
+    ++ ended (codes "a 2 done 1")
+    ++ ended (codes "a 2 committed 2")
+    ++ ended (codes "entry 1 schema")
+    ++ ended (codes "entry 2 a 1 1 snapshot")
+    ++ ended (codes "end 2")
+
+-- two transactions, open at once, that update the same row
+abbrev pub two_updates : Script
+two_updates = script_with
+    (a_says insert_text
+    ∷ a_says (codes "begin")
+    ∷ b_says (codes "begin")
+    ∷ a_says (codes "update t set v = 11 where id = 1")
+    ∷ b_says (codes "update t set v = 12 where id = 1")
+    ∷ a_says (codes "commit")
+    ∷ b_says (codes "commit")
+    ∷ [])
+
+abbrev pub two_updates_lines : ReplyLine → List Line
+two_updates_lines outcome = inserted_lines
+    ++ to_a 2 (reply.Begin 2) ∷ to_b 1 (reply.Begin 2)
+    ∷ to_a 2 (reply.Changed 1) ∷ to_b 1 (reply.Changed 1)
+    ∷ to_a 2 (reply.Committed 3) ∷ to_b 1 outcome ∷ []
+
+abbrev pub two_updates_entries : List EntryLine
+two_updates_entries = inserted_entries ++ of_a 3 2 2 ∷ []
+
+-- the second one to end conflicts with the entry of the first, which took the row's version away
+abbrev pub conflict : ReplyLine
+conflict = reply.ConflictGenid 3 (codes "t") 1
+
+abbrev pub two_updates_report : Report
+two_updates_report = report_with (two_updates_lines conflict) two_updates_entries
+
+-- two inserts of the same key, and then a transaction that frees the key and takes it again
+abbrev pub key_again : Script
+key_again = script_with
+    (a_says (codes "begin")
+    ∷ a_says (codes "insert into t values(1, 1)")
+    ∷ b_says (codes "insert into t values(1, 2)")
+    ∷ a_says (codes "commit")
+    ∷ a_says (codes "begin")
+    ∷ a_says (codes "delete from t where id = 1")
+    ∷ a_says (codes "insert into t values(1, 3)")
+    ∷ a_says (codes "commit")
+    ∷ [])
+
+abbrev pub key_again_report : Report
+key_again_report = report_with
+    (to_a 1 (reply.Begin 1)
+    ∷ to_a 1 (reply.Changed 1)
+    ∷ to_b 1 (reply.Begin 1)
+    ∷ to_b 1 (reply.Changed 1)
+    ∷ to_b 1 (reply.Committed 2)
+    ∷ to_a 1 (reply.Duplicate 2 (codes "t") (codes "pk"))
+    ∷ to_a 2 (reply.Begin 2)
+    ∷ to_a 2 (reply.Changed 1)
+    ∷ to_a 2 (reply.Changed 1)
+    ∷ to_a 2 (reply.Committed 3)
+    ∷ [])
+    (Setup 1 ∷ of_b 2 1 1 ∷ of_a 3 2 2 ∷ [])
+
+-- a transaction that reads what it wrote, and in the end has changed nothing
+abbrev pub own_writes : Script
+own_writes = script_with
+    (a_says insert_text
+    ∷ a_says (codes "begin")
+    ∷ a_says (codes "insert into t values(2, 20)")
+    ∷ a_says (codes "update t set v = 21 where id = 2")
+    ∷ a_says select_text
+    ∷ a_says (codes "delete from t where id = 2")
+    ∷ a_says select_text
+    ∷ a_says (codes "commit")
+    ∷ [])
+
+abbrev pub own_writes_report : Report
+own_writes_report = report_with
+    (inserted_lines
+    ++ to_a 2 (reply.Begin 2) ∷ to_a 2 (reply.Changed 1) ∷ to_a 2 (reply.Changed 1)
+    ∷ to_a 2 (row 1 10) ∷ to_a 2 (row 2 21) ∷ to_a 2 (reply.Done 2)
+    ∷ to_a 2 (reply.Changed 1)
+    ∷ to_a 2 (row 1 10) ∷ to_a 2 (reply.Done 1)
+    ∷ to_a 2 (reply.Committed 2) ∷ [])
+    inserted_entries
+
+-- an insert and then two selects
+abbrev pub two_selects : Script
+two_selects = script_with (a_says insert_text ∷ a_says select_text ∷ a_says select_text ∷ [])

@@ -1,0 +1,89 @@
+-- Reports of the worked scripts that are wrong in one place each, and the law that refuses each.
+use Rattle.std.specs.Prelude.{ℕ, ◌++◌, ◌∷◌, [], List, codes}
+use Rattle.script_form.specs.declared.scripts.Script.{Script}
+use Rattle.report_laws.specs.Each.{EachAfter}
+use Rattle.report_laws.specs.History.{nothing_before, IsEntryAfter}
+use Rattle.report_laws.specs.Lawful.{Lawful, IsFreshLine}
+use Rattle.report_laws.specs.Told.{told, Along, IsTold}
+use Rattle.report_laws.specs.Work.{work}
+use Rattle.report_worked.specs.Worked.{worked_table, report_with, to_a, to_b, of_a, of_b, row, inserted_lines, inserted_entries, two_updates_lines, two_updates_entries, conflict}
+use Rattle.report_text.specs.declared.reports.Report.{Report}
+use Rattle.report_text.specs.declared.reports.Line.{Line}
+use Rattle.report_text.specs.declared.reports.ReplyLine.TheVariants as reply
+use Rattle.transaction_answers.specs.Answer.{from_nothing, statement_language}
+
+-- the three laws of a lawful report that these break
+abbrev pub RepliesAreRight : Script → Report → Type 0
+RepliesAreRight script report = (name : List ℕ) → Along (IsTold (from_nothing script) report.entries name) (work statement_language name script.body) (told name report.lines)
+
+abbrev pub BeginsAreFresh : Report → Type 0
+BeginsAreFresh report = EachAfter (IsFreshLine (nothing_before (worked_table ∷ []))) [] report.lines
+
+abbrev pub HistoryIsRight : Script → Report → Type 0
+HistoryIsRight script report = EachAfter (IsEntryAfter (from_nothing script)) [] report.entries
+
+-- a report breaks a law, and so is not lawful
+abbrev pub IsRefusedBy : Type 0 → Script → Report → Type 0
+IsRefusedBy Law script report = (Law → ⊥) × (Lawful (from_nothing script) report → ⊥)
+
+-- the insert, and then a select with these lines
+abbrev pub selected : List Line → Report
+selected lines = report_with (inserted_lines ++ lines) inserted_entries
+
+-- another value in the row
+abbrev pub wrong_value : Report
+wrong_value = selected (to_a 2 (reply.Begin 2) ∷ to_a 2 (row 1 11) ∷ to_a 2 (reply.Done 1) ∷ to_a 2 (reply.Committed 2) ∷ [])
+
+-- no row
+abbrev pub missing_row : Report
+missing_row = selected (to_a 2 (reply.Begin 2) ∷ to_a 2 (reply.Done 1) ∷ to_a 2 (reply.Committed 2) ∷ [])
+
+-- the number of rows before the row
+abbrev pub out_of_order : Report
+out_of_order = selected (to_a 2 (reply.Begin 2) ∷ to_a 2 (reply.Done 1) ∷ to_a 2 (row 1 10) ∷ to_a 2 (reply.Committed 2) ∷ [])
+
+-- the row where the select begins before the insert
+abbrev pub early_row : Report
+early_row = selected (to_a 2 (reply.Begin 1) ∷ to_a 2 (row 1 10) ∷ to_a 2 (reply.Done 1) ∷ to_a 2 (reply.Committed 1) ∷ [])
+
+-- no row, where the select begins before the insert: lawful, but not in the order of play
+abbrev pub late : Report
+late = selected (to_a 2 (reply.Begin 1) ∷ to_a 2 (reply.Done 0) ∷ to_a 2 (reply.Committed 1) ∷ [])
+
+-- the insert is committed at a position behind its entry
+abbrev pub wrong_position : Report
+wrong_position = report_with
+    (to_a 1 (reply.Begin 1) ∷ to_a 1 (reply.Changed 1) ∷ to_a 1 (reply.Committed 3)
+    ∷ to_a 2 (reply.Begin 2) ∷ to_a 2 (row 1 10) ∷ to_a 2 (reply.Done 1) ∷ to_a 2 (reply.Committed 2) ∷ [])
+    inserted_entries
+
+-- the insert stands in the history twice
+abbrev pub entry_twice : Report
+entry_twice = report_with
+    (inserted_lines ++ to_a 2 (reply.Begin 2) ∷ to_a 2 (row 1 10) ∷ to_a 2 (reply.Done 1) ∷ to_a 2 (reply.Committed 2) ∷ [])
+    (inserted_entries ++ of_a 3 1 1 ∷ [])
+
+-- of two selects the second one begins before the insert, though the session was told the first one's row
+abbrev pub begin_too_old : Report
+begin_too_old = report_with
+    (inserted_lines
+    ++ to_a 2 (reply.Begin 2) ∷ to_a 2 (row 1 10) ∷ to_a 2 (reply.Done 1) ∷ to_a 2 (reply.Committed 2)
+    ∷ to_a 3 (reply.Begin 1) ∷ to_a 3 (reply.Done 0) ∷ to_a 3 (reply.Committed 1) ∷ [])
+    inserted_entries
+
+-- the conflict of the second update names the version that the first one wrote, which nobody touched
+abbrev pub untouched_row : Report
+untouched_row = report_with (two_updates_lines (reply.ConflictGenid 3 (codes "t") 2)) two_updates_entries
+
+-- the update that was refused stands in the history
+abbrev pub refused_entry : Report
+refused_entry = report_with (two_updates_lines conflict) (two_updates_entries ++ of_b 4 1 2 ∷ [])
+
+-- each transaction is told whole at its begin, one after the other, and neither conflicts: lawful, but
+-- not in the order of play
+abbrev pub serial : Report
+serial = report_with
+    (inserted_lines
+    ++ to_a 2 (reply.Begin 2) ∷ to_a 2 (reply.Changed 1) ∷ to_a 2 (reply.Committed 3)
+    ∷ to_b 1 (reply.Begin 3) ∷ to_b 1 (reply.Changed 1) ∷ to_b 1 (reply.Committed 4) ∷ [])
+    (two_updates_entries ++ of_b 4 1 3 ∷ [])

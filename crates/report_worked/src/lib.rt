@@ -1,0 +1,17 @@
+//! Worked examples: scripts with their reports, each lawful and in the order of play, and reports that are
+//! wrong in one place, each refused by the law that it breaks. The checker computes them, over the
+//! language of the statements that run. Nothing stands on this crate.
+//!
+//! | Notion | Definition |
+//! |---|---|
+//! | worked scripts and their reports, as data | `specs/Worked.antt` |
+//! | reports that are wrong in one place, and the laws that refuse them | `specs/WorkedWrong.antt` |
+#![tactic(auto)]
+
+mod facts;
+
+pub use facts::{
+    begins_are_fresh, empty_report_is_lawful, insert_select_is_lawful, key_again_is_lawful,
+    own_writes_are_lawful, serial_is_not_played, two_updates_are_lawful,
+    wrong_insert_selects_are_refused,
+};

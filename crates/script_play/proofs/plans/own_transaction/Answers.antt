@@ -1,8 +1,0 @@
-use Rattle.std.proofs.Common.{◌∙◌, length, arith}
-use Rattle.script_play.proofs.TakeLemmas.{own_sound}
-use Rattle.script_play.proofs.plans.own_transaction.Goals as goal
-
-pub decided-requires-clause-sound : goal.decided-requires-clause-sound
-decided-requires-clause-sound c =
-    own_sound c.args.schema.now (length c.args.course.now.entries.items) c.len-now.result c.args.course.now.rows c.args.text.now c.as_slice.result.now c.new.result
-    c.requires.ready c.requires.on (let a = c.len-now.ensures in let b = c.args.course.now.entries.ok in omega (arith, a, b)) c.new.ensures (c.as_slice.ensures ∙ c.in_ok-answer.ensures.1)

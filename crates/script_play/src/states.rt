@@ -1,0 +1,24 @@
+//! Where sessions are in their work.
+
+use cdb_values::{Level, List, RowOp};
+
+/// What a session is doing.
+#[derive(Drop)]
+pub(crate) enum InTransaction {
+    /// It is in no transaction.
+    No,
+    /// It is in a transaction that began at that position and has these operations so far.
+    Open { begin: u64, ops: List<RowOp> },
+    /// Its transaction was ended by want of memory, and the lines up to its `commit` or `rollback`
+    /// are skipped.
+    Aborted,
+}
+
+/// Where a session is: how many transactions it has begun, the level of those that it begins, and what it
+/// is doing.
+#[derive(Drop)]
+pub(crate) struct SessionState {
+    pub number: u64,
+    pub level: Level,
+    pub doing: InTransaction,
+}

@@ -1,0 +1,10 @@
+//! What holds of the language of the statements that run.
+ghost use Rattle.report_laws.specs.Answers.{Answers};
+ghost use Rattle.transaction_answers.specs.Answer.{statement_language};
+
+/// Each text is answered, by replies that end at the first one that is no row, and of which none begins or
+/// ends a transaction; so a script has one report.
+#[tactic(auto, using(crate::proofs::LanguageLemmas::statements_answer))]
+pub fn statements_are_a_language()
+    ensures { Answers statement_language }
+{}
