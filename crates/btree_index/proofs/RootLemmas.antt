@@ -18,7 +18,7 @@ use Rattle.btree_index.proofs.LevelLemmas.{Grown, SameOn, climb, uppers, all_pag
 use Rattle.btree_index.proofs.LeafLemmas.{holds_same}
 use Rattle.btree_index.proofs.HalfLemmas.{half_level}
 use Rattle.btree_index.proofs.ParentLemmas.{half_parent, level_inside, child_inside}
-use Rattle.btree_index.proofs.StandLemmas.{IsFresh, becomes, chain_same}
+use Rattle.btree_index.proofs.StandLemmas.{IsFresh, becomes, chain_same, kept_same}
 use Rattle.btree_index.proofs.WayLemmas.{not_leaf}
 
 -- the root is one of the tree's pages
@@ -74,6 +74,7 @@ took old new root fresh own free list takes stands =
               (chain_same old new (first_free old) free (λ n i. takes.others n (λ e. chained old (first_free old) free stands.spare.chain n i e)) stands.spare.chain);
           apart = stands.spare.apart;
           written = written_more (count_of old) (count_of new) free (omega arith) stands.spare.written;
+          kept = kept_same old new free (λ n i. takes.others n (λ e. chained old (first_free old) free stands.spare.chain n i e)) stands.spare.kept;
           past = λ n h.
               (let past : count_of old ≤ n = omega arith in
               let some : n ≡ 0 → ⊥ = λ e. omega arith in
@@ -86,6 +87,7 @@ took old new root fresh own free list takes stands =
       changes = record {
         genid = takes.genid;
         count = omega arith;
+        few = λ h. takes.few;
         others = λ n h some off_own off_free. takes.others n some;
         tree = λ n i. inl i;
         unused = λ n i. inr (inl i);

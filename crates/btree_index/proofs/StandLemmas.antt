@@ -2,7 +2,9 @@
 use Rattle.std.proofs.Common.{if◌then◌else◌, drop, length, ◌+◌, ◌^◌, Result, Ok, Err, ◌≡◌, ◌⊎◌, inl, inr, ℕ, zero, suc, ◌≤◌, ◌<◌, Bool, true, false, List, [], ◌∷◌, ◌++◌, map, None, Some, refl, sym, ap, ◌∙◌, subst, arith}
 use Rattle.std.proofs.lemmas.Option.{none-some, same_Some}
 use Rattle.std.specs.Option.{is_some}
-use Rattle.std.specs.Result.{IsErr}
+use Rattle.std.specs.Result.{IsErr, OnOk}
+use Rattle.std.specs.Prelude.{Option, IsErrOf}
+use Rattle.page_store.specs.Sources.{Rose}
 use Rattle.std.proofs.lemmas.Bool.{false≢true}
 use Rattle.std.specs.List.{AllByRecursion, slice_get, insert, remove}
 use Rattle.byteorder.specs.Endian.{big_number}
@@ -12,12 +14,12 @@ use Rattle.page_store.specs.Edits.{after_edit}
 use Rattle.page_store.specs.declared.edits.Edit.TheVariants.{PutCell, TakeCell}
 use Rattle.page_workspace.specs.Drafts.{edited}
 use Rattle.page_workspace.proofs.DraftLemmas.{edited_here, edited_other}
-use Rattle.page_workspace.specs.Spare.{IsIn, IsChain, IsMeta, next_genid, count_of, first_free, first_cell}
+use Rattle.page_workspace.specs.Spare.{IsIn, IsChain, IsMeta, IsFreePage, next_genid, count_of, first_free, first_cell}
 use Rattle.btree_index.specs.Keys.{Key, same_key}
 use Rattle.btree_index.specs.Cells.{key_of, value_of, leaf_cell, IsLeafCell}
 use Rattle.btree_index.specs.Pairs.{value_at, cell_value, with_pair, place_in, without_key, HasKeyAt}
 use Rattle.btree_index.specs.Trees.{Entry, cells_of, pages_of, IsFenced, AreFenced, Holds, top, pair_of}
-use Rattle.btree_index.specs.Changes.{Stands, Changes, Becomes, Leads, IsInserted, IsNoDuplicate}
+use Rattle.btree_index.specs.Changes.{Stands, Changes, Becomes, Leads, IsInserted, IsNoDuplicate, IsExcusedInsert}
 use Rattle.btree_index.specs.declared.inserts.InsertFault.{InsertFault}
 use Rattle.btree_index.specs.declared.inserts.InsertFault.TheVariants.{Duplicate, Gone, NoMemory}
 use Rattle.btree_index.proofs.LeafLemmas.{ChangesCells, Replaces, replaces, cells-append, fenced_at}
@@ -35,10 +37,18 @@ chain_same old new next (id ∷ ids) same h = (
       (chain_same old new (old id).head.right ids (λ n i. same n (inr i)) h.2),
 )
 
+-- free pages that stay are free
+pub kept_same : (old new : ℕ → Image) (ids : List ℕ) → ((n : ℕ) → IsIn n ids → new n ≡ old n) → AllByRecursion (λ id. IsFreePage (old id)) ids
+    → AllByRecursion (λ id. IsFreePage (new id)) ids
+kept_same old new [] same h = tt
+kept_same old new (id ∷ ids) same h =
+    (subst IsFreePage (sym (same id (inl refl))) h.0, kept_same old new ids (λ n i. same n (inr i)) h.1)
+
 pub changes_none : (pages : ℕ → Image) (own free : List ℕ) → Changes pages pages own own free free
 changes_none pages own free = record {
   genid = refl;
   count = omega arith;
+  few = λ h. h;
   others = λ n below some off_own off_free. refl;
   tree = λ n i. inl i;
   unused = λ n i. inr (inl i);
@@ -79,6 +89,7 @@ becomes first old new Fresh root own free list after stands changes fresh height
               (chain_same old new (first_free old) free (λ n i. same n (λ j. stands.off_free n j i) (λ f. (fresh n f).off i)) stands.spare.chain);
           apart = stands.spare.apart;
           written = subst (λ (c : ℕ). AllByRecursion (λ id. id < c) free) (sym count) stands.spare.written;
+          kept = kept_same old new free (λ n i. same n (λ j. stands.off_free n j i) (λ f. (fresh n f).off i)) stands.spare.kept;
           past = λ n h.
               (let past : count_of old ≤ n = omega arith in
               same n (λ i. off n past (stands.below n i)) (λ f. off n past (fresh n f).below) ∙ stands.spare.past n past);
@@ -90,6 +101,7 @@ becomes first old new Fresh root own free list after stands changes fresh height
       changes = record {
         genid = genid ∙ changes.genid;
         count = omega arith;
+        few = λ h. subst (λ (c : ℕ). c < 2 ^ 62) (sym count) (changes.few h);
         others = λ n h some off_own off_free.
             same n off_own (λ f. off n (fresh n f).past h) ∙ changes.others n h some off_own off_free;
         tree = λ n i. tree n (from n i);
@@ -233,6 +245,7 @@ becomes_after a b c root own free one two first second =
       changes = record {
         genid = second.changes.genid ∙ first.changes.genid;
         count = omega arith;
+        few = λ h. second.changes.few (first.changes.few h);
         others = λ n h some off_own off_free.
             (let below : n < count_of b = omega arith in
             second.changes.others n below some (λ i. gone n h off_own off_free (first.changes.tree n i)) (λ i. gone n h off_own off_free (first.changes.unused n i))
@@ -252,18 +265,22 @@ becomes_after a b c root own free one two first second =
     back n (inr (inl i)) = first.changes.unused n i
     back n (inr (inr k)) = let early : count_of a ≤ count_of b = first.changes.count in inr (inr (omega arith))
 
+-- what the leaf of the way has of a key is what the list has
+pub value_there : (old : ℕ → Image) (root : ℕ) (key : Key) (page : ℕ) → Leads old root key page → (old page).head.kind ≡ Leaf
+    → (own free : List ℕ) (list : List (Key × List ℕ)) → Stands old root own free list → value_at key list ≡ cell_value key (old page).cells
+value_there old root key page leads leaf own free list stands =
+    let cells = (old page).cells in
+    let r : Replaces old old root key page stands.height stands.cells cells =
+    replaces old old root key page stands.height stands.cells cells stands.holds (leads stands.height stands.cells stands.holds) leaf
+    (record { is = refl; head = refl; others = λ n off. refl }) in
+    ap (value_at key) (sym stands.pairs) ∙ value-pairs key stands.cells ∙ leaf_has old old root key page stands.height stands.cells cells r
+
 -- where the leaf has the key, so has the list
 pub found_there : (old : ℕ → Image) (root : ℕ) (key : Key) (page at : ℕ) → Leads old root key page → (old page).head.kind ≡ Leaf
     → HasKeyAt key (old page).cells at → (own free : List ℕ) (list : List (Key × List ℕ)) → Stands old root own free list
     → is_some (value_at key list) ≡ true
 found_there old root key page at leads leaf has own free list stands =
-    let cells = (old page).cells in
-    let r : Replaces old old root key page stands.height stands.cells cells =
-    replaces old old root key page stands.height stands.cells cells stands.holds (leads stands.height stands.cells stands.holds) leaf
-    (record { is = refl; head = refl; others = λ n off. refl }) in
-    let value : value_at key list ≡ cell_value key cells =
-    ap (value_at key) (sym stands.pairs) ∙ value-pairs key stands.cells ∙ leaf_has old old root key page stands.height stands.cells cells r in
-    ap is_some value ∙ value_some key cells at has.found has.here has.same
+    ap is_some (value_there old root key page leads leaf own free list stands) ∙ value_some key (old page).cells at has.found has.here has.same
 
 -- the cell of the pair is put into its leaf
 pub puts : (old new : ℕ → Image) (root : ℕ) (key : Key) (value : List ℕ) (page : ℕ) → Leads old root key page → (old page).head.kind ≡ Leaf
@@ -302,3 +319,32 @@ inserted_error old new root own free key value list (Ok x) err sure = absurd (fa
 inserted_error old new root own free key value list (Err Duplicate) err sure = absurd sure
 inserted_error old new root own free key value list (Err Gone) err sure = tt
 inserted_error old new root own free key value list (Err NoMemory) err sure = tt
+
+-- an answer for a key that is not there
+pub inserted_new : (old new : ℕ → Image) (root : ℕ) (own free : List ℕ) (key : Key) (value : List ℕ) (list : List (Key × List ℕ)) (r : Result (Unit {0}) InsertFault)
+    → value_at key list ≡ None → OnOk r (Becomes old new root own free (with_pair key value list)) → IsNoDuplicate r
+    → IsInserted old new root own free key value list r
+inserted_new old new root own free key value list (Ok x) none put sure = (none, put)
+inserted_new old new root own free key value list (Err Duplicate) none put sure = absurd sure
+inserted_new old new root own free key value list (Err Gone) none put sure = tt
+inserted_new old new root own free key value list (Err NoMemory) none put sure = tt
+
+-- an answer that is no duplicate is none
+pub not_duplicate : {T : Type 0} (r : Result T InsertFault) → IsNoDuplicate r → IsErrOf r Duplicate → ⊥
+not_duplicate {T} r sure is = subst (λ (x : Result T InsertFault). IsNoDuplicate x) is sure
+
+-- an answer after a call that is excused
+pub excused_later : {T : Type 0} (r : Result T InsertFault) (a b c : ℕ) → a ≤ b → IsExcusedInsert r b c → IsExcusedInsert r a c
+excused_later (Ok x) a b c h k = omega arith
+excused_later (Err Duplicate) a b c h k = omega arith
+excused_later (Err Gone) a b c h k = (omega (arith, h, k.0), rose_later a b c h k.1)
+  where
+    rose_later : (a b c : ℕ) → a ≤ b → Rose b c → Rose a c
+    rose_later a b c h (inl less) = inl (omega (arith, h, less))
+    rose_later a b c h (inr last) = inr last
+excused_later (Err NoMemory) a b c h k = omega arith
+
+-- what is not some is none
+pub none_of : {A : Type 0} (o : Option A) → is_some o ≡ false → o ≡ None
+none_of None h = refl
+none_of (Some x) h = absurd (false≢true (sym h))

@@ -1,6 +1,7 @@
 -- What a change of a tree needs of the pages, and what it leaves.
-use Rattle.std.specs.Prelude.{◌≡◌, ◌⊎◌, ℕ, zero, suc, ◌≤◌, ◌<◌, List, map, Option, None, Some, is_some, true, Result, Ok, Err}
+use Rattle.std.specs.Prelude.{◌≡◌, ◌⊎◌, ℕ, zero, suc, ◌≤◌, ◌<◌, ◌^◌, List, map, Option, None, Some, is_some, true, Result, Ok, Err}
 use Rattle.page_store.specs.Image.{Image}
+use Rattle.page_store.specs.Sources.{Rose}
 use Rattle.page_store.specs.declared.pages.PageKind.TheVariants.{Leaf, Inner}
 use Rattle.page_workspace.specs.Spare.{IsIn, AreFree, next_genid, count_of}
 use Rattle.btree_index.specs.Keys.{Key}
@@ -11,7 +12,7 @@ use Rattle.btree_index.specs.declared.paths.Way.{Way}
 use Rattle.btree_index.specs.declared.inserts.InsertFault.{InsertFault}
 use Rattle.btree_index.specs.declared.inserts.InsertFault.TheVariants.{Duplicate, Gone, NoMemory}
 use Rattle.btree_index.specs.declared.inserts.Pass.{Pass}
-use Rattle.btree_index.specs.declared.inserts.Pass.TheVariants.{Done, Found, Again}
+use Rattle.btree_index.specs.declared.inserts.Pass.TheVariants.{Done, Again}
 
 -- the tree of this list stands below the root, on its own pages; these, the meta page and the free pages are apart and
 -- below the number of pages, and the pages from there on are blank
@@ -27,10 +28,12 @@ pub record Stands (pages : ℕ → Image) (root : ℕ) (own free : List ℕ) (li
   pub below : (n : ℕ) → IsIn n own → n < count_of pages
 
 -- the next genid stays, and so does each page below the number of pages that is neither the meta page nor free nor of
--- the tree; what is of the tree or free now was one of these, or was never written
+-- the tree; what is of the tree or free now was one of these, or was never written. The number of pages does not fall, and
+-- where it was below 2^62 it still is.
 pub record Changes (old new : ℕ → Image) (own more free spare : List ℕ) : Type 0 where
   pub genid : next_genid new ≡ next_genid old
   pub count : count_of old ≤ count_of new
+  pub few : count_of old < 2 ^ 62 → count_of new < 2 ^ 62
   pub others : (n : ℕ) → n < count_of old → (n ≡ 0 → ⊥) → (IsIn n own → ⊥) → (IsIn n free → ⊥) → new n ≡ old n
   pub tree : (n : ℕ) → IsIn n more → IsIn n own ⊎ IsIn n free ⊎ (count_of old ≤ n)
   pub unused : (n : ℕ) → IsIn n spare → IsIn n own ⊎ IsIn n free ⊎ (count_of old ≤ n)
@@ -42,32 +45,30 @@ pub record Becomes (old new : ℕ → Image) (root : ℕ) (own free : List ℕ) 
   pub stands : Stands new root more spare list
   pub changes : Changes old new own more free spare
 
--- an answer of an insert: the pair stands in the list where its key was not there before; `Duplicate` comes where it was, and
--- leaves the list
+-- an answer of an insert: the pair stands in the list where its key was not there before; `Duplicate` comes where it was
 abbrev pub IsInserted : (ℕ → Image) → (ℕ → Image) → ℕ → List ℕ → List ℕ → Key → List ℕ → List (Key × List ℕ) → Result (Unit {0}) InsertFault → Type 0
 IsInserted old new root own free key value list (Ok x) = (value_at key list ≡ None) × Becomes old new root own free (with_pair key value list)
-IsInserted old new root own free key value list (Err Duplicate) = (is_some (value_at key list) ≡ true) × Becomes old new root own free list
+IsInserted old new root own free key value list (Err Duplicate) = is_some (value_at key list) ≡ true
 IsInserted old new root own free key value list (Err Gone) = Unit {0}
 IsInserted old new root own free key value list (Err NoMemory) = Unit {0}
 
--- one pass of an insert: it put the pair, found its key, or made room and left the list
+-- one pass of an insert whose key is not there: it put the pair, or made room and left the list
 abbrev pub IsPassed : (ℕ → Image) → (ℕ → Image) → ℕ → List ℕ → List ℕ → Key → List ℕ → List (Key × List ℕ) → Pass → Type 0
-IsPassed old new root own free key value list Done = (value_at key list ≡ None) × Becomes old new root own free (with_pair key value list)
-IsPassed old new root own free key value list Found = (is_some (value_at key list) ≡ true) × Becomes old new root own free list
+IsPassed old new root own free key value list Done = Becomes old new root own free (with_pair key value list)
 IsPassed old new root own free key value list Again = Becomes old new root own free list
 
--- a pass fails for want of pages or memory alone
+-- an answer that is no duplicate
 abbrev pub IsNoDuplicate : {T : Type 0} → Result T InsertFault → Type 0
 IsNoDuplicate (Ok x) = Unit {0}
 IsNoDuplicate (Err Duplicate) = ⊥
 IsNoDuplicate (Err Gone) = Unit {0}
 IsNoDuplicate (Err NoMemory) = Unit {0}
 
--- an error of an insert against the counts of losses before and after: `Gone` comes only where the count rose
+-- an answer of an insert against the counts of losses before and after, which never fall: `Gone` comes only where they rose
 abbrev pub IsExcusedInsert : {T : Type 0} → Result T InsertFault → ℕ → ℕ → Type 0
 IsExcusedInsert (Ok x) before now = before ≤ now
 IsExcusedInsert (Err Duplicate) before now = before ≤ now
-IsExcusedInsert (Err Gone) before now = before < now
+IsExcusedInsert (Err Gone) before now = (before ≤ now) × Rose before now
 IsExcusedInsert (Err NoMemory) before now = before ≤ now
 
 -- a height with so many levels more

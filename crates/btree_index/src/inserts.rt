@@ -1,11 +1,11 @@
-ghost use Rattle.std.specs.Prelude.{ℕ, ◌≡◌, ◌+◌, ◌≤◌, List, IfOk, OnOk, length};
+ghost use Rattle.std.specs.Prelude.{ℕ, ◌≡◌, ◌+◌, ◌≤◌, List, None, IfOk, IsErrOf, OnOk, is_some, length};
 ghost use Rattle.page_workspace.specs.Drafts.{meant, IsExcused};
 ghost use Rattle.std.specs.List.{insert};
 ghost use Rattle.page_store.specs.Image.{HasRoom};
 ghost use Rattle.btree_index.specs.Keys.{Key};
 ghost use Rattle.btree_index.specs.Cells.{leaf_cell};
 ghost use Rattle.btree_index.specs.Steps.{Alters};
-ghost use Rattle.btree_index.specs.Pairs.{place_in};
+ghost use Rattle.btree_index.specs.Pairs.{place_in, value_at, with_pair};
 ghost use Rattle.btree_index.specs.Changes.{Stands, Becomes, LeadsOver, IsInserted, IsPassed, IsNoDuplicate, IsExcusedInsert};
 
 use crate::cells::{key_in, make_leaf_cell};
@@ -37,8 +37,6 @@ pub enum InsertFault {
 pub(crate) enum Pass {
     /// The pair was put.
     Done,
-    /// The key is there.
-    Found,
     /// A page was halved, or the root raised, so that there is more room.
     Again,
 }
@@ -46,9 +44,9 @@ pub(crate) enum Pass {
 /// The bytes that the cell of a pair takes beside the key and the value: its slot, and the length of the key.
 const PAIR_SIZE: usize = 6;
 
-/// Puts a pair into the tree below a root. `Duplicate` comes exactly where the key is there, and leaves the tree's list;
-/// `Gone` comes only where the source lost its pages; the other error is want of memory. After `Gone` or want of memory the
-/// workspace may only be dropped.
+/// Puts a pair into the tree below a root. `Duplicate` comes exactly where the key is there, and leaves the workspace's
+/// edits as before; `Gone` comes only where the source lost its pages; the other error is want of memory. After `Gone` or
+/// want of memory the workspace may only be dropped.
 pub fn insert<P: PageSource>(
     alloc: Global,
     space: &mut Workspace<P>,
@@ -60,6 +58,56 @@ pub fn insert<P: PageSource>(
     requires cell { 2 + length key.now + length value.now ≤ 1640 }
     ensures inserted { (own free : List ℕ) (list : List (Key × List ℕ)) → Stands (meant P.pages space.old) root own free list →
         IsInserted (meant P.pages space.old) (meant P.pages space.new) root own free key.now value.now list result }
+    ensures duplicate { IsErrOf result InsertFault.Duplicate → space.new.edits ≡ space.old.edits }
+    ensures base { P.pages space.new.base ≡ P.pages space.old.base }
+    ensures excused { IsExcusedInsert result (P.losses space.old.base) (P.losses space.new.base) }
+{
+    let there = is_there(space, root, key)?;
+    if there {
+        // no room was made for it
+        return Err(InsertFault::Duplicate);
+    }
+    put_new(alloc, space, root, key, value)
+}
+
+/// Whether a key is in the tree below a root, with the faults of an insert.
+fn is_there<P: PageSource>(
+    space: &mut Workspace<P>,
+    root: u64,
+    key: &[u8],
+) -> Result<bool, InsertFault>
+    ensures there { (own free : List ℕ) (list : List (Key × List ℕ)) → Stands (meant P.pages space.old) root own free list →
+        IfOk result (λ there. there ≡ is_some (value_at key.now list)) }
+    ensures edits { space.new.edits ≡ space.old.edits }
+    ensures pages { meant P.pages space.new ≡ meant P.pages space.old }
+    ensures fault { IsNoDuplicate result }
+    ensures base { P.pages space.new.base ≡ P.pages space.old.base }
+    ensures excused { IsExcusedInsert result (P.losses space.old.base) (P.losses space.new.base) }
+{
+    match way_for(space, root, key) {
+        Ok(_) => match key_place(space.page(), key) {
+            Some(_) => Ok(true),
+            None => Ok(false),
+        },
+        Err(EditFault::Gone) => Err(InsertFault::Gone),
+        Err(_) => Err(InsertFault::NoMemory),
+    }
+}
+
+/// Puts a pair whose key is not there, in as many passes as it needs.
+fn put_new<P: PageSource>(
+    alloc: Global,
+    space: &mut Workspace<P>,
+    root: u64,
+    key: &[u8],
+    value: &[u8],
+) -> Result<(), InsertFault>
+    requires key { length key.now ≤ 1630 }
+    requires cell { 2 + length key.now + length value.now ≤ 1640 }
+    ensures put { (own free : List ℕ) (list : List (Key × List ℕ)) → Stands (meant P.pages space.old) root own free list →
+        value_at key.now list ≡ None →
+        OnOk result (Becomes (meant P.pages space.old) (meant P.pages space.new) root own free (with_pair key.now value.now list)) }
+    ensures fault { IsNoDuplicate result }
     ensures base { P.pages space.new.base ≡ P.pages space.old.base }
     ensures excused { IsExcusedInsert result (P.losses space.old.base) (P.losses space.new.base) }
 {
@@ -67,7 +115,6 @@ pub fn insert<P: PageSource>(
         let came_to = try_pass(alloc, space, root, key, value)?;
         match came_to {
             Pass::Done => return Ok(()),
-            Pass::Found => return Err(InsertFault::Duplicate),
             Pass::Again => {}
         }
     }
@@ -75,7 +122,7 @@ pub fn insert<P: PageSource>(
     Err(InsertFault::NoMemory)
 }
 
-/// One pass, with the faults of an insert.
+/// One pass for a key that is not there, with the faults of an insert.
 fn try_pass<P: PageSource>(
     alloc: Global,
     space: &mut Workspace<P>,
@@ -86,7 +133,7 @@ fn try_pass<P: PageSource>(
     requires key { length key.now ≤ 1630 }
     requires cell { 2 + length key.now + length value.now ≤ 1640 }
     ensures passed { (own free : List ℕ) (list : List (Key × List ℕ)) → Stands (meant P.pages space.old) root own free list →
-        IfOk result (IsPassed (meant P.pages space.old) (meant P.pages space.new) root own free key.now value.now list) }
+        value_at key.now list ≡ None → IfOk result (IsPassed (meant P.pages space.old) (meant P.pages space.new) root own free key.now value.now list) }
     ensures fault { IsNoDuplicate result }
     ensures base { P.pages space.new.base ≡ P.pages space.old.base }
     ensures excused { IsExcusedInsert result (P.losses space.old.base) (P.losses space.new.base) }
@@ -98,7 +145,7 @@ fn try_pass<P: PageSource>(
     }
 }
 
-/// Goes down to the leaf of a key once, and puts the pair there or makes room on the way.
+/// Goes down to the leaf of a key that is not there once, and puts the pair there or makes room on the way.
 fn pass_once<P: PageSource>(
     alloc: Global,
     space: &mut Workspace<P>,
@@ -109,14 +156,11 @@ fn pass_once<P: PageSource>(
     requires key { length key.now ≤ 1630 }
     requires cell { 2 + length key.now + length value.now ≤ 1640 }
     ensures passed { (own free : List ℕ) (list : List (Key × List ℕ)) → Stands (meant P.pages space.old) root own free list →
-        IfOk result (IsPassed (meant P.pages space.old) (meant P.pages space.new) root own free key.now value.now list) }
+        value_at key.now list ≡ None → IfOk result (IsPassed (meant P.pages space.old) (meant P.pages space.new) root own free key.now value.now list) }
     ensures base { P.pages space.new.base ≡ P.pages space.old.base }
     ensures excused { IsExcused result (P.losses space.old.base) (P.losses space.new.base) }
 {
     let way = way_for(space, root, key)?;
-    if let Some(_) = key_place(space.page(), key) {
-        return Ok(Pass::Found);
-    }
     if has_room(space.page(), key, value) {
         put_pair(alloc, space, way.leaf, key, value)?;
         return Ok(Pass::Done);

@@ -26,6 +26,7 @@ pub(crate) fn way_for<P: PageSource>(
     key: &[u8],
 ) -> Result<Way, EditFault>
     ensures way { IfOk result (IsWay (meant P.pages space.old) root key.now) }
+    ensures edits { space.new.edits ≡ space.old.edits }
     ensures loaded { IfOk result (λ way. space.new.loaded ≡ Some (meant P.pages space.old way.leaf)) }
     ensures pages { meant P.pages space.new ≡ meant P.pages space.old }
     ensures base { P.pages space.new.base ≡ P.pages space.old.base }

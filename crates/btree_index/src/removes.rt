@@ -1,4 +1,4 @@
-ghost use Rattle.std.specs.Prelude.{ℕ, ◌≡◌, List, IfOk, is_some};
+ghost use Rattle.std.specs.Prelude.{ℕ, ◌≡◌, false, List, IfOk, OnErr, is_some};
 ghost use Rattle.page_store.specs.Sources.{IsExcused as IsLoadExcused};
 ghost use Rattle.page_workspace.specs.Drafts.{meant, IsExcused};
 ghost use Rattle.btree_index.specs.Keys.{Key};
@@ -11,8 +11,8 @@ use page_workspace::{EditFault, Workspace};
 use std::alloc::Global;
 
 /// Takes the pair of a key out of the tree below a root, and tells whether it was there. A leaf that becomes empty
-/// stays. `Gone` comes only where the source lost its pages; the other error is want of memory. After an error the
-/// workspace may only be dropped.
+/// stays. `Gone` comes only where the source lost its pages; the other error is want of memory. After an error, and where
+/// the key was not there, the workspace's edits are as before.
 pub fn remove<P: PageSource>(
     alloc: Global,
     space: &mut Workspace<P>,
@@ -22,6 +22,8 @@ pub fn remove<P: PageSource>(
     ensures removed { (own free : List ℕ) (list : List (Key × List ℕ)) → Stands (meant P.pages space.old) root own free list →
         IfOk result (λ was. (was ≡ is_some (value_at key.now list))
         × Becomes (meant P.pages space.old) (meant P.pages space.new) root own free (without_key key.now list)) }
+    ensures absent { IfOk result (λ was. was ≡ false → space.new.edits ≡ space.old.edits) }
+    ensures unchanged { OnErr result (space.new.edits ≡ space.old.edits) }
     ensures base { P.pages space.new.base ≡ P.pages space.old.base }
     ensures excused { IsLoadExcused result (P.losses space.old.base) (P.losses space.new.base) }
 {
@@ -42,6 +44,8 @@ fn take_key<P: PageSource>(
     ensures removed { (own free : List ℕ) (list : List (Key × List ℕ)) → Stands (meant P.pages space.old) root own free list →
         IfOk result (λ was. (was ≡ is_some (value_at key.now list))
         × Becomes (meant P.pages space.old) (meant P.pages space.new) root own free (without_key key.now list)) }
+    ensures absent { IfOk result (λ was. was ≡ false → space.new.edits ≡ space.old.edits) }
+    ensures unchanged { OnErr result (space.new.edits ≡ space.old.edits) }
     ensures base { P.pages space.new.base ≡ P.pages space.old.base }
     ensures excused { IsExcused result (P.losses space.old.base) (P.losses space.new.base) }
 {

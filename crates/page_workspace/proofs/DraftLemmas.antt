@@ -1,11 +1,12 @@
 -- Edits in order, and one more behind them.
-use Rattle.std.proofs.Common.{◌≡◌, ℕ, List, [], ◌∷◌, ◌++◌, Bool, ◌==◌, if◌then◌else◌, refl, ap, ◌∙◌, ◌≤◌, Result, Ok, Err, arith}
+use Rattle.std.proofs.Common.{◌≡◌, ℕ, List, [], ◌∷◌, ◌++◌, Bool, ◌==◌, if◌then◌else◌, refl, ap, ◌∙◌, ◌≤◌, inl, inr, Result, Ok, Err, arith}
 use Rattle.std.proofs.lemmas.Bool.{eq-eqb, ne_eqb, false≢true}
 use Rattle.std.proofs.Math.Logic.{∥∥₁_elim}
 use Rattle.std.specs.Coded.{×_prop, Unit-prop, le_prop}
 use Rattle.std.proofs.Props.{props}
 use Rattle.page_store.specs.Image.{Image}
 use Rattle.page_store.specs.Edits.{IsFit, IsFound, after_edit}
+use Rattle.page_store.specs.Sources.{Rose}
 use Rattle.page_store.specs.declared.edits.Edit.{Edit}
 use Rattle.page_store.specs.declared.edits.Edit.TheVariants.{PutCell, TakeCell, SwapCell, SetHead}
 use Rattle.std.specs.Result.{IsErr}
@@ -61,9 +62,14 @@ reading_tells (Err Unfit) fit h k = absurd k
 reading_tells (Err Gone) fit h k = tt
 reading_tells (Err NoMemory) fit h k = tt
 
+-- a count that did not rise since, after one that did not fall
+rose_after : (a b : ℕ) → a ≤ b → Rose b b → Rose a b
+rose_after a b h (inl less) = absurd (omega (arith, less))
+rose_after a b h (inr last) = inr last
+
 -- a call that lost nothing, after one that is excused
 pub excused_after : {T : Type 0} (r : Result T EditFault) (a b : ℕ) → a ≤ b → IsExcused r b b → IsExcused r a b
 excused_after (Ok x) a b h k = h
 excused_after (Err Unfit) a b h k = h
-excused_after (Err Gone) a b h k = omega arith
+excused_after (Err Gone) a b h k = (h, rose_after a b h k.1)
 excused_after (Err NoMemory) a b h k = h

@@ -10,7 +10,7 @@ use Rattle.page_store.specs.Edits.{after_edit}
 use Rattle.page_store.specs.declared.edits.Edit.TheVariants.{SwapCell}
 use Rattle.page_workspace.specs.declared.takes.Counted.{Counted}
 use Rattle.page_workspace.specs.Drafts.{edited}
-use Rattle.page_workspace.specs.Spare.{first_cell}
+use Rattle.page_workspace.specs.Spare.{first_cell, count_of}
 use Rattle.page_workspace.specs.Takes.{with_count, IsCounted, TakesPage}
 use Rattle.page_workspace.proofs.DraftLemmas.{edited_here, edited_other}
 
@@ -68,13 +68,18 @@ takes old new image counted is said made =
     let swap = SwapCell 0 counted.before counted.after in
     let there : slice_get (old 0).cells 0 ≡ Some counted.before = ap (λ (i : Image). slice_get i.cells 0) (sym is) ∙ said.first in
     let now : new 0 ≡ after_edit (old 0) swap (old 0).lsn = ap (λ (f : ℕ → Image). f 0) made ∙ edited_here old 0 swap in
+    let small : counted.count + 1 < 2 ^ 62 = said.room in
+    let room : counted.count + 1 < 2 ^ 64 = omega arith in
     let cells : (new 0).cells ≡ set (old 0).cells 0 counted.after = ap (λ (i : Image). i.cells) now in
     let before : first_cell (old 0).cells ≡ counted.before = first_is (old 0).cells counted.before there in
     let after : first_cell (new 0).cells ≡ with_count counted.before (counted.count + 1) =
     ap first_cell cells ∙ first_set (old 0).cells counted.before counted.after there ∙ said.after in
+    let raised : count_of new ≡ counted.count + 1 =
+    ap (λ (c : List ℕ). big_number 8 (drop 8 c)) after ∙ count-with_count counted.before (counted.count + 1) said.size room in
     record {
       number = said.count ∙ ap (λ (c : List ℕ). big_number 8 (drop 8 c)) (sym before);
-      count = ap (λ (c : List ℕ). big_number 8 (drop 8 c)) after ∙ count-with_count counted.before (counted.count + 1) said.size said.room;
+      count = raised;
+      few = omega arith;
       genid = ap (λ (c : List ℕ). big_number 8 c) after ∙ genid-with_count counted.before (counted.count + 1) said.size
           ∙ ap (λ (c : List ℕ). big_number 8 c) (sym before);
       free = ap (λ (c : List ℕ). big_number 8 (drop 16 c)) after

@@ -1,8 +1,9 @@
 -- Pages with edits laid over them, in order. The pages below stay as they are. An edit leaves the LSN of its page: the
 -- record that will carry the edits has none yet.
-use Rattle.std.specs.Prelude.{ℕ, ◌==◌, ◌≤◌, ◌<◌, if◌then◌else◌, List, [], ◌∷◌, Option, Result, Ok, Err}
+use Rattle.std.specs.Prelude.{ℕ, ◌==◌, ◌≤◌, if◌then◌else◌, List, [], ◌∷◌, Option, Result, Ok, Err}
 use Rattle.page_store.specs.Image.{Image}
 use Rattle.page_store.specs.Edits.{IsFit, after_edit}
+use Rattle.page_store.specs.Sources.{Rose}
 use Rattle.page_store.specs.declared.edits.Edit.{Edit}
 use Rattle.page_workspace.specs.declared.workspaces.EditFault.{EditFault}
 use Rattle.page_workspace.specs.declared.workspaces.EditFault.TheVariants.{Unfit, Gone, NoMemory}
@@ -38,11 +39,11 @@ TellsFit (Err Unfit) fit = fit → ⊥
 TellsFit (Err Gone) fit = Unit {0}
 TellsFit (Err NoMemory) fit = Unit {0}
 
--- each answer against the counts of losses before and after the call: `Gone` comes only where the count rose
+-- each answer against the counts of losses before and after the call, which never fall: `Gone` comes only where they rose
 abbrev pub IsExcused : {T : Type 0} → Result T EditFault → ℕ → ℕ → Type 0
 IsExcused (Ok x) before now = before ≤ now
 IsExcused (Err Unfit) before now = before ≤ now
-IsExcused (Err Gone) before now = before < now
+IsExcused (Err Gone) before now = (before ≤ now) × Rose before now
 IsExcused (Err NoMemory) before now = before ≤ now
 
 -- an answer of reading a page, which no edit can fail

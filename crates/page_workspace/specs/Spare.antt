@@ -1,11 +1,11 @@
 -- The pages that are in no tree. Page 0 is the meta page: its one cell of 24 bytes has the next genid, the number of
--- pages and the first free page, each in eight bytes. Free pages are chained by their right links, 0 at the end. Pages
--- from the number of pages on were never written.
+-- pages and the first free page, each in eight bytes. Free pages are of kind free, of level 0 and without cells, and
+-- are chained by their right links, 0 at the end. Pages from the number of pages on were never written.
 use Rattle.std.specs.Prelude.{◌≡◌, ◌⊎◌, ℕ, ◌≤◌, ◌<◌, List, [], ◌∷◌, length, drop}
 use Rattle.std.specs.List.{AllByRecursion}
 use Rattle.byteorder.specs.Endian.{big_number}
 use Rattle.page_store.specs.Image.{Image, blank_image}
-use Rattle.page_store.specs.declared.pages.PageKind.TheVariants.{Meta}
+use Rattle.page_store.specs.declared.pages.PageKind.TheVariants.{Free, Meta}
 
 -- a number is among these
 abbrev pub IsIn : ℕ → List ℕ → Type 0
@@ -42,12 +42,19 @@ abbrev pub IsChain : (ℕ → Image) → ℕ → List ℕ → Type 0
 IsChain pages next [] = next ≡ 0
 IsChain pages next (id ∷ ids) = (next ≡ id) × (id ≡ 0 → ⊥) × IsChain pages (pages id).head.right ids
 
--- the free pages: a chain of pages that were written, each once; and the pages past the end are blank
+-- a free page: it has no cells, and nothing but its right link and its LSN tells it from a page that was never written
+pub record IsFreePage (image : Image) : Type 0 where
+  pub kind : image.head.kind ≡ Free
+  pub level : image.head.level ≡ 0
+  pub cells : image.cells ≡ []
+
+-- the free pages: a chain of pages that were written and are free now, each once; and the pages past the end are blank
 pub record AreFree (pages : ℕ → Image) (ids : List ℕ) : Type 0 where
   pub meta : IsMeta (pages 0)
   pub chain : IsChain pages (first_free pages) ids
   pub apart : AreApart ids
   pub written : AllByRecursion (λ id. id < count_of pages) ids
+  pub kept : AllByRecursion (λ id. IsFreePage (pages id)) ids
   pub past : (id : ℕ) → count_of pages ≤ id → pages id ≡ blank_image
 
 -- a page that a tree may take, or the meta page

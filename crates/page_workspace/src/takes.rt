@@ -11,6 +11,9 @@ use std::alloc::{AllocError, Global};
 /// The bytes of the meta page's cell.
 const META_SIZE: usize = 24;
 
+/// What the number of pages stays below.
+const COUNT_LIMIT: u64 = 1 << 62;
+
 /// The number of pages, the cell of the meta page that says it, and the cell with one more.
 #[derive(Drop)]
 struct Counted {
@@ -20,9 +23,9 @@ struct Counted {
 }
 
 impl<P: PageSource> Workspace<P> {
-    /// Takes the first page that was never written, by the meta page, and gives its number. `Unfit` comes where page 0
-    /// is no meta page or has no further number, `Gone` only where the source lost its pages; the other error is want
-    /// of memory.
+    /// Takes the first page that was never written, by the meta page, and gives its number. The number of pages stays
+    /// below 2^62: want of memory is the answer where it would not, too. `Unfit` comes where page 0 is no meta page,
+    /// `Gone` only where the source lost its pages.
     pub fn take_page(&mut self, alloc: Global) -> Result<u64, EditFault>
         ensures taken { IfOk result (TakesPage (meant P.pages self.old) (meant P.pages self.new)) }
         ensures unchanged { OnErr result (self.new.edits ≡ self.old.edits) }
@@ -57,8 +60,8 @@ fn read_count(alloc: Global, page: &Page) -> Result<Counted, EditFault>
     }
     let (_, behind) = cell.split_at(8);
     let count = BigEndian::read_u64(behind);
-    if count == u64::MAX {
-        return Err(EditFault::Unfit);
+    if count >= COUNT_LIMIT - 1 {
+        return Err(EditFault::NoMemory);
     }
     let before = Cell::from_slice(alloc, cell).map_err(|_| EditFault::NoMemory)?;
     let after = counting(alloc, cell, count + 1).map_err(|_| EditFault::NoMemory)?;

@@ -93,12 +93,13 @@ impl<P: PageSource> Workspace<P> {
         }
     }
 
-    /// Makes a page the loaded one, as `load` does, with the faults of an edit.
+    /// Makes a page the loaded one, as `load` does, with the faults of an edit. After an error no page is loaded.
     pub fn load_to_edit(&mut self, id: u64) -> Result<(), EditFault>
         ensures base { P.pages self.new.base ≡ P.pages self.old.base }
         ensures edits { self.new.edits ≡ self.old.edits }
         ensures pages { meant P.pages self.new ≡ meant P.pages self.old }
         ensures loaded { OnOk result (self.new.loaded ≡ Some (meant P.pages self.old id)) }
+        ensures none { OnErr result (self.new.loaded ≡ None) }
         ensures excused { IsExcused result (P.losses self.old.base) (P.losses self.new.base) }
     {
         match self.load(id) {

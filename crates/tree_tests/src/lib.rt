@@ -1,5 +1,9 @@
-//! Only tests: trees on pages beside sorted lists, which are to answer alike.
+//! Tests of trees on pages beside sorted lists, which are to answer alike, and the source that loses a page for them.
 #![tactic(auto)]
+
+mod pages;
+
+pub use pages::LosingPages;
 
 #[cfg(test)]
 mod drawn;

@@ -1,8 +1,7 @@
-//! A source that loses a page at each load in turn.
-ghost use Rattle.std.specs.Prelude.{None, option_map, if◌then◌else◌};
-ghost use Rattle.page_store.specs.Sources.{pages_of};
+//! Calls over a source that loses a page at each load in turn.
 
 use super::orders::numbered;
+use super::pages::LosingPages;
 use super::seeded::is_same_value;
 use super::trees::{
     ROOT, are_same, copies, empty_pages, grown_from_nothing, holds_list, put_in_both, put_in_list,
@@ -15,53 +14,6 @@ use sorted_pairs::SortedPairs;
 use std::alloc::Global;
 use std::process::Abort;
 use std::test::Fail;
-
-/// Pages of which one load is answered by `Gone`.
-#[derive(Drop)]
-struct LosingPages {
-    below: MemPages,
-    left: u64,
-    is_lost: bool,
-    is_open: bool,
-}
-
-impl LosingPages {
-    /// Copies of pages, of which the load behind so many is lost.
-    fn new(alloc: Global, pages: &[Page], left: u64) -> Result<LosingPages, Fail> {
-        Ok(LosingPages {
-            below: MemPages::new(alloc, copies(alloc, pages)?)?,
-            left,
-            is_lost: false,
-            is_open: false,
-        })
-    }
-}
-
-impl PageSource for LosingPages {
-    ghost pages = { λ s. pages_of s.below.pages };
-
-    ghost below = { λ s. pages_of s.below.pages };
-
-    ghost loaded = { λ s. if s.is_open then option_map (pages_of s.below.pages) s.below.loaded else None };
-
-    ghost losses = { λ s. if s.is_lost then 1 else 0 };
-
-    fn load(&mut self, id: u64) -> Result<(), PageFault> {
-        self.is_open = false;
-        if self.left == 0 && !self.is_lost {
-            self.is_lost = true;
-            return Err(PageFault::Gone);
-        }
-        self.left = self.left.saturating_sub(1);
-        self.below.load(id)?;
-        self.is_open = true;
-        Ok(())
-    }
-
-    fn page(&self) -> &Page {
-        self.below.page()
-    }
-}
 
 /// The pages of a tree of some levels, and the list that it holds.
 #[derive(Drop)]
@@ -109,7 +61,8 @@ impl Tall {
         key: &[u8],
         left: u64,
     ) -> Result<bool, Fail> {
-        let losing = LosingPages::new(alloc, self.pages.as_slice(), left)?;
+        let pages = copies(alloc, self.pages.as_slice())?;
+        let losing = LosingPages::new(MemPages::new(alloc, pages)?, left);
         match call {
             Call::Find => self.is_found(stop, alloc, losing, key),
             Call::Scan => self.is_scanned(stop, alloc, losing, key),
@@ -128,11 +81,14 @@ impl Tall {
     ) -> Result<bool, Fail> {
         match find(alloc, &mut losing, ROOT, key) {
             Ok(found) => {
-                assert!(stop; !losing.is_lost, "a loss is passed over");
+                assert_eq!(stop; losing.losses(), 0, "a loss is passed over");
                 assert!(stop; is_same_value(&found, &self.list.find(key)?), "a find");
                 Ok(true)
             }
-            Err(PageFault::Gone) => Ok(false),
+            Err(PageFault::Gone) => {
+                self.look_again(stop, alloc, &mut losing)?;
+                Ok(false)
+            }
             Err(fault) => Err(fault.into()),
         }
     }
@@ -147,12 +103,15 @@ impl Tall {
     ) -> Result<bool, Fail> {
         match scan(alloc, &mut losing, ROOT, key, None) {
             Ok(found) => {
-                assert!(stop; !losing.is_lost, "a loss is passed over");
+                assert_eq!(stop; losing.losses(), 0, "a loss is passed over");
                 let wanted = self.list.scan(alloc, key, None)?;
                 assert!(stop; are_same(found.as_slice(), wanted.as_slice()), "a scan");
                 Ok(true)
             }
-            Err(PageFault::Gone) => Ok(false),
+            Err(PageFault::Gone) => {
+                self.look_again(stop, alloc, &mut losing)?;
+                Ok(false)
+            }
             Err(fault) => Err(fault.into()),
         }
     }
@@ -192,7 +151,11 @@ impl Tall {
         let mut space = Workspace::new(alloc, losing);
         let was = match remove(alloc, &mut space, ROOT, key) {
             Ok(was) => was,
-            Err(PageFault::Gone) => return Ok(false),
+            Err(PageFault::Gone) => {
+                self.look_again(stop, alloc, &mut space)?;
+                assert!(stop; space.finish().is_empty(), "a remove that was lost");
+                return Ok(false);
+            }
             Err(fault) => return Err(fault.into()),
         };
         let in_list = self.list.remove(key);
@@ -202,6 +165,20 @@ impl Tall {
             put_in_list(alloc, &mut self.list, key, b"tall")?;
         }
         Ok(true)
+    }
+
+    /// Pages that lost a load hold the list as before.
+    fn look_again<P: PageSource>(
+        &self,
+        stop: &impl Abort,
+        alloc: Global,
+        pages: &mut P,
+    ) -> Result<(), Fail> {
+        assert!(stop;
+            holds_list(alloc, pages, &self.list)?,
+            "the tree after a loss"
+        );
+        Ok(())
     }
 
     /// The edits of a workspace make pages that hold the list.

@@ -2,8 +2,12 @@
 
 use super::drawn::{KEY_SIZE, PAIR_SIZE};
 use super::trees::{
-    Grown, empty_pages, finds_list, grown_from_nothing, put_in_both, root_level, settle,
+    Grown, copies, empty_pages, finds_list, grown_from_nothing, put_in_both, put_short, root_level,
+    settle,
 };
+use btree_index::InsertFault;
+use page_store::MemPages;
+use page_workspace::Workspace;
 use std::alloc::{AllocError, Global};
 use std::process::Abort;
 use std::test::Fail;
@@ -94,4 +98,33 @@ fn cells_of_the_greatest_size(rt: HostRuntime) -> Result<(), Fail> {
     }
     assert!(rt; root_level(&mut grown.space)? >= 3);
     compare_at_the_end(&rt, alloc, grown)
+}
+
+/// An order of keys of which two fill a leaf and two more the root above: three leaves of two cells each.
+static FULL: [u32; 6] = [0, 2, 4, 1, 5, 3];
+
+/// Keys that are put twice into a tree of two levels without room leave its edits, and a further key has to raise it.
+#[test]
+fn twice_into_a_full_tree(rt: HostRuntime) -> Result<(), Fail> {
+    let alloc = rt.alloc();
+    let mut grown = grown_from_nothing(alloc)?;
+    for number in &FULL {
+        let key = numbered(alloc, *number, KEY_SIZE)?;
+        put_in_both(&rt, alloc, &mut grown, key.as_slice(), b"whole")?;
+    }
+    assert_eq!(rt; root_level(&mut grown.space)?, 1);
+    let (pages, _) = settle(&rt, alloc, empty_pages(alloc)?, grown)?;
+    let below = MemPages::new(alloc, copies(alloc, pages.as_slice())?)?;
+    let mut space = Workspace::new(alloc, below);
+    for number in 0..6u32 {
+        let key = numbered(alloc, number, KEY_SIZE)?;
+        let twice = put_short(alloc, &mut space, key.as_slice(), b"again");
+        assert!(rt; matches!(twice, Err(InsertFault::Duplicate)));
+    }
+    assert!(rt; space.finish().is_empty(), "edits of a duplicate");
+    let mut space = Workspace::new(alloc, MemPages::new(alloc, pages)?);
+    let key = numbered(alloc, 6, KEY_SIZE)?;
+    put_short(alloc, &mut space, key.as_slice(), b"raises")?;
+    assert_eq!(rt; root_level(&mut space)?, 2);
+    Ok(())
 }

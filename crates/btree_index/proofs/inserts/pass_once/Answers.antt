@@ -1,4 +1,4 @@
--- The leaf of the way has the key, or takes the pair, or more room is made.
+-- The leaf of the way takes the pair, or more room is made.
 use Rattle.std.proofs.Common.{◌≡◌, ℕ, None, sym, ap, ◌∙◌, subst}
 use Rattle.std.proofs.lemmas.Option.{same_Some}
 use Rattle.std.specs.List.{insert}
@@ -8,41 +8,27 @@ use Rattle.btree_index.specs.Cells.{leaf_cell}
 use Rattle.btree_index.specs.Pairs.{cell_value, place_in, HasKeyAt}
 use Rattle.btree_index.specs.Changes.{Stands, Becomes, LeadsOver}
 use Rattle.btree_index.specs.Steps.{Alters}
-use Rattle.btree_index.proofs.StandLemmas.{becomes_none, found_there, puts}
+use Rattle.btree_index.proofs.StandLemmas.{value_there, puts}
 use Rattle.btree_index.proofs.inserts.pass_once.Goals as goal
 
-pub returns-in-Some-clause-passed : goal.returns-in-Some-clause-passed
-returns-in-Some-clause-passed g c = λ own free list stands.
-    let old = meant g.P.PageSource.pages c.args.space.now in
-    let way = c.in_ok-way.way in
-    let said = c.in_ok-way.ensures in
-    let image = c.page.result.now in
-    let is : image ≡ old way.leaf = same_Some image (old way.leaf) (sym c.page.ensures ∙ said.loaded) in
-    let has : HasKeyAt c.args.key.now (old way.leaf).cells c.in-Some.field-0 =
-    subst (λ (i : Image). HasKeyAt c.args.key.now i.cells c.in-Some.field-0) is c.in-Some.ensures in (
-      found_there old c.args.root c.args.key.now way.leaf c.in-Some.field-0 said.way.leaf said.way.kind has own free list stands,
-      subst (λ (f : ℕ → Image). Becomes old f c.args.root own free list) (sym said.pages) (becomes_none old c.args.root own free list stands),
-    )
-
 pub returns-then-has_room-clause-passed : goal.returns-then-has_room-clause-passed
-returns-then-has_room-clause-passed g c = λ own free list stands.
+returns-then-has_room-clause-passed g c = λ own free list stands absent.
     let old = meant g.P.PageSource.pages c.args.space.now in
     let new = meant g.P.PageSource.pages c.put_pair.new.space in
     let way = c.in_ok-way.way in
     let said = c.in_ok-way.ensures in
     let key = c.args.key.now in
     let value = c.args.value.now in
-    let image = c.page.result.now in
-    let is : image ≡ old way.leaf = same_Some image (old way.leaf) (sym c.page.ensures ∙ said.loaded) in
-    let none : cell_value key (old way.leaf).cells ≡ None = ap (λ (i : Image). cell_value key i.cells) (sym is) ∙ c.in_default.ensures in
+    let none : cell_value key (old way.leaf).cells ≡ None =
+    sym (value_there old c.args.root key way.leaf said.way.leaf said.way.kind own free list stands) ∙ absent in
     let put : Alters old new way.leaf (old way.leaf).head (insert (old way.leaf).cells (place_in key (old way.leaf).cells) (leaf_cell key value)) =
     subst (λ (f : ℕ → Image). Alters f new way.leaf (f way.leaf).head (insert (f way.leaf).cells (place_in key (f way.leaf).cells) (leaf_cell key value)))
     said.pages c.in_ok-put_pair.ensures.put in
-    puts old new c.args.root key value way.leaf said.way.leaf said.way.kind none c.requires.key c.requires.cell
-    (record { is = put.is; head = put.head_is; others = put.others }) (subst HasRoom put.is c.in_ok-put_pair.ensures.room) own free list stands
+    (puts old new c.args.root key value way.leaf said.way.leaf said.way.kind none c.requires.key c.requires.cell
+    (record { is = put.is; head = put.head_is; others = put.others }) (subst HasRoom put.is c.in_ok-put_pair.ensures.room) own free list stands).1
 
 pub returns-clause-passed : goal.returns-clause-passed
-returns-clause-passed g c = λ own free list stands.
+returns-clause-passed g c = λ own free list stands absent.
     let old = meant g.P.PageSource.pages c.args.space.now in
     let new = meant g.P.PageSource.pages c.make_room.new.space in
     let way = c.in_ok-way.way in

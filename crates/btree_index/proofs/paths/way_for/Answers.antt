@@ -12,6 +12,7 @@ use Rattle.btree_index.proofs.paths.way_for.Goals as goal
 
 pub down-init : goal.down-init
 down-init g c = record {
+  edits = c.in_ok-load_to_edit.ensures.edits;
   pages = c.in_ok-load_to_edit.ensures.pages;
   base = c.in_ok-load_to_edit.ensures.base;
   losses = c.in_ok-load_to_edit.ensures.excused;
@@ -33,6 +34,7 @@ down-preserved g c =
     let earlier : g.P.PageSource.losses c.args.space.now.base ≤ g.P.PageSource.losses c.down.space.base = kept.losses in
     let child : c.in-Some.child ≡ choice c.args.key.now (pages c.down.leaf).cells = c.in-Some.ensures ∙ ap (λ (i : Image). choice c.args.key.now i.cells) now in
     record {
+      edits = loaded.edits ∙ kept.edits;
       pages = loaded.pages ∙ kept.pages;
       base = loaded.base ∙ kept.base;
       losses = omega arith;

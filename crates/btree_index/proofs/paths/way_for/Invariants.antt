@@ -6,6 +6,7 @@ use Rattle.btree_index.proofs.paths.way_for.Given as goal
 
 abbrev pub invariant-down : goal.invariant-down
 invariant-down g l = record {
+  edits : l.space.edits ≡ l.fn.space.edits;
   pages : meant g.P.PageSource.pages l.space ≡ meant g.P.PageSource.pages l.fn.space;
   base : g.P.PageSource.pages l.space.base ≡ g.P.PageSource.pages l.fn.space.base;
   losses : g.P.PageSource.losses l.fn.space.base ≤ g.P.PageSource.losses l.space.base;
