@@ -1,0 +1,8 @@
+pub mod KeptLemmas
+pub mod WriteLemmas
+pub mod UndoLemmas
+pub mod ChainLemmas
+pub mod GrantLemmas
+pub mod LogLemmas
+pub mod AppendLemmas
+pub mod NumberLemmas

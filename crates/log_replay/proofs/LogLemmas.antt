@@ -1,0 +1,168 @@
+-- What a log keeps, with one entry more and with fewer.
+use Rattle.std.proofs.Common.{◌≡◌, ℕ, ◌+◌, List, [], ◌∷◌, ◌++◌, refl, sym, ap, ◌∙◌, subst, length, take, drop, arith, Option, Some, None, unwrap_or}
+use Rattle.std.proofs.lemmas.List.{take-append-drop}
+use Rattle.std.proofs.Math.Logic.{∥∥₁_elim, ∥∥₁_map}
+use Rattle.std.specs.Coded.{×_prop, Unit-prop, le_prop}
+use Rattle.std.proofs.Props.{props}
+use mathlib.Core.Path.{fun_ext}
+use Rattle.page_store.specs.Image.{Image, blank_image, HasRoom}
+use Rattle.page_store.specs.Edits.{IsFit, IsFound}
+use Rattle.page_store.specs.declared.edits.Edit.{Edit}
+use Rattle.page_store.specs.declared.edits.Edit.TheVariants.{PutCell, TakeCell, SwapCell, SetHead}
+use Rattle.phys_log.specs.declared.entries.LogRecord.{LogRecord}
+use Rattle.phys_log.specs.declared.entries.Entry.{Entry}
+use Rattle.phys_log.specs.Logs.{records_of, records_in, written, replayed, blank_pages, pages_of, last_lsn_of, IsNext, AreNext, Fits, IsLog}
+use Rattle.phys_log.specs.Undone.{later_records}
+use Rattle.phys_log.proofs.ReplayLemmas.{next_front}
+use Rattle.phys_log.proofs.LogLemmas.{pages_more, log_more, log_parts, log_front, parts_next, parts_pages}
+use Rattle.log_replay.specs.declared.chains.ChainLink.{ChainLink}
+use Rattle.log_replay.specs.Chains.{links_on, chain_from, chain_of, granted}
+use Rattle.log_replay.specs.Kept.{found, page_in, chain_in, Came, IsKept}
+use Rattle.log_replay.specs.Answers.{Rises}
+use Rattle.log_replay.proofs.ChainLemmas.{chain-append, chain_parts, chain_rises}
+use Rattle.log_replay.proofs.GrantLemmas.{granted_is, unedited}
+use Rattle.log_replay.proofs.UndoLemmas.{room_replayed}
+
+found_prop : (image : Image) (edit : Edit) → IsProp (IsFound image edit)
+found_prop image (PutCell place cell) = hlevel (le_prop, props)
+found_prop image (TakeCell place cell) = hlevel (le_prop, props)
+found_prop image (SwapCell place before after) = hlevel (le_prop, props)
+found_prop image (SetHead before after) = hlevel (le_prop, props)
+
+fit_prop : (image : Image) (edit : Edit) → IsProp (IsFit image edit)
+fit_prop image edit = hlevel (found_prop, le_prop, props)
+
+next_prop : (pages : ℕ → Image) (lsn : ℕ) (r : LogRecord) → IsProp (IsNext pages lsn r)
+next_prop pages lsn r = hlevel (fit_prop, le_prop, props)
+
+all_next_prop : (pages : ℕ → Image) (lsn : ℕ) (rs : List LogRecord) → IsProp (AreNext pages lsn rs)
+all_next_prop pages lsn [] = Unit-prop
+all_next_prop pages lsn (r ∷ rs) = ×_prop (next_prop pages lsn r) (all_next_prop (written pages r) (lsn + 1) rs)
+
+-- that entries are a log is one fact
+pub log_out : (entries : List Entry) → ∥ IsLog entries ∥₁ → IsLog entries
+log_out entries h = ∥∥₁_elim h (all_next_prop blank_pages 1 (records_in entries)) (λ f. f)
+
+-- nothing is kept of no entries
+pub kept_none : (entries : List Entry) (pages : List (ℕ × Image)) (chains : List (ℕ × List ChainLink)) → entries ≡ [] → pages ≡ [] → chains ≡ [] → IsKept entries pages chains
+kept_none entries pages chains e p c =
+    let K : List Entry → Type 0 = λ x. IsKept x pages chains in
+    let L : List (ℕ × Image) → Type 0 = λ x. IsKept [] x chains in
+    let M : List (ℕ × List ChainLink) → Type 0 = λ x. IsKept [] [] x in
+    subst K (sym e) (subst L (sym p) (subst M (sym c) (record { logged = ∣ tt ∣₁; replay = λ n. refl; links = λ n. refl })))
+
+pub kept_same : (entries : List Entry) (p q : List (ℕ × Image)) (c d : List (ℕ × List ChainLink)) → IsKept entries p c
+    → ((n : ℕ) → page_in q n ≡ page_in p n) → ((n : ℕ) → chain_in d n ≡ chain_in c n) → IsKept entries q d
+kept_same entries p q c d kept pages chains = record {
+  logged = kept.logged;
+  replay = λ n. pages n ∙ kept.replay n;
+  links = λ n. chains n ∙ kept.links n;
+}
+
+-- the fit of an entry, by the pages that are kept
+pub fits_is : (entries : List Entry) (entry : Entry) (p : List (ℕ × Image)) (c : List (ℕ × List ChainLink)) → IsKept entries p c
+    → AreNext (page_in p) (last_lsn_of entries + 1) (records_of entry) → Fits entries entry
+fits_is entries entry p c kept h = subst (λ (f : ℕ → Image). AreNext f (last_lsn_of entries + 1) (records_of entry)) (fun_ext kept.replay) h
+
+pub fits_not : (entries : List Entry) (entry : Entry) (p : List (ℕ × Image)) (c : List (ℕ × List ChainLink)) → IsKept entries p c
+    → (AreNext (page_in p) (last_lsn_of entries + 1) (records_of entry) → ⊥) → Fits entries entry → ⊥
+fits_not entries entry p c kept h fits = h (subst (λ (f : ℕ → Image). AreNext f (last_lsn_of entries + 1) (records_of entry)) (sym (fun_ext kept.replay)) fits)
+
+-- one entry more
+pub kept_more : (entries : List Entry) (entry : Entry) (p q : List (ℕ × Image)) (c d : List (ℕ × List ChainLink)) → IsKept entries p c
+    → AreNext (page_in p) (last_lsn_of entries + 1) (records_of entry)
+    → ((n : ℕ) → page_in q n ≡ replayed (page_in p) (records_of entry) n)
+    → ((n : ℕ) → chain_in d n ≡ chain_in c n ++ links_on n (length entries + 1) (records_of entry)) → IsKept (entries ++ entry ∷ []) q d
+kept_more entries entry p q c d kept next made linked =
+    let behind : length entries + 1 ≡ 1 + length entries = omega arith in
+    record {
+      logged = ∥∥₁_map kept.logged (λ log. log_more entries entry log (fits_is entries entry p c kept next));
+      replay = λ n. made n ∙ ap (λ (f : ℕ → Image). replayed f (records_of entry) n) (fun_ext kept.replay) ∙ sym (ap (λ (f : ℕ → Image). f n) (pages_more entries entry));
+      links = λ n. linked n ∙ ap (λ (l : List ChainLink). l ++ links_on n (length entries + 1) (records_of entry)) (kept.links n)
+          ∙ ap (λ (k : ℕ). chain_of entries n ++ links_on n k (records_of entry)) behind ∙ sym (chain-append n 1 entries entry);
+    }
+
+blank_room : (n : ℕ) → HasRoom (blank_pages n).cells
+blank_room n = omega arith
+
+pub parts_room : (entries : List Entry) (k : ℕ) → IsLog entries → (n : ℕ) → HasRoom (pages_of (take k entries) n).cells
+parts_room entries k log =
+    room_replayed blank_pages 1 (records_in (take k entries))
+    (next_front blank_pages 1 (records_in (take k entries)) (records_in (drop k entries)) (subst (λ (l : List LogRecord). AreNext blank_pages 1 l) (log_parts entries k) log)) blank_room
+
+pub pages_parts : (entries : List Entry) (p : List (ℕ × Image)) (c : List (ℕ × List ChainLink)) (k : ℕ) → IsKept entries p c
+    → page_in p ≡ replayed (pages_of (take k entries)) (records_in (drop k entries))
+pages_parts entries p c k kept = fun_ext kept.replay ∙ parts_pages entries k
+
+-- what undoing the last entries needs
+pub kept_came : (entries : List Entry) (p : List (ℕ × Image)) (c : List (ℕ × List ChainLink)) (k : ℕ) (dropped : List Entry) → IsKept entries p c
+    → dropped ≡ drop k entries → Came (page_in p) (records_in dropped)
+kept_came entries p c k dropped kept is =
+    let log = log_out entries kept.logged in
+    subst (λ (l : List Entry). Came (page_in p) (records_in l)) (sym is) (record {
+      base = pages_of (take k entries);
+      lsn = 1 + length (records_in (take k entries));
+      room = parts_room entries k log;
+      next = parts_next entries k log;
+      is = pages_parts entries p c k kept;
+    })
+
+pub kept_pages : (entries : List Entry) (p q : List (ℕ × Image)) (c : List (ℕ × List ChainLink)) (k : ℕ) (dropped : List Entry) → IsKept entries p c
+    → dropped ≡ drop k entries
+    → ((base : ℕ → Image) (lsn : ℕ) → AreNext base lsn (records_in dropped) → page_in p ≡ replayed base (records_in dropped) → page_in q ≡ base)
+    → page_in q ≡ pages_of (take k entries)
+kept_pages entries p q c k dropped kept is undone =
+    let log = log_out entries kept.logged in
+    let N : List Entry → Type 0 = λ l. AreNext (pages_of (take k entries)) (1 + length (records_in (take k entries))) (records_in l) in
+    let E : List Entry → Type 0 = λ l. page_in p ≡ replayed (pages_of (take k entries)) (records_in l) in
+    undone (pages_of (take k entries)) (1 + length (records_in (take k entries)))
+    (subst N (sym is) (parts_next entries k log)) (subst E (sym is) (pages_parts entries p c k kept))
+
+pub kept_chains : (entries : List Entry) (p : List (ℕ × Image)) (c d : List (ℕ × List ChainLink)) (k : ℕ) (dropped : List Entry) → IsKept entries p c
+    → dropped ≡ drop k entries
+    → ((base : ℕ → List ChainLink) (position : ℕ) → ((n : ℕ) → chain_in c n ≡ base n ++ chain_from n position dropped) → (n : ℕ) → chain_in d n ≡ base n)
+    → (n : ℕ) → chain_in d n ≡ chain_of (take k entries) n
+kept_chains entries p c d k dropped kept is gone =
+    gone (chain_of (take k entries)) (1 + length (take k entries)) (λ n.
+    kept.links n ∙ ap (λ (l : List Entry). chain_of l n) (sym (take-append-drop k entries))
+    ∙ chain_parts n 1 (take k entries) (drop k entries)
+    ∙ ap (λ (l : List Entry). chain_of (take k entries) n ++ chain_from n (1 + length (take k entries)) l) (sym is))
+
+-- the first entries alone
+pub kept_first : (entries : List Entry) (p q : List (ℕ × Image)) (c d : List (ℕ × List ChainLink)) (k : ℕ) → IsKept entries p c
+    → page_in q ≡ pages_of (take k entries) → ((n : ℕ) → chain_in d n ≡ chain_of (take k entries) n) → IsKept (take k entries) q d
+kept_first entries p q c d k kept pages chains = record {
+  logged = ∥∥₁_map kept.logged (λ log. log_front (take k entries) (drop k entries) (subst IsLog (sym (take-append-drop k entries)) log));
+  replay = λ n. ap (λ (f : ℕ → Image). f n) pages;
+  links = chains;
+}
+
+-- a page that is found, and one that is not
+pub page_found : (entries : List Entry) (p : List (ℕ × Image)) (c : List (ℕ × List ChainLink)) (id : ℕ) (image : Image) → IsKept entries p c
+    → found p id ≡ Some image → image ≡ pages_of entries id
+page_found entries p c id image kept h = ap (λ (o : Option Image). unwrap_or o blank_image) (sym h) ∙ kept.replay id
+
+pub page_missing : (entries : List Entry) (p : List (ℕ × Image)) (c : List (ℕ × List ChainLink)) (id : ℕ) → IsKept entries p c
+    → found p id ≡ None → pages_of entries id ≡ blank_image
+page_missing entries p c id kept h = sym (kept.replay id) ∙ ap (λ (o : Option Image). unwrap_or o blank_image) h
+
+pub page_unedited : (entries : List Entry) (p : List (ℕ × Image)) (c : List (ℕ × List ChainLink)) (id : ℕ) → IsKept entries p c
+    → found p id ≡ None → later_records entries 0 id ≡ []
+page_unedited entries p c id kept h =
+    unedited entries id (log_out entries kept.logged) (ap (λ (i : Image). i.lsn) (page_missing entries p c id kept h))
+
+pub chain_found : (entries : List Entry) (p : List (ℕ × Image)) (c : List (ℕ × List ChainLink)) (id : ℕ) (links : List ChainLink) → IsKept entries p c
+    → found c id ≡ Some links → links ≡ chain_of entries id
+chain_found entries p c id links kept h = ap (λ (o : Option (List ChainLink)). unwrap_or o []) (sym h) ∙ kept.links id
+
+pub chain_missing : (entries : List Entry) (p : List (ℕ × Image)) (c : List (ℕ × List ChainLink)) (id : ℕ) → IsKept entries p c
+    → found c id ≡ None → [] ≡ chain_of entries id
+chain_missing entries p c id kept h = ap (λ (o : Option (List ChainLink)). unwrap_or o []) (sym h) ∙ kept.links id
+
+-- the later records, by the chain of the page
+pub later_is : (entries : List Entry) (p : List (ℕ × Image)) (c : List (ℕ × List ChainLink)) (position id : ℕ) (chain : List ChainLink) → IsKept entries p c
+    → chain ≡ chain_of entries id → granted entries position chain ≡ later_records entries position id
+later_is entries p c position id chain kept is = ap (granted entries position) is ∙ granted_is entries position id (log_out entries kept.logged)
+
+pub rises_is : (entries : List Entry) (id : ℕ) (chain : List ChainLink) → chain ≡ chain_of entries id → Rises chain
+rises_is entries id chain is = subst Rises (sym is) (chain_rises id 1 entries)

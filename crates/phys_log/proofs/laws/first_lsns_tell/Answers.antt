@@ -1,0 +1,5 @@
+use Rattle.phys_log.proofs.LogLemmas.{first_tells}
+use Rattle.phys_log.proofs.laws.first_lsns_tell.Goals as goal
+
+pub returns : goal.returns
+returns c = first_tells
