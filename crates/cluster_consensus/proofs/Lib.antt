@@ -1,0 +1,13 @@
+pub mod Adopted
+pub mod Commits
+pub mod FactSteps
+pub mod Generations
+pub mod Invariant
+pub mod Kept
+pub mod Laws
+pub mod Lengths
+pub mod NodeRows
+pub mod NodeSteps
+pub mod Onward
+pub mod StoresFit
+pub mod ThreeNodes

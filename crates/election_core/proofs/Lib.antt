@@ -1,0 +1,6 @@
+pub mod Counting
+pub mod Greatest
+pub mod Refusals
+pub mod Enabling
+pub mod Keeping
+pub mod Allowing

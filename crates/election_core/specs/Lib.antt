@@ -1,0 +1,5 @@
+pub mod Allowed
+pub mod Counted
+pub mod Counts
+pub mod Senders
+pub mod Told
