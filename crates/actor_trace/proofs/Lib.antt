@@ -1,0 +1,14 @@
+pub mod Totals
+pub mod Entries
+pub mod Keeping
+pub mod Keeps
+pub mod Telling
+pub mod Dealt
+pub mod Allowing
+pub mod Adding
+pub mod Actors
+pub mod Joined
+pub mod Ended
+pub mod Merged
+pub mod Shares
+pub mod Numbers

@@ -1,0 +1,10 @@
+pub mod Lists
+pub mod History
+pub mod Steps
+pub mod Actors
+pub mod Views
+pub mod Rules
+pub mod Plays
+pub mod Seats
+pub mod Opening
+pub mod Merge

@@ -1,0 +1,82 @@
+//! Work to be measured: in `bench_trace THREADS STEPS` that many actors do that many steps each in one trace, in as many
+//! threads, and the number of events of its history is printed.
+#![tactic(auto)]
+
+ghost use Rattle.std.specs.Prelude.{◌≡◌};
+
+use actor_trace::{Actor, Machine, Naming, Opened, Trace};
+use std::alloc::{AllocError, Global};
+use std::marker::Brand;
+use std::thread::Threads;
+use std::{env, io, thread};
+
+/// A machine that allows every event.
+struct Free;
+
+impl Machine for Free {
+    type Event = u64;
+
+    ghost enabled = { λ h i e. Unit {0} };
+
+    ghost known = { λ later h i e legal own free. free };
+}
+
+fn main(rt: HostRuntime) -> io::Result<()> {
+    let mut words = env::args(&rt)?.skip(1);
+    let (Some(threads), Some(steps)) = (words.next(), words.next()) else {
+        return println!(rt; "usage: bench_trace THREADS STEPS");
+    };
+    let threads = threads.as_str().parse::<u32>().unwrap_or(0);
+    let steps = steps.as_str().parse::<u32>().unwrap_or(0);
+    let opened = Opened::<Free>::new(rt.alloc(), threads)?;
+    let events = run::<Brand, HostRuntime>(&rt, rt.alloc(), opened, steps)?;
+    println!(rt; "{events}")
+}
+
+fn run<N: Naming + Send + Sync, R: Threads + Sync>(
+    rt: &R,
+    alloc: Global,
+    opened: Opened<Free>,
+    steps: u32,
+) -> Result<usize, AllocError>
+    requires table { opened.table ≡ N.table }
+    requires actors { opened.actors ≡ N.actors }
+{
+    let (trace, actors) = opened.named::<N>(alloc)?;
+    let shared = &trace;
+    let done = thread::map_vec(rt, actors, &|actor| work(shared, actor, steps))?;
+    let actors = all_of(alloc, done)?;
+    if !trace.has_all(actors.as_slice()) {
+        return Ok(0);
+    }
+    match trace.close(alloc, actors) {
+        Ok(history) => Ok(history.events().len()),
+        Err(_) => Err(AllocError),
+    }
+}
+
+fn all_of<N: Naming>(
+    alloc: Global,
+    done: Vec<Result<Actor<Free, N>, AllocError>>,
+) -> Result<Vec<Actor<Free, N>>, AllocError> {
+    let mut actors = Vec::new(alloc);
+    for actor in done {
+        actors.push(actor?)?;
+    }
+    Ok(actors)
+}
+
+fn work<N: Naming>(
+    trace: &Trace<Free, N>,
+    actor: Actor<Free, N>,
+    steps: u32,
+) -> Result<Actor<Free, N>, AllocError> {
+    let mut actor = actor;
+    actor.reserve(steps)?;
+    let mut left = steps;
+    'stepping: while left > 0 {
+        actor.step(trace, u64::from(left));
+        left -= 1;
+    }
+    Ok(actor)
+}
