@@ -1,0 +1,123 @@
+//! A log to be measured: `bench_log WORK COUNT` appends that many entries of three records over 1,000 pages, grants one
+//! page with up to ten later records, and drops the last ten entries.
+//!
+//! | WORK | What is printed |
+//! |---|---|
+//! | `counts` | how many entries were appended, how many records were granted, and how many entries are left |
+//! | `times` | the same, with the times |
+#![tactic(auto)]
+
+use cdb_values::{Level, List, Name};
+use log_replay::PagedLog;
+use page_store::{Cell, Edit};
+use phys_log::{CommitId, Entry, LogRecord};
+use std::alloc::{AllocError, Global};
+use std::time::{Clock, Instant};
+use std::{env, io};
+
+/// The pages that the entries change in turn.
+const PAGES: u64 = 1000;
+
+fn main(rt: HostRuntime) -> io::Result<()> {
+    let mut words = env::args(&rt)?.skip(1);
+    let (Some(work), Some(count)) = (words.next(), words.next()) else {
+        return println!(rt; "usage: bench_log counts|times COUNT");
+    };
+    let count = count.as_str().parse::<u64>().unwrap_or(0);
+    let mut log = PagedLog::new(rt.alloc());
+    let started = Instant::now(&rt)?;
+    let appended = append_all(rt.alloc(), &mut log, count)?;
+    let grew = started.elapsed(&rt)?;
+    let started = Instant::now(&rt)?;
+    let granted = grant_one(rt.alloc(), &log)?;
+    let gave = started.elapsed(&rt)?;
+    let started = Instant::now(&rt)?;
+    let left = drop_ten(rt.alloc(), &mut log)?;
+    let fell = started.elapsed(&rt)?;
+    if work.as_str() == "times" {
+        let (grew, gave, fell) = (grew.as_millis(), gave.as_micros(), fell.as_micros());
+        println!(rt; "appended in {grew} ms, granted in {gave} us, dropped in {fell} us")?;
+    }
+    println!(rt; "{appended} appended, {granted} records granted, {left} left")
+}
+
+/// Appends entries; how many were taken.
+fn append_all(alloc: Global, log: &mut PagedLog, count: u64) -> Result<u64, AllocError> {
+    let mut taken = 0u64;
+    for i in 0..count {
+        let entry = entry_of(alloc, log, i.saturating_mul(3))?;
+        if log.append(alloc, entry).is_ok() {
+            taken = taken.saturating_add(1);
+        }
+    }
+    Ok(taken)
+}
+
+/// An entry of three records behind so many others.
+fn entry_of(alloc: Global, log: &PagedLog, before: u64) -> Result<Entry, AllocError> {
+    let mut records = List::new(alloc);
+    for k in 1..4u64 {
+        records.push(record_of(alloc, log, before.saturating_add(k))?)?;
+    }
+    Ok(Entry::Commit {
+        generation: 1,
+        id: CommitId {
+            began: 1,
+            session: Name::copied(alloc, b"a")?,
+            txn: before,
+        },
+        begin: 1,
+        level: Level::Snapshot,
+        changes: List::new(alloc),
+        records,
+    })
+}
+
+/// A record with an LSN: it puts its LSN as the one cell of the page whose turn it is.
+fn record_of(alloc: Global, log: &PagedLog, lsn: u64) -> Result<LogRecord, AllocError> {
+    let page = lsn % PAGES;
+    let after = Cell::from_slice(alloc, &lsn.to_be_bytes())?;
+    let mut prev = 0;
+    let mut edit = Edit::PutCell {
+        at: 0,
+        cell: after.clone()?,
+    };
+    if let Some(kept) = log.page(page) {
+        prev = kept.lsn();
+        if let Some(cell) = kept.cell(0) {
+            edit = Edit::SwapCell {
+                at: 0,
+                before: Cell::from_slice(alloc, cell)?,
+                after,
+            };
+        }
+    }
+    Ok(LogRecord {
+        lsn,
+        prev,
+        page,
+        edit,
+    })
+}
+
+/// How many records a grant of page 1 carries, ten links before its last.
+fn grant_one(alloc: Global, log: &PagedLog) -> Result<usize, AllocError> {
+    let chain = log.chain(1);
+    let place = chain.len().saturating_sub(11);
+    let position = match chain.get(place) {
+        Some(link) => link.position,
+        None => 0,
+    };
+    if position > log.entries().len() as u64 {
+        return Ok(0);
+    }
+    let grant = log.grant(alloc, 1, position)?;
+    Ok(grant.chain.len())
+}
+
+/// Drops the last ten entries; how many are left.
+fn drop_ten(alloc: Global, log: &mut PagedLog) -> Result<usize, AllocError> {
+    let kept = log.entries().len().saturating_sub(10) as u64;
+    log.drop_tail(alloc, kept)?;
+    Ok(log.entries().len())
+}
