@@ -64,6 +64,3 @@ pub use inserts::{InsertFault, insert};
 pub use laws::trees_have_one_list;
 pub use removes::remove;
 pub use scans::scan;
-
-#[cfg(test)]
-mod tests;

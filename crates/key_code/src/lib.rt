@@ -44,6 +44,3 @@ pub use keys::{decode_key, encode_key};
 pub use laws::{codes_have_their_sizes, key_codes_keep_order, key_codes_tell, row_codes_tell};
 pub use rows::{decode_row, encode_row};
 pub use sizes::{key_size, row_size};
-
-#[cfg(test)]
-mod tests;

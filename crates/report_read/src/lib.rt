@@ -42,8 +42,6 @@ mod items;
 mod laws;
 mod reading;
 mod replies;
-#[cfg(test)]
-mod tests;
 mod values;
 mod words;
 

@@ -59,8 +59,6 @@
 
 mod printing;
 mod reports;
-#[cfg(test)]
-mod tests;
 
 pub use printing::print;
 pub use reports::{EntryLine, FeedLine, Line, ReplyLine, Report};

@@ -4,8 +4,6 @@
 mod answers;
 mod running;
 mod statuses;
-#[cfg(test)]
-mod tests;
 
 pub use running::run;
 pub use statuses::{Outside, Status, exit_status};

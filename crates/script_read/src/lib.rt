@@ -63,6 +63,3 @@ pub use laws::{later_bytes_do_not_matter, scripts_are_lawful, scripts_can_run};
 pub use reading::read_script;
 pub use script_form::{Act, BodyLine, Moment, Script, SessionLine, TableLine};
 pub use scripts::ScriptStop;
-
-#[cfg(test)]
-mod tests;

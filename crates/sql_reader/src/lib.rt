@@ -143,8 +143,3 @@ pub fn read_create(alloc: Global, text: &str) -> Result<CreateTable, ReadStop>
         Err(stop) => Err(stopped(&spots, text.len() as u32, stop)),
     }
 }
-
-#[cfg(test)]
-mod second_reader;
-#[cfg(test)]
-mod tests;

@@ -48,6 +48,3 @@ mod reading;
 
 pub use laws::{definitions_are_spelled, keys_are_over_their_columns, tables_are_lawful};
 pub use reading::{TableStop, read_table};
-
-#[cfg(test)]
-mod tests;

@@ -1,0 +1,11 @@
+//! Only tests: runs with their reports, scripts that are drawn by seeds, and a second, slower computation of their reports.
+#![tactic(auto)]
+
+#[cfg(test)]
+mod drawn;
+#[cfg(test)]
+mod runs;
+#[cfg(test)]
+mod slow;
+#[cfg(test)]
+mod tests;

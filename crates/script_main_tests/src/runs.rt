@@ -1,0 +1,334 @@
+//! The whole run over the objects in memory: the worked runs, refusals by their lines, and faults.
+
+ghost use Rattle.std.specs.Prelude.{Some};
+
+use cdb_outside::{Failed, MemSink, MemSource, MemStore, Sink, Source};
+use script_main::{Outside, Status, run};
+use std::alloc::{AllocError, Global};
+use std::test::Fail;
+
+/// Two sessions and a table.
+const HEAD: &str =
+    "nodes 1\nsession a 1\nsession b 1\ncreate table t(id integer primary key, v integer)\n";
+
+/// The words of a command.
+fn words(alloc: Global, words: &[&str]) -> Result<Vec<String>, AllocError> {
+    let mut owned = Vec::new(alloc);
+    for word in words {
+        owned.push(String::from_str(alloc, word)?)?;
+    }
+    Ok(owned)
+}
+
+/// The status of a run over a source and a sink, with one empty store and no consumer.
+fn status_of<S: Source + Drop, K: Sink + Drop>(
+    alloc: Global,
+    said: &[&str],
+    source: S,
+    sink: K,
+) -> Result<(Status, K), AllocError> {
+    let said = words(alloc, said)?;
+    let store = MemStore::new(Vec::new(alloc), Vec::new(alloc), None, 0);
+    let mut outside: Outside<S, K, MemStore> = Outside {
+        source,
+        sink,
+        stores: vec![in alloc; store]?,
+        consumers: Vec::new(alloc),
+    };
+    let status = run(alloc, said.as_slice(), &mut outside);
+    let Outside { sink, .. } = outside;
+    Ok((status, sink))
+}
+
+/// What a run over a script answers and writes.
+fn played(alloc: Global, said: &[&str], script: &[u8]) -> Result<(Status, Vec<u8>), AllocError> {
+    let source = MemSource::new(Vec::from_slice(alloc, script)?, Vec::new(alloc));
+    let (status, sink) = status_of(alloc, said, source, MemSink::new(alloc, Vec::new(alloc)))?;
+    Ok((status, Vec::from_slice(alloc, sink.taken())?))
+}
+
+/// These lines, which are parted by ` ; `, each ended by LF.
+fn lines(alloc: Global, parted: &str) -> Result<String, AllocError> {
+    let mut ended = String::new(alloc);
+    for line in parted.split(" ; ") {
+        ended.push_str(line)?;
+        ended.push_str("\n")?;
+    }
+    Ok(ended)
+}
+
+/// What is written for these lines behind the head.
+fn reported(alloc: Global, body: &str) -> Result<String, AllocError> {
+    let body = lines(alloc, body)?;
+    let script = format!(in alloc; "{HEAD}{body}")?;
+    let (_, text) = played(alloc, &["play"], script.as_bytes())?;
+    format!(in alloc;
+        "{}",
+        String::from_utf8_lossy(alloc, text.as_slice())?.as_str()
+    )
+}
+
+const WORKED: &[u8] =
+    b"a 1 begin 1\na 1 changed 1\na 1 committed 2\na 2 begin 2\na 2 row 1|10\na 2 done 1\na 2 committed 2\nentry 1 schema\nentry 2 a 1 1 snapshot\nend 2\n";
+
+#[test]
+fn one_script_in_three_spellings(rt: HostRuntime) -> Result<(), Fail> {
+    let scripts = [
+        b"nodes 1\nsession a 1\ncreate table t(id integer primary key, v integer)\na: insert into t values(1, 10)\na: select * from t".as_slice(),
+        b"nodes 1\r\nsession a 1\r\ncreate table t(id integer primary key, v integer)\r\na: insert into t values(1, 10)\r\na: select * from t\r\n".as_slice(),
+        b"# a comment\n\n  nodes\t1 \nsession  a 1\n \t\nCREATE TABLE t ( id int PRIMARY KEY , v integer ) ;\n#\na:insert into t values ( 1 , 10 )\na:  select*from t\n".as_slice(),
+    ];
+    for script in scripts {
+        let (status, text) = played(rt.alloc(), &["play"], script)?;
+        assert_eq!(rt; status, Status::Done);
+        assert_eq!(rt; text.as_slice(), WORKED);
+    }
+    Ok(())
+}
+
+/// What is said behind the head, and what is reported.
+static ROWS: [(&str, &str); 10] = [
+    // An insert and a select, each a transaction of its own.
+    (
+        "a: insert into t values(1, 10) ; a: select * from t",
+        "a 1 begin 1 ; a 1 changed 1 ; a 1 committed 2 ; a 2 begin 2 ; a 2 row 1|10 ; a 2 done 1 ; a 2 committed 2 ; entry 1 schema ; entry 2 a 1 1 snapshot ; end 2",
+    ),
+    // Two updates of one row: the second commit would lose the first.
+    (
+        "a: insert into t values(1, 10) ; a: begin ; b: begin ; a: update t set v = 11 where id = 1 ; b: update t set v = 12 where id = 1 ; a: commit ; b: commit",
+        "a 1 begin 1 ; a 1 changed 1 ; a 1 committed 2 ; a 2 begin 2 ; b 1 begin 2 ; a 2 changed 1 ; b 1 changed 1 ; a 2 committed 3 ; b 1 conflict 3 genid t 1 ; entry 1 schema ; entry 2 a 1 1 snapshot ; entry 3 a 2 2 snapshot ; end 3",
+    ),
+    // A duplicate key; then the key freed and taken again within one transaction.
+    (
+        "a: begin ; a: insert into t values(1, 1) ; b: insert into t values(1, 2) ; a: commit ; a: begin ; a: delete from t where id = 1 ; a: insert into t values(1, 3) ; a: commit",
+        "a 1 begin 1 ; a 1 changed 1 ; b 1 begin 1 ; b 1 changed 1 ; b 1 committed 2 ; a 1 duplicate 2 t pk ; a 2 begin 2 ; a 2 changed 1 ; a 2 changed 1 ; a 2 committed 3 ; entry 1 schema ; entry 2 b 1 1 snapshot ; entry 3 a 2 2 snapshot ; end 3",
+    ),
+    // A transaction reads its own writes, and commits where it began since it undid them.
+    (
+        "a: insert into t values(1, 10) ; a: begin ; a: insert into t values(2, 20) ; a: update t set v = 21 where id = 2 ; a: select * from t ; a: delete from t where id = 2 ; a: select * from t ; a: commit",
+        "a 1 begin 1 ; a 1 changed 1 ; a 1 committed 2 ; a 2 begin 2 ; a 2 changed 1 ; a 2 changed 1 ; a 2 row 1|10 ; a 2 row 2|21 ; a 2 done 2 ; a 2 changed 1 ; a 2 row 1|10 ; a 2 done 1 ; a 2 committed 2 ; entry 1 schema ; entry 2 a 1 1 snapshot ; end 2",
+    ),
+    // A second row of a key; the run goes on, and the next transaction begins there.
+    (
+        "a: insert into t values(1, 10) ; a: insert into t values(1, 20) ; b: select * from t where id = 1",
+        "a 1 begin 1 ; a 1 changed 1 ; a 1 committed 2 ; a 2 begin 2 ; a 2 changed 1 ; a 2 duplicate 2 t pk ; b 1 begin 2 ; b 1 row 1|10 ; b 1 done 1 ; b 1 committed 2 ; entry 1 schema ; entry 2 a 1 1 snapshot ; end 2",
+    ),
+    // A snapshot does not move, and one that only read commits where it began.
+    (
+        "a: insert into t values(1, 10) ; a: begin ; b: update t set v = 11 ; a: select * from t ; a: commit ; a: select * from t",
+        "a 1 begin 1 ; a 1 changed 1 ; a 1 committed 2 ; a 2 begin 2 ; b 1 begin 2 ; b 1 changed 1 ; b 1 committed 3 ; a 2 row 1|10 ; a 2 done 1 ; a 2 committed 2 ; a 3 begin 3 ; a 3 row 1|11 ; a 3 done 1 ; a 3 committed 3 ; entry 1 schema ; entry 2 a 1 1 snapshot ; entry 3 b 1 2 snapshot ; end 3",
+    ),
+    // What is rolled back was never there; a transaction that is open at the end is dropped.
+    (
+        "a: begin ; a: insert into t values(1, 10) ; a: rollback ; a: select * from t ; b: begin ; b: insert into t values(1, 20)",
+        "a 1 begin 1 ; a 1 changed 1 ; a 1 rolledback ; a 2 begin 1 ; a 2 done 0 ; a 2 committed 1 ; b 1 begin 1 ; b 1 changed 1 ; entry 1 schema ; end 1",
+    ),
+    // Lines that do not fit change nothing, and the numbers go on from there.
+    (
+        "a: commit ; a: rollback ; a: set transaction snapshot ; a: begin ; a: begin ; a: set transaction snapshot ; a: insert into t values(1, 10) ; a: commit",
+        "a 0 error state ; a 0 error state ; a 0 level snapshot ; a 1 begin 1 ; a 1 error state ; a 1 error state ; a 1 changed 1 ; a 1 committed 2 ; entry 1 schema ; entry 2 a 1 1 snapshot ; end 2",
+    ),
+    // Two updates exchange two keys: keys are tested on the rows after the last operation.
+    (
+        "a: begin ; a: insert into t values(1, 10) ; a: insert into t values(2, 20) ; a: commit ; a: begin ; a: update t set id = 2 where v = 10 ; a: update t set id = 1 where v = 20 ; a: commit ; a: select * from t",
+        "a 1 begin 1 ; a 1 changed 1 ; a 1 changed 1 ; a 1 committed 2 ; a 2 begin 2 ; a 2 changed 1 ; a 2 changed 1 ; a 2 committed 3 ; a 3 begin 3 ; a 3 row 2|10 ; a 3 row 1|20 ; a 3 done 2 ; a 3 committed 3 ; entry 1 schema ; entry 2 a 1 1 snapshot ; entry 3 a 2 2 snapshot ; end 3",
+    ),
+    // A transaction with a conflict and a broken key is told the conflict: the first entry
+    // that took one of its versions, and of these the first that it used itself.
+    (
+        "a: insert into t values(1, 10) ; a: insert into t values(2, 20) ; b: begin ; b: delete from t where id = 2 ; b: delete from t where id = 1 ; b: insert into t values(3, 0) ; a: update t set v = 11 where id = 1 ; a: update t set v = 21 where id = 2 ; a: insert into t values(3, 30) ; b: commit",
+        "a 1 begin 1 ; a 1 changed 1 ; a 1 committed 2 ; a 2 begin 2 ; a 2 changed 1 ; a 2 committed 3 ; b 1 begin 3 ; b 1 changed 1 ; b 1 changed 1 ; b 1 changed 1 ; a 3 begin 3 ; a 3 changed 1 ; a 3 committed 4 ; a 4 begin 4 ; a 4 changed 1 ; a 4 committed 5 ; a 5 begin 5 ; a 5 changed 1 ; a 5 committed 6 ; b 1 conflict 4 genid t 1 ; entry 1 schema ; entry 2 a 1 1 snapshot ; entry 3 a 2 2 snapshot ; entry 4 a 3 3 snapshot ; entry 5 a 4 4 snapshot ; entry 6 a 5 5 snapshot ; end 6",
+    ),
+];
+
+#[test]
+fn worked_scripts_have_their_reports(rt: HostRuntime) -> Result<(), Fail> {
+    for (body, report) in &ROWS {
+        let text = reported(rt.alloc(), *body)?;
+        let want = lines(rt.alloc(), *report)?;
+        assert_eq!(rt; text.as_str(), want.as_str(), "for {body}");
+    }
+    Ok(())
+}
+
+#[test]
+fn scripts_are_refused_at_their_lines(rt: HostRuntime) -> Result<(), Fail> {
+    let cases = [
+        (b"".as_slice(), 1, 4),
+        (b"# nothing\n\n".as_slice(), 3, 4),
+        (b"\xff".as_slice(), 1, 1),
+        (b"hello\n".as_slice(), 1, 3),
+        (b"nodes 01\n".as_slice(), 1, 3),
+        (b"NODES 1\n".as_slice(), 1, 3),
+        (b"nodes 1\nhello\n".as_slice(), 2, 3),
+        (b"nodes 1\nnodes 1\n".as_slice(), 2, 3),
+        (b"nodes 8\n".as_slice(), 1, 4),
+        (b"nodes 2\n".as_slice(), 1, 8),
+        (b"nodes 1\nsession a 1\nsession a 1\n".as_slice(), 3, 5),
+        (b"nodes 1\nsession A 2\n".as_slice(), 2, 5),
+        (b"nodes 1\nsession a 2\n".as_slice(), 2, 6),
+        (b"nodes 1\ncreate table t(id real)\n".as_slice(), 2, 7),
+        (
+            b"nodes 1\ncreate table t(c integer, c integer)\n".as_slice(),
+            2,
+            7,
+        ),
+        (b"nodes 1\nworkers 65\nhello\n".as_slice(), 2, 8),
+        (b"nodes 1\nworkers 1\n\xff".as_slice(), 2, 10),
+        (b"nodes 1\ncreate table t(c text)\n".as_slice(), 2, 10),
+        (
+            b"nodes 1\nsession a 1\ncreate table t(c integer)\na: \xff\n".as_slice(),
+            4,
+            1,
+        ),
+    ];
+    for (script, line, why) in cases {
+        let (status, text) = played(rt.alloc(), &["play"], script)?;
+        assert_eq!(rt; status, Status::Refused { line, why });
+        let want = format!(in rt.alloc(); "refused {line} {why}\n")?;
+        assert_eq!(rt; text.as_slice(), want.as_bytes());
+    }
+    Ok(())
+}
+
+#[test]
+fn lines_are_refused_in_the_body(rt: HostRuntime) -> Result<(), Fail> {
+    let bodies = [
+        ("a : select * from t", 3),
+        ("arm a row 0", 3),
+        ("c: select * from t", 5),
+        ("arm c ship", 5),
+        ("stop 2", 6),
+        ("watch t", 8),
+        ("a:", 10),
+        ("a: select * from u", 10),
+        ("a: select * from t where w = 1", 10),
+        ("a: update t set w = 1", 10),
+        ("a: insert into t values(1)", 10),
+        ("a: insert into t values(9223372036854775808, 1)", 10),
+        ("a: insert into t values(1, -9223372036854775809)", 10),
+        ("a: SELECT * from t", 10),
+        ("a: select * from t;", 10),
+        ("a: set transaction serializable", 10),
+        ("stop 1", 10),
+        ("barrier", 10),
+    ];
+    for (body, why) in bodies {
+        let text = reported(rt.alloc(), body)?;
+        let want = format!(in rt.alloc(); "refused 5 {why}\n")?;
+        assert_eq!(rt; text.as_str(), want.as_str(), "for {body}");
+    }
+    Ok(())
+}
+
+/// Whether these words get the usage line.
+fn gets_usage(alloc: Global, said: &[&str]) -> Result<bool, AllocError> {
+    let (status, text) = played(alloc, said, b"")?;
+    let usage = b"usage: cdb play|run|fill N [--stores DIR]\n".as_slice();
+    Ok(status == Status::Usage && text.as_slice() == usage)
+}
+
+#[test]
+fn words_that_are_no_command_get_the_usage_line(rt: HostRuntime) -> Result<(), Fail> {
+    assert!(rt; gets_usage(rt.alloc(), &[])?);
+    assert!(rt; gets_usage(rt.alloc(), &["plat"])?);
+    assert!(rt; gets_usage(rt.alloc(), &["--help"])?);
+    assert!(rt; gets_usage(rt.alloc(), &["play", "play"])?);
+    Ok(())
+}
+
+#[test]
+fn a_source_that_fails_leaves_nothing_written(rt: HostRuntime) -> Result<(), Fail> {
+    let alloc = rt.alloc();
+    for call in [1, 2] {
+        let fails = vec![in alloc; call]?;
+        let source = MemSource::new(Vec::from_slice(alloc, HEAD.as_bytes())?, fails);
+        let (status, sink) = status_of(
+            alloc,
+            &["play"],
+            source,
+            MemSink::new(alloc, Vec::new(alloc)),
+        )?;
+        assert_eq!(rt; status, Status::ReadFault);
+        assert_eq!(rt; sink.taken(), b"".as_slice());
+    }
+    Ok(())
+}
+
+/// A sink that takes at most 4 bytes a call and 10 in all, and then fails.
+#[derive(Drop)]
+struct TenBytes {
+    bytes: Vec<u8>,
+    faults: u64,
+}
+
+impl Sink for TenBytes {
+    ghost taken = { λ s. Some s.bytes.items };
+
+    ghost faults = { λ s. s.faults };
+
+    fn write(&mut self, bytes: &[u8]) -> Result<usize, Failed> {
+        let room = 10usize.saturating_sub(self.bytes.len()).min(4);
+        let count = room.min(bytes.len());
+        let refused = count == 0 && !bytes.is_empty();
+        if refused || self.bytes.extend_from_slice(&bytes[..count]).is_err() {
+            self.faults = self.faults.saturating_add(1);
+            return Err(Failed);
+        }
+        Ok(count)
+    }
+}
+
+#[test]
+fn a_sink_that_fails_has_taken_a_front(rt: HostRuntime) -> Result<(), Fail> {
+    let alloc = rt.alloc();
+    let script = format!(in alloc; "{HEAD}a: select * from t\n")?;
+    let source = MemSource::new(Vec::from_slice(alloc, script.as_bytes())?, Vec::new(alloc));
+    let ten = TenBytes {
+        bytes: Vec::new(alloc),
+        faults: 0,
+    };
+    let (status, sink) = status_of(alloc, &["play"], source, ten)?;
+    assert_eq!(rt; status, Status::WriteFault);
+    assert_eq!(rt; sink.bytes.as_slice(), b"a 1 begin ".as_slice());
+    Ok(())
+}
+
+/// The status and the output of a run over a script that begins with one comment of so many bytes.
+fn after_comment(alloc: Global, length: usize) -> Result<Status, AllocError> {
+    let mut script = Vec::new(alloc);
+    for _ in 0..length {
+        script.push(b'#')?;
+    }
+    script.extend_from_slice(b"\nnodes 1\n")?;
+    let (status, _) = played(alloc, &["play"], script.as_slice())?;
+    Ok(status)
+}
+
+/// The status of a run over a table with so many columns, and one row.
+fn wide(alloc: Global, columns: usize) -> Result<Status, AllocError> {
+    let mut names = String::from_str(alloc, "c0 integer")?;
+    let mut values = String::from_str(alloc, "0")?;
+    for i in 1..columns {
+        names.push_str(format!(in alloc; ", c{i} integer")?.as_str())?;
+        values.push_str(", 0")?;
+    }
+    let script = format!(in alloc;
+        "nodes 1\nsession a 1\ncreate table t({names})\na: insert into t values({values})\n"
+    )?;
+    let (status, _) = played(alloc, &["play"], script.as_bytes())?;
+    Ok(status)
+}
+
+#[test]
+fn limits_hold_to_the_byte_and_the_column(rt: HostRuntime) -> Result<(), Fail> {
+    let alloc = rt.alloc();
+    assert_eq!(rt; after_comment(alloc, 65535)?, Status::Done);
+    assert_eq!(rt;
+        after_comment(alloc, 65536)?,
+        Status::Refused { line: 1, why: 2 }
+    );
+    assert_eq!(rt; wide(alloc, 64)?, Status::Done);
+    assert_eq!(rt; wide(alloc, 65)?, Status::Refused { line: 3, why: 8 });
+    Ok(())
+}
