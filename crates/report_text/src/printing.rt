@@ -1,6 +1,9 @@
-ghost use Rattle.std.specs.Prelude.{◌≡◌, ◌+◌, ◌++◌, ◌∷◌, ◌/◌, ◌%◌, ◌<◌, [], OnOk, IfOk, codes};
+ghost use Rattle.std.specs.Prelude.{◌≡◌, ◌+◌, ◌++◌, ◌∷◌, ◌/◌, ◌%◌, ◌<◌, [], OnOk, IfOk, IfSome, codes};
 ghost use Rattle.std.specs.Fmt.{decimal, signed_decimal};
+ghost use Rattle.std.specs.List.{AllByRecursion};
+ghost use Rattle.report_text.specs.Grammar.{IsNumber, IsError};
 ghost use Rattle.report_text.specs.Text.{value_text, values_text, more_values, quoted, hexadecimal, hex_digit, level_text, error_text, reply_text, number_then, cause_text, words_of, entry_words, feed_words, ended, base_text, end_text, lines_text, entries_text, feeds_text, report_text};
+ghost use Rattle.report_text.specs.Types.{FitsReply, FitsLine, FitsEntry, FitsFeed, FitsTypes};
 
 use super::reports::{EntryLine, FeedLine, Line, ReplyLine, Report};
 use cdb_values::{Bytes, Level, Name, StatementError, Value};
@@ -9,7 +12,10 @@ use std::alloc::{AllocError, Global};
 /// The text of a report, its one spelling.
 #[tactic(auto, unfolding(crate::specs::Text::report_text))]
 pub fn print(alloc: Global, report: &Report) -> Result<Bytes, AllocError>
-    ensures { IfOk result (λ text. text ≡ report_text report.now) }
+    // The bytes are the report's text.
+    ensures text { IfOk result (λ text. text ≡ report_text report.now) }
+    // Each number of the report is one of its type.
+    ensures fits { IfOk result (λ _. FitsTypes report.now) }
 {
     let mut out = Vec::new(alloc);
     put_lines(alloc, &mut out, report.lines.as_slice())?;
@@ -22,7 +28,8 @@ pub fn print(alloc: Global, report: &Report) -> Result<Bytes, AllocError>
 
 /// Each line, ended.
 fn put_lines(alloc: Global, out: &mut Vec<u8>, lines: &[Line]) -> Result<(), AllocError>
-    ensures { OnOk result (out.new.items ≡ out.old.items ++ lines_text lines.now) }
+    ensures text { OnOk result (out.new.items ≡ out.old.items ++ lines_text lines.now) }
+    ensures fits { OnOk result (AllByRecursion FitsLine lines.now) }
 {
     let mut rest = lines;
     'lines: while let Some((line, after)) = rest.split_first() {
@@ -35,7 +42,8 @@ fn put_lines(alloc: Global, out: &mut Vec<u8>, lines: &[Line]) -> Result<(), All
 
 /// A line without its end.
 fn put_words(alloc: Global, out: &mut Vec<u8>, line: &Line) -> Result<(), AllocError>
-    ensures { OnOk result (out.new.items ≡ out.old.items ++ words_of line.now) }
+    ensures text { OnOk result (out.new.items ≡ out.old.items ++ words_of line.now) }
+    ensures fits { OnOk result (FitsLine line.now) }
 {
     match line {
         Line::Session { name, txn, reply } => {
@@ -68,7 +76,8 @@ fn put_cause(out: &mut Vec<u8>, fault: bool) -> Result<(), AllocError>
 
 /// What a session was answered.
 fn put_reply(alloc: Global, out: &mut Vec<u8>, reply: &ReplyLine) -> Result<(), AllocError>
-    ensures { OnOk result (out.new.items ≡ out.old.items ++ reply_text reply.now) }
+    ensures text { OnOk result (out.new.items ≡ out.old.items ++ reply_text reply.now) }
+    ensures fits { OnOk result (FitsReply reply.now) }
 {
     match reply {
         ReplyLine::Begin(position) => put_numbered(alloc, out, b"begin ", *position),
@@ -212,7 +221,8 @@ fn put_level(out: &mut Vec<u8>, level: Level) -> Result<(), AllocError>
 
 /// A statement's error.
 fn put_error(alloc: Global, out: &mut Vec<u8>, cause: StatementError) -> Result<(), AllocError>
-    ensures { OnOk result (out.new.items ≡ out.old.items ++ (codes "error " ++ error_text cause)) }
+    ensures text { OnOk result (out.new.items ≡ out.old.items ++ (codes "error " ++ error_text cause)) }
+    ensures fits { OnOk result (IsError cause) }
 {
     put_bytes(out, b"error ")?;
     put_cause_of_error(alloc, out, cause)
@@ -224,7 +234,8 @@ fn put_cause_of_error(
     out: &mut Vec<u8>,
     cause: StatementError,
 ) -> Result<(), AllocError>
-    ensures { OnOk result (out.new.items ≡ out.old.items ++ error_text cause) }
+    ensures text { OnOk result (out.new.items ≡ out.old.items ++ error_text cause) }
+    ensures fits { OnOk result (IsError cause) }
 {
     match cause {
         StatementError::Syntax { at } => put_numbered(alloc, out, b"syntax ", u64::from(at)),
@@ -248,14 +259,14 @@ fn put_genid(
     table: &Name,
     genid: u64,
 ) -> Result<(), AllocError>
-    ensures { OnOk result (out.new.items ≡ out.old.items ++ reply_text (ReplyLine.ConflictGenid position table.now genid)) }
+    ensures text { OnOk result (out.new.items ≡ out.old.items ++ reply_text (ReplyLine.ConflictGenid position table.now genid)) }
+    ensures fits { OnOk result (IsNumber position × IsNumber genid) }
 {
     put_bytes(out, b"conflict ")?;
     put_number(alloc, out, position)?;
     put_bytes(out, b"genid ")?;
     put_name(out, table)?;
-    let text = genid.to_string(alloc)?;
-    put_bytes(out, text.as_bytes())
+    put_digits(alloc, out, genid)
 }
 
 /// A conflict over a range.
@@ -266,7 +277,8 @@ fn put_range(
     table: &Name,
     key: &Name,
 ) -> Result<(), AllocError>
-    ensures { OnOk result (out.new.items ≡ out.old.items ++ reply_text (ReplyLine.ConflictRange position table.now key.now)) }
+    ensures text { OnOk result (out.new.items ≡ out.old.items ++ reply_text (ReplyLine.ConflictRange position table.now key.now)) }
+    ensures fits { OnOk result (IsNumber position) }
 {
     put_bytes(out, b"conflict ")?;
     put_number(alloc, out, position)?;
@@ -283,7 +295,8 @@ fn put_duplicate(
     table: &Name,
     key: &Name,
 ) -> Result<(), AllocError>
-    ensures { OnOk result (out.new.items ≡ out.old.items ++ reply_text (ReplyLine.Duplicate position table.now key.now)) }
+    ensures text { OnOk result (out.new.items ≡ out.old.items ++ reply_text (ReplyLine.Duplicate position table.now key.now)) }
+    ensures fits { OnOk result (IsNumber position) }
 {
     put_bytes(out, b"duplicate ")?;
     put_number(alloc, out, position)?;
@@ -299,30 +312,39 @@ fn put_pair(
     first: u64,
     second: u64,
 ) -> Result<(), AllocError>
-    ensures { OnOk result (out.new.items ≡ out.old.items ++ (word.now ++ number_then first (decimal second))) }
+    ensures text { OnOk result (out.new.items ≡ out.old.items ++ (word.now ++ number_then first (decimal second))) }
+    ensures fits { OnOk result (IsNumber first × IsNumber second) }
 {
     put_bytes(out, word)?;
     put_number(alloc, out, first)?;
-    let text = second.to_string(alloc)?;
-    put_bytes(out, text.as_bytes())
+    put_digits(alloc, out, second)
 }
 
 /// A word and a number.
 fn put_numbered(alloc: Global, out: &mut Vec<u8>, word: &[u8], n: u64) -> Result<(), AllocError>
-    ensures { OnOk result (out.new.items ≡ out.old.items ++ (word.now ++ decimal n)) }
+    ensures text { OnOk result (out.new.items ≡ out.old.items ++ (word.now ++ decimal n)) }
+    ensures fits { OnOk result (IsNumber n) }
 {
     put_bytes(out, word)?;
-    let text = n.to_string(alloc)?;
-    put_bytes(out, text.as_bytes())
+    put_digits(alloc, out, n)
 }
 
 /// A number and a space.
 fn put_number(alloc: Global, out: &mut Vec<u8>, n: u64) -> Result<(), AllocError>
-    ensures { OnOk result (out.new.items ≡ out.old.items ++ (decimal n ++ 32 ∷ [])) }
+    ensures text { OnOk result (out.new.items ≡ out.old.items ++ (decimal n ++ 32 ∷ [])) }
+    ensures fits { OnOk result (IsNumber n) }
+{
+    put_digits(alloc, out, n)?;
+    put_bytes(out, b" ")
+}
+
+/// A number.
+fn put_digits(alloc: Global, out: &mut Vec<u8>, n: u64) -> Result<(), AllocError>
+    ensures text { OnOk result (out.new.items ≡ out.old.items ++ decimal n) }
+    ensures fits { OnOk result (IsNumber n) }
 {
     let text = n.to_string(alloc)?;
-    put_bytes(out, text.as_bytes())?;
-    put_bytes(out, b" ")
+    put_bytes(out, text.as_bytes())
 }
 
 /// A name and a space.
@@ -342,7 +364,8 @@ fn put_bytes(out: &mut Vec<u8>, bytes: &[u8]) -> Result<(), AllocError>
 
 /// The base, where there is one.
 fn put_base(alloc: Global, out: &mut Vec<u8>, base: Option<u64>) -> Result<(), AllocError>
-    ensures { OnOk result (out.new.items ≡ out.old.items ++ base_text base) }
+    ensures text { OnOk result (out.new.items ≡ out.old.items ++ base_text base) }
+    ensures fits { OnOk result (IfSome base IsNumber) }
 {
     match base {
         None => Ok(()),
@@ -355,7 +378,8 @@ fn put_base(alloc: Global, out: &mut Vec<u8>, base: Option<u64>) -> Result<(), A
 
 /// Each entry, ended.
 fn put_entries(alloc: Global, out: &mut Vec<u8>, entries: &[EntryLine]) -> Result<(), AllocError>
-    ensures { OnOk result (out.new.items ≡ out.old.items ++ entries_text entries.now) }
+    ensures text { OnOk result (out.new.items ≡ out.old.items ++ entries_text entries.now) }
+    ensures fits { OnOk result (AllByRecursion FitsEntry entries.now) }
 {
     let mut rest = entries;
     'entries: while let Some((entry, after)) = rest.split_first() {
@@ -368,7 +392,8 @@ fn put_entries(alloc: Global, out: &mut Vec<u8>, entries: &[EntryLine]) -> Resul
 
 /// An entry without its end.
 fn put_entry(alloc: Global, out: &mut Vec<u8>, entry: &EntryLine) -> Result<(), AllocError>
-    ensures { OnOk result (out.new.items ≡ out.old.items ++ entry_words entry.now) }
+    ensures text { OnOk result (out.new.items ≡ out.old.items ++ entry_words entry.now) }
+    ensures fits { OnOk result (FitsEntry entry.now) }
 {
     put_bytes(out, b"entry ")?;
     match entry {
@@ -394,7 +419,8 @@ fn put_entry(alloc: Global, out: &mut Vec<u8>, entry: &EntryLine) -> Result<(), 
 
 /// Each feed, ended.
 fn put_feeds(alloc: Global, out: &mut Vec<u8>, feeds: &[FeedLine]) -> Result<(), AllocError>
-    ensures { OnOk result (out.new.items ≡ out.old.items ++ feeds_text feeds.now) }
+    ensures text { OnOk result (out.new.items ≡ out.old.items ++ feeds_text feeds.now) }
+    ensures fits { OnOk result (AllByRecursion FitsFeed feeds.now) }
 {
     let mut rest = feeds;
     'feeds: while let Some((feed, after)) = rest.split_first() {
@@ -407,19 +433,20 @@ fn put_feeds(alloc: Global, out: &mut Vec<u8>, feeds: &[FeedLine]) -> Result<(),
 
 /// A feed without its end.
 fn put_feed(alloc: Global, out: &mut Vec<u8>, feed: &FeedLine) -> Result<(), AllocError>
-    ensures { OnOk result (out.new.items ≡ out.old.items ++ feed_words feed.now) }
+    ensures text { OnOk result (out.new.items ≡ out.old.items ++ feed_words feed.now) }
+    ensures fits { OnOk result (FitsFeed feed.now) }
 {
     put_bytes(out, b"feed ")?;
     put_number(alloc, out, feed.place)?;
     put_name(out, &feed.table)?;
     put_number(alloc, out, feed.taken)?;
-    let text = feed.dropped.to_string(alloc)?;
-    put_bytes(out, text.as_bytes())
+    put_digits(alloc, out, feed.dropped)
 }
 
 /// The length of the history.
 fn put_end(alloc: Global, out: &mut Vec<u8>, position: u64) -> Result<(), AllocError>
-    ensures { OnOk result (out.new.items ≡ out.old.items ++ end_text position) }
+    ensures text { OnOk result (out.new.items ≡ out.old.items ++ end_text position) }
+    ensures fits { OnOk result (IsNumber position) }
 {
     put_numbered(alloc, out, b"end ", position)?;
     put_bytes(out, b"\n")
