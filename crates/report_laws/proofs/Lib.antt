@@ -13,6 +13,7 @@ pub mod PieceLemmas
 pub mod PlainLemmas
 pub mod RestLemmas
 pub mod SoFarLemmas
+pub mod SpelledLemmas
 pub mod ToldLemmas
 pub mod TurnedLemmas
 pub mod WorkLemmas

@@ -8,5 +8,6 @@ pub mod One
 pub mod Outcome
 pub mod Paced
 pub mod Play
+pub mod Spelled
 pub mod Told
 pub mod Work

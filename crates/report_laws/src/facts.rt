@@ -8,6 +8,9 @@ ghost use Rattle.report_laws.specs.History.{Basis};
 ghost use Rattle.report_laws.specs.Lawful.{Lawful, NameUpTo};
 ghost use Rattle.report_laws.specs.One.{IsUncut};
 ghost use Rattle.report_laws.specs.Play.{InPlayOrder};
+ghost use Rattle.report_laws.specs.Spelled.{IsSpelled};
+ghost use Rattle.report_text.specs.Grammar.{IsReport};
+ghost use Rattle.report_text.specs.Types.{FitsTypes};
 ghost use Rattle.report_text.specs.declared.reports.EntryLine.{EntryLine};
 ghost use Rattle.report_text.specs.declared.reports.EntryLine.TheVariants as entries;
 ghost use Rattle.report_text.specs.declared.reports.Line.{Line};
@@ -45,4 +48,12 @@ pub fn transactions_stand_once()
 #[tactic(auto, using(crate::proofs::LawLemmas::schema_first))]
 pub fn the_schema_stands_first()
     ensures first { (basis : Basis) (report : Report) → basis.origin.position ≡ 0 → InPlayOrder basis report → (later : List EntryLine) × (report.entries ≡ entries.Setup 1 ∷ later) }
+{}
+
+/// A lawful report in the order of play, whose numbers fit their types, is of the grammar: what is printed of it
+/// is read again. What it is asked of: the language answers by rows of the grammar, the rows before the run are
+/// such, and sessions, tables and keys are called by names.
+#[tactic(auto, using(crate::proofs::SpelledLemmas::of_the_grammar))]
+pub fn reports_are_of_the_grammar()
+    ensures grammar { (basis : Basis) (report : Report) → IsSpelled basis → Lawful basis report → InPlayOrder basis report → FitsTypes report → IsReport report }
 {}

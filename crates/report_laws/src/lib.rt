@@ -15,11 +15,12 @@
 //! | the endings that cut a transaction short | `specs/Cut.antt` |
 //! | a report without a transaction that is cut short | `specs/One.antt` |
 //! | the last position of the history along a piece of lines | `specs/Paced.antt` |
+//! | names and rows of the grammar, in a report and in what it is told of | `specs/Spelled.antt` |
 #![tactic(auto)]
 
 mod facts;
 
 pub use facts::{
-    begins_reach_what_was_told, entries_are_told, reports_are_one, the_schema_stands_first,
-    transactions_stand_once,
+    begins_reach_what_was_told, entries_are_told, reports_are_of_the_grammar, reports_are_one,
+    the_schema_stands_first, transactions_stand_once,
 };

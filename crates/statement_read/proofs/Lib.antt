@@ -1,3 +1,5 @@
 pub mod IntegerLemmas
 pub mod ItemLemmas
 pub mod KindLemmas
+pub mod LiteralLemmas
+pub mod ValueLemmas

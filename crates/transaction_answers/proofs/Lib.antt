@@ -5,4 +5,5 @@ pub mod ConflictLemmas
 pub mod DecisionLemmas
 pub mod FitLemmas
 pub mod LanguageLemmas
+pub mod RowLemmas
 pub mod SoundLemmas

@@ -29,5 +29,5 @@ mod versions;
 
 pub use answers::{Answer, answer_text};
 pub use decisions::decide;
-pub use laws::statements_are_a_language;
+pub use laws::{statements_are_a_language, statements_keep_rows};
 pub use touches::items_taken;
