@@ -1,20 +1,63 @@
--- The text of a report that is lawful and in the order of play is what is written.
-use Rattle.std.proofs.Common.{◌≡◌, ℕ, List}
+-- The text of a report that is lawful and in the order of play is what is written; and the report is of the
+-- grammar, since the names of the script are names and the numbers of what was printed fit their types.
+use Rattle.std.proofs.Common.{◌≡◌, ℕ, List, [], ◌∷◌, map}
+use Rattle.std.specs.List.{AllByRecursion}
+use Rattle.cdb_values.specs.declared.tables.KeyDef.{KeyDef}
+use Rattle.cdb_values.specs.declared.tables.TableDef.{TableDef}
+use Rattle.script_form.specs.Named as script
+use Rattle.script_form.specs.declared.scripts.Act.{Act}
+use Rattle.script_form.specs.declared.scripts.Act.TheVariants as act
+use Rattle.script_form.specs.declared.scripts.BodyLine.{BodyLine}
 use Rattle.script_form.specs.declared.scripts.Script.{Script}
+use Rattle.script_form.specs.declared.scripts.TableLine.{TableLine}
 use Rattle.report_laws.specs.Lawful.{Lawful}
 use Rattle.report_laws.specs.Play.{InPlayOrder}
+use Rattle.report_laws.specs.Spelled.{IsNamedTable, SaysAsNamed, IsSpelled}
 use Rattle.report_laws.proofs.OneLemmas.{one_report}
+use Rattle.report_laws.proofs.SpelledLemmas.{of_the_grammar}
+use Rattle.report_text.specs.Grammar.{IsName, IsKey}
 use Rattle.report_text.specs.Text.{report_text}
+use Rattle.report_text.specs.Types.{FitsTypes}
 use Rattle.report_text.specs.declared.reports.Report.{Report}
 use Rattle.transaction_answers.specs.Answer.{from_nothing}
 use Rattle.transaction_answers.proofs.LanguageLemmas.{statements_answer}
+use Rattle.transaction_answers.proofs.RowLemmas.{statements_keep}
 use Rattle.script_main.specs.Run.{IsReported}
 
-pub reported : (script : Script) (report : Report) (text : List ℕ) → Lawful (from_nothing script) report → InPlayOrder (from_nothing script) report → text ≡ report_text report → IsReported script text
-reported script report text lawful in_order is = record {
+-- a name of a script is a name of a report
+
+named : (name : List ℕ) → script.IsName name → IsName name
+named name is = record { bytes = is.bytes; begun = is.begun; short = is.short }
+
+keys_named : (keys : List KeyDef) → AllByRecursion (λ (k : KeyDef). script.IsFreeKey k.name) keys → AllByRecursion (λ (k : KeyDef). IsKey k.name) keys
+keys_named [] all = tt
+keys_named (k ∷ ks) all = (record { name = named k.name all.0.name; one = all.0.one }, keys_named ks all.1)
+
+tables_named : (tables : List TableLine) → AllByRecursion (λ (t : TableLine). script.IsNamedTable t.table) tables → AllByRecursion IsNamedTable (map (λ (t : TableLine). t.table) tables)
+tables_named [] all = tt
+tables_named (t ∷ ts) all = ((named t.table.name all.0.0, keys_named t.table.keys all.0.1), tables_named ts all.1)
+
+says_named : (a : Act) → script.SaysNamed a → SaysAsNamed a
+says_named (act.Say session text) is = named session is
+says_named (act.Stop node) is = tt
+says_named (act.Start node) is = tt
+says_named (act.Arm session moment) is = tt
+says_named act.Barrier is = tt
+says_named act.Feed is = tt
+
+body_named : (body : List BodyLine) → AllByRecursion (λ (l : BodyLine). script.SaysNamed l.act) body → AllByRecursion (λ (l : BodyLine). SaysAsNamed l.act) body
+body_named [] all = tt
+body_named (l ∷ ls) all = (says_named l.act all.0, body_named ls all.1)
+
+pub spelled : (s : Script) → script.IsNamed s → IsSpelled (from_nothing s)
+spelled s is = record { language = statements_keep; rows = tt; tables = tables_named s.tables is.tables; body = body_named s.body is.body }
+
+pub reported : (s : Script) (report : Report) (text : List ℕ) → script.IsNamed s → Lawful (from_nothing s) report → InPlayOrder (from_nothing s) report → FitsTypes report → text ≡ report_text report → IsReported s text
+reported s report text names lawful in_order fits is = record {
   report = report;
   lawful = lawful;
   in_order = in_order;
-  one = λ other uncut lawful' in_order' uncut'. one_report (from_nothing script) report other statements_answer lawful in_order uncut lawful' in_order' uncut';
+  one = λ other uncut lawful' in_order' uncut'. one_report (from_nothing s) report other statements_answer lawful in_order uncut lawful' in_order' uncut';
+  is_report = of_the_grammar (from_nothing s) report (spelled s names) lawful in_order fits;
   is_text = is;
 }

@@ -13,6 +13,7 @@ use Rattle.script_form.specs.declared.scripts.Script.{Script}
 use Rattle.report_laws.specs.Lawful.{Lawful}
 use Rattle.report_laws.specs.One.{IsUncut}
 use Rattle.report_laws.specs.Play.{InPlayOrder}
+use Rattle.report_text.specs.Grammar.{IsReport}
 use Rattle.report_text.specs.Text.{report_text}
 use Rattle.transaction_answers.specs.Answer.{from_nothing}
 use Rattle.report_text.specs.declared.reports.Report.{Report}
@@ -31,14 +32,15 @@ usage_text = codes "usage: cdb play|run|fill N [--stores DIR]" ++ (10 ∷ [])
 abbrev pub refused_text : ℕ → ℕ → List ℕ
 refused_text line why = codes "refused " ++ (decimal line ++ (32 ∷ (decimal why ++ (10 ∷ []))))
 
--- the text of a report that is lawful over the script, the language of the statements that run and a
--- history that begins with the run, and whose lines stand in the order of play; where no transaction
--- is cut short, there is no other such report
+-- the text of a report of the grammar that is lawful over the script, the language of the statements that
+-- run and a history that begins with the run, and whose lines stand in the order of play; where no
+-- transaction is cut short, there is no other such report
 pub record IsReported (script : Script) (text : List ℕ) : Type 0 where
   pub report : Report
   pub lawful : Lawful (from_nothing script) report
   pub in_order : InPlayOrder (from_nothing script) report
   pub one : (other : Report) → IsUncut report → Lawful (from_nothing script) other → InPlayOrder (from_nothing script) other → IsUncut other → report ≡ other
+  pub is_report : IsReport report
   pub is_text : text ≡ report_text report
 
 -- the text that belongs to a status; the other statuses have none

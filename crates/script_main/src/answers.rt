@@ -2,6 +2,7 @@
 ghost use Rattle.std.specs.Prelude.{true, IfOk};
 ghost use Rattle.script_read.specs.Answers.{refusal};
 ghost use Rattle.script_form.specs.CanRun.{CanRun};
+ghost use Rattle.script_form.specs.Named.{IsNamed};
 ghost use Rattle.script_read.specs.ScriptText.{script_of};
 ghost use Rattle.script_main.specs.Run.{IsText};
 
@@ -10,7 +11,7 @@ use cdb_values::Bytes;
 use report_text::print;
 use script_form::Script;
 use script_play::play;
-use script_read::{ScriptStop, read_script, scripts_can_run};
+use script_read::{ScriptStop, read_script, scripts_can_run, scripts_have_names};
 use std::alloc::{AllocError, Global};
 
 /// A status, and the text that is to be written.
@@ -32,6 +33,7 @@ pub(crate) fn answer_script(
     match read_script(alloc, bytes, stores, consumers) {
         Ok(script) => {
             scripts_can_run();
+            scripts_have_names();
             played(alloc, &script)
         }
         Err(ScriptStop::Refused { line, why }) => refused(alloc, line, why),
@@ -43,6 +45,7 @@ pub(crate) fn answer_script(
 #[tactic(auto, using(crate::proofs::ReportedLemmas::reported))]
 fn played(alloc: Global, script: &Script) -> Result<Answer, AllocError>
     requires { CanRun script.now }
+    requires { IsNamed script.now }
     ensures { IfOk result (λ a. IsText true (Ok script.now) a.status a.text) }
 {
     let report = play(alloc, script)?;

@@ -3,6 +3,7 @@
 ghost use Rattle.std.specs.Prelude.{Some};
 
 use cdb_outside::{Failed, MemSink, MemSource, MemStore, Sink, Source};
+use report_read::read_report;
 use script_main::{Outside, Status, run};
 use std::alloc::{AllocError, Global};
 use std::test::Fail;
@@ -86,67 +87,222 @@ fn one_script_in_three_spellings(rt: HostRuntime) -> Result<(), Fail> {
     Ok(())
 }
 
-/// What is said behind the head, and what is reported.
-static ROWS: [(&str, &str); 10] = [
+/// A story: each line that is said behind the head beside what is told at it, and the history at the end.
+struct Story {
+    turns: &'static [(&'static str, &'static str)],
+    history: &'static str,
+}
+
+static STORIES: [Story; 10] = [
     // An insert and a select, each a transaction of its own.
-    (
-        "a: insert into t values(1, 10) ; a: select * from t",
-        "a 1 begin 1 ; a 1 changed 1 ; a 1 committed 2 ; a 2 begin 2 ; a 2 row 1|10 ; a 2 done 1 ; a 2 committed 2 ; entry 1 schema ; entry 2 a 1 1 snapshot ; end 2",
-    ),
+    Story {
+        turns: &[
+            (
+                "a: insert into t values(1, 10)",
+                "a 1 begin 1 ; a 1 changed 1 ; a 1 committed 2",
+            ),
+            (
+                "a: select * from t",
+                "a 2 begin 2 ; a 2 row 1|10 ; a 2 done 1 ; a 2 committed 2",
+            ),
+        ],
+        history: "entry 1 schema ; entry 2 a 1 1 snapshot ; end 2",
+    },
     // Two updates of one row: the second commit would lose the first.
-    (
-        "a: insert into t values(1, 10) ; a: begin ; b: begin ; a: update t set v = 11 where id = 1 ; b: update t set v = 12 where id = 1 ; a: commit ; b: commit",
-        "a 1 begin 1 ; a 1 changed 1 ; a 1 committed 2 ; a 2 begin 2 ; b 1 begin 2 ; a 2 changed 1 ; b 1 changed 1 ; a 2 committed 3 ; b 1 conflict 3 genid t 1 ; entry 1 schema ; entry 2 a 1 1 snapshot ; entry 3 a 2 2 snapshot ; end 3",
-    ),
+    Story {
+        turns: &[
+            (
+                "a: insert into t values(1, 10)",
+                "a 1 begin 1 ; a 1 changed 1 ; a 1 committed 2",
+            ),
+            ("a: begin", "a 2 begin 2"),
+            ("b: begin", "b 1 begin 2"),
+            ("a: update t set v = 11 where id = 1", "a 2 changed 1"),
+            ("b: update t set v = 12 where id = 1", "b 1 changed 1"),
+            ("a: commit", "a 2 committed 3"),
+            ("b: commit", "b 1 conflict 3 genid t 1"),
+        ],
+        history: "entry 1 schema ; entry 2 a 1 1 snapshot ; entry 3 a 2 2 snapshot ; end 3",
+    },
     // A duplicate key; then the key freed and taken again within one transaction.
-    (
-        "a: begin ; a: insert into t values(1, 1) ; b: insert into t values(1, 2) ; a: commit ; a: begin ; a: delete from t where id = 1 ; a: insert into t values(1, 3) ; a: commit",
-        "a 1 begin 1 ; a 1 changed 1 ; b 1 begin 1 ; b 1 changed 1 ; b 1 committed 2 ; a 1 duplicate 2 t pk ; a 2 begin 2 ; a 2 changed 1 ; a 2 changed 1 ; a 2 committed 3 ; entry 1 schema ; entry 2 b 1 1 snapshot ; entry 3 a 2 2 snapshot ; end 3",
-    ),
+    Story {
+        turns: &[
+            ("a: begin", "a 1 begin 1"),
+            ("a: insert into t values(1, 1)", "a 1 changed 1"),
+            (
+                "b: insert into t values(1, 2)",
+                "b 1 begin 1 ; b 1 changed 1 ; b 1 committed 2",
+            ),
+            ("a: commit", "a 1 duplicate 2 t pk"),
+            ("a: begin", "a 2 begin 2"),
+            ("a: delete from t where id = 1", "a 2 changed 1"),
+            ("a: insert into t values(1, 3)", "a 2 changed 1"),
+            ("a: commit", "a 2 committed 3"),
+        ],
+        history: "entry 1 schema ; entry 2 b 1 1 snapshot ; entry 3 a 2 2 snapshot ; end 3",
+    },
     // A transaction reads its own writes, and commits where it began since it undid them.
-    (
-        "a: insert into t values(1, 10) ; a: begin ; a: insert into t values(2, 20) ; a: update t set v = 21 where id = 2 ; a: select * from t ; a: delete from t where id = 2 ; a: select * from t ; a: commit",
-        "a 1 begin 1 ; a 1 changed 1 ; a 1 committed 2 ; a 2 begin 2 ; a 2 changed 1 ; a 2 changed 1 ; a 2 row 1|10 ; a 2 row 2|21 ; a 2 done 2 ; a 2 changed 1 ; a 2 row 1|10 ; a 2 done 1 ; a 2 committed 2 ; entry 1 schema ; entry 2 a 1 1 snapshot ; end 2",
-    ),
+    Story {
+        turns: &[
+            (
+                "a: insert into t values(1, 10)",
+                "a 1 begin 1 ; a 1 changed 1 ; a 1 committed 2",
+            ),
+            ("a: begin", "a 2 begin 2"),
+            ("a: insert into t values(2, 20)", "a 2 changed 1"),
+            ("a: update t set v = 21 where id = 2", "a 2 changed 1"),
+            (
+                "a: select * from t",
+                "a 2 row 1|10 ; a 2 row 2|21 ; a 2 done 2",
+            ),
+            ("a: delete from t where id = 2", "a 2 changed 1"),
+            ("a: select * from t", "a 2 row 1|10 ; a 2 done 1"),
+            ("a: commit", "a 2 committed 2"),
+        ],
+        history: "entry 1 schema ; entry 2 a 1 1 snapshot ; end 2",
+    },
     // A second row of a key; the run goes on, and the next transaction begins there.
-    (
-        "a: insert into t values(1, 10) ; a: insert into t values(1, 20) ; b: select * from t where id = 1",
-        "a 1 begin 1 ; a 1 changed 1 ; a 1 committed 2 ; a 2 begin 2 ; a 2 changed 1 ; a 2 duplicate 2 t pk ; b 1 begin 2 ; b 1 row 1|10 ; b 1 done 1 ; b 1 committed 2 ; entry 1 schema ; entry 2 a 1 1 snapshot ; end 2",
-    ),
+    Story {
+        turns: &[
+            (
+                "a: insert into t values(1, 10)",
+                "a 1 begin 1 ; a 1 changed 1 ; a 1 committed 2",
+            ),
+            (
+                "a: insert into t values(1, 20)",
+                "a 2 begin 2 ; a 2 changed 1 ; a 2 duplicate 2 t pk",
+            ),
+            (
+                "b: select * from t where id = 1",
+                "b 1 begin 2 ; b 1 row 1|10 ; b 1 done 1 ; b 1 committed 2",
+            ),
+        ],
+        history: "entry 1 schema ; entry 2 a 1 1 snapshot ; end 2",
+    },
     // A snapshot does not move, and one that only read commits where it began.
-    (
-        "a: insert into t values(1, 10) ; a: begin ; b: update t set v = 11 ; a: select * from t ; a: commit ; a: select * from t",
-        "a 1 begin 1 ; a 1 changed 1 ; a 1 committed 2 ; a 2 begin 2 ; b 1 begin 2 ; b 1 changed 1 ; b 1 committed 3 ; a 2 row 1|10 ; a 2 done 1 ; a 2 committed 2 ; a 3 begin 3 ; a 3 row 1|11 ; a 3 done 1 ; a 3 committed 3 ; entry 1 schema ; entry 2 a 1 1 snapshot ; entry 3 b 1 2 snapshot ; end 3",
-    ),
+    Story {
+        turns: &[
+            (
+                "a: insert into t values(1, 10)",
+                "a 1 begin 1 ; a 1 changed 1 ; a 1 committed 2",
+            ),
+            ("a: begin", "a 2 begin 2"),
+            (
+                "b: update t set v = 11",
+                "b 1 begin 2 ; b 1 changed 1 ; b 1 committed 3",
+            ),
+            ("a: select * from t", "a 2 row 1|10 ; a 2 done 1"),
+            ("a: commit", "a 2 committed 2"),
+            (
+                "a: select * from t",
+                "a 3 begin 3 ; a 3 row 1|11 ; a 3 done 1 ; a 3 committed 3",
+            ),
+        ],
+        history: "entry 1 schema ; entry 2 a 1 1 snapshot ; entry 3 b 1 2 snapshot ; end 3",
+    },
     // What is rolled back was never there; a transaction that is open at the end is dropped.
-    (
-        "a: begin ; a: insert into t values(1, 10) ; a: rollback ; a: select * from t ; b: begin ; b: insert into t values(1, 20)",
-        "a 1 begin 1 ; a 1 changed 1 ; a 1 rolledback ; a 2 begin 1 ; a 2 done 0 ; a 2 committed 1 ; b 1 begin 1 ; b 1 changed 1 ; entry 1 schema ; end 1",
-    ),
+    Story {
+        turns: &[
+            ("a: begin", "a 1 begin 1"),
+            ("a: insert into t values(1, 10)", "a 1 changed 1"),
+            ("a: rollback", "a 1 rolledback"),
+            (
+                "a: select * from t",
+                "a 2 begin 1 ; a 2 done 0 ; a 2 committed 1",
+            ),
+            ("b: begin", "b 1 begin 1"),
+            ("b: insert into t values(1, 20)", "b 1 changed 1"),
+        ],
+        history: "entry 1 schema ; end 1",
+    },
     // Lines that do not fit change nothing, and the numbers go on from there.
-    (
-        "a: commit ; a: rollback ; a: set transaction snapshot ; a: begin ; a: begin ; a: set transaction snapshot ; a: insert into t values(1, 10) ; a: commit",
-        "a 0 error state ; a 0 error state ; a 0 level snapshot ; a 1 begin 1 ; a 1 error state ; a 1 error state ; a 1 changed 1 ; a 1 committed 2 ; entry 1 schema ; entry 2 a 1 1 snapshot ; end 2",
-    ),
+    Story {
+        turns: &[
+            ("a: commit", "a 0 error state"),
+            ("a: rollback", "a 0 error state"),
+            ("a: set transaction snapshot", "a 0 level snapshot"),
+            ("a: begin", "a 1 begin 1"),
+            ("a: begin", "a 1 error state"),
+            ("a: set transaction snapshot", "a 1 error state"),
+            ("a: insert into t values(1, 10)", "a 1 changed 1"),
+            ("a: commit", "a 1 committed 2"),
+        ],
+        history: "entry 1 schema ; entry 2 a 1 1 snapshot ; end 2",
+    },
     // Two updates exchange two keys: keys are tested on the rows after the last operation.
-    (
-        "a: begin ; a: insert into t values(1, 10) ; a: insert into t values(2, 20) ; a: commit ; a: begin ; a: update t set id = 2 where v = 10 ; a: update t set id = 1 where v = 20 ; a: commit ; a: select * from t",
-        "a 1 begin 1 ; a 1 changed 1 ; a 1 changed 1 ; a 1 committed 2 ; a 2 begin 2 ; a 2 changed 1 ; a 2 changed 1 ; a 2 committed 3 ; a 3 begin 3 ; a 3 row 2|10 ; a 3 row 1|20 ; a 3 done 2 ; a 3 committed 3 ; entry 1 schema ; entry 2 a 1 1 snapshot ; entry 3 a 2 2 snapshot ; end 3",
-    ),
+    Story {
+        turns: &[
+            ("a: begin", "a 1 begin 1"),
+            ("a: insert into t values(1, 10)", "a 1 changed 1"),
+            ("a: insert into t values(2, 20)", "a 1 changed 1"),
+            ("a: commit", "a 1 committed 2"),
+            ("a: begin", "a 2 begin 2"),
+            ("a: update t set id = 2 where v = 10", "a 2 changed 1"),
+            ("a: update t set id = 1 where v = 20", "a 2 changed 1"),
+            ("a: commit", "a 2 committed 3"),
+            (
+                "a: select * from t",
+                "a 3 begin 3 ; a 3 row 2|10 ; a 3 row 1|20 ; a 3 done 2 ; a 3 committed 3",
+            ),
+        ],
+        history: "entry 1 schema ; entry 2 a 1 1 snapshot ; entry 3 a 2 2 snapshot ; end 3",
+    },
     // A transaction with a conflict and a broken key is told the conflict: the first entry
     // that took one of its versions, and of these the first that it used itself.
-    (
-        "a: insert into t values(1, 10) ; a: insert into t values(2, 20) ; b: begin ; b: delete from t where id = 2 ; b: delete from t where id = 1 ; b: insert into t values(3, 0) ; a: update t set v = 11 where id = 1 ; a: update t set v = 21 where id = 2 ; a: insert into t values(3, 30) ; b: commit",
-        "a 1 begin 1 ; a 1 changed 1 ; a 1 committed 2 ; a 2 begin 2 ; a 2 changed 1 ; a 2 committed 3 ; b 1 begin 3 ; b 1 changed 1 ; b 1 changed 1 ; b 1 changed 1 ; a 3 begin 3 ; a 3 changed 1 ; a 3 committed 4 ; a 4 begin 4 ; a 4 changed 1 ; a 4 committed 5 ; a 5 begin 5 ; a 5 changed 1 ; a 5 committed 6 ; b 1 conflict 4 genid t 1 ; entry 1 schema ; entry 2 a 1 1 snapshot ; entry 3 a 2 2 snapshot ; entry 4 a 3 3 snapshot ; entry 5 a 4 4 snapshot ; entry 6 a 5 5 snapshot ; end 6",
-    ),
+    Story {
+        turns: &[
+            (
+                "a: insert into t values(1, 10)",
+                "a 1 begin 1 ; a 1 changed 1 ; a 1 committed 2",
+            ),
+            (
+                "a: insert into t values(2, 20)",
+                "a 2 begin 2 ; a 2 changed 1 ; a 2 committed 3",
+            ),
+            ("b: begin", "b 1 begin 3"),
+            ("b: delete from t where id = 2", "b 1 changed 1"),
+            ("b: delete from t where id = 1", "b 1 changed 1"),
+            ("b: insert into t values(3, 0)", "b 1 changed 1"),
+            (
+                "a: update t set v = 11 where id = 1",
+                "a 3 begin 3 ; a 3 changed 1 ; a 3 committed 4",
+            ),
+            (
+                "a: update t set v = 21 where id = 2",
+                "a 4 begin 4 ; a 4 changed 1 ; a 4 committed 5",
+            ),
+            (
+                "a: insert into t values(3, 30)",
+                "a 5 begin 5 ; a 5 changed 1 ; a 5 committed 6",
+            ),
+            ("b: commit", "b 1 conflict 4 genid t 1"),
+        ],
+        history: "entry 1 schema ; entry 2 a 1 1 snapshot ; entry 3 a 2 2 snapshot ; entry 4 a 3 3 snapshot ; entry 5 a 4 4 snapshot ; entry 6 a 5 5 snapshot ; end 6",
+    },
 ];
 
+/// The script and the report of a story.
+fn told(alloc: Global, story: &Story) -> Result<(String, String), AllocError> {
+    let mut script = String::from_str(alloc, HEAD)?;
+    let mut report = String::new(alloc);
+    for (line, replies) in story.turns {
+        script.push_str(*line)?;
+        script.push_str("\n")?;
+        report.push_str(lines(alloc, *replies)?.as_str())?;
+    }
+    report.push_str(lines(alloc, story.history)?.as_str())?;
+    Ok((script, report))
+}
+
 #[test]
-fn worked_scripts_have_their_reports(rt: HostRuntime) -> Result<(), Fail> {
-    for (body, report) in &ROWS {
-        let text = reported(rt.alloc(), *body)?;
-        let want = lines(rt.alloc(), *report)?;
-        assert_eq!(rt; text.as_str(), want.as_str(), "for {body}");
+fn stories_have_their_reports(rt: HostRuntime) -> Result<(), Fail> {
+    for story in &STORIES {
+        let (script, report) = told(rt.alloc(), story)?;
+        let (status, text) = played(rt.alloc(), &["play"], script.as_bytes())?;
+        assert_eq!(rt; status, Status::Done);
+        assert_eq!(rt; text.as_slice(), report.as_bytes(), "for {script}");
+        let read = read_report(rt.alloc(), text.as_slice())?;
+        assert!(rt; read.is_some(), "what is written for {script} is no report");
     }
     Ok(())
 }
