@@ -8,11 +8,8 @@ ghost use Rattle.script_main.specs.Run.{is_play, AnswersSource, AsksNoStore, Fin
 use super::answers::{Answer, answer_script};
 use super::statuses::{Outside, Status};
 use cdb_outside::{LogStore, ReadStop, Sink, Source, read_up_to, write_whole};
-use script_read::later_bytes_do_not_matter;
+use script_read::{MOST_BYTES, later_bytes_do_not_matter};
 use std::alloc::Global;
-
-/// The most bytes of a script.
-const MOST_BYTES: usize = 67_108_864;
 
 /// The line that is written where the words are no command.
 const USAGE: &[u8] = b"usage: cdb play|run|fill N [--stores DIR]\n";

@@ -60,6 +60,6 @@ mod said;
 mod scripts;
 
 pub use laws::{later_bytes_do_not_matter, scripts_are_lawful, scripts_can_run};
-pub use reading::read_script;
+pub use reading::{MOST_BYTES, read_script};
 pub use script_form::{Act, BodyLine, Moment, Script, SessionLine, TableLine};
 pub use scripts::ScriptStop;

@@ -11,7 +11,7 @@ use script_words::{before_last_line, next_line};
 use std::alloc::Global;
 
 /// The most bytes of a script.
-const MOST_BYTES: usize = 67_108_864;
+pub const MOST_BYTES: usize = 67_108_864;
 
 /// The script of these bytes, for a run with that many stores and consumers.
 ///
