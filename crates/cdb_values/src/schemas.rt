@@ -217,9 +217,14 @@ fn is_column_bad(columns: &[ColumnDef], unique: bool, place: u8) -> bool
 fn has_bad_column(columns: &[ColumnDef], unique: bool, places: &[u8]) -> bool
     ensures { result ≡ are_bad_columns columns.now unique places.now }
 {
-    places
-        .iter()
-        .any(|place| is_column_bad(columns, unique, *place))
+    let mut rest = places;
+    'places: while let Some((place, after)) = rest.split_first() {
+        if is_column_bad(columns, unique, *place) {
+            return true;
+        }
+        rest = after;
+    }
+    false
 }
 
 /// Whether one of these keys is over no column, over an unknown one, or is unique over one that
@@ -227,9 +232,14 @@ fn has_bad_column(columns: &[ColumnDef], unique: bool, places: &[u8]) -> bool
 fn has_bad_key(columns: &[ColumnDef], keys: &[KeyDef]) -> bool
     ensures { result ≡ are_bad_keys columns.now keys.now }
 {
-    keys.iter().any(|key| {
-        key.columns.is_empty() || has_bad_column(columns, key.unique, key.columns.as_slice())
-    })
+    let mut rest = keys;
+    'keys: while let Some((key, after)) = rest.split_first() {
+        if key.columns.is_empty() || has_bad_column(columns, key.unique, key.columns.as_slice()) {
+            return true;
+        }
+        rest = after;
+    }
+    false
 }
 
 /// Whether a table says something that no table may say.
@@ -267,7 +277,14 @@ fn has_column_outside(columns: &[ColumnDef]) -> bool
 fn has_key_outside(keys: &[KeyDef]) -> bool
     ensures { result ≡ are_long_keys keys.now }
 {
-    keys.iter().any(|key| is_outside(&key.name) || MOST_KEY_COLUMNS < key.columns.len())
+    let mut rest = keys;
+    'keys: while let Some((key, after)) = rest.split_first() {
+        if is_outside(&key.name) || MOST_KEY_COLUMNS < key.columns.len() {
+            return true;
+        }
+        rest = after;
+    }
+    false
 }
 
 /// Whether a table passes a limit of its own.
