@@ -44,8 +44,8 @@ pub(crate) fn answer_script(
 /// The answer to a script that was read.
 #[tactic(auto, using(crate::proofs::ReportedLemmas::reported))]
 fn played(alloc: Global, script: &Script) -> Result<Answer, AllocError>
-    requires { CanRun script.now }
-    requires { IsNamed script.now }
+    requires runs { CanRun script.now }
+    requires names { IsNamed script.now }
     ensures { IfOk result (λ a. IsText true (Ok script.now) a.status a.text) }
 {
     let report = play(alloc, script)?;
