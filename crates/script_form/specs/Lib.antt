@@ -1,1 +1,2 @@
 pub mod CanRun
+pub mod Named
