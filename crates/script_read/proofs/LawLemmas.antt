@@ -1,4 +1,5 @@
--- Every script that is read is lawful and can run: each line that is read keeps what holds of those before it.
+-- Every script that is read is lawful, can run and has names that are names: each line that is read keeps what holds
+-- of those before it.
 use Rattle.std.proofs.Common.{◌≡◌, ℕ, ◌+◌, ◌<◌, ◌≤◌, List, [], ◌∷◌, ◌++◌, length, map, Bool, true, false, not, ◌&&◌, ◌||◌, ◌==◌, Option, Some, None, Result, Ok, Err, refl, sym, ◌∙◌, ap, subst, arith, if◌then◌else◌, nat_lt, nat_le, ◌⊎◌, inl, inr, append_assoc, length-append}
 use Rattle.std.specs.List.{AllByRecursion}
 use Rattle.std.specs.Str.{is_utf8}
@@ -12,11 +13,13 @@ use Rattle.statement_read.specs.Statements.{statement_of}
 use Rattle.table_read.proofs.TableLemmas.{lawful}
 use Rattle.table_read.specs.Verdict.{TableFault, Unlawful, Limit, table_of}
 use Rattle.script_read.proofs.LimitLemmas.{within_is_whole}
+use Rattle.script_read.proofs.NameLemmas.{well_formed, table_named, says_named}
 use Rattle.script_read.proofs.OnTableLemmas.{and_first, and_second, declared, table_has_integers, on_tables}
 use Rattle.script_read.specs.Answers.{Refusal}
 use Rattle.script_read.specs.Bodies.{said_of, say_said, stop_said, start_said, arm_of, arm_said, barrier_said, feed_said}
 use Rattle.script_read.specs.Built.{is_built, has_integers}
 use Rattle.script_form.specs.CanRun.{AreTaken, IsSaid, CanRun}
+use Rattle.script_form.specs.Named.{IsName, IsNamedTable, SaysNamed, IsNamed}
 use Rattle.script_read.specs.Heads.{only_number, only_fitting, is_declared, is_node, nodes_said, cluster_said, workers_said, session_of, session_said, tabled, table_said, watched, watch_said}
 use Rattle.script_read.specs.Kinds.{kind_of, keyword_part, part_of, may_come}
 use Rattle.script_read.specs.Lawful.{AreNew, IsNode, NamesDeclared, Rise, IsLawful}
@@ -192,8 +195,10 @@ record Going (draft : Draft) (line : ℕ) : Type 0 where
   few : length draft.sessions ≤ 64
   sessions : AllByRecursion (λ s. (s.node ≡ 1) × (s.hasql ≡ false)) draft.sessions
   new : AreNew [] draft.sessions
+  session_names : AllByRecursion (λ s. IsName s.name) draft.sessions
   schema : draft.schema ≡ map (λ t. t.table) draft.tables
   taken : AreTaken [] draft.schema
+  table_names : AllByRecursion (λ t. IsNamedTable t.table) draft.tables
   integers : AllByRecursion (λ t. AllByRecursion (λ c. c.kind ≡ Integer) t.table.columns) draft.tables
   statements : AllByRecursion (λ l. IsSaid draft.sessions draft.schema l.act) draft.body
   tables_part : (draft.tables ≡ []) ⊎ (5 ≤ draft.part)
@@ -206,7 +211,7 @@ data Stage (draft : Draft) (line : ℕ) : Type 0 where
 
 later : (draft : Draft) (line : ℕ) → Stage draft line → Stage draft (line + 1)
 later draft line (at_fresh f) = let h : 1 ≤ line = f.first in at_fresh (record { part = f.part; sessions = f.sessions; schema = f.schema; tables = f.tables; watches = f.watches; body = f.body; first = omega arith })
-later draft line (at_going g) = at_going (record { begun = g.begun; nodes = g.nodes; watches = g.watches; few = g.few; sessions = g.sessions; new = g.new; schema = g.schema; taken = g.taken; integers = g.integers; statements = g.statements; tables_part = g.tables_part; body_part = g.body_part; lines = rising_later _ line g.lines })
+later draft line (at_going g) = at_going (record { begun = g.begun; nodes = g.nodes; watches = g.watches; few = g.few; sessions = g.sessions; new = g.new; session_names = g.session_names; schema = g.schema; taken = g.taken; table_names = g.table_names; integers = g.integers; statements = g.statements; tables_part = g.tables_part; body_part = g.body_part; lines = rising_later _ line g.lines })
 
 -- which parts may come behind one
 come_later : (before part : ℕ) → (before == 0) ≡ false → may_come before part ≡ true → before ≤ part
@@ -255,8 +260,10 @@ nodes_keeps draft line (Some nodes) next f e =
       few = subst (λ ss. length ss ≤ 64) (sym f.sessions) (omega arith);
       sessions = subst (λ ss. AllByRecursion (λ s. (s.node ≡ 1) × (s.hasql ≡ false)) ss) (sym f.sessions) tt;
       new = subst (λ ss. AreNew [] ss) (sym f.sessions) tt;
+      session_names = subst (λ ss. AllByRecursion (λ s. IsName s.name) ss) (sym f.sessions) tt;
       schema = f.schema ∙ ap (λ ts. map (λ t. t.table) ts) (sym f.tables);
       taken = subst (λ ts. AreTaken [] ts) (sym f.schema) tt;
+      table_names = subst (λ ts. AllByRecursion (λ t. IsNamedTable t.table) ts) (sym f.tables) tt;
       integers = subst (λ ts. AllByRecursion (λ t. AllByRecursion (λ c. c.kind ≡ Integer) t.table.columns) ts) (sym f.tables) tt;
       statements = subst (λ b. AllByRecursion (λ l. IsSaid draft.sessions draft.schema l.act) b) (sym f.body) tt;
       tables_part = inl f.tables;
@@ -322,8 +329,10 @@ session_keeps draft line (Some ((name, node), hasql)) next g p e =
       few = fewer draft.sessions session d.0;
       sessions = all_more (λ s. (s.node ≡ 1) × (s.hasql ≡ false)) draft.sessions session g.sessions (at_one, not_true hasql k.0);
       new = new_more [] draft.sessions session g.new (or_second (not (is_name name)) _ b.0);
+      session_names = all_more (λ s. IsName s.name) draft.sessions session g.session_names (well_formed name (not_false (is_name name) (or_first (not (is_name name)) _ b.0)));
       schema = g.schema;
       taken = g.taken;
+      table_names = g.table_names;
       integers = g.integers;
       statements = subst (λ b. AllByRecursion (λ l. IsSaid (draft.sessions ++ session ∷ []) draft.schema l.act) b) (sym body) tt;
       tables_part = inl tables;
@@ -347,12 +356,12 @@ session_keeps draft line (Some ((name, node), hasql)) next g p e =
         let after : Rising (numbers_of (draft.sessions ++ session ∷ []) [] []) (line + 1) = subst (λ ns. Rising ns (line + 1)) (sym (session_numbers draft.sessions session)) (rising_more (numbers_of draft.sessions [] []) line before) in
         subst (λ x. Rising (numbers_of (draft.sessions ++ session ∷ []) x draft.body) (line + 1)) (sym t) (subst (λ x. Rising (numbers_of (draft.sessions ++ session ∷ []) [] x) (line + 1)) (sym b) after)
 
--- a table that is read can be added to those before it
-tabled_ok : (tables : List TableDef) (line : ℕ) (text : List ℕ) (table : TableDef) → table_said tables line text ≡ Ok table → add_fault tables table ≡ None
+-- a table that a line says is the one of its text
+tabled_ok : (tables : List TableDef) (line : ℕ) (text : List ℕ) (table : TableDef) → table_said tables line text ≡ Ok table → table_of tables text ≡ Ok table
 tabled_ok tables line text table e = go (table_of tables text) refl (then_ok (is_utf8 text) _ _ table e).1
   where
-    go : (read : Result TableDef TableFault) → table_of tables text ≡ read → tabled line read ≡ Ok table → add_fault tables table ≡ None
-    go (Ok found) h e = lawful tables text table (subst (λ t. table_of tables text ≡ Ok t) (same_ok found table e) h)
+    go : (read : Result TableDef TableFault) → table_of tables text ≡ read → tabled line read ≡ Ok table → table_of tables text ≡ Ok table
+    go (Ok found) h e = subst (λ t. table_of tables text ≡ Ok t) (same_ok found table e) h
     go (Err Unlawful) h e = absurd cc
     go (Err Limit) h e = absurd cc
 
@@ -363,6 +372,7 @@ table_keeps draft line text next g p e =
     let same : with_table draft line a.0 ≡ next = same_ok _ _ b.1 in
     let table : TableLine = record { line = line; table = a.0 } in
     let body : draft.body ≡ [] = no_body draft g.body_part p in
+    let of_text : table_of draft.schema text ≡ Ok a.0 = tabled_ok draft.schema line text a.0 a.1.0 in
     subst (λ d. Stage d (line + 1)) same (at_going (record {
       begun = refl;
       nodes = g.nodes;
@@ -370,8 +380,10 @@ table_keeps draft line text next g p e =
       few = g.few;
       sessions = g.sessions;
       new = g.new;
+      session_names = g.session_names;
       schema = ap (λ ts. ts ++ a.0 ∷ []) g.schema ∙ sym (tables_more draft.tables table);
-      taken = taken_more [] draft.schema a.0 g.taken (tabled_ok draft.schema line text a.0 a.1.0);
+      taken = taken_more [] draft.schema a.0 g.taken (lawful draft.schema text a.0 of_text);
+      table_names = all_more (λ t. IsNamedTable t.table) draft.tables table g.table_names (table_named draft.schema text a.0 of_text);
       integers = all_more (λ t. AllByRecursion (λ c. c.kind ≡ Integer) t.table.columns) draft.tables table g.integers (table_has_integers a.0 b.0);
       statements = subst (λ b. AllByRecursion (λ l. IsSaid draft.sessions (draft.schema ++ a.0 ∷ []) l.act) b) (sym body) tt;
       tables_part = inr (omega arith);
@@ -402,8 +414,10 @@ say_keeps draft line (Some (name, text)) next g e =
       few = g.few;
       sessions = g.sessions;
       new = g.new;
+      session_names = g.session_names;
       schema = g.schema;
       taken = g.taken;
+      table_names = g.table_names;
       integers = g.integers;
       statements = all_more (λ l. IsSaid draft.sessions draft.schema l.act) draft.body added g.statements (declared name draft.sessions b.0, on_tables draft.schema (statement_of text) (statement_has_integers text) k.0);
       tables_part = inr (omega arith);
@@ -513,3 +527,13 @@ going_is_lawful draft line g = record {
 
 pub scripts_lawful : (stores consumers : ℕ) (bytes : List ℕ) (script : Script) → script_of stores consumers bytes ≡ Ok script → IsLawful script
 scripts_lawful stores consumers bytes script e = let d = done stores consumers bytes script e in subst IsLawful d.same (going_is_lawful d.draft d.line d.going)
+
+going_is_named : (draft : Draft) (line : ℕ) → Going draft line → IsNamed (script_with draft)
+going_is_named draft line g = record {
+  sessions = g.session_names;
+  tables = g.table_names;
+  body = all_map (λ l. IsSaid draft.sessions draft.schema l.act) (λ l. SaysNamed l.act) draft.body (λ l h. says_named draft.sessions draft.schema l.act g.session_names h) g.statements;
+}
+
+pub scripts_named : (stores consumers : ℕ) (bytes : List ℕ) (script : Script) → script_of stores consumers bytes ≡ Ok script → IsNamed script
+scripts_named stores consumers bytes script e = let d = done stores consumers bytes script e in subst IsNamed d.same (going_is_named d.draft d.line d.going)

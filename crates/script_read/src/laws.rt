@@ -2,6 +2,7 @@
 
 ghost use Rattle.std.specs.Prelude.{◌≡◌, ◌<◌, ◌++◌, ℕ, List, length};
 ghost use Rattle.script_form.specs.CanRun.{CanRun};
+ghost use Rattle.script_form.specs.Named.{IsNamed};
 ghost use Rattle.script_read.specs.Lawful.{IsLawful};
 ghost use Rattle.script_read.specs.ScriptText.{script_of, most_bytes};
 ghost use Rattle.script_form.specs.declared.scripts.Script.{Script};
@@ -16,6 +17,11 @@ pub fn scripts_are_lawful()
 /// alone, and its body is statements of declared sessions on declared tables.
 pub fn scripts_can_run()
     ensures { (stores consumers : ℕ) (bytes : List ℕ) (script : Script) → script_of stores consumers bytes ≡ Ok script → CanRun script }
+{}
+
+/// Of a script that is read, the names of sessions, tables and keys are names, and no key is named `all`.
+pub fn scripts_have_names()
+    ensures { (stores consumers : ℕ) (bytes : List ℕ) (script : Script) → script_of stores consumers bytes ≡ Ok script → IsNamed script }
 {}
 
 /// The bytes behind the first one past the limit do not matter.

@@ -45,7 +45,8 @@
 //! | what runs today | `specs/Built.antt` |
 //! | the script of bytes, or the first refusal | `specs/ScriptText.antt` |
 //! | what holds of every script | `specs/Lawful.antt` |
-//! | what holds of every script that runs today | `specs/CanRun.antt` |
+//! | what holds of every script that runs today | `specs/CanRun.antt` of `script_form` |
+//! | what the names of a script are | `specs/Named.antt` of `script_form` |
 #![tactic(auto)]
 
 mod bodies;
@@ -59,7 +60,9 @@ mod reasons;
 mod said;
 mod scripts;
 
-pub use laws::{later_bytes_do_not_matter, scripts_are_lawful, scripts_can_run};
+pub use laws::{
+    later_bytes_do_not_matter, scripts_are_lawful, scripts_can_run, scripts_have_names,
+};
 pub use reading::{MOST_BYTES, read_script};
 pub use script_form::{Act, BodyLine, Moment, Script, SessionLine, TableLine};
 pub use scripts::ScriptStop;
