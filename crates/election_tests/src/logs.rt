@@ -50,4 +50,20 @@ impl Log {
     pub(crate) fn agrees_with(&self, other: &Log) -> bool {
         self.begins_with(other) || other.begins_with(self)
     }
+
+    /// Whether an entry stands in it.
+    pub(crate) fn contains(&self, entry: u64) -> bool {
+        for at in 0..8usize {
+            if (at as u64) < self.length && self.entries[at] == entry {
+                return true;
+            }
+        }
+        false
+    }
+
+    /// Its last entry, or 0.
+    pub(crate) fn last(&self) -> u64 {
+        let at = self.length.saturating_sub(1) as usize;
+        if at < 8 { self.entries[at] } else { 0 }
+    }
 }
