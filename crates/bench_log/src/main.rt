@@ -7,13 +7,13 @@
 //! | `times` | the same, with the times |
 #![tactic(auto)]
 
-use cdb_values::{Level, List, Name};
+use cdb_values::List;
 use log_replay::PagedLog;
-use page_store::{Cell, Edit};
-use phys_log::{CommitId, Entry, LogRecord};
+use phys_log::Entry;
 use std::alloc::{AllocError, Global};
 use std::time::{Clock, Instant};
 use std::{env, io};
+use test_cases::{commit_entry, record_over};
 
 /// The pages that the entries change in turn.
 const PAGES: u64 = 1000;
@@ -53,51 +53,15 @@ fn append_all(alloc: Global, log: &mut PagedLog, count: u64) -> Result<u64, Allo
     Ok(taken)
 }
 
-/// An entry of three records behind so many others.
+/// An entry of three records behind so many others, over the pages whose turn it is.
 fn entry_of(alloc: Global, log: &PagedLog, before: u64) -> Result<Entry, AllocError> {
     let mut records = List::new(alloc);
     for k in 1..4u64 {
-        records.push(record_of(alloc, log, before.saturating_add(k))?)?;
+        let lsn = before.saturating_add(k);
+        let page = lsn % PAGES;
+        records.push(record_over(alloc, log.page(page), page, lsn)?)?;
     }
-    Ok(Entry::Commit {
-        generation: 1,
-        id: CommitId {
-            began: 1,
-            session: Name::copied(alloc, b"a")?,
-            txn: before,
-        },
-        begin: 1,
-        level: Level::Snapshot,
-        changes: List::new(alloc),
-        records,
-    })
-}
-
-/// A record with an LSN: it puts its LSN as the one cell of the page whose turn it is.
-fn record_of(alloc: Global, log: &PagedLog, lsn: u64) -> Result<LogRecord, AllocError> {
-    let page = lsn % PAGES;
-    let after = Cell::from_slice(alloc, &lsn.to_be_bytes())?;
-    let mut prev = 0;
-    let mut edit = Edit::PutCell {
-        at: 0,
-        cell: after.clone()?,
-    };
-    if let Some(kept) = log.page(page) {
-        prev = kept.lsn();
-        if let Some(cell) = kept.cell(0) {
-            edit = Edit::SwapCell {
-                at: 0,
-                before: Cell::from_slice(alloc, cell)?,
-                after,
-            };
-        }
-    }
-    Ok(LogRecord {
-        lsn,
-        prev,
-        page,
-        edit,
-    })
+    commit_entry(alloc, before, records)
 }
 
 /// How many records a grant of page 1 carries, ten links before its last.

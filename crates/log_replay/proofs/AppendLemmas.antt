@@ -3,11 +3,11 @@ use Rattle.std.proofs.Common.{◌≡◌, ℕ, ◌+◌, List, [], ◌∷◌, ◌+
 use Rattle.page_store.specs.Image.{Image}
 use Rattle.phys_log.specs.declared.entries.LogRecord.{LogRecord}
 use Rattle.phys_log.specs.declared.entries.Entry.{Entry}
-use Rattle.phys_log.specs.Logs.{records_of, replayed, last_lsn_of, AreNext, Fits}
+use Rattle.phys_log.specs.Logs.{records_of, replayed, last_lsn_of, AreNext}
 use Rattle.log_replay.specs.declared.chains.ChainLink.{ChainLink}
 use Rattle.log_replay.specs.Chains.{links_on}
-use Rattle.log_replay.specs.Kept.{page_in, chain_in, IsKept}
-use Rattle.log_replay.proofs.LogLemmas.{kept_more, fits_is, fits_not}
+use Rattle.log_replay.specs.Kept.{page_in, chain_in, AreEdited, IsKept}
+use Rattle.log_replay.proofs.LogLemmas.{kept_more}
 
 -- the records, their first LSN and their position, by the log and the entry
 pub next_told : (entries : List Entry) (entry : Entry) (p : List (ℕ × Image)) (rs : List LogRecord) (last : ℕ) → rs ≡ records_of entry → last ≡ last_lsn_of entries
@@ -22,19 +22,11 @@ next_asked entries entry p rs last is at h =
 
 pub kept_append : (entries more : List Entry) (entry : Entry) (rs : List LogRecord) (last position : ℕ) (p q : List (ℕ × Image)) (c d : List (ℕ × List ChainLink))
     → IsKept entries p c → more ≡ entries ++ entry ∷ [] → rs ≡ records_of entry → last ≡ last_lsn_of entries → position ≡ length entries + 1
-    → AreNext (page_in p) (last + 1) rs → ((n : ℕ) → page_in q n ≡ replayed (page_in p) rs n)
+    → AreNext (page_in p) (last + 1) rs → ((n : ℕ) → page_in q n ≡ replayed (page_in p) rs n) → AreEdited q
     → ((n : ℕ) → chain_in d n ≡ chain_in c n ++ links_on n position rs) → IsKept more q d
-kept_append entries more entry rs last position p q c d kept is told at place next made linked =
+kept_append entries more entry rs last position p q c d kept is told at place next made edited linked =
     let K : List Entry → Type 0 = λ l. IsKept l q d in
     let M : List LogRecord → Type 0 = λ l. (n : ℕ) → page_in q n ≡ replayed (page_in p) l n in
     let L : List LogRecord → Type 0 = λ l. (n : ℕ) → chain_in d n ≡ chain_in c n ++ links_on n position l in
     let N : ℕ → Type 0 = λ k. (n : ℕ) → chain_in d n ≡ chain_in c n ++ links_on n k (records_of entry) in
-    subst K (sym is) (kept_more entries entry p q c d kept (next_told entries entry p rs last told at next) (subst M told made) (subst N place (subst L told linked)))
-
-pub fits_told : (entries : List Entry) (entry : Entry) (rs : List LogRecord) (last : ℕ) (p : List (ℕ × Image)) (c : List (ℕ × List ChainLink))
-    → IsKept entries p c → rs ≡ records_of entry → last ≡ last_lsn_of entries → AreNext (page_in p) (last + 1) rs → Fits entries entry
-fits_told entries entry rs last p c kept told at next = fits_is entries entry p c kept (next_told entries entry p rs last told at next)
-
-pub unfit_told : (entries : List Entry) (entry : Entry) (rs : List LogRecord) (last : ℕ) (p : List (ℕ × Image)) (c : List (ℕ × List ChainLink))
-    → IsKept entries p c → rs ≡ records_of entry → last ≡ last_lsn_of entries → (AreNext (page_in p) (last + 1) rs → ⊥) → Fits entries entry → ⊥
-unfit_told entries entry rs last p c kept told at not = fits_not entries entry p c kept (λ h. not (next_asked entries entry p rs last told at h))
+    subst K (sym is) (kept_more entries entry p q c d kept (next_told entries entry p rs last told at next) (subst M told made) edited (subst N place (subst L told linked)))

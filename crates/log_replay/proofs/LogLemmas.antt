@@ -12,16 +12,17 @@ use Rattle.page_store.specs.declared.edits.Edit.TheVariants.{PutCell, TakeCell, 
 use Rattle.phys_log.specs.declared.entries.LogRecord.{LogRecord}
 use Rattle.phys_log.specs.declared.entries.Entry.{Entry}
 use Rattle.phys_log.specs.Logs.{records_of, records_in, written, replayed, blank_pages, pages_of, last_lsn_of, IsNext, AreNext, Fits, IsLog}
-use Rattle.phys_log.specs.Undone.{later_records}
-use Rattle.phys_log.proofs.ReplayLemmas.{next_front}
+use Rattle.phys_log.specs.Undone.{later_records, IsLinked}
+use Rattle.phys_log.proofs.ReplayLemmas.{next_front, linked_is}
 use Rattle.phys_log.proofs.LogLemmas.{pages_more, log_more, log_parts, log_front, parts_next, parts_pages}
 use Rattle.log_replay.specs.declared.chains.ChainLink.{ChainLink}
 use Rattle.log_replay.specs.Chains.{links_on, chain_from, chain_of, granted}
-use Rattle.log_replay.specs.Kept.{found, page_in, chain_in, Came, IsKept}
+use Rattle.log_replay.specs.Kept.{found, page_in, chain_in, ArePlain, AreEdited, Came, IsKept}
 use Rattle.log_replay.specs.Answers.{Rises}
 use Rattle.log_replay.proofs.ChainLemmas.{chain-append, chain_parts, chain_rises}
 use Rattle.log_replay.proofs.GrantLemmas.{granted_is, unedited}
 use Rattle.log_replay.proofs.UndoLemmas.{room_replayed}
+use Rattle.log_replay.proofs.WriteLemmas.{plain_replayed}
 
 found_prop : (image : Image) (edit : Edit) → IsProp (IsFound image edit)
 found_prop image (PutCell place cell) = hlevel (le_prop, props)
@@ -49,15 +50,7 @@ kept_none entries pages chains e p c =
     let K : List Entry → Type 0 = λ x. IsKept x pages chains in
     let L : List (ℕ × Image) → Type 0 = λ x. IsKept [] x chains in
     let M : List (ℕ × List ChainLink) → Type 0 = λ x. IsKept [] [] x in
-    subst K (sym e) (subst L (sym p) (subst M (sym c) (record { logged = ∣ tt ∣₁; replay = λ n. refl; links = λ n. refl })))
-
-pub kept_same : (entries : List Entry) (p q : List (ℕ × Image)) (c d : List (ℕ × List ChainLink)) → IsKept entries p c
-    → ((n : ℕ) → page_in q n ≡ page_in p n) → ((n : ℕ) → chain_in d n ≡ chain_in c n) → IsKept entries q d
-kept_same entries p q c d kept pages chains = record {
-  logged = kept.logged;
-  replay = λ n. pages n ∙ kept.replay n;
-  links = λ n. chains n ∙ kept.links n;
-}
+    subst K (sym e) (subst L (sym p) (subst M (sym c) (record { logged = ∣ tt ∣₁; replay = λ n. refl; edited = λ n image is zero. let e : None ≡ Some image = is in cc; links = λ n. refl })))
 
 -- the fit of an entry, by the pages that are kept
 pub fits_is : (entries : List Entry) (entry : Entry) (p : List (ℕ × Image)) (c : List (ℕ × List ChainLink)) → IsKept entries p c
@@ -71,13 +64,14 @@ fits_not entries entry p c kept h fits = h (subst (λ (f : ℕ → Image). AreNe
 -- one entry more
 pub kept_more : (entries : List Entry) (entry : Entry) (p q : List (ℕ × Image)) (c d : List (ℕ × List ChainLink)) → IsKept entries p c
     → AreNext (page_in p) (last_lsn_of entries + 1) (records_of entry)
-    → ((n : ℕ) → page_in q n ≡ replayed (page_in p) (records_of entry) n)
+    → ((n : ℕ) → page_in q n ≡ replayed (page_in p) (records_of entry) n) → AreEdited q
     → ((n : ℕ) → chain_in d n ≡ chain_in c n ++ links_on n (length entries + 1) (records_of entry)) → IsKept (entries ++ entry ∷ []) q d
-kept_more entries entry p q c d kept next made linked =
+kept_more entries entry p q c d kept next made edited linked =
     let behind : length entries + 1 ≡ 1 + length entries = omega arith in
     record {
       logged = ∥∥₁_map kept.logged (λ log. log_more entries entry log (fits_is entries entry p c kept next));
       replay = λ n. made n ∙ ap (λ (f : ℕ → Image). replayed f (records_of entry) n) (fun_ext kept.replay) ∙ sym (ap (λ (f : ℕ → Image). f n) (pages_more entries entry));
+      edited = edited;
       links = λ n. linked n ∙ ap (λ (l : List ChainLink). l ++ links_on n (length entries + 1) (records_of entry)) (kept.links n)
           ∙ ap (λ (k : ℕ). chain_of entries n ++ links_on n k (records_of entry)) behind ∙ sym (chain-append n 1 entries entry);
     }
@@ -89,6 +83,16 @@ pub parts_room : (entries : List Entry) (k : ℕ) → IsLog entries → (n : ℕ
 parts_room entries k log =
     room_replayed blank_pages 1 (records_in (take k entries))
     (next_front blank_pages 1 (records_in (take k entries)) (records_in (drop k entries)) (subst (λ (l : List LogRecord). AreNext blank_pages 1 l) (log_parts entries k) log)) blank_room
+
+pub log_plain : (entries : List Entry) → IsLog entries → ArePlain (pages_of entries)
+log_plain entries log = plain_replayed blank_pages 1 (records_in entries) (omega arith) (λ n zero. refl) log
+
+pub first_log : (entries : List Entry) (k : ℕ) → IsLog entries → IsLog (take k entries)
+first_log entries k log = log_front (take k entries) (drop k entries) (subst IsLog (sym (take-append-drop k entries)) log)
+
+-- a kept page without a record is blank
+pub kept_plain : (entries : List Entry) (p : List (ℕ × Image)) (c : List (ℕ × List ChainLink)) → IsKept entries p c → ArePlain (page_in p)
+kept_plain entries p c kept = subst ArePlain (sym (fun_ext kept.replay)) (log_plain entries (log_out entries kept.logged))
 
 pub pages_parts : (entries : List Entry) (p : List (ℕ × Image)) (c : List (ℕ × List ChainLink)) (k : ℕ) → IsKept entries p c
     → page_in p ≡ replayed (pages_of (take k entries)) (records_in (drop k entries))
@@ -102,6 +106,8 @@ kept_came entries p c k dropped kept is =
     subst (λ (l : List Entry). Came (page_in p) (records_in l)) (sym is) (record {
       base = pages_of (take k entries);
       lsn = 1 + length (records_in (take k entries));
+      numbered = omega arith;
+      plain = log_plain (take k entries) (first_log entries k log);
       room = parts_room entries k log;
       next = parts_next entries k log;
       is = pages_parts entries p c k kept;
@@ -130,10 +136,11 @@ kept_chains entries p c d k dropped kept is gone =
 
 -- the first entries alone
 pub kept_first : (entries : List Entry) (p q : List (ℕ × Image)) (c d : List (ℕ × List ChainLink)) (k : ℕ) → IsKept entries p c
-    → page_in q ≡ pages_of (take k entries) → ((n : ℕ) → chain_in d n ≡ chain_of (take k entries) n) → IsKept (take k entries) q d
-kept_first entries p q c d k kept pages chains = record {
-  logged = ∥∥₁_map kept.logged (λ log. log_front (take k entries) (drop k entries) (subst IsLog (sym (take-append-drop k entries)) log));
+    → page_in q ≡ pages_of (take k entries) → AreEdited q → ((n : ℕ) → chain_in d n ≡ chain_of (take k entries) n) → IsKept (take k entries) q d
+kept_first entries p q c d k kept pages edited chains = record {
+  logged = ∥∥₁_map kept.logged (first_log entries k);
   replay = λ n. ap (λ (f : ℕ → Image). f n) pages;
+  edited = edited;
   links = chains;
 }
 
@@ -151,13 +158,14 @@ pub page_unedited : (entries : List Entry) (p : List (ℕ × Image)) (c : List (
 page_unedited entries p c id kept h =
     unedited entries id (log_out entries kept.logged) (ap (λ (i : Image). i.lsn) (page_missing entries p c id kept h))
 
-pub chain_found : (entries : List Entry) (p : List (ℕ × Image)) (c : List (ℕ × List ChainLink)) (id : ℕ) (links : List ChainLink) → IsKept entries p c
-    → found c id ≡ Some links → links ≡ chain_of entries id
-chain_found entries p c id links kept h = ap (λ (o : Option (List ChainLink)). unwrap_or o []) (sym h) ∙ kept.links id
-
-pub chain_missing : (entries : List Entry) (p : List (ℕ × Image)) (c : List (ℕ × List ChainLink)) (id : ℕ) → IsKept entries p c
-    → found c id ≡ None → [] ≡ chain_of entries id
-chain_missing entries p c id kept h = ap (λ (o : Option (List ChainLink)). unwrap_or o []) (sym h) ∙ kept.links id
+-- a page that is found has a record
+pub page_edited : (entries : List Entry) (p : List (ℕ × Image)) (c : List (ℕ × List ChainLink)) (id : ℕ) (image : Image) → IsKept entries p c
+    → found p id ≡ Some image → later_records entries 0 id ≡ [] → ⊥
+page_edited entries p c id image kept h none =
+    let at : image ≡ pages_of entries id = page_found entries p c id image kept h in
+    let linked : IsLinked (pages_of entries id).lsn (later_records entries 0 id) 0 = linked_is blank_pages 1 (records_in entries) id (log_out entries kept.logged) in
+    let zero : (pages_of entries id).lsn ≡ 0 = subst (λ (l : List LogRecord). IsLinked (pages_of entries id).lsn l 0) none linked in
+    kept.edited id image h (ap (λ (i : Image). i.lsn) at ∙ zero)
 
 -- the later records, by the chain of the page
 pub later_is : (entries : List Entry) (p : List (ℕ × Image)) (c : List (ℕ × List ChainLink)) (position id : ℕ) (chain : List ChainLink) → IsKept entries p c

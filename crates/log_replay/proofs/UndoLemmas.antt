@@ -1,5 +1,5 @@
 -- Records taken back, the last first.
-use Rattle.std.proofs.Common.{◌≡◌, ℕ, ◌+◌, List, [], ◌∷◌, ◌++◌, refl, sym, ap, ◌∙◌, subst, length, inl, inr}
+use Rattle.std.proofs.Common.{◌≡◌, ℕ, ◌+◌, ◌<◌, arith, List, [], ◌∷◌, ◌++◌, refl, sym, ap, ◌∙◌, subst, length, inl, inr}
 use Rattle.std.proofs.lemmas.Bool.{cases_eq}
 use mathlib.Core.Path.{fun_ext}
 use Rattle.page_store.specs.Image.{Image, HasRoom}
@@ -10,8 +10,9 @@ use Rattle.phys_log.specs.declared.entries.Entry.{Entry}
 use Rattle.phys_log.specs.Logs.{written, replayed, IsNext, AreNext, records_of, records_in}
 use Rattle.phys_log.proofs.ReplayLemmas.{replayed-append, next_front, next_behind, written_here, written_other}
 use Rattle.phys_log.proofs.LogLemmas.{records_more}
-use Rattle.log_replay.specs.Kept.{put_at, Came}
-use Rattle.log_replay.proofs.KeptLemmas.{put_at_here, put_at_off}
+use Rattle.log_replay.specs.Kept.{page_in, put_at, over, ArePlain, Came}
+use Rattle.log_replay.proofs.KeptLemmas.{put_at_here, put_at_off, over_none}
+use Rattle.log_replay.proofs.WriteLemmas.{plain_replayed}
 
 -- pages that are those of records over a base
 pub record Backs (base : ℕ → Image) (lsn : ℕ) (pages : ℕ → Image) (records : List LogRecord) : Type 0 where
@@ -100,8 +101,18 @@ entry_came pages rest before e is came =
     record {
       base = replayed came.base (records_in before);
       lsn = came.lsn + length (records_in before);
+      numbered = let some : 0 < came.lsn = came.numbered in omega arith;
+      plain = plain_replayed came.base came.lsn (records_in before) came.numbered came.plain
+          (next_front came.base came.lsn (records_in before) (records_of e) (subst (λ (l : List LogRecord). AreNext came.base came.lsn l) (entry_records rest before e is) came.next));
       room = room_replayed came.base came.lsn (records_in before)
           (next_front came.base came.lsn (records_in before) (records_of e) (subst (λ (l : List LogRecord). AreNext came.base came.lsn l) (entry_records rest before e is) came.next)) came.room;
       next = b.next;
       is = b.is;
     }
+
+-- pages that records are taken back from are plain
+pub plain_undone : (none p changed q : List (ℕ × Image)) (rs : List LogRecord) (came : Came (page_in p) rs) → none ≡ []
+    → ((base : ℕ → Image) (lsn : ℕ) → AreNext base lsn rs → over none p ≡ replayed base rs → over changed q ≡ base) → ArePlain (over changed q)
+plain_undone none p changed q rs came is undone =
+    let start : over none p ≡ page_in p = fun_ext (over_none none p is) in
+    subst ArePlain (sym (undone came.base came.lsn came.next (start ∙ came.is))) came.plain

@@ -1,5 +1,5 @@
--- What a log keeps beside its entries, and what a change of pages needs to be taken back.
-use Rattle.std.specs.Prelude.{◌≡◌, ℕ, cond, List, [], ◌∷◌, Option, unwrap_or, IsSome, Result, Ok, Err}
+-- What a log keeps beside its entries, and pages that are changed beside those that are kept.
+use Rattle.std.specs.Prelude.{◌≡◌, ℕ, ◌<◌, ◌==◌, cond, if◌then◌else◌, List, [], Option, Some, None, unwrap_or, IsSome, Result, Ok, Err}
 use Rattle.std.specs.Map.{lookup}
 use Rattle.std.specs.Ordering.{nat_cmp, is_eq}
 use Rattle.std.specs.BTreeMap.{is_at}
@@ -32,29 +32,32 @@ put_at f id x n = cond (is_eq (nat_cmp id n)) x (f n)
 abbrev pub Keeps : {X : Type 0} → List (ℕ × X) → List (ℕ × X) → Type 0
 Keeps old new = (n : ℕ) → IsSome (found old n) → IsSome (found new n)
 
--- pages with saved ones put back over them, the last first
-abbrev pub put_back : List (ℕ × Image) → (ℕ → Image) → ℕ → Image
-put_back [] pages = pages
-put_back (s ∷ ss) pages = put_at (put_back ss pages) s.0 s.1
+-- pages with the changed ones over them
+abbrev pub over : List (ℕ × Image) → List (ℕ × Image) → ℕ → Image
+over changed pages n = unwrap_or (found changed n) (page_in pages n)
 
--- each saved page is kept under its number
-abbrev pub AreThere : List (ℕ × Image) → List (ℕ × Image) → Type 0
-AreThere [] pages = Unit {0}
-AreThere (s ∷ ss) pages = IsSome (found pages s.0) × AreThere ss pages
+-- a page as it is kept: not at all where no record edited it
+abbrev pub kept : Image → Option Image
+kept image = if image.lsn == 0 then None else Some image
 
--- the saved pages, put back, give these pages
-pub record Restores (saved pages : List (ℕ × Image)) (base : ℕ → Image) : Type 0 where
-  pub there : AreThere saved pages
-  pub back : put_back saved (page_in pages) ≡ base
+-- a page without a record is blank
+abbrev pub ArePlain : (ℕ → Image) → Type 0
+ArePlain pages = (n : ℕ) → (pages n).lsn ≡ 0 → pages n ≡ blank_image
 
--- whatever the saved pages gave back, they still do
-abbrev pub Saves : List (ℕ × Image) → List (ℕ × Image) → List (ℕ × Image) → List (ℕ × Image) → Type 0
-Saves saved pages more changed = (base : ℕ → Image) → Restores saved pages base → Restores more changed base
+-- each kept page has a record
+abbrev pub AreEdited : List (ℕ × Image) → Type 0
+AreEdited pages = (n : ℕ) (image : Image) → found pages n ≡ Some image → image.lsn ≡ 0 → ⊥
+
+-- each kept page has a record, or is kept for a change alone
+abbrev pub AreHeld : List (ℕ × Image) → List (ℕ × Image) → Type 0
+AreHeld changed pages = (n : ℕ) (image : Image) → found pages n ≡ Some image → image.lsn ≡ 0 → IsSome (found changed n)
 
 -- pages that came of replaying records that fit
 pub record Came (pages : ℕ → Image) (records : List LogRecord) : Type 0 where
   pub base : ℕ → Image
   pub lsn : ℕ
+  pub numbered : 0 < lsn
+  pub plain : ArePlain base
   pub room : (n : ℕ) → HasRoom (base n).cells
   pub next : AreNext base lsn records
   pub is : pages ≡ replayed base records
@@ -65,8 +68,9 @@ TellsWhether (Ok x) fit = fit
 TellsWhether (Err Unfit) fit = fit → ⊥
 TellsWhether (Err NoMemory) fit = Unit {0}
 
--- the pages are the replay of the entries, and the chains have their records
+-- the pages are the replay of the entries, those alone are kept that a record edited, and the chains have the records
 pub record IsKept (entries : List Entry) (pages : List (ℕ × Image)) (chains : List (ℕ × List ChainLink)) : Type 0 where
   pub logged : ∥ IsLog entries ∥₁
   pub replay : (n : ℕ) → page_in pages n ≡ pages_of entries n
+  pub edited : AreEdited pages
   pub links : (n : ℕ) → chain_in chains n ≡ chain_of entries n

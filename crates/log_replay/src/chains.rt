@@ -98,8 +98,21 @@ pub(crate) fn link_all(
     Ok(())
 }
 
+/// Keeps the chain of a page no more where it has no link.
+fn drop_empty(chains: &mut BTreeMap<u64, List<ChainLink>>, id: u64)
+    ensures { (n : ℕ) → chain_in chains.new.entries n ≡ chain_in chains.old.entries n }
+{
+    let empty = match chains.get(&id) {
+        Some(chain) => chain.is_empty(),
+        None => false,
+    };
+    if empty {
+        let _ = chains.remove(&id);
+    }
+}
+
 /// Takes the last link from the chain of a page, where it has one.
-fn unlink_one(chains: &mut BTreeMap<u64, List<ChainLink>>, id: u64)
+fn pop_link(chains: &mut BTreeMap<u64, List<ChainLink>>, id: u64)
     ensures { (before : std.List Link) (link : Link) → chain_in chains.old.entries id ≡ before ++ link ∷ [] →
         (n : ℕ) → chain_in chains.new.entries n ≡ put_at (chain_in chains.old.entries) id before n }
 {
@@ -109,6 +122,15 @@ fn unlink_one(chains: &mut BTreeMap<u64, List<ChainLink>>, id: u64)
         }
         None => {}
     }
+}
+
+/// Takes the last link from the chain of a page. The chain is kept no more where that was the only one.
+fn unlink_one(chains: &mut BTreeMap<u64, List<ChainLink>>, id: u64)
+    ensures { (before : std.List Link) (link : Link) → chain_in chains.old.entries id ≡ before ++ link ∷ [] →
+        (n : ℕ) → chain_in chains.new.entries n ≡ put_at (chain_in chains.old.entries) id before n }
+{
+    pop_link(chains, id);
+    drop_empty(chains, id);
 }
 
 /// Takes the links of the records of an entry from the ends of their chains.

@@ -1,6 +1,6 @@
 ghost use Rattle.std.specs.Prelude as std;
-ghost use Rattle.std.specs.Prelude.{ℕ, ◌≡◌, ◌++◌, ◌∷◌, [], ◌≤◌, length, take, drop, is_some, nat_eq, false};
-ghost use Rattle.std.specs.Prelude.{OnOk, OnErr, IfOk, IfErr, IfNone, IfSome};
+ghost use Rattle.std.specs.Prelude.{ℕ, ◌≡◌, ◌++◌, ◌∷◌, [], ◌<◌, ◌≤◌, ◌↔◌, length, take, drop, is_some, nat_eq, false};
+ghost use Rattle.std.specs.Prelude.{OnOk, OnErr, OnSome, IfOk, IfErr, IfNone, IfSome};
 ghost use Rattle.std.specs.List.Sorted.{IsStrictlyIncreasing};
 ghost use Rattle.std.specs.List.{list_any};
 ghost use Rattle.std.specs.BTreeMap.{keys, IsOrdered};
@@ -10,7 +10,7 @@ ghost use Rattle.page_store.specs.Image.{blank_image};
 ghost use Rattle.phys_log.specs.Logs.{pages_of, replayed, Fits, AreNext, records_in, last_lsn_of};
 ghost use Rattle.phys_log.specs.Undone.{later_records};
 ghost use Rattle.log_replay.specs.Chains.{links_on, chain_of};
-ghost use Rattle.log_replay.specs.Kept.{found, page_in, chain_in, TellsWhether};
+ghost use Rattle.log_replay.specs.Kept.{found, page_in, chain_in, ArePlain, AreEdited, TellsWhether};
 ghost use Rattle.log_replay.specs.Answers.{TellsFits, entry_back, schema_of, schema_told};
 
 use crate::chains::{ChainLink, link_all, unlink_all, unlink_entries};
@@ -151,11 +151,12 @@ impl PagedLog {
         }
     }
 
-    /// A page as it is now; none only where it is blank and no record edited it. Takes no memory.
+    /// A page as it is now; none exactly where no record edited it, and it is blank then. Takes no memory.
     pub fn page(&self, id: u64) -> Option<&Page>
         ensures page { IfSome result (λ p. p.now ≡ pages_of self.now id) }
         ensures blank { IfNone result (pages_of self.now id ≡ blank_image) }
         ensures unedited { IfNone result (later_records self.now 0 id ≡ []) }
+        ensures edited { OnSome result (later_records self.now 0 id ≡ [] → ⊥) }
     {
         match self.pages.get(&id) {
             Some(page) => Some(page),
@@ -163,11 +164,13 @@ impl PagedLog {
         }
     }
 
-    /// Page numbers, rising: each page whose number is not among them is blank. The error is want of memory.
+    /// The numbers of the pages that a record edited, rising. Each other page is blank. The error is want of memory.
     pub fn edited(&self, alloc: Global) -> Result<Vec<u64>, AllocError>
         ensures rising { IfOk result (λ v. IsStrictlyIncreasing v.items) }
         ensures others { IfOk result (λ v. (id : ℕ) →
             list_any (nat_eq id) v.items ≡ false → pages_of self.now id ≡ blank_image) }
+        ensures unedited { IfOk result (λ v. (id : ℕ) →
+            (list_any (nat_eq id) v.items ≡ false) ↔ (later_records self.now 0 id ≡ [])) }
     {
         page_numbers(alloc, &self.pages)
     }
@@ -222,11 +225,15 @@ fn replay(
     position: u64,
     from: u64,
 ) -> Result<(), ApplyFault>
+    requires numbered { 0 < from }
+    requires plain { ArePlain (page_in pages.old.entries) }
+    requires edited { AreEdited pages.old.entries }
     ensures made { OnOk result ((n : ℕ) → page_in pages.new.entries n
         ≡ replayed (page_in pages.old.entries) records.now n) }
     ensures linked { OnOk result ((n : ℕ) → chain_in chains.new.entries n
         ≡ chain_in chains.old.entries n ++ links_on n position records.now) }
     ensures next { TellsWhether result (AreNext (page_in pages.old.entries) from records.now) }
+    ensures edited { AreEdited pages.new.entries }
     ensures same_pages { OnErr result ((n : ℕ) → page_in pages.new.entries n ≡ page_in pages.old.entries n) }
     ensures same_chains { OnErr result ((n : ℕ) → chain_in chains.new.entries n ≡ chain_in chains.old.entries n) }
 {

@@ -1,14 +1,10 @@
 use Rattle.std.proofs.Common.{◌≡◌, [], rules}
-use Rattle.log_replay.proofs.WriteLemmas.{saves_whole, given_back}
+use Rattle.phys_log.specs.Logs.{records_in}
+use Rattle.log_replay.proofs.UndoLemmas.{plain_undone}
 use Rattle.log_replay.proofs.undoes.undo_all.Goals as goal
 
-pub restore-requires : goal.restore-requires
-restore-requires c =
-    let none : c.new-saved.result.items ≡ [] = search rules in
-    (saves_whole c.new-saved.result.items c.undo_entries.new.saved.items c.args.pages.now.entries c.undo_entries.new.pages.entries none c.undo_entries.ensures.saves).there
-
-pub returns-in-Err-clause-unchanged : goal.returns-in-Err-clause-unchanged
-returns-in-Err-clause-unchanged c =
-    let none : c.new-saved.result.items ≡ [] = search rules in
-    given_back c.undo_entries.new.saved.items c.args.pages.now.entries c.undo_entries.new.pages.entries c.restore.new.pages.entries
-    (saves_whole c.new-saved.result.items c.undo_entries.new.saved.items c.args.pages.now.entries c.undo_entries.new.pages.entries none c.undo_entries.ensures.saves) c.restore.ensures
+pub settle-requires-clause-plain : goal.settle-requires-clause-plain
+settle-requires-clause-plain c =
+    let none : c.new-changed.result.entries ≡ [] = search rules in
+    plain_undone c.new-changed.result.entries c.args.pages.now.entries c.undo_entries.new.changed.entries c.undo_entries.new.pages.entries
+    (records_in c.args.entries.now) c.requires.came none c.in-Ok.ensures.undone

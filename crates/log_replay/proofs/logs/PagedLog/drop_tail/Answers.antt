@@ -4,8 +4,11 @@ use Rattle.log_replay.specs.Kept.{IsKept}
 use Rattle.log_replay.proofs.LogLemmas.{kept_came, kept_pages, kept_chains, kept_first}
 use Rattle.log_replay.proofs.logs.PagedLog.drop_tail.Goals as goal
 
-pub undo_all-requires : goal.undo_all-requires
-undo_all-requires c =
+pub undo_all-requires-clause-edited : goal.undo_all-requires-clause-edited
+undo_all-requires-clause-edited c = c.self.invariant.edited
+
+pub undo_all-requires-clause-came : goal.undo_all-requires-clause-came
+undo_all-requires-clause-came c =
     let entries = c.self.inside.entries.items in
     let dropped = c.behind-dropped.result.now in
     let is : dropped ≡ drop c.args.kept entries = search rules in
@@ -24,4 +27,5 @@ invariant_of-self-2 c =
     subst (λ (l : List Entry). IsKept l q fewer) (sym left)
     (kept_first entries p q links fewer c.args.kept c.self.invariant
     (kept_pages entries p q links c.args.kept dropped c.self.invariant is c.in_ok-undo_all.ensures.undone)
+    c.undo_all.ensures.edited
     (kept_chains entries p links fewer c.args.kept dropped c.self.invariant is c.unlink_entries.ensures))
