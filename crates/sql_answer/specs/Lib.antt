@@ -1,0 +1,9 @@
+pub mod Aggregates
+pub mod Answers
+pub mod Combinations
+pub mod Conditions
+pub mod Reading
+pub mod Shapes
+pub mod Truth
+pub mod Worked
+pub mod Writes
