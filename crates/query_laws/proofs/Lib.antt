@@ -1,3 +1,4 @@
+pub mod AloneLemmas
 pub mod ConditionLemmas
 pub mod ListLemmas
 pub mod OuterLemmas

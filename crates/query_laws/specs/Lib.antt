@@ -1,3 +1,4 @@
+pub mod Alone
 pub mod Conjuncts
 pub mod Intervals
 pub mod Plans

@@ -1,12 +1,16 @@
 // What holds of walks by intervals, and of transactions over what they read.
-ghost use Rattle.std.specs.Prelude.{◌≡◌, ℕ, List, [], false, Option};
+ghost use Rattle.std.specs.Prelude.{◌≡◌, ℕ, List, [], false, map, Option};
 ghost use Rattle.std.specs.List.{AllByRecursion};
 ghost use Rattle.cdb_values.specs.Rows.{Rows, apply_all};
 ghost use Rattle.cdb_values.specs.declared.rows.RowOp.{RowOp};
+ghost use Rattle.cdb_values.specs.declared.rows.Version.{Version};
 ghost use Rattle.cdb_values.specs.declared.tables.TableDef.{TableDef};
+ghost use Rattle.report_laws.specs.Language.{alone_from};
 ghost use Rattle.sql_answer.specs.Answers.{Meaning, answer};
 ghost use Rattle.sql_answer.specs.Combinations.{Seen, met};
+ghost use Rattle.sql_answer.specs.Language.{Binder, meaning, sql_language};
 ghost use Rattle.sql_bind.specs.Bound.{Cond};
+ghost use Rattle.query_laws.specs.Alone.{run_answered};
 ghost use Rattle.query_laws.specs.Conjuncts.{conjuncts};
 ghost use Rattle.query_laws.specs.Intervals.{Interval};
 ghost use Rattle.query_laws.specs.Runs.{ranges_of, run_from, lasting, without_failures};
@@ -48,4 +52,12 @@ pub fn answers_depend_on_what_is_read()
     ensures run { (tables : List TableDef) (rows others : Rows) (ops : List RowOp) (statements : List Meaning)
         → AllByRecursion (HoldsTheSame tables rows others) (run_from tables rows.tables ops statements).ranges
         → run_from tables others.tables ops (lasting tables rows.tables ops statements) ≡ without_failures (run_from tables rows.tables ops statements) }
+{}
+
+/// A transaction run alone in the language of SQL, however statements are bound, is the run of what its
+/// texts mean: the same replies, the same operations, the same versions used, and it failed where one of
+/// them did.
+pub fn a_transaction_alone_is_a_run()
+    ensures { (bind : Binder) (tables : List TableDef) (versions : List (List Version)) (ops : List RowOp) (texts : List (List ℕ))
+        → alone_from (sql_language bind) tables versions ops texts ≡ run_answered (run_from tables versions ops (map (meaning bind tables) texts)) }
 {}

@@ -13,6 +13,7 @@
 //! | the key that serves, and its interval | `specs/Plans.antt` |
 //! | the walk, and the intervals that it reads | `specs/Walks.antt` |
 //! | a transaction's statements one after the other | `specs/Runs.antt` |
+//! | a run as the laws of reports see it | `specs/Alone.antt` |
 //! | intervals that hold the same; intervals that are touched | `specs/Stable.antt`, `specs/Touched.antt` |
 //!
 //! A worked example, over t(id, v) with the keys pk(id) and by_v(v): `where v = 3 and id > 5` has one equality
@@ -28,6 +29,6 @@ pub use facts::{
     rows_lie_in_intervals,
 };
 pub use laws::{
-    a_walk_depends_on_what_it_reads, a_walk_finds_what_is_met, a_walk_reads_for_outer_combinations,
+    a_transaction_alone_is_a_run, a_walk_depends_on_what_it_reads, a_walk_finds_what_is_met, a_walk_reads_for_outer_combinations,
     answers_depend_on_what_is_read, untouched_intervals_stay,
 };

@@ -24,6 +24,7 @@
 //! | groups, order and LIMIT: the rows that a query gives | `specs/Shapes.antt` |
 //! | SET, and the errors of a row that is written | `specs/Writes.antt` |
 //! | the answer of a statement | `specs/Answers.antt` |
+//! | the language of SQL, for the laws of reports | `specs/Language.antt` |
 //! | three tables with rows, and statements on them | `specs/Worked.antt` |
 //!
 //! A worked example. Over t(id, v) with the rows 1|10 and 2|null, after `insert into t values (3, 5)`, the
@@ -38,4 +39,6 @@ pub use facts::{
     groups_and_orders, joins_are_grouped_and_ordered, null_is_unknown, own_rows_are_seen,
     selectv_uses_what_it_finds, sums_skip_null, writes_fail_by_their_first_error,
 };
-pub use laws::{the_reading_is_the_readers, what_is_seen_is_the_view};
+pub use laws::{
+    orders_are_stable, sql_is_a_language, the_reading_is_the_readers, what_is_seen_is_the_view,
+};
