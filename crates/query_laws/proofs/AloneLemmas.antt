@@ -5,7 +5,7 @@ use Rattle.cdb_values.specs.declared.rows.Version.{Version}
 use Rattle.cdb_values.specs.declared.tables.TableDef.{TableDef}
 use Rattle.report_laws.specs.Language.{Answered, alone_from}
 use Rattle.sql_answer.specs.Answers.{Outcome, Fails, Gives, answer, ops_after}
-use Rattle.sql_answer.specs.Language.{Binder, meaning, answered, sql_language}
+use Rattle.sql_answer.specs.Language.{Binder, meaning, answered, language_of}
 use Rattle.query_laws.specs.Alone.{run_answered}
 use Rattle.query_laws.specs.Intervals.{Interval}
 use Rattle.query_laws.specs.Runs.{ranges_of, Run, run_then, run_from}
@@ -23,10 +23,10 @@ after_is ops (Fails cause) = refl
 after_is ops (Gives told after) = refl
 
 pub alone_is_run : (bind : Binder) (tables : List TableDef) (versions : List (List Version)) (ops : List RowOp) (texts : List (List ℕ)) →
-    alone_from (sql_language bind) tables versions ops texts ≡ run_answered (run_from tables versions ops (map (meaning bind tables) texts))
+    alone_from (language_of bind) tables versions ops texts ≡ run_answered (run_from tables versions ops (map (meaning bind tables) texts))
 alone_is_run bind tables versions ops [] = refl
 alone_is_run bind tables versions ops (text ∷ texts) =
     let o : Outcome = answer tables versions ops (meaning bind tables text) in
-    ap (λ after. joined (answered ops o) (alone_from (sql_language bind) tables versions after texts)) (after_is ops o)
+    ap (λ after. joined (answered ops o) (alone_from (language_of bind) tables versions after texts)) (after_is ops o)
     ∙ ap (joined (answered ops o)) (alone_is_run bind tables versions (ops_after ops o) texts)
     ∙ one_more ops o (ranges_of tables versions ops (meaning bind tables text)) (run_from tables versions (ops_after ops o) (map (meaning bind tables) texts))

@@ -1,23 +1,22 @@
 -- The outer combinations of the walk are those that lie in their intervals and pass their conjuncts.
-use Rattle.std.proofs.Common.{◌≡◌, ℕ, zero, suc, ◌+◌, ◌≤◌, List, [], ◌∷◌, ◌++◌, length, refl, sym, ap, subst, arith, ◌∙◌, Bool, true, false, ◌&&◌, cond, map, append_assoc, append-nil, leb}
-use Rattle.std.proofs.lemmas.Bool.{cond_both, and_parts, leb-true, le-leb, cases_Bool}
-use Rattle.std.proofs.lemmas.Grind.{flat_map-append}
+use Rattle.std.proofs.Common.{◌≡◌, ℕ, ◌+◌, ◌≤◌, List, [], ◌∷◌, ◌++◌, length, refl, sym, ap, subst, arith, ◌∙◌, Bool, true, false, ◌&&◌, cond, map, append_assoc, append-nil, leb}
+use Rattle.std.proofs.lemmas.Bool.{cond_both, and_parts, leb-true, le-leb}
 use Rattle.std.proofs.lemmas.List.{length-append}
 use Rattle.std.proofs.lemmas.List.Elements.{filter-append}
-use Rattle.std.specs.List.{list_all, AllByRecursion, filter, flat_map}
+use Rattle.std.specs.List.{AllByRecursion, filter, flat_map}
 use Rattle.cdb_values.specs.declared.tables.TableDef.{TableDef}
 use Rattle.cdb_values.specs.declared.values.Value.{Value}
 use Rattle.query_laws.proofs.ConditionLemmas.{truth_front}
-use Rattle.query_laws.proofs.ListLemmas.{all_append, all_flat, map_all, false_since, filter_true, filter_false}
+use Rattle.query_laws.proofs.ListLemmas.{all_append, false_since, filter_true, filter_false}
 use Rattle.query_laws.proofs.WalkLemmas.{rows_append}
-use Rattle.sql_bind.specs.Bound.{Cond, AnyOf, AllOf, NotOf, Grouped, Compares, TestsNull, Conds, no_cond, more_conds}
-use Rattle.sql_answer.specs.Truth.{Truth, No, Unknown, Yes, not3, and3, or3, is_yes, truth_of, is_null, stands, compared}
-use Rattle.sql_answer.specs.Conditions.{cell, cell_of, column_value, operand_value, tests_null, truth, any_from, all_from, holds, meets}
-use Rattle.query_laws.specs.Conjuncts.{parts, conjuncts_in, conjuncts, all_hold, larger, operand_reach, reach, parts_reach}
-use Rattle.query_laws.specs.Intervals.{Edge, Free, AtLeast, Above, AtMost, Below, Interval, is_within, are_equal, is_between, lies_by, lies_at, lies}
-use Rattle.query_laws.specs.Plans.{Use, turned, is_equality, is_lower, is_upper, is_ranged, is_known, use_of, use_or, usable, uses_at, first_use, equality_then, equalities, first_of, Fit, next_column, fit, serves, is_better, better, chosen, edge, edge_of, values_of, bounds_of, interval_by, interval_at}
-use Rattle.sql_answer.specs.Combinations.{Seen, seen_version, seen_own, own_or, own_from, is_left, of_table, seen, rows_of, extended, combinations_from, combinations, met}
-use Rattle.query_laws.specs.Walks.{holds_yet, is_outer, outer, within, reached, found_from, walked, ranges_from, ranges_read, lies_from, outer_of, ranges_by}
+use Rattle.sql_bind.specs.Bound.{Cond}
+use Rattle.sql_answer.specs.Truth.{is_yes}
+use Rattle.sql_answer.specs.Conditions.{holds}
+use Rattle.query_laws.specs.Conjuncts.{reach}
+use Rattle.query_laws.specs.Intervals.{lies}
+use Rattle.query_laws.specs.Plans.{interval_at}
+use Rattle.sql_answer.specs.Combinations.{Seen, seen, rows_of, extended, combinations_from}
+use Rattle.query_laws.specs.Walks.{holds_yet, is_outer, outer, within, reached, ranges_from, lies_from, outer_of, ranges_by}
 
 -- what holds of the places so far holds of fewer of them
 yet_front : (rows more : List (List Value)) (c : Cond) → holds_yet (rows ++ more) c ≡ true → holds_yet rows c ≡ true

@@ -1,8 +1,8 @@
 -- What operations that touch no row of a range leave as it is.
-use Rattle.std.proofs.Common.{◌≡◌, ℕ, zero, suc, ◌+◌, List, [], ◌∷◌, ◌++◌, refl, sym, ap, subst, ◌∙◌, Bool, true, false, ◌&&◌, ◌||◌, not, cond, map, eqb, Option, Some, None, unwrap_or, append-nil}
-use Rattle.std.proofs.lemmas.Bool.{or_parts, and_cases, eq-eqb, false≢true, and_from}
+use Rattle.std.proofs.Common.{◌≡◌, ℕ, zero, suc, List, [], ◌∷◌, ◌++◌, refl, sym, ap, ◌∙◌, Bool, true, false, ◌&&◌, not, cond, map, eqb, unwrap_or, append-nil}
+use Rattle.std.proofs.lemmas.Bool.{or_parts, eq-eqb}
 use Rattle.std.proofs.lemmas.List.Elements.{filter-append}
-use Rattle.std.specs.List.{AllByRecursion, filter, list_any, slice_get, slice_set}
+use Rattle.std.specs.List.{filter, list_any, slice_get, slice_set}
 use Rattle.cdb_values.specs.Rows.{Rows, versions_of, without, taken, added, apply, apply_all, version}
 use Rattle.cdb_values.specs.declared.rows.RowOp.{RowOp}
 use Rattle.cdb_values.specs.declared.rows.RowOp.TheVariants as op
@@ -12,9 +12,9 @@ use Rattle.cdb_values.specs.declared.tables.TableDef.{TableDef}
 use Rattle.cdb_values.specs.declared.values.Value.{Value}
 use Rattle.query_laws.proofs.ListLemmas.{filter_both, filter_of_map, filter_true, filter_false}
 use Rattle.query_laws.specs.Stable.{inside, HoldsTheSame, ShowsTheSame}
-use Rattle.query_laws.specs.Intervals.{Edge, Free, AtLeast, Above, AtMost, Below, Interval, is_within, are_equal, is_between, lies_by, lies_at, lies}
-use Rattle.sql_answer.specs.Combinations.{Seen, seen_version, seen_own, own_or, own_from, is_left, of_table, seen, rows_of, extended, combinations_from, combinations, met}
-use Rattle.query_laws.specs.Walks.{holds_yet, is_outer, outer, within, reached, found_from, walked, ranges_from, ranges_read, lies_from, outer_of, ranges_by}
+use Rattle.query_laws.specs.Intervals.{Interval, lies}
+use Rattle.sql_answer.specs.Combinations.{Seen, seen_version, own_from, is_left, seen}
+use Rattle.query_laws.specs.Walks.{within}
 use Rattle.query_laws.specs.Touched.{leaves, enters, op_touches, touches}
 
 -- and so it holds the same rows for a transaction with the same operations on top

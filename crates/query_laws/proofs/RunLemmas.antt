@@ -1,5 +1,5 @@
 -- Statements over rows that the intervals which they use do not tell from those at their begin.
-use Rattle.std.proofs.Common.{◌≡◌, ℕ, List, [], ◌∷◌, ◌++◌, refl, sym, ap, ◌∙◌}
+use Rattle.std.proofs.Common.{◌≡◌, List, [], ◌∷◌, refl, ap, ◌∙◌}
 use Rattle.std.specs.List.{AllByRecursion}
 use Rattle.cdb_values.specs.Rows.{Rows}
 use Rattle.cdb_values.specs.declared.rows.RowOp.{RowOp}

@@ -1,5 +1,5 @@
 -- A run of statements as the laws of reports see it: a transaction run alone.
-use Rattle.std.specs.Prelude.{ℕ, ◌∷◌, [], List, Bool, true, false}
+use Rattle.std.specs.Prelude.{◌∷◌, [], List, Bool, true, false}
 use Rattle.std.specs.List.{flat_map, list_any}
 use Rattle.cdb_values.specs.declared.items.GenidItem.{GenidItem}
 use Rattle.report_laws.specs.Language.{Answered}

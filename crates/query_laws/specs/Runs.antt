@@ -3,7 +3,7 @@
 --
 -- A statement that fails by the rows that it met reads nothing, and may be left out: the others are
 -- answered alike without it.
-use Rattle.std.specs.Prelude.{ℕ, ◌++◌, ◌∷◌, [], List, Option}
+use Rattle.std.specs.Prelude.{◌++◌, ◌∷◌, [], List}
 use Rattle.cdb_values.specs.declared.rows.RowOp.{RowOp}
 use Rattle.cdb_values.specs.declared.rows.Version.{Version}
 use Rattle.cdb_values.specs.declared.tables.TableDef.{TableDef}

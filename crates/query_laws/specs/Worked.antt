@@ -8,7 +8,6 @@ use Rattle.cdb_values.specs.declared.values.Value.{Value}
 use Rattle.cdb_values.specs.declared.values.Value.TheVariants.{Null}
 use Rattle.sql_bind.specs.Bound.{Cond, AllOf, NotOf, Compares}
 use Rattle.sql_bind.specs.declared.types.BoundOperand.TheVariants as operand
-use Rattle.sql_bind.specs.declared.types.Cmp.{Cmp}
 use Rattle.sql_bind.specs.declared.types.Cmp.TheVariants as cmp
 use Rattle.sql_answer.specs.Worked.{int, column_def, version, column, id, v, compares, both}
 use Rattle.query_laws.specs.Intervals.{Edge, Free, Interval}

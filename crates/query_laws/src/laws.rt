@@ -8,7 +8,7 @@ ghost use Rattle.cdb_values.specs.declared.tables.TableDef.{TableDef};
 ghost use Rattle.report_laws.specs.Language.{alone_from};
 ghost use Rattle.sql_answer.specs.Answers.{Meaning, answer};
 ghost use Rattle.sql_answer.specs.Combinations.{Seen, met};
-ghost use Rattle.sql_answer.specs.Language.{Binder, meaning, sql_language};
+ghost use Rattle.sql_answer.specs.Language.{Binder, meaning, language_of};
 ghost use Rattle.sql_bind.specs.Bound.{Cond};
 ghost use Rattle.query_laws.specs.Alone.{run_answered};
 ghost use Rattle.query_laws.specs.Conjuncts.{conjuncts};
@@ -59,5 +59,5 @@ pub fn answers_depend_on_what_is_read()
 /// them did.
 pub fn a_transaction_alone_is_a_run()
     ensures { (bind : Binder) (tables : List TableDef) (versions : List (List Version)) (ops : List RowOp) (texts : List (List ℕ))
-        → alone_from (sql_language bind) tables versions ops texts ≡ run_answered (run_from tables versions ops (map (meaning bind tables) texts)) }
+        → alone_from (language_of bind) tables versions ops texts ≡ run_answered (run_from tables versions ops (map (meaning bind tables) texts)) }
 {}

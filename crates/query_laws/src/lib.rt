@@ -29,6 +29,6 @@ pub use facts::{
     rows_lie_in_intervals,
 };
 pub use laws::{
-    a_transaction_alone_is_a_run, a_walk_depends_on_what_it_reads, a_walk_finds_what_is_met, a_walk_reads_for_outer_combinations,
-    answers_depend_on_what_is_read, untouched_intervals_stay,
+    a_transaction_alone_is_a_run, a_walk_depends_on_what_it_reads, a_walk_finds_what_is_met,
+    a_walk_reads_for_outer_combinations, answers_depend_on_what_is_read, untouched_intervals_stay,
 };

@@ -1,10 +1,8 @@
 -- Operations that name their targets' rows rightly go on to do so, and touch what their changes touch.
-use Rattle.std.proofs.Common.{◌≡◌, ℕ, zero, suc, ◌+◌, ◌-◌, ◌<◌, ◌≤◌, List, [], ◌∷◌, ◌++◌, length, refl, sym, ap, subst, ◌∙◌, Bool, true, false, ◌&&◌, ◌||◌, not, cond, map, eqb, Option, Some, None, unwrap_or, arith}
-use Rattle.std.proofs.lemmas.Bool.{or_parts, cond_both, cases_Bool, eqb-true, and_parts}
+use Rattle.std.proofs.Common.{◌≡◌, ℕ, zero, suc, ◌+◌, ◌-◌, ◌<◌, ◌≤◌, List, [], ◌∷◌, ◌++◌, length, refl, sym, ap, subst, ◌∙◌, Bool, true, false, ◌&&◌, ◌||◌, eqb, Option, Some, unwrap_or, arith}
+use Rattle.std.proofs.lemmas.Bool.{or_parts, cond_both, eqb-true}
 use Rattle.std.specs.List.{AllByRecursion, filter, list_any, slice_get, slice_set}
 use Rattle.cdb_values.specs.Rows.{Rows, no_rows, versions_of, without, taken, added, apply, apply_all, version}
-use Rattle.cdb_values.specs.declared.rows.Change.{Change}
-use Rattle.cdb_values.specs.declared.rows.Level.TheVariants.{Serializable}
 use Rattle.cdb_values.specs.declared.rows.RowOp.{RowOp}
 use Rattle.cdb_values.specs.declared.rows.RowOp.TheVariants as op
 use Rattle.cdb_values.specs.declared.rows.RowRef.{RowRef}
@@ -16,10 +14,10 @@ use Rattle.cdb_values.specs.Changes.{changes_of}
 use Rattle.sql_answer.specs.Answers.{Meaning, answer, ops_after}
 use Rattle.query_laws.specs.Intervals.{Interval, lies}
 use Rattle.query_laws.specs.Runs.{run_from}
-use Rattle.query_laws.specs.Touched.{leaves, enters, op_touches, touches}
+use Rattle.query_laws.specs.Touched.{leaves, enters, touches}
 use Rattle.query_laws.proofs.ListLemmas.{all_append, all_weaker}
-use Rattle.serial_laws.specs.Histories.{Entry, Setup, Commit, Origin, alone, states_of, ops_of, entry_at, rows_at, ops_or_none, ops_at, IsUntouched, IsBegun, IsRight, AllEntries, AllRight, IsPlaced, IsSerial}
-use Rattle.serial_laws.specs.Changed.{lies_in, change_touches, changes_touch, changes_at, IsRowOf, IsTrueTarget, IsTrueOp, IsSound, TellsTrue, IsUnchanged, IsFair, AllFair}
+use Rattle.serial_laws.specs.Histories.{Entry, Setup, Commit, Origin, alone, states_of, ops_of, entry_at, ops_or_none, ops_at, IsUntouched, IsBegun, IsRight, AllEntries, AllRight, IsPlaced, IsSerial}
+use Rattle.serial_laws.specs.Changed.{lies_in, changes_touch, IsRowOf, IsTrueTarget, IsTrueOp, IsSound, TellsTrue, IsUnchanged, IsFair, AllFair}
 use Rattle.serial_laws.proofs.SerialLemmas.{place, now, IsStep, step_at, rows_step, states_stay, get_within, right_is_serial}
 
 pub all_filter : {A : Type 0} (P : A → Type 0) (p : A → Bool) (xs : List A) → AllByRecursion P xs → AllByRecursion P (filter p xs)

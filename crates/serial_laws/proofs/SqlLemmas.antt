@@ -1,23 +1,22 @@
 -- The statements of SQL add operations that name their targets' rows rightly.
-use Rattle.std.proofs.Common.{◌≡◌, ℕ, zero, suc, ◌+◌, ◌-◌, List, [], ◌∷◌, ◌++◌, length, refl, Bool, true, false, cond, map, eqb, ltb, Option, Some, None, Ok, Err, option_map}
+use Rattle.std.proofs.Common.{ℕ, zero, suc, ◌+◌, ◌-◌, List, [], ◌∷◌, ◌++◌, length, map, eqb, ltb, Option, Some, None, Ok, Err, option_map}
 use Rattle.std.proofs.lemmas.Bool.{cond_both}
 use Rattle.std.specs.List.{AllByRecursion, filter, flat_map, filter_map, cons_option, slice_get, slice_set}
 use Rattle.cdb_values.specs.Rows.{Rows, versions_of}
 use Rattle.cdb_values.specs.declared.items.GenidItem.{GenidItem}
 use Rattle.cdb_values.specs.declared.rows.RowOp.{RowOp}
 use Rattle.cdb_values.specs.declared.rows.RowOp.TheVariants as op
-use Rattle.cdb_values.specs.declared.rows.RowRef.{RowRef}
 use Rattle.cdb_values.specs.declared.rows.RowRef.TheVariants.{Base, Own}
 use Rattle.cdb_values.specs.declared.rows.StatementError.{StatementError}
 use Rattle.cdb_values.specs.declared.rows.StatementError.TheVariants as error
 use Rattle.cdb_values.specs.declared.tables.TableDef.{TableDef}
 use Rattle.cdb_values.specs.declared.values.Value.{Value}
-use Rattle.net_writes.specs.Net.{held_of, held_at, taken_out, rewritten, undone, held_with, held_after, and_then, standing, net_of}
+use Rattle.net_writes.specs.Net.{held_of, held_at, taken_out, rewritten, undone, held_with, held_after, standing, net_of}
 use Rattle.report_text.specs.declared.reports.ReplyLine.TheVariants as reply
-use Rattle.sql_bind.specs.Bound.{Cond, BoundStatement, BeginIt, CommitIt, RollbackIt, SetIt, InsertInto, UpdateOf, DeleteFrom, SelectOf}
+use Rattle.sql_bind.specs.Bound.{Cond, BeginIt, CommitIt, RollbackIt, SetIt, InsertInto, UpdateOf, DeleteFrom, SelectOf}
 use Rattle.sql_bind.specs.declared.types.BoundAssign.{BoundAssign}
-use Rattle.sql_answer.specs.Answers.{Meaning, Outcome, Fails, Gives, told_only, most_net_ops, net_given, given_unless, rows_met, updating, deleting, items_used, rows_given, finished, finish, answer, ops_after}
-use Rattle.sql_answer.specs.Combinations.{Seen, seen_version, seen_own, own_or, own_from, is_left, seen, rows_of, extended, met}
+use Rattle.sql_answer.specs.Answers.{Meaning, Fails, Gives, told_only, most_net_ops, net_given, given_unless, rows_met, updating, deleting, items_used, rows_given, finish, answer, ops_after}
+use Rattle.sql_answer.specs.Combinations.{Seen, seen_version, seen_own, own_from, is_left, seen, rows_of, extended, met}
 use Rattle.sql_answer.specs.Shapes.{shape}
 use Rattle.sql_answer.specs.Writes.{set_row, rows_error}
 use Rattle.query_laws.proofs.ListLemmas.{all_append, all_flat, map_all, all_of_each, all_weaker}

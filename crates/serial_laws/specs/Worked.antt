@@ -1,6 +1,6 @@
 -- Worked example: write skew. Two transactions read all rows of t from id 1 on, and each changes one of
 -- them; and a history with the schema's entry a second time.
-use Rattle.std.specs.Prelude.{ℕ, ◌∷◌, [], List, Some, None, Ok}
+use Rattle.std.specs.Prelude.{ℕ, ◌∷◌, [], List, Some, Ok}
 use Rattle.cdb_values.specs.Rows.{no_rows}
 use Rattle.cdb_values.specs.declared.rows.Level.TheVariants.{Serializable}
 use Rattle.cdb_values.specs.declared.values.Value.{Value}
@@ -9,7 +9,7 @@ use Rattle.sql_bind.specs.Bound.{InsertInto, UpdateOf, SelectOf}
 use Rattle.sql_bind.specs.declared.types.BoundItem.TheVariants as items
 use Rattle.sql_bind.specs.declared.types.BoundOperand.TheVariants as operand
 use Rattle.sql_bind.specs.declared.types.Cmp.TheVariants as cmp
-use Rattle.sql_answer.specs.Answers.{Meaning, Outcome, Gives}
+use Rattle.sql_answer.specs.Answers.{Meaning, Outcome}
 use Rattle.sql_answer.specs.Worked.{int, id, v, compares, plain_query, tells}
 use Rattle.query_laws.specs.Intervals.{Edge, Free, Interval}
 use Rattle.query_laws.specs.Worked.{interval}

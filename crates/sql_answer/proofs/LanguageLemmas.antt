@@ -18,9 +18,9 @@ use Rattle.report_laws.proofs.PieceLemmas.{up_to_rows}
 use Rattle.report_text.specs.declared.reports.ReplyLine.{ReplyLine}
 use Rattle.report_text.specs.declared.reports.ReplyLine.TheVariants as reply
 use Rattle.sql_bind.specs.Bound.{BoundStatement, BeginIt, CommitIt, RollbackIt, SetIt, InsertInto, UpdateOf, DeleteFrom, SelectOf}
-use Rattle.sql_answer.specs.Answers.{Meaning, Outcome, Fails, Gives, Told, told_only, most_net_ops, net_given, given_unless, rows_met, updating, deleting, items_used, rows_given, finished, finish, found}
+use Rattle.sql_answer.specs.Answers.{Meaning, Outcome, Fails, Gives, told_only, most_net_ops, net_given, given_unless, rows_met, updating, deleting, items_used, rows_given, finished, finish, found}
 use Rattle.sql_answer.specs.Combinations.{Seen, rows_of}
-use Rattle.sql_answer.specs.Language.{Binder, answered, sql_language, meaning}
+use Rattle.sql_answer.specs.Language.{Binder, answered, language_of, meaning}
 use Rattle.sql_answer.specs.Shapes.{shape}
 use Rattle.sql_answer.specs.Writes.{set_row, rows_error}
 
@@ -65,10 +65,10 @@ unfolding finish
 finish_told tables (Ok s) ops combinations = finished_told tables s ops combinations
 finish_told tables (Err cause) ops combinations = ((tt, tt), refl)
 
-text_told : (bind : Binder) (tables : List TableDef) (versions : List (List Version)) (ops : List RowOp) (text : List ℕ) → IsTold ((sql_language bind).answer tables versions ops text).replies
+text_told : (bind : Binder) (tables : List TableDef) (versions : List (List Version)) (ops : List RowOp) (text : List ℕ) → IsTold ((language_of bind).answer tables versions ops text).replies
 text_told bind tables versions ops text = finish_told tables (meaning bind tables text) ops (found versions ops (meaning bind tables text))
 
-pub sql_answers : (bind : Binder) → Answers (sql_language bind)
+pub sql_answers : (bind : Binder) → Answers (language_of bind)
 sql_answers bind = record {
   plain = λ tables versions ops text. (text_told bind tables versions ops text).0;
   closed = λ tables versions ops text. (text_told bind tables versions ops text).1;

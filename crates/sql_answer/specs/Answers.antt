@@ -9,7 +9,7 @@
 --
 -- Errors that can depend on rows are overflow, notnull and toolong: a statement with one of them fails.
 -- It adds no operation, and neither does a statement with any other error.
-use Rattle.std.specs.Prelude.{ℕ, ◌++◌, ◌∷◌, [], List, Bool, if◌then◌else◌, nat_lt, map, length, slice_get, Option, Some, None, option_map, Result, Ok, Err}
+use Rattle.std.specs.Prelude.{ℕ, ◌++◌, ◌∷◌, [], List, if◌then◌else◌, nat_lt, map, length, slice_get, Option, Some, None, option_map, Result, Ok, Err}
 use Rattle.std.specs.List.{flat_map, filter_map}
 use Rattle.cdb_values.specs.Changes.{genid_item}
 use Rattle.cdb_values.specs.declared.items.GenidItem.{GenidItem}

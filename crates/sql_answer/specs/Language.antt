@@ -29,8 +29,8 @@ answered ops (Fails cause) = record { replies = reply.Error cause ∷ []; ops = 
 answered ops (Gives told after) = record { replies = told.replies; ops = after; uses = told.uses; failed = false }
 
 -- the language of SQL whose statements are bound so
-abbrev pub sql_language : Binder → Language
-sql_language bind = record {
+abbrev pub language_of : Binder → Language
+language_of bind = record {
   kind = kind_of_text;
   answer = λ tables versions ops text. answered ops (answer tables versions ops (meaning bind tables text));
 }

@@ -2,7 +2,7 @@
 --
 -- A comparison with NULL is unknown. Of the values No < Unknown < Yes, AND is the least, OR the
 -- greatest, and NOT exchanges No and Yes.
-use Rattle.std.specs.Prelude.{Bool, true, false, ◌||◌, not, if◌then◌else◌}
+use Rattle.std.specs.Prelude.{Bool, true, false, ◌||◌, if◌then◌else◌}
 use Rattle.std.specs.declared.cmp.Ordering.{Ordering}
 use Rattle.std.specs.Ordering.{is_eq, is_ne, is_lt, is_le, is_gt, is_ge}
 use Rattle.cdb_values.specs.Order.{value_order}

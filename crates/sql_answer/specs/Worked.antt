@@ -13,18 +13,14 @@ use Rattle.cdb_values.specs.declared.tables.TableDef.{TableDef}
 use Rattle.cdb_values.specs.declared.values.Value.{Value}
 use Rattle.cdb_values.specs.declared.values.Value.TheVariants.{Null, Int, Text}
 use Rattle.report_text.specs.declared.reports.ReplyLine.{ReplyLine}
-use Rattle.sql_bind.specs.Bound.{Cond, Conds, AnyOf, AllOf, NotOf, Compares, TestsNull, no_cond, more_conds, BoundQuery, BoundStatement, UpdateOf, SelectOf}
-use Rattle.sql_bind.specs.declared.types.BoundAssign.{BoundAssign}
+use Rattle.sql_bind.specs.Bound.{Cond, Conds, Compares, no_cond, more_conds, BoundQuery, BoundStatement, UpdateOf}
 use Rattle.sql_bind.specs.declared.types.BoundColumn.{BoundColumn}
 use Rattle.sql_bind.specs.declared.types.BoundItem.{BoundItem}
 use Rattle.sql_bind.specs.declared.types.BoundItem.TheVariants as items
-use Rattle.sql_bind.specs.declared.types.BoundKey.{BoundKey}
-use Rattle.sql_bind.specs.declared.types.BoundOperand.{BoundOperand}
 use Rattle.sql_bind.specs.declared.types.BoundOperand.TheVariants as operand
-use Rattle.sql_bind.specs.declared.types.BoundStep.{BoundStep}
 use Rattle.sql_bind.specs.declared.types.Cmp.{Cmp}
 use Rattle.sql_bind.specs.declared.types.Cmp.TheVariants as cmp
-use Rattle.sql_answer.specs.Answers.{Outcome, Gives, Told}
+use Rattle.sql_answer.specs.Answers.{Outcome, Gives}
 
 abbrev pub int : ℕ → Value
 int n = Int (pos n)

@@ -2,11 +2,10 @@
 --
 -- SET evaluates on the old row, each step from the left; `+` and `-` with NULL give NULL. Of the rows in
 -- order the first with an error decides, and on it the first of overflow, notnull and toolong.
-use Rattle.std.specs.Prelude.{ℕ, ◌+ℤ◌, ◌-ℤ◌, ◌∷◌, [], List, Bool, true, false, ◌&&◌, ◌||◌, not, if◌then◌else◌, nat_lt, slice_set, Option, Some, None, Result, Ok, Err}
+use Rattle.std.specs.Prelude.{ℕ, ◌+ℤ◌, ◌-ℤ◌, ◌∷◌, [], List, Bool, true, false, ◌&&◌, ◌||◌, not, if◌then◌else◌, nat_lt, slice_set, Option, Some, None}
 use Rattle.std.specs.Option.{option_and_then}
 use Rattle.std.specs.List.{list_any}
 use Rattle.cdb_values.specs.Good.{bytes_of_row, bytes_of_key, key_of}
-use Rattle.cdb_values.specs.declared.rows.RowOp.{RowOp}
 use Rattle.cdb_values.specs.declared.rows.StatementError.{StatementError}
 use Rattle.cdb_values.specs.declared.rows.StatementError.TheVariants as error
 use Rattle.cdb_values.specs.declared.tables.ColumnDef.{ColumnDef}

@@ -9,7 +9,7 @@ ghost use Rattle.sql_grammar.specs.Trees.{Statement};
 ghost use Rattle.sql_grammar.specs.Grammar.{StatementS};
 ghost use Rattle.sql_reader.specs.Promise.{Spells, IsRefusedAt};
 ghost use Rattle.sql_answer.specs.Combinations.{seen, rows_of};
-ghost use Rattle.sql_answer.specs.Language.{Binder, sql_language};
+ghost use Rattle.sql_answer.specs.Language.{Binder, language_of};
 ghost use Rattle.sql_answer.specs.Reading.{reading};
 ghost use Rattle.sql_answer.specs.Shapes.{Keyed, is_below, ordered, AreInOrder};
 
@@ -36,5 +36,5 @@ pub fn orders_are_stable()
 /// However statements are bound, each text is answered, by replies that end at the first one that is no row,
 /// and of which none begins or ends a transaction.
 pub fn sql_is_a_language()
-    ensures { (bind : Binder) → Answers (sql_language bind) }
+    ensures { (bind : Binder) → Answers (language_of bind) }
 {}
