@@ -1,0 +1,5 @@
+use Rattle.query_laws.proofs.WalkLemmas.{walk_is_filter}
+use Rattle.query_laws.proofs.laws.a_walk_finds_what_is_met.Goals as goal
+
+pub returns : goal.returns
+returns c = walk_is_filter

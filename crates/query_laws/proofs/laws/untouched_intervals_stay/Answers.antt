@@ -1,0 +1,5 @@
+use Rattle.query_laws.proofs.RowsLemmas.{untouched_stays}
+use Rattle.query_laws.proofs.laws.untouched_intervals_stay.Goals as goal
+
+pub returns : goal.returns
+returns c = untouched_stays

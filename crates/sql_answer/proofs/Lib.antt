@@ -1,0 +1,4 @@
+pub mod LanguageLemmas
+pub mod OrderLemmas
+pub mod ReadingLemmas
+pub mod SeenLemmas

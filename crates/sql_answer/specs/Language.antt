@@ -1,0 +1,36 @@
+-- The language of SQL, as the laws of reports need it: what each text is to transactions, and how it is
+-- answered. How a statement is bound in a schema is a parameter: what it means there, or the error that it
+-- has before any row is looked at.
+use Rattle.std.specs.Prelude.{ℕ, ◌∷◌, [], List, true, false, Result, Ok, Err}
+use Rattle.cdb_values.specs.declared.rows.RowOp.{RowOp}
+use Rattle.cdb_values.specs.declared.rows.StatementError.TheVariants as error
+use Rattle.cdb_values.specs.declared.tables.TableDef.{TableDef}
+use Rattle.report_laws.specs.Language.{Answered, Language}
+use Rattle.report_text.specs.declared.reports.ReplyLine.TheVariants as reply
+use Rattle.sql_grammar.specs.Trees.{Statement}
+use Rattle.sql_answer.specs.Answers.{Meaning, Outcome, Fails, Gives, answer}
+use Rattle.sql_answer.specs.Reading.{reading, kind_of_text}
+
+-- how statements are bound in schemas
+abbrev pub Binder : Type 0
+Binder = List TableDef → Statement → Meaning
+
+abbrev pub meant_by : Binder → List TableDef → Result Statement ℕ → Meaning
+meant_by bind tables (Ok statement) = bind tables statement
+meant_by bind tables (Err at) = Err (error.Syntax at)
+
+-- what a text means in a schema: a statement, or the first error that it has before any row is looked at
+unfoldable pub meaning : Binder → List TableDef → List ℕ → Meaning
+meaning bind tables text = meant_by bind tables (reading text)
+
+-- an outcome behind these operations, as the laws of reports see it
+abbrev pub answered : List RowOp → Outcome → Answered
+answered ops (Fails cause) = record { replies = reply.Error cause ∷ []; ops = ops; uses = []; failed = true }
+answered ops (Gives told after) = record { replies = told.replies; ops = after; uses = told.uses; failed = false }
+
+-- the language of SQL whose statements are bound so
+abbrev pub language_of : Binder → Language
+language_of bind = record {
+  kind = kind_of_text;
+  answer = λ tables versions ops text. answered ops (answer tables versions ops (meaning bind tables text));
+}

@@ -1,0 +1,10 @@
+pub mod Aggregates
+pub mod Answers
+pub mod Combinations
+pub mod Conditions
+pub mod Language
+pub mod Reading
+pub mod Shapes
+pub mod Truth
+pub mod Worked
+pub mod Writes
