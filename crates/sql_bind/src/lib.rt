@@ -7,6 +7,6 @@
 mod types;
 
 pub use types::{
-    Bound, BoundAssign, BoundColumn, BoundItem, BoundKey, BoundOperand, BoundSelect, BoundStep, Cmp,
-    Condition,
+    Bound, BoundAssign, BoundColumn, BoundItem, BoundKey, BoundOperand, BoundSelect, BoundStep,
+    Cmp, Condition,
 };

@@ -1,6 +1,6 @@
 -- The names of a definition are names of the tokens that spell it: what holds of each of these holds of its table's name
 -- and of the names of its keys.
-use Rattle.std.proofs.Common.{◌≡◌, ℕ, ◌≤◌, Bool, true, false, cond, nat_le, List, [], ◌∷◌, ◌++◌, length, map, Option, Some, None, Ok, refl, sym, ap, subst, arith, inl, inr}
+use Rattle.std.proofs.Common.{◌≡◌, ℕ, ◌≤◌, Bool, true, false, cond, nat_le, List, [], ◌∷◌, ◌++◌, length, map, Option, Some, None, Ok, refl, sym, subst, arith, inl, inr}
 use Rattle.std.specs.List.{AllByRecursion}
 use Rattle.std.specs.Prelude.{flat_map}
 use Rattle.cdb_values.specs.Tables.{add_fault}
@@ -16,7 +16,7 @@ use Rattle.sql_grammar.specs.declared.types.Mark.{Mark}
 use Rattle.sql_grammar.specs.declared.types.Mark.TheVariants as mark
 use Rattle.sql_grammar.specs.Trees.{Name, Part, ColumnPart, PrimaryPart, KeyPart, Definition}
 use Rattle.sql_grammar.specs.Words.{keyword, sign_is, name_of}
-use Rattle.sql_grammar.specs.Grammar.{pair, NameS, Enclosed, Listed, Closed, PartS, column_part, key_part, definition, CreateS}
+use Rattle.sql_grammar.specs.Grammar.{pair, NameS, Enclosed, Listed, PartS, column_part, key_part, definition, CreateS}
 use Rattle.table_read.specs.Keys.{primary_name, keys_of_mark, keys_of_part, written_keys}
 use Rattle.table_read.specs.Reading.{definition_of}
 use Rattle.table_read.specs.Tables.{key_over, table_said}
