@@ -34,7 +34,8 @@
 //! ```
 //!
 //! Its law: who has the turn has it until it adds, since nobody else may add. So an adder that met a note in which it has
-//! the turn may add, however old the note is.
+//! the turn, and did not add since, may add, however old the note is. `actor_trace_tests` has this machine as `Ledger`, with
+//! a counter: its turns pass between threads as values that carry such a note.
 //!
 //! The rule that every atomic step keeps (`specs/Rules.antt`): there is one legal history, as long as the word says; each
 //! seat's view is true of it (`specs/Views.antt`); no actor's number stands in two views; no actor made more than 2^31 steps.

@@ -7,7 +7,7 @@ use Rattle.actor_trace.specs.History.{IsLegal, entries_of}
 use Rattle.actor_trace.proofs.Joined.{map_snoc}
 use Rattle.actor_trace_tests.specs.Counts.{IsNext}
 
-range_snoc : (k n : ℕ) → range_with_len k (suc n) ≡ range_with_len k n ++ (k + n) ∷ []
+pub range_snoc : (k n : ℕ) → range_with_len k (suc n) ≡ range_with_len k n ++ (k + n) ∷ []
 range_snoc k zero = ap (λ t. t ∷ []) (let e : k ≡ k + 0 = omega arith in e)
 range_snoc k (suc n) = ap (λ t. k ∷ t) (range_snoc (k + 1) n ∙ ap (λ t. range_with_len (k + 1) n ++ t ∷ []) (let e : k + 1 + n ≡ k + suc n = omega arith in e))
 

@@ -1,4 +1,4 @@
-use Rattle.actor_trace_tests.proofs.tests.counted.Given as goal
+use Rattle.actor_trace_tests.proofs.tests.counting.counted.Given as goal
 
 abbrev pub ghosts-run : goal.ghosts-run
 ghosts-run g a = record { table = a.opened.table; actors = a.opened.actors }
