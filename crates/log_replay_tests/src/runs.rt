@@ -1,10 +1,13 @@
 //! Drawn logs, beside a plain list of their entries: pages are folded anew from the list for each question.
-use cdb_values::{Level, List, Name};
+
+use super::pictures::{is_same_page, undone};
+use cdb_values::List;
 use log_replay::PagedLog;
-use page_store::{Cell, Edit, Page, apply};
-use phys_log::{CommitId, Entry, LogRecord, copy_entry};
+use page_store::{Page, apply};
+use phys_log::{Entry, copy_entry};
 use std::alloc::{AllocError, Global};
 use std::test::Fail;
+use test_cases::{commit_entry, next_number, record_over};
 
 /// How many pages the entries change.
 const PAGES: u64 = 7;
@@ -20,63 +23,15 @@ struct Pair {
     drawn: u64,
 }
 
-/// A record that puts its LSN as the one cell of a page, or in place of that cell.
-fn record_of(alloc: Global, log: &PagedLog, lsn: u64, page: u64) -> Result<LogRecord, AllocError> {
-    let after = Cell::from_slice(alloc, &lsn.to_be_bytes())?;
-    let mut prev = 0;
-    let mut edit = Edit::PutCell {
-        at: 0,
-        cell: after.clone()?,
-    };
-    if let Some(kept) = log.page(page) {
-        prev = kept.lsn();
-        if let Some(cell) = kept.cell(0) {
-            edit = Edit::SwapCell {
-                at: 0,
-                before: Cell::from_slice(alloc, cell)?,
-                after,
-            };
-        }
-    }
-    Ok(LogRecord {
-        lsn,
-        prev,
-        page,
-        edit,
-    })
-}
-
 /// An entry of three records over three pages.
 fn entry_of(alloc: Global, log: &PagedLog, before: u64, first: u64) -> Result<Entry, AllocError> {
     let mut records = List::new(alloc);
     for k in 1..4u64 {
         let page = first.saturating_add(k) % PAGES;
-        records.push(record_of(alloc, log, before.saturating_add(k), page)?)?;
+        let lsn = before.saturating_add(k);
+        records.push(record_over(alloc, log.page(page), page, lsn)?)?;
     }
-    Ok(Entry::Commit {
-        generation: 1,
-        id: CommitId {
-            began: 1,
-            session: Name::copied(alloc, b"a")?,
-            txn: before,
-        },
-        begin: 1,
-        level: Level::Snapshot,
-        changes: List::new(alloc),
-        records,
-    })
-}
-
-/// Whether two pages have one LSN, as many cells, and the same first cell.
-fn is_same(one: &Page, other: &Page) -> bool {
-    if one.lsn() != other.lsn() || one.count() != other.count() {
-        return false;
-    }
-    match (one.cell(0), other.cell(0)) {
-        (None, None) => true,
-        (Some(a), Some(b)) => a == b,
-        _ => false,
-    }
+    commit_entry(alloc, before, records)
 }
 
 impl Pair {
@@ -92,10 +47,7 @@ impl Pair {
 
     /// Appends an entry over drawn pages to both; whether it was taken.
     fn append(&mut self, alloc: Global) -> Result<bool, AllocError> {
-        self.drawn = self
-            .drawn
-            .wrapping_mul(6364136223846793005)
-            .wrapping_add(1442695040888963407);
+        self.drawn = next_number(self.drawn);
         let entry = entry_of(alloc, &self.log, self.records, self.drawn >> 40)?;
         self.list.push(copy_entry(alloc, &entry)?)?;
         self.records = self.records.saturating_add(3);
@@ -111,10 +63,10 @@ impl Pair {
         Ok(())
     }
 
-    /// A page folded anew from the list; a blank one where a record does not fit.
-    fn folded(&self, alloc: Global, id: u64) -> Result<Page, AllocError> {
+    /// A page folded anew from the first entries of the list, so many; a blank one where a record does not fit.
+    fn folded(&self, alloc: Global, id: u64, position: usize) -> Result<Page, AllocError> {
         let mut page = Page::blank(alloc)?;
-        for entry in self.list.iter() {
+        for entry in self.list.iter().take(position) {
             for record in entry.records() {
                 if record.page == id && apply(&mut page, &record.edit, record.lsn).is_err() {
                     return Page::blank(alloc);
@@ -143,9 +95,9 @@ impl Pair {
             return Ok(false);
         }
         for id in 0..PAGES {
-            let folded = self.folded(alloc, id)?;
+            let folded = self.folded(alloc, id, self.list.len())?;
             let same = match self.log.page(id) {
-                Some(page) => is_same(page, &folded),
+                Some(page) => is_same_page(page, &folded),
                 None => folded.lsn() == 0,
             };
             if !same || self.log.chain(id).len() != self.later(id, 0) {
@@ -183,7 +135,8 @@ fn tails_of_each_length(rt: HostRuntime) -> Result<(), Fail> {
     Ok(())
 }
 
-/// A grant of each page at each position of a log of 200 entries carries the page, and as many records as the list has.
+/// A grant of each page at each position of a log of 200 entries carries the page, and as many records as the list has;
+/// these, taken back one by one, leave the page of the first entries.
 #[test]
 fn grants_at_each_position(rt: HostRuntime) -> Result<(), Fail> {
     let mut pair = Pair::new(rt.alloc());
@@ -192,12 +145,12 @@ fn grants_at_each_position(rt: HostRuntime) -> Result<(), Fail> {
     }
     for position in 0..201usize {
         for id in 0..PAGES {
-            if position > pair.log.entries().len() {
-                return Ok(());
-            }
+            assert!(rt; position <= pair.log.entries().len());
             let grant = pair.log.grant(rt.alloc(), id, position as u64)?;
-            assert!(rt; is_same(&grant.copy, &pair.folded(rt.alloc(), id)?));
+            assert!(rt; is_same_page(&grant.copy, &pair.folded(rt.alloc(), id, 200)?));
             assert_eq!(rt; grant.chain.len(), pair.later(id, position));
+            let page = undone(grant)?;
+            assert!(rt; is_same_page(&page, &pair.folded(rt.alloc(), id, position)?));
         }
     }
     Ok(())

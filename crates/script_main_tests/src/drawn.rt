@@ -23,12 +23,6 @@ pub(crate) struct Turn {
     pub said: Said,
 }
 
-/// The next number of a row of numbers without much order.
-pub(crate) fn next_number(x: u64) -> u64 {
-    x.wrapping_mul(6364136223846793005)
-        .wrapping_add(1442695040888963407)
-}
-
 /// The line that a number draws.
 pub(crate) fn turn_of(x: u64) -> Turn {
     let drawn = x >> 33;

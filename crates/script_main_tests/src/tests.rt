@@ -1,11 +1,12 @@
 //! Drawn scripts have the reports that the slow computation gives.
 
-use super::drawn::{next_number, turn_of};
+use super::drawn::turn_of;
 use super::slow::Expected;
 use cdb_outside::{MemSink, MemSource, MemStore};
 use script_main::{Outside, Status, run};
 use std::alloc::{AllocError, Global};
 use std::test::Fail;
+use test_cases::next_number;
 
 /// What a run over a script answers and writes.
 fn played(alloc: Global, script: &[u8]) -> Result<(Status, Vec<u8>), AllocError> {
