@@ -1,2 +1,9 @@
 pub mod Bound
 pub mod Views
+pub mod Scope
+pub mod Faults
+pub mod Meaning
+pub mod Binding
+pub mod Seen
+pub mod Answers
+pub mod Worked

@@ -1,0 +1,5 @@
+pub mod LevelLemmas
+pub mod ListLemmas
+pub mod PartLemmas
+pub mod BindingLemmas
+pub mod SelectLemmas
