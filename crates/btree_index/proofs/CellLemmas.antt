@@ -24,7 +24,7 @@ value_of-cell key rest h =
     ∙ ap (λ (n : ℕ). drop (n + length key) (big_bytes 2 (length key) ++ (key ++ rest))) two
     ∙ drop-append-add (big_bytes 2 (length key)) (key ++ rest) (length key) ∙ drop-append_seam key rest
 
-cell_length : (key rest : List ℕ) → length (big_bytes 2 (length key) ++ (key ++ rest)) ≡ 2 + (length key + length rest)
+pub cell_length : (key rest : List ℕ) → length (big_bytes 2 (length key) ++ (key ++ rest)) ≡ 2 + (length key + length rest)
 cell_length key rest =
     let a = length-append (big_bytes 2 (length key)) (key ++ rest) in
     let b = length-append key rest in

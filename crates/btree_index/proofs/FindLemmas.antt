@@ -59,3 +59,7 @@ pub ok_before : {T E F : Type 0} (r : Result T E) (s : Result T F) (Q : E → F 
     → MatchResult r (λ x. s ≡ Ok x) (λ e. IsErrAnd s (Q e)) → s ≡ Ok y → r ≡ Ok y
 ok_before (Ok x) s Q y same h = let e : x ≡ y = cc in ap Ok e
 ok_before {T} {E} {F} (Err e) s Q y wrong h = absurd (subst (λ (t : Result T F). IsErrAnd t (Q e)) h wrong)
+
+-- what holds of an `Ok` holds of what it has
+pub if_ok : {T E : Type 0} (r : Result T E) (x : T) (P : T → Type 0) → IfOk r P → r ≡ Ok x → P x
+if_ok {T} {E} r x P h is = subst (λ (s : Result T E). IfOk s P) is h

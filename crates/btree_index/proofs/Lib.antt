@@ -15,3 +15,5 @@ pub mod HalfLemmas
 pub mod ParentLemmas
 pub mod StepLemmas
 pub mod RootLemmas
+pub mod FitLemmas
+pub mod DepthLemmas

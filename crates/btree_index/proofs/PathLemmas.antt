@@ -7,6 +7,7 @@ use Rattle.btree_index.specs.Keys.{Key}
 use Rattle.btree_index.specs.Pairs.{choice}
 use Rattle.btree_index.specs.Trees.{Entry, leaves, IsShaped, IsLeafPage, top}
 use Rattle.btree_index.specs.Ways.{IsAt}
+use Rattle.btree_index.specs.Fits.{HasSpare, IsFull}
 use Rattle.btree_index.specs.Changes.{raise, IsPath, Leads, LeadsOver}
 use Rattle.btree_index.proofs.KeyLemmas.{none_before_empty}
 use Rattle.btree_index.proofs.LevelLemmas.{shaped_down, level_down, raise_suc}
@@ -42,8 +43,10 @@ path_on pages root key page leads inner = λ height cells holds. on height holds
                   (descend pages rest (leaves pages path.depth (top root)) key page level.0 path.at);
             }
 
--- the last page that has room for a separator
+-- the last page that has room for a cell more
 pub leads_over : (pages : ℕ → Image) (root : ℕ) (key : Key) (page : ℕ) (before now : Option ℕ) → Leads pages root key page
-    → (pages page).head.kind ≡ Inner → LeadsOver pages root key before → (now ≡ Some page) ⊎ (now ≡ before) → LeadsOver pages root key now
-leads_over pages root key page before now leads inner over (inl e) = subst (λ (o : Option ℕ). LeadsOver pages root key o) (sym e) (leads, inner)
-leads_over pages root key page before now leads inner over (inr e) = subst (λ (o : Option ℕ). LeadsOver pages root key o) (sym e) over
+    → (pages page).head.kind ≡ Inner → LeadsOver pages root key before
+    → ((now ≡ Some page) × HasSpare (pages page)) ⊎ ((now ≡ before) × IsFull (pages page)) → LeadsOver pages root key now
+leads_over pages root key page before now leads inner over (inl (e, spare)) =
+    subst (λ (o : Option ℕ). LeadsOver pages root key o) (sym e) (leads, inner, spare)
+leads_over pages root key page before now leads inner over (inr (e, full)) = subst (λ (o : Option ℕ). LeadsOver pages root key o) (sym e) over

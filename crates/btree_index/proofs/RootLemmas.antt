@@ -370,7 +370,7 @@ crowned mid new root fresh (suc height) cells h head is off away same =
         deeper (inr f) = absurd f
 
 -- the level of the root's head, by its height
-root_level : (pages : ℕ → Image) (root height : ℕ) → IsShaped pages height (top root) → (pages root).head.level ≡ min height 255
+pub root_level : (pages : ℕ → Image) (root height : ℕ) → IsShaped pages height (top root) → (pages root).head.level ≡ min height 255
 root_level pages root zero h = h.0.level
 root_level pages root (suc height) h = h.0.0.level
 

@@ -1,10 +1,8 @@
 -- A tree among other pages, before a change and after it.
-use Rattle.std.proofs.Common.{if◌then◌else◌, drop, length, ◌+◌, ◌^◌, Result, Ok, Err, ◌≡◌, ◌⊎◌, inl, inr, ℕ, zero, suc, ◌≤◌, ◌<◌, Bool, true, false, List, [], ◌∷◌, ◌++◌, map, None, Some, refl, sym, ap, ◌∙◌, subst, arith}
+use Rattle.std.proofs.Common.{if◌then◌else◌, drop, length, ◌+◌, ◌^◌, ◌≡◌, ◌⊎◌, inl, inr, ℕ, zero, suc, ◌≤◌, ◌<◌, Bool, true, false, List, [], ◌∷◌, ◌++◌, map, None, Some, refl, sym, ap, ◌∙◌, subst, arith}
 use Rattle.std.proofs.lemmas.Option.{none-some, same_Some}
 use Rattle.std.specs.Option.{is_some}
-use Rattle.std.specs.Result.{IsErr, OnOk}
-use Rattle.std.specs.Prelude.{Option, IsErrOf}
-use Rattle.page_store.specs.Sources.{Rose}
+use Rattle.std.specs.Prelude.{Option}
 use Rattle.std.proofs.lemmas.Bool.{false≢true}
 use Rattle.std.specs.List.{AllByRecursion, slice_get, insert, remove}
 use Rattle.byteorder.specs.Endian.{big_number}
@@ -19,9 +17,7 @@ use Rattle.btree_index.specs.Keys.{Key, same_key}
 use Rattle.btree_index.specs.Cells.{key_of, value_of, leaf_cell, IsLeafCell}
 use Rattle.btree_index.specs.Pairs.{value_at, cell_value, with_pair, place_in, without_key, HasKeyAt}
 use Rattle.btree_index.specs.Trees.{Entry, cells_of, pages_of, IsFenced, AreFenced, Holds, top, pair_of}
-use Rattle.btree_index.specs.Changes.{Stands, Changes, Becomes, Leads, IsInserted, IsNoDuplicate, IsExcusedInsert}
-use Rattle.btree_index.specs.declared.inserts.InsertFault.{InsertFault}
-use Rattle.btree_index.specs.declared.inserts.InsertFault.TheVariants.{Duplicate, Gone, NoMemory}
+use Rattle.btree_index.specs.Changes.{Stands, Changes, Becomes, Leads}
 use Rattle.btree_index.proofs.LeafLemmas.{ChangesCells, Replaces, replaces, cells-append, fenced_at}
 use Rattle.btree_index.proofs.CellLemmas.{key_of-cell, value_of-cell, leaf_cell_is}
 use Rattle.btree_index.proofs.PairLemmas.{with_pair-cells, fenced_insert, all_insert, front_before, behind_after, without-cells, without-absent, fenced_remove, all_remove}
@@ -311,38 +307,6 @@ puts old new root key value page leads leaf none short small changes room own fr
           (behind_after old key r.others (fenced_rest old r.front e r.others r.fenced).1 r.to)
           ∙ ap (λ (l : List (List ℕ)). with_pair key value (map pair_of l)) (sym r.is) ∙ ap (with_pair key value) stands.pairs),
     )
-
--- an error that is no duplicate tells nothing
-pub inserted_error : (old new : ℕ → Image) (root : ℕ) (own free : List ℕ) (key : Key) (value : List ℕ) (list : List (Key × List ℕ)) (r : Result (Unit {0}) InsertFault)
-    → IsErr r → IsNoDuplicate r → IsInserted old new root own free key value list r
-inserted_error old new root own free key value list (Ok x) err sure = absurd (false≢true err)
-inserted_error old new root own free key value list (Err Duplicate) err sure = absurd sure
-inserted_error old new root own free key value list (Err Gone) err sure = tt
-inserted_error old new root own free key value list (Err NoMemory) err sure = tt
-
--- an answer for a key that is not there
-pub inserted_new : (old new : ℕ → Image) (root : ℕ) (own free : List ℕ) (key : Key) (value : List ℕ) (list : List (Key × List ℕ)) (r : Result (Unit {0}) InsertFault)
-    → value_at key list ≡ None → OnOk r (Becomes old new root own free (with_pair key value list)) → IsNoDuplicate r
-    → IsInserted old new root own free key value list r
-inserted_new old new root own free key value list (Ok x) none put sure = (none, put)
-inserted_new old new root own free key value list (Err Duplicate) none put sure = absurd sure
-inserted_new old new root own free key value list (Err Gone) none put sure = tt
-inserted_new old new root own free key value list (Err NoMemory) none put sure = tt
-
--- an answer that is no duplicate is none
-pub not_duplicate : {T : Type 0} (r : Result T InsertFault) → IsNoDuplicate r → IsErrOf r Duplicate → ⊥
-not_duplicate {T} r sure is = subst (λ (x : Result T InsertFault). IsNoDuplicate x) is sure
-
--- an answer after a call that is excused
-pub excused_later : {T : Type 0} (r : Result T InsertFault) (a b c : ℕ) → a ≤ b → IsExcusedInsert r b c → IsExcusedInsert r a c
-excused_later (Ok x) a b c h k = omega arith
-excused_later (Err Duplicate) a b c h k = omega arith
-excused_later (Err Gone) a b c h k = (omega (arith, h, k.0), rose_later a b c h k.1)
-  where
-    rose_later : (a b c : ℕ) → a ≤ b → Rose b c → Rose a c
-    rose_later a b c h (inl less) = inl (omega (arith, h, less))
-    rose_later a b c h (inr last) = inr last
-excused_later (Err NoMemory) a b c h k = omega arith
 
 -- what is not some is none
 pub none_of : {A : Type 0} (o : Option A) → is_some o ≡ false → o ≡ None

@@ -1,5 +1,5 @@
 -- The steps of an insert, put together from edits of single pages.
-use Rattle.std.proofs.Common.{◌≡◌, ◌≢◌, ℕ, zero, suc, ◌+◌, ◌<◌, ◌≤◌, ◌^◌, min, Bool, true, false, List, [], ◌∷◌, ◌++◌, take, drop, length, None, Some, if◌then◌else◌, refl, sym, ap, ◌∙◌, subst, append_assoc, add-one, arith}
+use Rattle.std.proofs.Common.{◌≡◌, ◌≢◌, ℕ, zero, suc, ◌+◌, ◌<◌, ◌≤◌, ◌^◌, min, Bool, true, false, List, [], ◌∷◌, ◌++◌, take, drop, length, Some, if◌then◌else◌, refl, sym, ap, ◌∙◌, subst, append_assoc, add-one, arith}
 use Rattle.std.proofs.lemmas.Option.{none-some}
 use Rattle.std.proofs.lemmas.List.{append-nil}
 use Rattle.std.proofs.Math.ListN.{drop_of_length-le}
@@ -84,34 +84,44 @@ take_remove [] at cell h = absurd (none-some cell h)
 take_remove (c ∷ cs) zero cell h = refl
 take_remove (c ∷ cs) (suc at) cell h = ap (λ (l : List (List ℕ)). c ∷ l) (take_remove cs at cell h)
 
-take_all : (cells : List (List ℕ)) (at : ℕ) → slice_get cells at ≡ None → cells ≡ take at cells
-take_all [] zero h = refl
-take_all [] (suc at) h = refl
-take_all (c ∷ cs) zero h = absurd (none-some c (sym h))
-take_all (c ∷ cs) (suc at) h = ap (λ (l : List (List ℕ)). c ∷ l) (take_all cs at h)
+pub trimming_begins : (pages : ℕ → Image) (page at : ℕ) → Trimming pages pages page at at
+trimming_begins pages page at = record { alters = record { head_is = refl; is = refl; others = λ n off. refl }; same = refl; less = refl }
 
-pub trimming_begins : (pages : ℕ → Image) (page at : ℕ) → Trimming pages pages page at
-trimming_begins pages page at = record { alters = record { head_is = refl; is = refl; others = λ n off. refl }; same = refl }
+less_remove : (cells : List (List ℕ)) (at : ℕ) (cell : List ℕ) → slice_get cells at ≡ Some cell → length (remove cells at) + 1 ≡ length cells
+less_remove [] at cell h = absurd (none-some cell h)
+less_remove (c ∷ cs) zero cell h = omega arith
+less_remove (c ∷ cs) (suc at) cell h = omega (arith, less_remove cs at cell h)
 
-pub trimming_more : (old now next : ℕ → Image) (page at : ℕ) → Trimming old now page at → TakesAt now next page at true → Trimming old next page at
-trimming_more old now next page at so_far took = record {
-  alters = record {
-    head_is = took.1.head_is ∙ so_far.alters.head_is;
-    is = refl;
-    others = λ n away. took.1.others n away ∙ so_far.alters.others n away;
-  };
-  same = ap (take at) took.1.is ∙ take_remove (now page).cells at took.0.0 took.0.1 ∙ so_far.same;
-}
+pub trimming_more : (old now next : ℕ → Image) (page at turn : ℕ) → Trimming old now page at turn → TakesAt now next page at → Trimming old next page at (turn + 1)
+trimming_more old now next page at turn so_far took =
+    let less : length (remove (now page).cells at) + 1 ≡ length (now page).cells = less_remove (now page).cells at took.cell took.here in
+    let is : length (next page).cells ≡ length (remove (now page).cells at) = ap length took.alters.is in
+    let before : length (now page).cells + turn ≡ length (old page).cells + at = so_far.less in
+    record {
+      alters = record {
+        head_is = took.alters.head_is ∙ so_far.alters.head_is;
+        is = refl;
+        others = λ n away. took.alters.others n away ∙ so_far.alters.others n away;
+      };
+      same = ap (take at) took.alters.is ∙ take_remove (now page).cells at took.cell took.here ∙ so_far.same;
+      less = omega arith;
+    }
 
-pub trimming_ends : (old now next : ℕ → Image) (page at : ℕ) → Trimming old now page at → TakesAt now next page at false
-    → Alters old next page (old page).head (take at (old page).cells)
-trimming_ends old now next page at so_far took =
-    subst (λ (f : ℕ → Image). Alters old f page (old page).head (take at (old page).cells)) (sym took.1)
-    (record {
+pub trimming_ends : (old now : ℕ → Image) (page at turn : ℕ) → Trimming old now page at turn → length (old page).cells ≤ turn
+    → Alters old now page (old page).head (take at (old page).cells)
+trimming_ends old now page at turn so_far all =
+    let before : length (now page).cells + turn ≡ length (old page).cells + at = so_far.less in
+    record {
       head_is = so_far.alters.head_is;
-      is = take_all (now page).cells at took.0 ∙ so_far.same;
+      is = take_all (now page).cells at (omega arith) ∙ so_far.same;
       others = so_far.alters.others;
-    })
+    }
+  where
+    take_all : (cells : List (List ℕ)) (at : ℕ) → length cells ≤ at → cells ≡ take at cells
+    take_all [] zero h = refl
+    take_all [] (suc at) h = refl
+    take_all (c ∷ cs) zero h = absurd (omega arith)
+    take_all (c ∷ cs) (suc at) h = ap (λ (l : List (List ℕ)). c ∷ l) (take_all cs at (omega arith))
 
 take_some : (cells : List (List ℕ)) (at : ℕ) (cell : List ℕ) → 0 < at → slice_get cells at ≡ Some cell
     → (start : List ℕ) × (left : List (List ℕ)) × (take at cells ≡ start ∷ left)

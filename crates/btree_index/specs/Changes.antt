@@ -1,5 +1,5 @@
 -- What a change of a tree needs of the pages, and what it leaves.
-use Rattle.std.specs.Prelude.{◌≡◌, ◌⊎◌, ℕ, zero, suc, ◌≤◌, ◌<◌, ◌^◌, List, map, Option, None, Some, is_some, true, Result, Ok, Err}
+use Rattle.std.specs.Prelude.{◌≡◌, ◌⊎◌, ℕ, zero, suc, ◌≤◌, ◌<◌, ◌^◌, List, map, Option, None, Some, is_some, Bool, true, false, Result, Ok, Err}
 use Rattle.page_store.specs.Image.{Image}
 use Rattle.page_store.specs.Sources.{Rose}
 use Rattle.page_store.specs.declared.pages.PageKind.TheVariants.{Leaf, Inner}
@@ -8,6 +8,7 @@ use Rattle.btree_index.specs.Keys.{Key}
 use Rattle.btree_index.specs.Trees.{Holds, top, pages_of, leaves, pair_of}
 use Rattle.btree_index.specs.Ways.{IsAt}
 use Rattle.btree_index.specs.Pairs.{value_at, with_pair}
+use Rattle.btree_index.specs.Fits.{HasSpare, IsFullUntil}
 use Rattle.btree_index.specs.declared.paths.Way.{Way}
 use Rattle.btree_index.specs.declared.inserts.InsertFault.{InsertFault}
 use Rattle.btree_index.specs.declared.inserts.InsertFault.TheVariants.{Duplicate, Gone, NoMemory}
@@ -52,17 +53,15 @@ IsInserted old new root own free key value list (Err Duplicate) = is_some (value
 IsInserted old new root own free key value list (Err Gone) = Unit {0}
 IsInserted old new root own free key value list (Err NoMemory) = Unit {0}
 
+-- whether the pair was put: it was where its key was not there
+abbrev pub IsPutAbsent : (ℕ → Image) → (ℕ → Image) → ℕ → List ℕ → List ℕ → Key → List ℕ → List (Key × List ℕ) → Bool → Type 0
+IsPutAbsent old new root own free key value list true = (value_at key list ≡ None) × Becomes old new root own free (with_pair key value list)
+IsPutAbsent old new root own free key value list false = is_some (value_at key list) ≡ true
+
 -- one pass of an insert whose key is not there: it put the pair, or made room and left the list
 abbrev pub IsPassed : (ℕ → Image) → (ℕ → Image) → ℕ → List ℕ → List ℕ → Key → List ℕ → List (Key × List ℕ) → Pass → Type 0
 IsPassed old new root own free key value list Done = Becomes old new root own free (with_pair key value list)
 IsPassed old new root own free key value list Again = Becomes old new root own free list
-
--- an answer that is no duplicate
-abbrev pub IsNoDuplicate : {T : Type 0} → Result T InsertFault → Type 0
-IsNoDuplicate (Ok x) = Unit {0}
-IsNoDuplicate (Err Duplicate) = ⊥
-IsNoDuplicate (Err Gone) = Unit {0}
-IsNoDuplicate (Err NoMemory) = Unit {0}
 
 -- an answer of an insert against the counts of losses before and after, which never fall: `Gone` comes only where they rose
 abbrev pub IsExcusedInsert : {T : Type 0} → Result T InsertFault → ℕ → ℕ → Type 0
@@ -87,13 +86,14 @@ pub record IsPath (pages : ℕ → Image) (root : ℕ) (key : Key) (page height 
 abbrev pub Leads : (ℕ → Image) → ℕ → Key → ℕ → Type 0
 Leads pages root key page = (height : ℕ) (cells : List (List ℕ)) → Holds pages height (top root) cells → IsPath pages root key page height
 
--- a page above the leaves on the way, where one is told
+-- a page above the leaves on the way, with room for a cell more, where one is told
 abbrev pub LeadsOver : (ℕ → Image) → ℕ → Key → Option ℕ → Type 0
 LeadsOver pages root key None = Unit {0}
-LeadsOver pages root key (Some page) = Leads pages root key page × ((pages page).head.kind ≡ Inner)
+LeadsOver pages root key (Some page) = Leads pages root key page × ((pages page).head.kind ≡ Inner) × HasSpare (pages page)
 
--- the way to a key: its leaf, and a page above the leaves
+-- the way to a key: its leaf, and the last page above the leaves that has room for a cell more
 pub record IsWay (pages : ℕ → Image) (root : ℕ) (key : Key) (way : Way) : Type 0 where
   pub leaf : Leads pages root key way.leaf
   pub kind : (pages way.leaf).head.kind ≡ Leaf
   pub roomy : LeadsOver pages root key way.roomy
+  pub full : IsFullUntil pages key way.roomy way.leaf

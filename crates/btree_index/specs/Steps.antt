@@ -1,13 +1,13 @@
 -- The steps of an insert on pages: one page altered, a page halved into itself and a fresh one, a page under which a
 -- child was halved, and a root that was raised over a copy of itself.
-use Rattle.std.specs.Prelude.{◌≡◌, ℕ, ◌+◌, ◌<◌, ◌^◌, Bool, true, false, List, [], ◌∷◌, ◌++◌, length, take, drop, Some, None, ◌≤◌, min}
+use Rattle.std.specs.Prelude.{◌≡◌, ℕ, ◌+◌, ◌<◌, ◌^◌, List, [], ◌∷◌, ◌++◌, length, take, drop, Some, ◌≤◌, min}
 use Rattle.std.specs.List.{insert, remove, slice_get}
 use Rattle.page_store.specs.Image.{Image, HasRoom}
 use Rattle.page_store.specs.declared.pages.Head.{Head}
 use Rattle.page_store.specs.declared.pages.PageKind.TheVariants.{Leaf, Inner}
 use Rattle.page_store.specs.declared.pages.PageKind.{PageKind}
 use Rattle.btree_index.specs.declared.halves.Half.{Half}
-use Rattle.btree_index.specs.declared.splits.Below.{Below}
+use Rattle.btree_index.specs.declared.finds.Below.{Below}
 use Rattle.page_workspace.specs.Takes.{TakesPage}
 use Rattle.btree_index.specs.Keys.{Key}
 use Rattle.btree_index.specs.Cells.{key_of, child_of, inner_cell}
@@ -24,20 +24,22 @@ pub record CopiesCell (old new : ℕ → Image) (page at to : ℕ) : Type 0 wher
   pub here : slice_get (old page).cells at ≡ Some cell
   pub alters : Alters old new to (old to).head (insert (old to).cells (length (old to).cells) cell)
 
--- the cell at a place was taken away, if there is one
-abbrev pub TakesAt : (ℕ → Image) → (ℕ → Image) → ℕ → ℕ → Bool → Type 0
-TakesAt old new page at true = ((cell : List ℕ) × (slice_get (old page).cells at ≡ Some cell)) × Alters old new page (old page).head (remove (old page).cells at)
-TakesAt old new page at false = (slice_get (old page).cells at ≡ None) × (new ≡ old)
+-- the cell at a place was taken away
+pub record TakesAt (old new : ℕ → Image) (page at : ℕ) : Type 0 where
+  pub cell : List ℕ
+  pub here : slice_get (old page).cells at ≡ Some cell
+  pub alters : Alters old new page (old page).head (remove (old page).cells at)
 
 -- some cells of a page stand behind those of another
 pub record Filling (old new : ℕ → Image) (page to start at : ℕ) : Type 0 where
   pub alters : Alters old new to (old to).head (new to).cells
   pub rest : (new to).cells ++ drop at (old page).cells ≡ (old to).cells ++ drop start (old page).cells
 
--- some cells from a place on were taken away
-pub record Trimming (old new : ℕ → Image) (page at : ℕ) : Type 0 where
+-- some cells from a place on were taken away, one at each turn from that place on
+pub record Trimming (old new : ℕ → Image) (page at turn : ℕ) : Type 0 where
   pub alters : Alters old new page (old page).head (new page).cells
   pub same : take at (new page).cells ≡ take at (old page).cells
+  pub less : length (new page).cells + turn ≡ length (old page).cells + at
 
 -- the first cell of the fresh page, by the kind of page and the cell where it was cut
 pub record IsFirstFor (kind : PageKind) (middle first : List ℕ) : Type 0 where

@@ -1,8 +1,9 @@
-ghost use Rattle.std.specs.Prelude.{ℕ, ◌≡◌, ◌+◌, ◌<◌, List, Some, IfOk, MatchOption};
+ghost use Rattle.std.specs.Prelude.{ℕ, ◌≡◌, ◌+◌, ◌-◌, ◌^◌, ◌<◌, List, Some, IfOk, IfSome, IsSome, MatchOption};
 ghost use Rattle.page_store.specs.Sources.{IsExcused};
 ghost use Rattle.btree_index.specs.Keys.{Key};
 ghost use Rattle.btree_index.specs.Pairs.{value_at, cell_value, choice};
-ghost use Rattle.btree_index.specs.Trees.{TreeList};
+ghost use Rattle.btree_index.specs.Steps.{IsBelow};
+ghost use Rattle.btree_index.specs.Trees.{IsInnerPage, TreeList};
 ghost use Rattle.btree_index.specs.Ways.{OnWay};
 ghost use Rattle.page_store.specs.declared.pages.PageKind.TheVariants.{Leaf};
 
@@ -10,6 +11,13 @@ use crate::cells::{child_in, key_in, value_in};
 use crate::keys::{is_before, is_same};
 use page_store::{Cell, Page, PageFault, PageKind, PageSource};
 use std::alloc::{AllocError, Global};
+
+/// A child of a page above the leaves, with the place of its cell.
+#[derive(Clone, Copy)]
+pub(crate) struct Below {
+    pub(crate) at: u16,
+    pub(crate) child: u64,
+}
 
 /// The value of a key in the tree below a root; `None` where the key is not there. `Gone` comes only where the source
 /// lost its pages; the other error is want of memory.
@@ -63,7 +71,8 @@ pub(crate) fn leaf_for<P: PageSource>(
 
 /// How many pages the way down from a root has at most, by its level; 255 stands for 255 and more.
 pub(crate) fn turns_from(level: u8) -> u64
-    ensures { level < 255 → result ≡ level + 1 }
+    ensures low { level < 255 → result ≡ level + 1 }
+    ensures high { level ≡ 255 → result ≡ 2 ^ 64 - 1 }
 {
     if level == u8::MAX {
         u64::MAX
@@ -89,15 +98,28 @@ fn look_up(alloc: Global, page: &Page, key: &[u8]) -> Result<Option<Cell>, Alloc
 
 /// The child below which a key may stand, on a page above the leaves; `None` where a cell has no child.
 pub(crate) fn child_for(page: &Page, key: &[u8]) -> Option<u64>
-    ensures { MatchOption result (Unit {0}) (λ child. child ≡ choice key.now page.now.cells) }
+    ensures child { MatchOption result (Unit {0}) (λ child. child ≡ choice key.now page.now.cells) }
+    ensures some { (height : ℕ) → IsInnerPage height page.now → IsSome result }
 {
-    let mut child = child_in(page.cell(0)?)?;
+    let below = child_below(page, key)?;
+    Some(below.child)
+}
+
+/// The same, with the place of its cell.
+pub(crate) fn child_below(page: &Page, key: &[u8]) -> Option<Below>
+    ensures child { IfSome result (λ below. below.child ≡ choice key.now page.now.cells) }
+    ensures place { IfSome result (IsBelow page.now) }
+    ensures some { (height : ℕ) → IsInnerPage height page.now → IsSome result }
+{
+    let child = child_in(page.cell(0)?)?;
+    let mut below = Below { at: 0, child };
     'choosing: for at in 1..page.count() {
         let cell = page.cell(at)?;
         if is_before(key, key_in(cell)) {
-            return Some(child);
+            return Some(below);
         }
-        child = child_in(cell)?;
+        let child = child_in(cell)?;
+        below = Below { at, child };
     }
-    Some(child)
+    Some(below)
 }

@@ -1,5 +1,8 @@
-ghost use Rattle.std.specs.Prelude.{ℕ, ◌≡◌, ◌<◌, Some, IfOk, IfSome, length};
-ghost use Rattle.page_workspace.specs.Drafts.{meant, IsExcused};
+ghost use Rattle.std.specs.Prelude.{ℕ, ◌≡◌, ◌≢◌, ◌⊎◌, ◌<◌, [], Some, IfOk, IfSome, MatchOption, length};
+ghost use Rattle.page_store.specs.declared.pages.PageKind.TheVariants.{Leaf, Inner};
+ghost use Rattle.page_workspace.specs.Drafts.{meant, IsExcused, IsNotUnfit};
+ghost use Rattle.btree_index.specs.Cells.{IsInnerCell};
+ghost use Rattle.btree_index.specs.Fits.{IsHalvable};
 ghost use Rattle.btree_index.specs.Steps.{Halves, IsFirstFor, IsHalf};
 
 use crate::cells::{child_in, key_in, make_inner_cell};
@@ -31,6 +34,7 @@ pub(crate) fn halve<P: PageSource>(
     fresh: u64,
 ) -> Result<Cell, EditFault>
     ensures halved { IfOk result (Halves (meant P.pages space.old) (meant P.pages space.new) id fresh) }
+    ensures fit { id ≢ fresh → IsHalvable (meant P.pages space.old id) → (meant P.pages space.old fresh).cells ≡ [] → IsNotUnfit result }
     ensures base { P.pages space.new.base ≡ P.pages space.old.base }
     ensures excused { IsExcused result (P.losses space.old.base) (P.losses space.new.base) }
 {
@@ -71,6 +75,7 @@ pub(crate) fn halve<P: PageSource>(
 /// Where a page is to be cut. `Unfit` comes where it has too few cells, or cells of no tree.
 fn read_half(alloc: Global, page: &Page) -> Result<Half, EditFault>
     ensures half { IfOk result (IsHalf page.now) }
+    ensures fit { IsHalvable page.now → IsNotUnfit result }
     ensures excused { (count : ℕ) → IsExcused result count count }
 {
     let Some(at) = cut_place(page) else {
@@ -93,6 +98,7 @@ fn read_half(alloc: Global, page: &Page) -> Result<Half, EditFault>
 /// The cell that a fresh page begins with, by the cell where the page was cut: above the leaves its key is empty.
 fn first_for(alloc: Global, kind: PageKind, middle: &[u8]) -> Result<Cell, EditFault>
     ensures first { IfOk result (IsFirstFor kind middle.now) }
+    ensures fit { (kind ≡ Leaf) ⊎ ((kind ≡ Inner) × IsInnerCell middle.now) → IsNotUnfit result }
     ensures excused { (count : ℕ) → IsExcused result count count }
 {
     match kind {
@@ -108,6 +114,7 @@ fn first_for(alloc: Global, kind: PageKind, middle: &[u8]) -> Result<Cell, EditF
 /// The first place behind half of the bytes, before the last cell; `None` where there are fewer than two cells.
 fn cut_place(page: &Page) -> Option<u16>
     ensures some { IfSome result (λ at. 0 < at) }
+    ensures within { MatchOption result (length page.now.cells < 2) (λ at. at < length page.now.cells) }
 {
     let count = page.count();
     if count < 2 {

@@ -1,12 +1,14 @@
-ghost use Rattle.std.specs.Prelude.{ℕ, ◌≡◌, ◌+◌, ◌≤◌, List, None, IfOk, IsErrOf, OnOk, is_some, length};
-ghost use Rattle.page_workspace.specs.Drafts.{meant, IsExcused};
+ghost use Rattle.std.specs.Prelude.{ℕ, ◌≡◌, ◌↔◌, ◌+◌, ◌≤◌, false, List, None, IfOk, IsErrOf, IsTrue, OnOk, is_some, length};
+ghost use Rattle.page_workspace.specs.Drafts.{meant, IsExcused, IsNotUnfit};
 ghost use Rattle.std.specs.List.{insert};
-ghost use Rattle.page_store.specs.Image.{HasRoom};
+ghost use Rattle.page_store.specs.Image.{HasRoom, room, taken};
 ghost use Rattle.btree_index.specs.Keys.{Key};
 ghost use Rattle.btree_index.specs.Cells.{leaf_cell};
 ghost use Rattle.btree_index.specs.Steps.{Alters};
 ghost use Rattle.btree_index.specs.Pairs.{place_in, value_at, with_pair};
-ghost use Rattle.btree_index.specs.Changes.{Stands, Becomes, LeadsOver, IsInserted, IsPassed, IsNoDuplicate, IsExcusedInsert};
+ghost use Rattle.btree_index.specs.Fits.{IsFullUnder};
+ghost use Rattle.btree_index.specs.Trees.{TreeList};
+ghost use Rattle.btree_index.specs.Changes.{Stands, Becomes, LeadsOver, IsInserted, IsPutAbsent, IsPassed, IsExcusedInsert};
 
 use crate::cells::{key_in, make_leaf_cell};
 use crate::keys::is_before;
@@ -45,8 +47,8 @@ pub(crate) enum Pass {
 const PAIR_SIZE: usize = 6;
 
 /// Puts a pair into the tree below a root. `Duplicate` comes exactly where the key is there, and leaves the workspace's
-/// edits as before; `Gone` comes only where the source lost its pages; the other error is want of memory. After `Gone` or
-/// want of memory the workspace may only be dropped.
+/// edits as before; `Gone` comes only where the source lost its pages; the other error is want of memory, where a tree
+/// stands at the root. After `Gone` or want of memory the workspace may only be dropped.
 pub fn insert<P: PageSource>(
     alloc: Global,
     space: &mut Workspace<P>,
@@ -62,90 +64,100 @@ pub fn insert<P: PageSource>(
     ensures base { P.pages space.new.base ≡ P.pages space.old.base }
     ensures excused { IsExcusedInsert result (P.losses space.old.base) (P.losses space.new.base) }
 {
+    match put_absent(alloc, space, root, key, value) {
+        Ok(put) => {
+            if put {
+                Ok(())
+            } else {
+                Err(InsertFault::Duplicate)
+            }
+        }
+        Err(EditFault::Gone) => Err(InsertFault::Gone),
+        Err(EditFault::NoMemory) => Err(InsertFault::NoMemory),
+        // an edit does not fit only where the pages hold no tree; nothing is promised there
+        Err(EditFault::Unfit) => Err(InsertFault::NoMemory),
+    }
+}
+
+/// Puts a pair where its key is not there, and tells whether it did, with the faults of an edit. `Unfit` comes only where
+/// the pages hold no tree.
+fn put_absent<P: PageSource>(
+    alloc: Global,
+    space: &mut Workspace<P>,
+    root: u64,
+    key: &[u8],
+    value: &[u8],
+) -> Result<bool, EditFault>
+    requires key { length key.now ≤ 1630 }
+    requires cell { 2 + length key.now + length value.now ≤ 1640 }
+    ensures put { (own free : List ℕ) (list : List (Key × List ℕ)) → Stands (meant P.pages space.old) root own free list →
+        IfOk result (IsPutAbsent (meant P.pages space.old) (meant P.pages space.new) root own free key.now value.now list) }
+    ensures fit { (own free : List ℕ) (list : List (Key × List ℕ)) → Stands (meant P.pages space.old) root own free list → IsNotUnfit result }
+    ensures there { IfOk result (λ put. put ≡ false → space.new.edits ≡ space.old.edits) }
+    ensures base { P.pages space.new.base ≡ P.pages space.old.base }
+    ensures excused { IsExcused result (P.losses space.old.base) (P.losses space.new.base) }
+{
     let there = is_there(space, root, key)?;
     if there {
         // no room was made for it
-        return Err(InsertFault::Duplicate);
+        return Ok(false);
     }
-    put_new(alloc, space, root, key, value)
+    put_new(alloc, space, root, key, value)?;
+    Ok(true)
 }
 
-/// Whether a key is in the tree below a root, with the faults of an insert.
+/// Whether a key is in the tree below a root. `Unfit` comes only where the pages hold no tree.
 fn is_there<P: PageSource>(
     space: &mut Workspace<P>,
     root: u64,
     key: &[u8],
-) -> Result<bool, InsertFault>
+) -> Result<bool, EditFault>
     ensures there { (own free : List ℕ) (list : List (Key × List ℕ)) → Stands (meant P.pages space.old) root own free list →
         IfOk result (λ there. there ≡ is_some (value_at key.now list)) }
+    ensures fit { (list : List (Key × List ℕ)) → TreeList (meant P.pages space.old) root list → IsNotUnfit result }
     ensures edits { space.new.edits ≡ space.old.edits }
     ensures pages { meant P.pages space.new ≡ meant P.pages space.old }
-    ensures fault { IsNoDuplicate result }
     ensures base { P.pages space.new.base ≡ P.pages space.old.base }
-    ensures excused { IsExcusedInsert result (P.losses space.old.base) (P.losses space.new.base) }
+    ensures excused { IsExcused result (P.losses space.old.base) (P.losses space.new.base) }
 {
-    match way_for(space, root, key) {
-        Ok(_) => match key_place(space.page(), key) {
-            Some(_) => Ok(true),
-            None => Ok(false),
-        },
-        Err(EditFault::Gone) => Err(InsertFault::Gone),
-        Err(_) => Err(InsertFault::NoMemory),
+    way_for(space, root, key)?;
+    match key_place(space.page(), key) {
+        Some(_) => Ok(true),
+        None => Ok(false),
     }
 }
 
-/// Puts a pair whose key is not there, in as many passes as it needs.
+/// Puts a pair whose key is not there, in as many passes as it needs. `Unfit` comes only where the pages hold no tree.
 fn put_new<P: PageSource>(
     alloc: Global,
     space: &mut Workspace<P>,
     root: u64,
     key: &[u8],
     value: &[u8],
-) -> Result<(), InsertFault>
+) -> Result<(), EditFault>
     requires key { length key.now ≤ 1630 }
     requires cell { 2 + length key.now + length value.now ≤ 1640 }
     ensures put { (own free : List ℕ) (list : List (Key × List ℕ)) → Stands (meant P.pages space.old) root own free list →
         value_at key.now list ≡ None →
         OnOk result (Becomes (meant P.pages space.old) (meant P.pages space.new) root own free (with_pair key.now value.now list)) }
-    ensures fault { IsNoDuplicate result }
+    ensures fit { (own free : List ℕ) (list : List (Key × List ℕ)) → Stands (meant P.pages space.old) root own free list →
+        value_at key.now list ≡ None → IsNotUnfit result }
     ensures base { P.pages space.new.base ≡ P.pages space.old.base }
-    ensures excused { IsExcusedInsert result (P.losses space.old.base) (P.losses space.new.base) }
+    ensures excused { IsExcused result (P.losses space.old.base) (P.losses space.new.base) }
 {
     'passes: for _ in 0..u64::MAX {
-        let came_to = try_pass(alloc, space, root, key, value)?;
+        let came_to = pass_once(alloc, space, root, key, value)?;
         match came_to {
             Pass::Done => return Ok(()),
             Pass::Again => {}
         }
     }
     // no tree needs so many passes
-    Err(InsertFault::NoMemory)
+    Err(EditFault::NoMemory)
 }
 
-/// One pass for a key that is not there, with the faults of an insert.
-fn try_pass<P: PageSource>(
-    alloc: Global,
-    space: &mut Workspace<P>,
-    root: u64,
-    key: &[u8],
-    value: &[u8],
-) -> Result<Pass, InsertFault>
-    requires key { length key.now ≤ 1630 }
-    requires cell { 2 + length key.now + length value.now ≤ 1640 }
-    ensures passed { (own free : List ℕ) (list : List (Key × List ℕ)) → Stands (meant P.pages space.old) root own free list →
-        value_at key.now list ≡ None → IfOk result (IsPassed (meant P.pages space.old) (meant P.pages space.new) root own free key.now value.now list) }
-    ensures fault { IsNoDuplicate result }
-    ensures base { P.pages space.new.base ≡ P.pages space.old.base }
-    ensures excused { IsExcusedInsert result (P.losses space.old.base) (P.losses space.new.base) }
-{
-    match pass_once(alloc, space, root, key, value) {
-        Ok(pass) => Ok(pass),
-        Err(EditFault::Gone) => Err(InsertFault::Gone),
-        Err(_) => Err(InsertFault::NoMemory),
-    }
-}
-
-/// Goes down to the leaf of a key that is not there once, and puts the pair there or makes room on the way.
+/// Goes down to the leaf of a key that is not there once, and puts the pair there or makes room on the way. `Unfit` comes
+/// only where the pages hold no tree.
 fn pass_once<P: PageSource>(
     alloc: Global,
     space: &mut Workspace<P>,
@@ -157,6 +169,7 @@ fn pass_once<P: PageSource>(
     requires cell { 2 + length key.now + length value.now ≤ 1640 }
     ensures passed { (own free : List ℕ) (list : List (Key × List ℕ)) → Stands (meant P.pages space.old) root own free list →
         value_at key.now list ≡ None → IfOk result (IsPassed (meant P.pages space.old) (meant P.pages space.new) root own free key.now value.now list) }
+    ensures fit { (own free : List ℕ) (list : List (Key × List ℕ)) → Stands (meant P.pages space.old) root own free list → IsNotUnfit result }
     ensures base { P.pages space.new.base ≡ P.pages space.old.base }
     ensures excused { IsExcused result (P.losses space.old.base) (P.losses space.new.base) }
 {
@@ -170,7 +183,9 @@ fn pass_once<P: PageSource>(
 }
 
 /// Whether the cell of a pair fits a leaf.
-fn has_room(page: &Page, key: &[u8], value: &[u8]) -> bool {
+fn has_room(page: &Page, key: &[u8], value: &[u8]) -> bool
+    ensures { IsTrue result ↔ (taken page.now.cells + (6 + length key.now + length value.now) ≤ room) }
+{
     let size = PAIR_SIZE
         .saturating_add(key.len())
         .saturating_add(value.len());
@@ -189,6 +204,7 @@ fn put_pair<P: PageSource>(
     ensures put { OnOk result (Alters (meant P.pages space.old) (meant P.pages space.new) leaf (meant P.pages space.old leaf).head
         (insert (meant P.pages space.old leaf).cells (place_in key.now (meant P.pages space.old leaf).cells) (leaf_cell key.now value.now))) }
     ensures room { OnOk result (HasRoom (meant P.pages space.new leaf).cells) }
+    ensures fit { taken (meant P.pages space.old leaf).cells + (6 + length key.now + length value.now) ≤ room → IsNotUnfit result }
     ensures base { P.pages space.new.base ≡ P.pages space.old.base }
     ensures excused { IsExcused result (P.losses space.old.base) (P.losses space.new.base) }
 {
@@ -210,6 +226,8 @@ fn make_room<P: PageSource>(
     ensures room { LeadsOver (meant P.pages space.old) root key.now roomy → (own free : List ℕ) (list : List (Key × List ℕ)) →
         Stands (meant P.pages space.old) root own free list →
         OnOk result (Becomes (meant P.pages space.old) (meant P.pages space.new) root own free list) }
+    ensures fit { LeadsOver (meant P.pages space.old) root key.now roomy → IsFullUnder (meant P.pages space.old) key.now roomy →
+        (own free : List ℕ) (list : List (Key × List ℕ)) → Stands (meant P.pages space.old) root own free list → IsNotUnfit result }
     ensures base { P.pages space.new.base ≡ P.pages space.old.base }
     ensures excused { IsExcused result (P.losses space.old.base) (P.losses space.new.base) }
 {

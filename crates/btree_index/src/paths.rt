@@ -1,5 +1,8 @@
 ghost use Rattle.std.specs.Prelude.{ℕ, ◌≡◌, ◌⊎◌, List, Some, None, IfOk, MatchOption};
-ghost use Rattle.page_workspace.specs.Drafts.{meant, IsExcused};
+ghost use Rattle.page_workspace.specs.Drafts.{meant, IsExcused, IsNotUnfit};
+ghost use Rattle.btree_index.specs.Keys.{Key};
+ghost use Rattle.btree_index.specs.Trees.{TreeList};
+ghost use Rattle.btree_index.specs.Fits.{HasSpare, IsFull};
 ghost use Rattle.btree_index.specs.Pairs.{cell_value, HasKeyAt};
 ghost use Rattle.btree_index.specs.Changes.{IsWay};
 
@@ -19,13 +22,14 @@ pub(crate) struct Way {
     pub(crate) roomy: Option<u64>,
 }
 
-/// The way from a root to a key. The leaf is the loaded page afterwards.
+/// The way from a root to a key. The leaf is the loaded page afterwards. `Unfit` comes only where the pages hold no tree.
 pub(crate) fn way_for<P: PageSource>(
     space: &mut Workspace<P>,
     root: u64,
     key: &[u8],
 ) -> Result<Way, EditFault>
     ensures way { IfOk result (IsWay (meant P.pages space.old) root key.now) }
+    ensures fit { (list : List (Key × List ℕ)) → TreeList (meant P.pages space.old) root list → IsNotUnfit result }
     ensures edits { space.new.edits ≡ space.old.edits }
     ensures loaded { IfOk result (λ way. space.new.loaded ≡ Some (meant P.pages space.old way.leaf)) }
     ensures pages { meant P.pages space.new ≡ meant P.pages space.old }
@@ -57,7 +61,7 @@ pub(crate) fn way_for<P: PageSource>(
 
 /// The page where it has room for a separator more, else the one before.
 fn roomier(page: &Page, id: u64, before: Option<u64>) -> Option<u64>
-    ensures { (result ≡ Some id) ⊎ (result ≡ before) }
+    ensures { ((result ≡ Some id) × HasSpare page.now) ⊎ ((result ≡ before) × IsFull page.now) }
 {
     if page.space() >= SEPARATOR_SIZE {
         Some(id)

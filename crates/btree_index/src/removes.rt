@@ -1,8 +1,9 @@
 ghost use Rattle.std.specs.Prelude.{ℕ, ◌≡◌, false, List, IfOk, OnErr, is_some};
 ghost use Rattle.page_store.specs.Sources.{IsExcused as IsLoadExcused};
-ghost use Rattle.page_workspace.specs.Drafts.{meant, IsExcused};
+ghost use Rattle.page_workspace.specs.Drafts.{meant, IsExcused, IsNotUnfit};
 ghost use Rattle.btree_index.specs.Keys.{Key};
 ghost use Rattle.btree_index.specs.Pairs.{value_at, without_key};
+ghost use Rattle.btree_index.specs.Trees.{TreeList};
 ghost use Rattle.btree_index.specs.Changes.{Stands, Becomes};
 
 use crate::paths::{key_place, way_for};
@@ -11,8 +12,8 @@ use page_workspace::{EditFault, Workspace};
 use std::alloc::Global;
 
 /// Takes the pair of a key out of the tree below a root, and tells whether it was there. A leaf that becomes empty
-/// stays. `Gone` comes only where the source lost its pages; the other error is want of memory. After an error, and where
-/// the key was not there, the workspace's edits are as before.
+/// stays. `Gone` comes only where the source lost its pages; the other error is want of memory, where a tree stands at the
+/// root. After an error, and where the key was not there, the workspace's edits are as before.
 pub fn remove<P: PageSource>(
     alloc: Global,
     space: &mut Workspace<P>,
@@ -30,11 +31,12 @@ pub fn remove<P: PageSource>(
     match take_key(alloc, space, root, key) {
         Ok(was) => Ok(was),
         Err(EditFault::Gone) => Err(PageFault::Gone),
-        Err(_) => Err(PageFault::NoMemory),
+        // an edit does not fit only where the pages hold no tree; then nothing is promised
+        Err(EditFault::NoMemory | EditFault::Unfit) => Err(PageFault::NoMemory),
     }
 }
 
-/// The same, with the faults of an edit.
+/// The same, with the faults of an edit. `Unfit` comes only where the pages hold no tree.
 fn take_key<P: PageSource>(
     alloc: Global,
     space: &mut Workspace<P>,
@@ -44,6 +46,7 @@ fn take_key<P: PageSource>(
     ensures removed { (own free : List ℕ) (list : List (Key × List ℕ)) → Stands (meant P.pages space.old) root own free list →
         IfOk result (λ was. (was ≡ is_some (value_at key.now list))
         × Becomes (meant P.pages space.old) (meant P.pages space.new) root own free (without_key key.now list)) }
+    ensures fit { (list : List (Key × List ℕ)) → TreeList (meant P.pages space.old) root list → IsNotUnfit result }
     ensures absent { IfOk result (λ was. was ≡ false → space.new.edits ≡ space.old.edits) }
     ensures unchanged { OnErr result (space.new.edits ≡ space.old.edits) }
     ensures base { P.pages space.new.base ≡ P.pages space.old.base }
@@ -51,6 +54,8 @@ fn take_key<P: PageSource>(
 {
     let way = way_for(space, root, key)?;
     let page = space.page();
+    // the cells that are left fit, since all of them do
+    let _space = page.space();
     let Some(at) = key_place(page, key) else {
         return Ok(false);
     };

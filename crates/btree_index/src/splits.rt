@@ -1,26 +1,20 @@
-ghost use Rattle.std.specs.Prelude.{ℕ, ◌≡◌, ◌+◌, ◌≤◌, OnOk, IfOk, IfSome, min, length};
+ghost use Rattle.std.specs.Prelude.{ℕ, ◌≡◌, ◌+◌, ◌≤◌, OnOk, IfOk, min, length};
 ghost use Rattle.page_store.specs.declared.pages.PageKind.TheVariants.{Inner};
-ghost use Rattle.page_workspace.specs.Drafts.{meant, IsExcused};
+ghost use Rattle.page_workspace.specs.Drafts.{meant, IsExcused, IsNotUnfit};
 ghost use Rattle.btree_index.specs.Cells.{inner_cell};
-ghost use Rattle.btree_index.specs.Steps.{Splits, Crowns, IsBelow};
+ghost use Rattle.btree_index.specs.Fits.{IsSplittable, IsRaisable};
+ghost use Rattle.btree_index.specs.Steps.{Splits, Crowns};
 
-use crate::cells::{child_in, key_in, make_inner_cell};
+use crate::cells::make_inner_cell;
+use crate::finds::child_below;
 use crate::halves::halve;
-use crate::keys::is_before;
 use crate::steps::{alter, claim, fill, trim};
-use page_store::{Cell, Edit, Head, Page, PageKind, PageSource};
+use page_store::{Cell, Edit, Head, PageKind, PageSource};
 use page_workspace::{EditFault, Workspace};
 use std::alloc::Global;
 
 /// The most bytes of a key.
 const KEY_SIZE: usize = 1630;
-
-/// A child of a page above the leaves, with the place of its cell.
-#[derive(Clone, Copy)]
-pub(crate) struct Below {
-    at: u16,
-    child: u64,
-}
 
 /// Halves the page below a parent on the way to a key, and puts the fresh page behind it.
 pub(crate) fn split_below<P: PageSource>(
@@ -30,6 +24,7 @@ pub(crate) fn split_below<P: PageSource>(
     key: &[u8],
 ) -> Result<(), EditFault>
     ensures split { OnOk result (Splits (meant P.pages space.old) (meant P.pages space.new) parent) }
+    ensures fit { IsSplittable (meant P.pages space.old) parent key.now → IsNotUnfit result }
     ensures base { P.pages space.new.base ≡ P.pages space.old.base }
     ensures excused { IsExcused result (P.losses space.old.base) (P.losses space.new.base) }
 {
@@ -51,37 +46,13 @@ pub(crate) fn split_below<P: PageSource>(
 fn separator_cell(alloc: Global, separator: &Cell, child: u64) -> Result<Cell, EditFault>
     ensures cell { IfOk result (λ c. c ≡ inner_cell separator.now child) }
     ensures short { OnOk result (length separator.now ≤ 1630) }
+    ensures fit { length separator.now ≤ 1630 → IsNotUnfit result }
     ensures excused { (count : ℕ) → IsExcused result count count }
 {
     if separator.len() > KEY_SIZE {
         return Err(EditFault::Unfit);
     }
     make_inner_cell(alloc, separator.as_slice(), child).map_err(|_| EditFault::NoMemory)
-}
-
-/// The child below which a key may stand, on a page above the leaves.
-fn child_below(page: &Page, key: &[u8]) -> Option<Below>
-    ensures { IfSome result (IsBelow page.now) }
-{
-    let at = place_below(page, key);
-    let cell = page.cell(at)?;
-    let child = child_in(cell)?;
-    Some(Below { at, child })
-}
-
-/// The place of the last cell whose key is not above a key.
-fn place_below(page: &Page, key: &[u8]) -> u16 {
-    let mut place = 0;
-    'choosing: for at in 1..page.count() {
-        let Some(cell) = page.cell(at) else {
-            return place;
-        };
-        if is_before(key, key_in(cell)) {
-            return place;
-        }
-        place = at;
-    }
-    place
 }
 
 /// Moves the cells of a root to a fresh page, and makes the root the one page above it.
@@ -91,6 +62,7 @@ pub(crate) fn crown<P: PageSource>(
     root: u64,
 ) -> Result<(), EditFault>
     ensures crowned { OnOk result (Crowns (meant P.pages space.old) (meant P.pages space.new) root) }
+    ensures fit { IsRaisable (meant P.pages space.old) root → IsNotUnfit result }
     ensures base { P.pages space.new.base ≡ P.pages space.old.base }
     ensures excused { IsExcused result (P.losses space.old.base) (P.losses space.new.base) }
 {

@@ -1,8 +1,8 @@
-ghost use Rattle.std.specs.Prelude.{ℕ, ◌≡◌, ◌≢◌, ◌++◌, [], Some, IfOk, OnOk, drop, take};
-ghost use Rattle.std.specs.List.{slice_get};
+ghost use Rattle.std.specs.Prelude.{ℕ, ◌≡◌, ◌≢◌, ◌<◌, ◌++◌, ◌∷◌, List, [], Some, IfOk, OnOk, drop, length, take};
+ghost use Rattle.std.specs.List.{insert, slice_get};
 ghost use Rattle.page_store.specs.Image.{HasRoom};
-ghost use Rattle.page_store.specs.Edits.{head_after, cells_after};
-ghost use Rattle.page_workspace.specs.Drafts.{meant, IsExcused};
+ghost use Rattle.page_store.specs.Edits.{head_after, cells_after, IsFit};
+ghost use Rattle.page_workspace.specs.Drafts.{meant, IsExcused, IsNotUnfit};
 ghost use Rattle.btree_index.specs.Steps.{Alters, CopiesCell, TakesAt};
 
 use page_store::{Cell, Edit, Head, Page, PageSource};
@@ -18,6 +18,7 @@ pub(crate) fn alter<P: PageSource>(
     ensures altered { OnOk result (Alters (meant P.pages space.old) (meant P.pages space.new) id
         (head_after (meant P.pages space.old id).head edit) (cells_after (meant P.pages space.old id).cells edit)) }
     ensures room { OnOk result (HasRoom (cells_after (meant P.pages space.old id).cells edit)) }
+    ensures fit { IsFit (meant P.pages space.old id) edit → IsNotUnfit result }
     ensures base { P.pages space.new.base ≡ P.pages space.old.base }
     ensures excused { IsExcused result (P.losses space.old.base) (P.losses space.new.base) }
 {
@@ -31,6 +32,7 @@ pub(crate) fn claim<P: PageSource>(
     head: Head,
 ) -> Result<(), EditFault>
     ensures claimed { OnOk result (Alters (meant P.pages space.old) (meant P.pages space.new) id head []) }
+    ensures fit { (meant P.pages space.old id).cells ≡ [] → IsNotUnfit result }
     ensures base { P.pages space.new.base ≡ P.pages space.old.base }
     ensures excused { IsExcused result (P.losses space.old.base) (P.losses space.new.base) }
 {
@@ -60,6 +62,7 @@ pub(crate) fn fill<P: PageSource>(
 ) -> Result<(), EditFault>
     ensures filled { from ≢ to → OnOk result (Alters (meant P.pages space.old) (meant P.pages space.new) to
         (meant P.pages space.old to).head ((meant P.pages space.old to).cells ++ drop start (meant P.pages space.old from).cells)) }
+    ensures fit { from ≢ to → HasRoom ((meant P.pages space.old to).cells ++ drop start (meant P.pages space.old from).cells) → IsNotUnfit result }
     ensures base { P.pages space.new.base ≡ P.pages space.old.base }
     ensures excused { IsExcused result (P.losses space.old.base) (P.losses space.new.base) }
 {
@@ -80,6 +83,8 @@ fn copy_cell<P: PageSource>(
     to: u64,
 ) -> Result<(), EditFault>
     ensures copied { OnOk result (CopiesCell (meant P.pages space.old) (meant P.pages space.new) from at to) }
+    ensures fit { (cell : List ℕ) → slice_get (meant P.pages space.old from).cells at ≡ Some cell →
+        HasRoom ((meant P.pages space.old to).cells ++ cell ∷ []) → IsNotUnfit result }
     ensures base { P.pages space.new.base ≡ P.pages space.old.base }
     ensures excused { IsExcused result (P.losses space.old.base) (P.losses space.new.base) }
 {
@@ -93,6 +98,7 @@ fn copy_cell<P: PageSource>(
 /// A copy of the cell at a place.
 pub(crate) fn copied(alloc: Global, page: &Page, at: u16) -> Result<Cell, EditFault>
     ensures cell { IfOk result (λ c. slice_get page.now.cells at ≡ Some c) }
+    ensures fit { at < length page.now.cells → IsNotUnfit result }
     ensures excused { (count : ℕ) → IsExcused result count count }
 {
     let Some(cell) = page.cell(at) else {
@@ -110,35 +116,34 @@ pub(crate) fn trim<P: PageSource>(
 ) -> Result<(), EditFault>
     ensures trimmed { OnOk result (Alters (meant P.pages space.old) (meant P.pages space.new) id
         (meant P.pages space.old id).head (take at (meant P.pages space.old id).cells)) }
+    ensures fit { IsNotUnfit result }
     ensures base { P.pages space.new.base ≡ P.pages space.old.base }
     ensures excused { IsExcused result (P.losses space.old.base) (P.losses space.new.base) }
 {
-    'trimming: for _ in 0..u64::MAX {
-        let took = take_at(alloc, space, id, at)?;
-        if !took {
-            return Ok(());
-        }
+    space.load_to_edit(id)?;
+    let count = space.page().count();
+    'trimming: for _ in at..count {
+        take_at(alloc, space, id, at)?;
     }
-    // no page has so many cells
-    Err(EditFault::Unfit)
+    Ok(())
 }
 
-/// Takes the cell at a place away, and tells whether there was one.
+/// Takes the cell at a place away. `Unfit` comes only where there is none.
 fn take_at<P: PageSource>(
     alloc: Global,
     space: &mut Workspace<P>,
     id: u64,
     at: u16,
-) -> Result<bool, EditFault>
-    ensures taken { IfOk result (TakesAt (meant P.pages space.old) (meant P.pages space.new) id at) }
+) -> Result<(), EditFault>
+    ensures taken { OnOk result (TakesAt (meant P.pages space.old) (meant P.pages space.new) id at) }
+    ensures fit { at < length (meant P.pages space.old id).cells → IsNotUnfit result }
     ensures base { P.pages space.new.base ≡ P.pages space.old.base }
     ensures excused { IsExcused result (P.losses space.old.base) (P.losses space.new.base) }
 {
     space.load_to_edit(id)?;
-    let Some(cell) = space.page().cell(at) else {
-        return Ok(false);
-    };
-    let cell = Cell::from_slice(alloc, cell).map_err(|_| EditFault::NoMemory)?;
-    alter(space, id, Edit::TakeCell { at, cell })?;
-    Ok(true)
+    let page = space.page();
+    // the cells that are left fit, since all of them do
+    let _space = page.space();
+    let cell = copied(alloc, page, at)?;
+    alter(space, id, Edit::TakeCell { at, cell })
 }

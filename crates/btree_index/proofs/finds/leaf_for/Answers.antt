@@ -32,7 +32,7 @@ down-preserved g c =
     let now = sym is ∙ ap (λ (f : ℕ → Image). f c.down.id) c.down.invariant.pages in
     let kind = ap (λ (i : Image). i.head.kind) (sym now) ∙ ap (λ (h : Head). h.kind) (sym c.head-in-down.ensures) ∙ c.in-Inner.is in
     let rose : g.P.PageSource.losses c.down.pages ≤ g.P.PageSource.losses c.load-in-down.new.self = c.in_ok-load-2.ensures.excused in
-    let child = c.in-Some.ensures ∙ ap (λ (i : Image). choice c.args.key.now i.cells) now in
+    let child = c.in-Some.ensures.child ∙ ap (λ (i : Image). choice c.args.key.now i.cells) now in
     record {
       pages = c.in_ok-load-2.ensures.pages ∙ c.down.invariant.pages;
       below = c.in_ok-load-2.ensures.below ∙ c.down.invariant.below;

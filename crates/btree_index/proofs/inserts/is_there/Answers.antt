@@ -1,5 +1,5 @@
 -- The leaf of the way has the key where the list has it.
-use Rattle.std.proofs.Common.{◌≡◌, None, sym, ap, ◌∙◌, subst}
+use Rattle.std.proofs.Common.{◌≡◌, None, sym, ap, ◌∙◌, subst, rules}
 use Rattle.std.proofs.lemmas.Option.{same_Some}
 use Rattle.std.specs.Option.{is_some}
 use Rattle.page_store.specs.Image.{Image}
@@ -11,8 +11,8 @@ use Rattle.btree_index.proofs.inserts.is_there.Goals as goal
 pub returns-in-Some-clause-there : goal.returns-in-Some-clause-there
 returns-in-Some-clause-there g c = λ own free list stands.
     let old = meant g.P.PageSource.pages c.args.space.now in
-    let leaf = c.in-Ok.field-0.leaf in
-    let said = c.in-Ok.ensures in
+    let leaf = c.in_ok-way_for.field-0.leaf in
+    let said = c.in_ok-way_for.ensures in
     let image = c.page.result.now in
     let at = c.in-Some.field-0 in
     let is : image ≡ old leaf = same_Some image (old leaf) (sym c.page.ensures ∙ said.loaded) in
@@ -22,9 +22,12 @@ returns-in-Some-clause-there g c = λ own free list stands.
 pub returns-in-None-clause-there : goal.returns-in-None-clause-there
 returns-in-None-clause-there g c = λ own free list stands.
     let old = meant g.P.PageSource.pages c.args.space.now in
-    let leaf = c.in-Ok.field-0.leaf in
-    let said = c.in-Ok.ensures in
+    let leaf = c.in_ok-way_for.field-0.leaf in
+    let said = c.in_ok-way_for.ensures in
     let image = c.page.result.now in
     let is : image ≡ old leaf = same_Some image (old leaf) (sym c.page.ensures ∙ said.loaded) in
     let none : cell_value c.args.key.now (old leaf).cells ≡ None = ap (λ (i : Image). cell_value c.args.key.now i.cells) (sym is) ∙ c.in-None.ensures in
     sym (ap is_some (value_there old c.args.root c.args.key.now leaf said.way.leaf said.way.kind own free list stands ∙ none))
+
+pub returns-in_err-way_for-clause-fit : goal.returns-in_err-way_for-clause-fit
+returns-in_err-way_for-clause-fit g c = λ list tree. search (rules, c.in_err-way_for.ensures.fit list tree)

@@ -2,7 +2,9 @@
 use Rattle.std.proofs.Common.{ℕ, Option, subst}
 use Rattle.page_workspace.specs.Drafts.{meant}
 use Rattle.page_workspace.proofs.OwnLemmas.{ok_all}
+use Rattle.btree_index.specs.Fits.{IsFullUnder}
 use Rattle.btree_index.specs.Changes.{LeadsOver}
+use Rattle.btree_index.proofs.DepthLemmas.{splittable, raisable}
 use Rattle.btree_index.proofs.RootLemmas.{splits, crowns}
 use Rattle.btree_index.proofs.inserts.make_room.Goals as goal
 
@@ -17,3 +19,14 @@ pub returns-in-None-clause-room : goal.returns-in-None-clause-room
 returns-in-None-clause-room g c = λ over own free list stands.
     let pages = meant g.P.PageSource.pages c.args.space.now in
     ok_all c.crown.result (λ s. crowns pages (meant g.P.PageSource.pages c.crown.new.space) c.args.root s own free list stands) c.crown.ensures.crowned
+
+pub returns-in-Some-clause-fit : goal.returns-in-Some-clause-fit
+returns-in-Some-clause-fit g c = λ over full own free list stands.
+    let pages = meant g.P.PageSource.pages c.args.space.now in
+    let there = subst (λ (o : Option ℕ). LeadsOver pages c.args.root c.args.key.now o) c.in-Some.is over in
+    let under = subst (λ (o : Option ℕ). IsFullUnder pages c.args.key.now o) c.in-Some.is full in
+    c.split_below.ensures.fit (splittable pages c.args.root c.args.key.now c.in-Some.parent there.0 there.1 there.2 under own free list stands)
+
+pub returns-in-None-clause-fit : goal.returns-in-None-clause-fit
+returns-in-None-clause-fit g c = λ over full own free list stands.
+    c.crown.ensures.fit (raisable (meant g.P.PageSource.pages c.args.space.now) c.args.root own free list stands)

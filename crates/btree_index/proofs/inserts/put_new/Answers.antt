@@ -1,5 +1,5 @@
 -- Pass after pass over one list.
-use Rattle.std.proofs.Common.{◌≤◌, refl, ◌∙◌, subst, arith}
+use Rattle.std.proofs.Common.{◌≤◌, refl, ◌∙◌, subst, arith, rules}
 use Rattle.page_workspace.specs.Drafts.{meant}
 use Rattle.btree_index.specs.Pairs.{with_pair}
 use Rattle.btree_index.specs.Changes.{IsPassed, Becomes}
@@ -18,7 +18,7 @@ pub returns-in-Done-clause-put : goal.returns-in-Done-clause-put
 returns-in-Done-clause-put g c = λ own free list stands absent.
     let old = meant g.P.PageSource.pages c.args.space.now in
     let now = meant g.P.PageSource.pages c.passes.space in
-    let next = meant g.P.PageSource.pages c.try_pass.new.space in
+    let next = meant g.P.PageSource.pages c.pass_once.new.space in
     let before : Becomes old now c.args.root own free list = c.passes.invariant.becomes own free list stands absent in
     let done = subst (λ (p : Pass). IsPassed now next c.args.root before.more before.spare c.args.key.now c.args.value.now list p) c.in-Done.is
     (c.in_ok-came_to.ensures.passed before.more before.spare list before.stands absent) in
@@ -28,8 +28,8 @@ pub passes-preserved : goal.passes-preserved
 passes-preserved g c =
     let old = meant g.P.PageSource.pages c.args.space.now in
     let now = meant g.P.PageSource.pages c.passes.space in
-    let next = meant g.P.PageSource.pages c.try_pass.new.space in
-    let rose : g.P.PageSource.losses c.passes.space.base ≤ g.P.PageSource.losses c.try_pass.new.space.base = c.in_ok-came_to.ensures.excused in
+    let next = meant g.P.PageSource.pages c.pass_once.new.space in
+    let rose : g.P.PageSource.losses c.passes.space.base ≤ g.P.PageSource.losses c.pass_once.new.space.base = c.in_ok-came_to.ensures.excused in
     let earlier : g.P.PageSource.losses c.args.space.now.base ≤ g.P.PageSource.losses c.passes.space.base = c.passes.invariant.losses in
     record {
       becomes = λ own free list stands absent.
@@ -40,3 +40,9 @@ passes-preserved g c =
       base = c.in_ok-came_to.ensures.base ∙ c.passes.invariant.base;
       losses = omega arith;
     }
+
+pub returns-in_err-came_to-clause-fit : goal.returns-in_err-came_to-clause-fit
+returns-in_err-came_to-clause-fit g c = λ own free list stands absent.
+    let before : Becomes (meant g.P.PageSource.pages c.args.space.now) (meant g.P.PageSource.pages c.passes.space) c.args.root own free list =
+    c.passes.invariant.becomes own free list stands absent in
+    search (rules, c.in_err-came_to.ensures.fit before.more before.spare list before.stands)

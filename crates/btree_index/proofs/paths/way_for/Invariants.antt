@@ -1,7 +1,11 @@
--- the workspace means what it meant, and the page is on the way to the key
-use Rattle.std.proofs.Common.{◌≡◌, ◌≤◌}
+-- the workspace means what it meant, and the page is on the way to the key, as deep as the turn
+use Rattle.std.proofs.Common.{◌≡◌, ◌≤◌, ◌<◌, ◌^◌, ℕ, List}
 use Rattle.page_workspace.specs.Drafts.{meant}
+use Rattle.btree_index.specs.Keys.{Key}
+use Rattle.btree_index.specs.Trees.{TreeList}
+use Rattle.btree_index.specs.Fits.{IsFullUntil}
 use Rattle.btree_index.specs.Changes.{Leads, LeadsOver}
+use Rattle.btree_index.proofs.DepthLemmas.{IsDeep}
 use Rattle.btree_index.proofs.paths.way_for.Given as goal
 
 abbrev pub invariant-down : goal.invariant-down
@@ -12,4 +16,8 @@ invariant-down g l = record {
   losses : g.P.PageSource.losses l.fn.space.base ≤ g.P.PageSource.losses l.space.base;
   leads : Leads (meant g.P.PageSource.pages l.fn.space) l.root l.key l.leaf;
   over : LeadsOver (meant g.P.PageSource.pages l.fn.space) l.root l.key l.roomy;
+  small : l.leaf < 2 ^ 64;
+  full : IsFullUntil (meant g.P.PageSource.pages l.fn.space) l.key l.roomy l.leaf;
+  deep : (list : List (Key × List ℕ)) → (tree : TreeList (meant g.P.PageSource.pages l.fn.space) l.root list)
+      → IsDeep (meant g.P.PageSource.pages l.fn.space) l.root l.key l.leaf l.counter tree.height;
 }

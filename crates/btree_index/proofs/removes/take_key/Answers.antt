@@ -1,11 +1,13 @@
 -- The leaf of the way has the key's cell, or no leaf has.
-use Rattle.std.proofs.Common.{◌≡◌, ℕ, None, sym, ap, ◌∙◌, subst}
+use Rattle.std.proofs.Common.{◌≡◌, ◌+◌, ℕ, None, Some, sym, ap, ◌∙◌, subst, arith, rules}
 use Rattle.std.proofs.lemmas.Option.{same_Some}
-use Rattle.std.specs.List.{remove}
-use Rattle.page_store.specs.Image.{Image, HasRoom}
+use Rattle.std.specs.List.{remove, slice_get}
+use Rattle.page_store.specs.Image.{Image, HasRoom, taken}
+use Rattle.page_store.specs.Edits.{IsFit}
 use Rattle.page_store.specs.declared.edits.Edit.TheVariants.{TakeCell}
 use Rattle.page_workspace.specs.Drafts.{meant, edited}
 use Rattle.btree_index.specs.Pairs.{cell_value, HasKeyAt}
+use Rattle.btree_index.proofs.FitLemmas.{take_fits, not_unfit}
 use Rattle.btree_index.proofs.StandLemmas.{removes, removes_none, takes_cell}
 use Rattle.btree_index.proofs.removes.take_key.Goals as goal
 
@@ -36,3 +38,23 @@ returns-clause-removed g c =
     subst (λ (f : ℕ → Image). HasRoom (remove (f way.leaf).cells at)) said.pages c.in_ok-edit.ensures.fits.fits in
     removes pages new c.args.root c.args.key.now way.leaf at said.way.leaf said.way.kind has
     (takes_cell pages new way.leaf at c.in_ok-cell.cell is) room
+
+pub returns-in_err-edit-clause-fit : goal.returns-in_err-edit-clause-fit
+returns-in_err-edit-clause-fit g c = λ list tree.
+    let way = c.in_ok-way.way in
+    let said = c.in_ok-way.ensures in
+    let page = c.page-page.result.now in
+    let at = c.in-Some.at in
+    let cell = c.in_ok-cell.cell in
+    let now : page ≡ meant g.P.PageSource.pages c.way_for.new.space way.leaf =
+    same_Some page (meant g.P.PageSource.pages c.args.space.now way.leaf) (sym c.page-page.ensures ∙ said.loaded)
+    ∙ ap (λ (f : ℕ → Image). f way.leaf) (sym said.pages) in
+    let all : c.space-space.result + taken page.cells ≡ 4072 = c.space-space.ensures in
+    let room : HasRoom page.cells = omega arith in
+    let here : slice_get page.cells at ≡ Some cell = search rules in
+    let fits : IsFit (meant g.P.PageSource.pages c.way_for.new.space way.leaf) (TakeCell at cell) =
+    subst (λ (i : Image). IsFit i (TakeCell at cell)) now (take_fits page at cell room here) in
+    search (rules, not_unfit c.edit.result _ c.edit.ensures.fits fits)
+
+pub returns-in_err-way-clause-fit : goal.returns-in_err-way-clause-fit
+returns-in_err-way-clause-fit g c = λ list tree. search (rules, c.in_err-way.ensures.fit list tree)
