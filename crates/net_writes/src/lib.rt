@@ -173,6 +173,3 @@ fn add(ops: &mut List<RowOp>, one: Option<RowOp>) -> Result<(), AllocError>
         Some(op) => ops.push(op),
     }
 }
-
-#[cfg(test)]
-mod tests;

@@ -44,14 +44,11 @@ fn act_runs(alloc: Global, schema: &Schema, act: &Act) -> Result<bool, AllocErro
 pub fn has_integers_alone(table: &TableDef) -> bool
     ensures { result ≡ has_integers table.now }
 {
-    let mut rest = table.columns.as_slice();
-    'columns: while let Some((column, after)) = rest.split_first() {
-        if !is_integer_column(column) {
-            return false;
-        }
-        rest = after;
-    }
-    true
+    table
+        .columns
+        .as_slice()
+        .iter()
+        .all(|column| is_integer_column(column))
 }
 
 fn is_integer_column(column: &ColumnDef) -> bool

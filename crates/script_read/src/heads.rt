@@ -65,14 +65,7 @@ fn lone_fitting(bytes: &[u8]) -> Option<&[u8]>
 pub fn is_among_sessions(name: &[u8], sessions: &[SessionLine]) -> bool
     ensures { result ≡ is_declared name.now sessions.now }
 {
-    let mut rest = sessions;
-    'sessions: while let Some((session, after)) = rest.split_first() {
-        if has_name(session, name) {
-            return true;
-        }
-        rest = after;
-    }
-    false
+    sessions.iter().any(|session| has_name(session, name))
 }
 
 fn has_name(session: &SessionLine, name: &[u8]) -> bool

@@ -110,6 +110,3 @@ pub fn only_the_last_is_unknown()
 pub fn names_and_numbers_are_in_bounds()
     ensures { (at : ℕ) (text : List ℕ) (ss : List Spot) → Tokens at text ss → AreInBounds ss }
 {}
-
-#[cfg(test)]
-mod tests;
