@@ -1,6 +1,6 @@
 -- The value of digits, and when it passes a limit.
 use Rattle.std.proofs.Common.{ℕ, ◌+◌, ◌-◌, ◌*◌, ◌≤◌, List, [], ◌∷◌, arith}
-use Rattle.script_words.specs.Words.{value_from}
+use Rattle.byte_words.specs.Words.{value_from}
 
 pub value_grows : (digits : List ℕ) (value : ℕ) → value ≤ value_from value digits
 value_grows [] value = omega arith

@@ -1,6 +1,6 @@
 use Rattle.std.proofs.Common.{◌≡◌, length}
-use Rattle.script_words.specs.Lines.{without_end}
-use Rattle.script_words.proofs.lines.drop_end.Given as goal
+use Rattle.byte_words.specs.Lines.{without_end}
+use Rattle.byte_words.proofs.lines.drop_end.Given as goal
 
 abbrev pub invariant-blanks : goal.invariant-blanks
 invariant-blanks l = without_end l.rest ≡ without_end l.bytes

@@ -1,5 +1,5 @@
 ghost use Rattle.std.specs.Prelude.{◌≡◌, ℕ, Bool, ◌==◌, not};
-ghost use Rattle.script_words.specs.Words.{front, behind, is_blank, is_digit, is_lower, is_upper, is_word_byte, is_piece_byte};
+ghost use Rattle.byte_words.specs.Words.{front, behind, is_blank, is_digit, is_lower, is_upper, is_word_byte, is_piece_byte};
 ghost use Rattle.std.specs.List.{list_all};
 
 /// A kind of bytes.

@@ -1,7 +1,7 @@
 -- Lines: where the first one ends, and what is dropped at the end of one.
 use Rattle.std.proofs.Common.{◌≡◌, ℕ, ◌<◌, ◌≤◌, List, [], ◌∷◌, ◌++◌, length, Bool, true, false, not, ◌==◌, refl, sym, ◌∙◌, ap, subst, append_assoc, arith, if◌then◌else◌}
-use Rattle.script_words.specs.Words.{front, behind, is_blank}
-use Rattle.script_words.specs.Lines.{lines_of, in_front, but_last, without_return, without_end, kept_before}
+use Rattle.byte_words.specs.Words.{front, behind, is_blank}
+use Rattle.byte_words.specs.Lines.{lines_of, in_front, but_last, without_return, without_end, kept_before}
 
 -- all bytes but LF
 abbrev pub in_line : ℕ → Bool

@@ -1,6 +1,6 @@
 use Rattle.std.proofs.Common.{length}
-use Rattle.script_words.proofs.LineLemmas.{IsFrontOf}
-use Rattle.script_words.proofs.lines.before_last_line.Given as goal
+use Rattle.byte_words.proofs.LineLemmas.{IsFrontOf}
+use Rattle.byte_words.proofs.lines.before_last_line.Given as goal
 
 abbrev pub invariant-bytes : goal.invariant-bytes
 invariant-bytes l = IsFrontOf l.fn.bytes l.rest

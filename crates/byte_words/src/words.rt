@@ -1,7 +1,7 @@
 ghost use Rattle.std.specs.Prelude.{◌≡◌, ◌≤◌, IfSome, not};
 ghost use Rattle.std.specs.List.{list_any};
-ghost use Rattle.script_words.specs.Answers.{Finds};
-ghost use Rattle.script_words.specs.Words.{piece, after_piece, word, after_word, word_at, sign_at, after_sign, is_end, is_name, fits_name, is_within, is_begun, is_upper, is_reserved, is_among, verbs, settings, clauses, tests, types, replies, free_name_at, value_of, value_from, at_most, number_at, number_within, number_of, is_padded};
+ghost use Rattle.byte_words.specs.Answers.{Finds};
+ghost use Rattle.byte_words.specs.Words.{piece, after_piece, word, after_word, word_at, sign_at, after_sign, is_end, is_name, fits_name, is_within, is_begun, is_upper, is_reserved, is_among, verbs, settings, clauses, tests, types, replies, free_name_at, value_of, value_from, at_most, number_at, number_within, number_of, is_padded};
 
 use super::bytes::{
     Digit, PieceByte, WordByte, is_lower_case, is_of_kind, is_upper_case, skip_blanks, split_while,

@@ -2,7 +2,7 @@
 use Rattle.std.proofs.Common.{◌≡◌, ℕ, suc, ◌+◌, ◌<◌, List, [], ◌∷◌, ◌++◌, length, get_or, take, drop, Bool, true, false, refl, sym, ◌∙◌, ap, append_assoc, add-one}
 use Rattle.std.proofs.Math.Seq.{drop-cons}
 use Rattle.std.proofs.lemmas.List.{take_more}
-use Rattle.script_words.specs.Words.{front, behind}
+use Rattle.byte_words.specs.Words.{front, behind}
 
 -- how far the split has come: all bytes before a place are of the kind
 pub record WhileAt (test : ℕ → Bool) (bytes : List ℕ) (at : ℕ) : Type 0 where

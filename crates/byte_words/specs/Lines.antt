@@ -4,7 +4,7 @@
 -- dropped, and then the blanks at both ends: what is left is its text. A line without text, or whose
 -- text begins with `#`, is skipped, but it is counted.
 use Rattle.std.specs.Prelude.{ℕ, ◌==◌, ◌∷◌, [], List, Bool, true, if◌then◌else◌}
-use Rattle.script_words.specs.Words.{behind, is_blank}
+use Rattle.byte_words.specs.Words.{behind, is_blank}
 
 -- one byte more in front of the first of these lines
 abbrev pub in_front : ℕ → List (List ℕ) → List (List ℕ)

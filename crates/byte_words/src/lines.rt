@@ -1,5 +1,5 @@
 ghost use Rattle.std.specs.Prelude.{◌≡◌, ◌<◌, ◌∷◌, [], length, MatchOption};
-ghost use Rattle.script_words.specs.Lines.{lines_of, without_return, without_end, trimmed, text_of, is_skipped, but_last};
+ghost use Rattle.byte_words.specs.Lines.{lines_of, without_return, without_end, trimmed, text_of, is_skipped, but_last};
 
 use super::bytes::{Blank, InLine, Kind, skip_blanks, split_while};
 
