@@ -146,12 +146,15 @@ number_within most bytes = value_of most (front is_digit bytes) >>= (λ value. S
 abbrev pub number_at : ℕ → List ℕ → Option (ℕ × List ℕ)
 number_at most bytes = number_within most (behind is_blank bytes)
 
--- whether a zero stands in front of other digits
-abbrev pub is_padded : List ℕ → Bool
-is_padded [] = false
-is_padded (digit ∷ []) = false
-is_padded (digit ∷ next ∷ digits) = digit == 48
+-- digits as a number is spelled: one or more, and no 0 before others
+abbrev pub is_numeral : List ℕ → Bool
+is_numeral [] = false
+is_numeral (d ∷ ds) = not (d == 48) || (length ds == 0)
+
+-- the value of digits that are spelled so, where it is at most a limit
+abbrev pub numeral_of : ℕ → List ℕ → Option ℕ
+numeral_of most digits = if is_numeral digits then at_most most (value_from 0 digits) else None
 
 -- the number that a piece is: digits of a value below 2^64, without a zero in front of others
 abbrev pub number_of : List ℕ → Option ℕ
-number_of piece = if list_all is_digit piece && not (is_padded piece) then value_of (2 ^ 64 - 1) piece else None
+number_of piece = if list_all is_digit piece then numeral_of (2 ^ 64 - 1) piece else None

@@ -1,7 +1,7 @@
 ghost use Rattle.std.specs.Prelude.{◌≡◌, ◌≤◌, IfSome, not};
 ghost use Rattle.std.specs.List.{list_any};
 ghost use Rattle.byte_words.specs.Answers.{Finds};
-ghost use Rattle.byte_words.specs.Words.{piece, after_piece, word, after_word, word_at, sign_at, after_sign, is_end, is_name, fits_name, is_within, is_begun, is_upper, is_reserved, is_among, verbs, settings, clauses, tests, types, replies, free_name_at, value_of, value_from, at_most, number_at, number_within, number_of, is_padded};
+ghost use Rattle.byte_words.specs.Words.{piece, after_piece, word, after_word, word_at, sign_at, after_sign, is_end, is_name, fits_name, is_within, is_begun, is_upper, is_reserved, is_among, verbs, settings, clauses, tests, types, replies, free_name_at, value_of, value_from, at_most, number_at, number_within, number_of, numeral_of, is_numeral};
 
 use super::bytes::{
     Digit, PieceByte, WordByte, is_lower_case, is_of_kind, is_upper_case, skip_blanks, split_while,
@@ -251,19 +251,32 @@ pub fn take_number(most: u64, bytes: &[u8]) -> Option<(u64, &[u8])>
 pub fn piece_number(found: &[u8]) -> Option<u64>
     ensures { Finds (λ n. n) result (number_of found.now) }
 {
-    if is_of_kind::<Digit>(found) && !is_zero_padded(found) {
-        digits_value(u64::MAX, found)
+    if is_of_kind::<Digit>(found) {
+        numeral_value(u64::MAX, found)
     } else {
         None
     }
 }
 
-/// Whether a zero stands in front of other digits.
-fn is_zero_padded(digits: &[u8]) -> bool
-    ensures { result ≡ is_padded digits.now }
+/// The number that these digits spell; `None` where there is none, a zero stands in front of others, or the number is
+/// above `most`.
+pub fn numeral_value(most: u64, digits: &[u8]) -> Option<u64>
+    ensures value { Finds (λ x. x) result (numeral_of most digits.now) }
+    ensures within { IfSome result (λ x. x ≤ most) }
+{
+    if is_number_text(digits) {
+        value_at_most(most, digits)
+    } else {
+        None
+    }
+}
+
+/// Whether digits are a number's: one or more, and no 0 before others.
+fn is_number_text(digits: &[u8]) -> bool
+    ensures { result ≡ is_numeral digits.now }
 {
     match digits.split_first() {
         None => false,
-        Some((first, others)) => !others.is_empty() && *first == b'0',
+        Some((first, others)) => *first != b'0' || others.is_empty(),
     }
 }
