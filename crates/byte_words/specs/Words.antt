@@ -1,11 +1,10 @@
--- Pieces, words, names, numbers and signs, and what stands behind them.
+-- Pieces, names and numbers, and what stands behind them.
 --
--- Each of them is taken from the front of the bytes, behind any blanks there: the longest one that
--- stands there. What is taken gives the bytes behind it, and nothing where it does not come next.
+-- Each of them is taken from the front of the bytes: the longest one that stands there. Pieces and numbers may have
+-- blanks in front. What is taken gives the bytes behind it, and nothing where it does not come next.
 --
--- A piece is bytes without a blank; the lines of a script are made of pieces. A word is letters,
--- digits and underscores; the texts of statements are made of words, numbers and signs.
-use Rattle.std.specs.Prelude.{ℕ, ◌+◌, ◌-◌, ◌*◌, ◌==◌, ◌∷◌, [], List, length, Bool, false, ◌&&◌, ◌||◌, not, if◌then◌else◌, nat_le, Option, Some, None, codes, bytes_eq, ◌^◌}
+-- A piece is bytes without a blank; the lines of a script are made of pieces.
+use Rattle.std.specs.Prelude.{ℕ, ◌+◌, ◌-◌, ◌*◌, ◌==◌, ◌∷◌, [], List, length, Bool, false, ◌&&◌, ◌||◌, not, if◌then◌else◌, nat_le, Option, Some, None, ◌^◌}
 use Rattle.std.specs.List.{list_any, list_all}
 
 infixl 10 ◌>>=◌
@@ -50,24 +49,10 @@ piece bytes = front is_piece_byte (behind is_blank bytes)
 abbrev pub after_piece : List ℕ → List ℕ
 after_piece bytes = behind is_piece_byte (behind is_blank bytes)
 
--- the word that comes next, which may be empty, and what stands behind it
-abbrev pub word : List ℕ → List ℕ
-word bytes = front is_word_byte (behind is_blank bytes)
-
-abbrev pub after_word : List ℕ → List ℕ
-after_word bytes = behind is_word_byte (behind is_blank bytes)
-
--- one certain word
-abbrev pub word_at : List ℕ → List ℕ → Option (List ℕ)
-word_at wanted bytes = if bytes_eq (word bytes) wanted then Some (after_word bytes) else None
-
--- one certain sign
+-- one certain byte
 abbrev pub after_sign : ℕ → List ℕ → Option (List ℕ)
 after_sign sign [] = None
 after_sign sign (b ∷ bs) = if b == sign then Some bs else None
-
-abbrev pub sign_at : ℕ → List ℕ → Option (List ℕ)
-sign_at sign bytes = after_sign sign (behind is_blank bytes)
 
 -- whether nothing but blanks is left
 abbrev pub is_end : List ℕ → Bool
@@ -92,40 +77,6 @@ is_within word = not (list_any is_upper word) && nat_le (length word) 32
 -- a name: what fits the rule and keeps within the limits
 abbrev pub is_name : List ℕ → Bool
 is_name word = fits_name word && is_within word
-
--- the words that begin statements; no table and no column may have a reserved word as its name
-abbrev pub verbs : List (List ℕ)
-verbs = codes "begin" ∷ codes "commit" ∷ codes "rollback" ∷ codes "insert" ∷ codes "update" ∷ codes "delete" ∷ codes "select" ∷ codes "selectv" ∷ codes "create" ∷ []
-
--- reserved words behind them
-abbrev pub settings : List (List ℕ)
-settings = codes "set" ∷ codes "transaction" ∷ codes "snapshot" ∷ codes "serializable" ∷ codes "into" ∷ codes "values" ∷ []
-
--- reserved words of clauses
-abbrev pub clauses : List (List ℕ)
-clauses = codes "from" ∷ codes "where" ∷ codes "group" ∷ codes "order" ∷ codes "by" ∷ codes "limit" ∷ codes "as" ∷ codes "asc" ∷ codes "desc" ∷ []
-
--- reserved words of conditions and sums
-abbrev pub tests : List (List ℕ)
-tests = codes "or" ∷ codes "and" ∷ codes "not" ∷ codes "is" ∷ codes "null" ∷ codes "count" ∷ codes "sum" ∷ codes "min" ∷ codes "max" ∷ []
-
--- reserved words of tables
-abbrev pub types : List (List ℕ)
-types = codes "table" ∷ codes "integer" ∷ codes "int" ∷ codes "text" ∷ codes "blob" ∷ codes "primary" ∷ codes "key" ∷ codes "unique" ∷ []
-
--- reserved words of reports
-abbrev pub replies : List (List ℕ)
-replies = codes "all" ∷ codes "pk" ∷ codes "lost" ∷ codes "nomajority" ∷ codes "tooold" ∷ []
-
-abbrev pub is_among : List ℕ → List (List ℕ) → Bool
-is_among word words = list_any (λ other. bytes_eq other word) words
-
-abbrev pub is_reserved : List ℕ → Bool
-is_reserved word = is_among word verbs || is_among word settings || is_among word clauses || is_among word tests || is_among word types || is_among word replies
-
--- the name of a table or a column
-abbrev pub free_name_at : List ℕ → Option (List ℕ × List ℕ)
-free_name_at bytes = if is_name (word bytes) && not (is_reserved (word bytes)) then Some (word bytes, after_word bytes) else None
 
 -- the value of decimal digits behind those that make up a value already
 abbrev pub value_from : ℕ → List ℕ → ℕ
