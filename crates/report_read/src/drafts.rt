@@ -1,4 +1,5 @@
-ghost use Rattle.report_read.specs.Reading.{Gives, Finds, added, empty_draft, finished, may_tell, may_enter, may_end};
+ghost use Rattle.byte_words.specs.Answers.{Finds, Gives};
+ghost use Rattle.report_read.specs.Reading.{added, empty_draft, finished, may_tell, may_enter, may_end};
 ghost use Rattle.std.specs.Prelude.{◌≡◌};
 
 use cdb_values::List;

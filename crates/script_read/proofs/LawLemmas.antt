@@ -6,8 +6,8 @@ use Rattle.std.specs.Str.{is_utf8}
 use Rattle.cdb_values.specs.Tables.{add_fault, place_of}
 use Rattle.cdb_values.specs.declared.tables.ColumnType.TheVariants.{Integer}
 use Rattle.cdb_values.specs.declared.tables.TableDef.{TableDef}
-use Rattle.script_words.specs.Lines.{lines_of, text_of, is_skipped}
-use Rattle.script_words.specs.Words.{after_piece, is_end, is_name}
+use Rattle.byte_words.specs.Lines.{lines_of, text_of, is_skipped}
+use Rattle.byte_words.specs.Words.{after_piece, is_end, is_name}
 use Rattle.statement_read.proofs.IntegerLemmas.{statement_has_integers}
 use Rattle.statement_read.specs.Statements.{statement_of}
 use Rattle.table_read.proofs.TableLemmas.{lawful}

@@ -1,8 +1,8 @@
 ghost use Rattle.std.specs.Prelude.{◌≡◌, ◌≤◌, ◌^◌, ◌<◌, not, bytes_eq, length};
 ghost use Rattle.std.specs.List.{list_any};
 ghost use Rattle.cdb_values.specs.Tables.{place_of};
-ghost use Rattle.script_words.specs.Answers.{Finds};
-ghost use Rattle.script_words.specs.Words.{is_name};
+ghost use Rattle.byte_words.specs.Answers.{Finds};
+ghost use Rattle.byte_words.specs.Words.{is_name};
 ghost use Rattle.script_read.specs.Answers.{Answers};
 ghost use Rattle.script_read.specs.Heads.{fitting_at, numeral_at, only_number, only_fitting, alone, is_declared, is_node, nodes_said, cluster_said, workers_said, hasql_of, session_of, session_said, watched, watch_said};
 
@@ -10,9 +10,9 @@ use super::drafts::Draft;
 use super::reasons::{LIMIT, NO_LINE, NO_NODES, WRONG_NODE, WRONG_SESSION, WRONG_TABLE};
 use super::said::Said;
 use super::scripts::ScriptStop;
+use byte_words::{fits_name_rule, is_at_end, is_name_word, next_piece, piece_number};
 use cdb_values::Name;
 use script_form::SessionLine;
-use script_words::{fits_name_rule, is_at_end, is_name_word, next_piece, piece_number};
 use std::alloc::Global;
 
 /// The most nodes.

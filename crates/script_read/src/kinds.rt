@@ -2,7 +2,7 @@ ghost use Rattle.std.specs.Prelude.{◌≡◌, map, codes, bytes_eq};
 ghost use Rattle.std.specs.Char.{to_ascii_lowercase};
 ghost use Rattle.script_read.specs.Kinds.{head_keyword, keyword_of, begins_with, is_create, kind_of_keyword, kind_of, keyword_part, part_of, may_come};
 
-use script_words::{WordByte, next_piece, split_while};
+use byte_words::{WordByte, next_piece, split_while};
 
 /// The words that begin lines of a script, but for `create`.
 #[derive(Clone, Copy, PartialEq, Eq, Debug)]

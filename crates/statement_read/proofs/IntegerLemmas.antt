@@ -5,7 +5,8 @@ use Rattle.std.proofs.lemmas.Bool.{ltb-true}
 use Rattle.cdb_values.specs.declared.values.Value.{Value}
 use Rattle.cdb_values.specs.declared.values.Value.TheVariants as values
 use Rattle.cdb_values.specs.declared.values.Value.TheVariants.{Int}
-use Rattle.script_words.specs.Words.{◌>>=◌, sign_at, number_at}
+use Rattle.byte_words.specs.Words.{◌>>=◌, number_at}
+use Rattle.statement_read.specs.Words.{sign_at}
 use Rattle.statement_read.specs.OnTables.{IsInteger}
 use Rattle.statement_read.specs.Statements.{statement_of, literal_at, literal_from, below_half, items_at}
 use Rattle.statement_read.specs.declared.statements.Filter.{Filter}

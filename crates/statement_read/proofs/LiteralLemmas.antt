@@ -4,7 +4,8 @@ use Rattle.std.specs.List.{AllByRecursion}
 use Rattle.std.proofs.lemmas.Bool.{ltb-true, leb-true}
 use Rattle.cdb_values.specs.declared.values.Value.{Value}
 use Rattle.cdb_values.specs.declared.values.Value.TheVariants.{Null, Int, Text, Blob}
-use Rattle.script_words.specs.Words.{◌>>=◌, sign_at, number_at, number_within, value_of, at_most, value_from, front, behind, is_digit, is_blank}
+use Rattle.byte_words.specs.Words.{◌>>=◌, number_at, number_within, value_of, at_most, value_from, front, behind, is_digit, is_blank}
+use Rattle.statement_read.specs.Words.{sign_at}
 use Rattle.statement_read.specs.Statements.{statement_of, literal_at, literal_from, below_half, items_within, items_at, separator_at, with_first}
 use Rattle.statement_read.specs.declared.statements.Statement.{Statement}
 use Rattle.statement_read.proofs.ValueLemmas.{AfterRead, items_all, HasValues, statement_has_values}
