@@ -105,12 +105,5 @@ pub fn skip_blanks(bytes: &[u8]) -> &[u8]
 pub fn is_of_kind<K: Kind>(bytes: &[u8]) -> bool
     ensures { result ≡ list_all K.test bytes.now }
 {
-    let mut rest = bytes;
-    'kinds: while let Some((byte, after)) = rest.split_first() {
-        if !K::is(*byte) {
-            return false;
-        }
-        rest = after;
-    }
-    true
+    bytes.iter().all(|byte| K::is(*byte))
 }

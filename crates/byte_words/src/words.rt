@@ -60,14 +60,7 @@ fn begins_as_name(found: &[u8]) -> bool
 fn has_upper_case(found: &[u8]) -> bool
     ensures { result ≡ list_any is_upper found.now }
 {
-    let mut rest = found;
-    'letters: while let Some((byte, after)) = rest.split_first() {
-        if is_upper_case(*byte) {
-            return true;
-        }
-        rest = after;
-    }
-    false
+    found.iter().any(|byte| is_upper_case(*byte))
 }
 
 /// The value of these digits; `None` where there is none, or it is above `most`.
