@@ -1,3 +1,3 @@
 pub mod ByteLemmas
-pub mod LineLemmas
+pub mod LineLaws
 pub mod NumberLemmas

@@ -5,7 +5,7 @@ use super::bytes::{Blank, InLine, Kind, skip_blanks, split_while};
 
 /// The first of the lines that bytes are, without its LF, and the bytes of the others; `None` where
 /// there is no line.
-#[tactic(auto, using(crate::proofs::LineLemmas::line_ends, crate::proofs::LineLemmas::line_goes_on, crate::proofs::LineLemmas::behind_is_shorter))]
+#[tactic(auto, using(crate::proofs::LineLaws::line_ends, crate::proofs::LineLaws::line_goes_on, crate::proofs::LineLaws::behind_is_shorter))]
 pub fn next_line(bytes: &[u8]) -> Option<(&[u8], &[u8])>
     ensures line { MatchOption result (lines_of bytes.now ≡ []) (λ x. lines_of bytes.now ≡ x.0.now ∷ lines_of x.1.now) }
     ensures shorter { MatchOption result (length bytes.now ≡ 0) (λ x. length x.1.now < length bytes.now) }
@@ -35,7 +35,7 @@ pub fn trim(bytes: &[u8]) -> &[u8]
 }
 
 /// A line without one CR at its end.
-#[tactic(auto, using(crate::proofs::LineLemmas::return_dropped, crate::proofs::LineLemmas::return_kept, crate::proofs::LineLemmas::no_line))]
+#[tactic(auto, using(crate::proofs::LineLaws::return_dropped, crate::proofs::LineLaws::return_kept, crate::proofs::LineLaws::no_line))]
 fn drop_return(line: &[u8]) -> &[u8]
     ensures { result.now ≡ without_return line.now }
 {
@@ -46,7 +46,7 @@ fn drop_return(line: &[u8]) -> &[u8]
 }
 
 /// Bytes without the blanks at their end.
-#[tactic(auto, using(crate::proofs::LineLemmas::blank_dropped, crate::proofs::LineLemmas::blank_kept, crate::proofs::LineLemmas::no_bytes))]
+#[tactic(auto, using(crate::proofs::LineLaws::blank_dropped, crate::proofs::LineLaws::blank_kept, crate::proofs::LineLaws::no_bytes))]
 fn drop_end(bytes: &[u8]) -> &[u8]
     ensures { result.now ≡ without_end bytes.now }
 {
@@ -71,7 +71,7 @@ pub fn is_comment(text: &[u8]) -> bool
 }
 
 /// The bytes before the last line of these.
-#[tactic(auto, using(crate::proofs::LineLemmas::last_byte, crate::proofs::LineLemmas::one_byte_more, crate::proofs::LineLemmas::front_lines, crate::proofs::LineLemmas::no_lines))]
+#[tactic(auto, using(crate::proofs::LineLaws::last_byte, crate::proofs::LineLaws::one_byte_more, crate::proofs::LineLaws::front_lines, crate::proofs::LineLaws::no_lines))]
 pub fn before_last_line(bytes: &[u8]) -> &[u8]
     ensures { lines_of result.now ≡ but_last (lines_of bytes.now) }
 {

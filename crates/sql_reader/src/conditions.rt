@@ -71,7 +71,7 @@ fn comparison(alloc: Global, tokens: &[Token]) -> Result<(Test, &[Token]), ReadE
 
 // A comparison, or a condition behind `not` or in parentheses, with so many levels to open.
 #[cycle(conditions)]
-#[tactic(auto, using(crate::proofs::Levels::not_deeper, crate::proofs::Levels::not_last), unfolding(sql_grammar::specs::Views::condition_in))]
+#[tactic(auto, using(crate::proofs::LevelLemmas::not_deeper, crate::proofs::LevelLemmas::not_last), unfolding(sql_grammar::specs::Views::condition_in))]
 fn not(alloc: Global, tokens: &[Token], levels: u8) -> Result<(Test, &[Token]), ReadError<'_>>
     ensures { Gives (λ x. condition_in x.0) (λ x. x.1.now) result (not_r levels tokens.now) }
 {

@@ -1,5 +1,5 @@
 use Rattle.std.proofs.Common.{length}
-use Rattle.byte_words.proofs.LineLemmas.{IsFrontOf}
+use Rattle.byte_words.proofs.LineLaws.{IsFrontOf}
 use Rattle.byte_words.proofs.lines.before_last_line.Given as goal
 
 abbrev pub invariant-bytes : goal.invariant-bytes

@@ -4,7 +4,7 @@ use Rattle.cdb_values.specs.Good.{first_broken}
 use Rattle.cdb_values.specs.Rows.{Rows}
 use Rattle.cdb_values.specs.declared.rows.RowOp.{RowOp}
 use Rattle.cdb_values.specs.Views.{IsOnBase}
-use Rattle.snapshot_rows.proofs.Based.{none_broken}
+use Rattle.snapshot_rows.proofs.BasedLaws.{none_broken}
 use Rattle.snapshot_rows.proofs.tests.each_position_keeps_its_rows.Goals as goal
 
 on_one : (tables next : ℕ) (ops : List RowOp) → 1 ≡ tables → AllByRecursion (IsOnBase 1 next) ops → AllByRecursion (IsOnBase tables next) ops

@@ -5,7 +5,7 @@ use Rattle.std.proofs.lemmas.Option.{none-some, same_Some}
 use Rattle.std.specs.List.{slice_get}
 use Rattle.page_store.specs.Image.{Image}
 use Rattle.page_store.specs.Edits.{IsFit, after_edit, before_edit}
-use Rattle.page_store.proofs.EditLemmas.{edit_back}
+use Rattle.page_store.proofs.EditLaws.{edit_back}
 use Rattle.phys_log.specs.declared.entries.LogRecord.{LogRecord}
 use Rattle.phys_log.specs.Logs.{written, replayed, lsn_after, IsNext, AreNext}
 use Rattle.phys_log.specs.Undone.{newest_first, undone, IsLinked, last_on_or}

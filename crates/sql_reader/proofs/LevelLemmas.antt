@@ -8,7 +8,7 @@ use Rattle.sql_tokens.specs.declared.kinds.Token.{Token}
 use Rattle.sql_grammar.specs.Trees.{Cond, NotOf, Grouped}
 use Rattle.sql_grammar.specs.Words.{keyword, sign_is}
 use Rattle.sql_grammar.specs.Readers.{enclosed, not_r, condition_r, comparison_r}
-use Rattle.sql_reader.proofs.Steps.{after_read}
+use Rattle.sql_reader.proofs.StepLemmas.{after_read}
 
 pub not_last : (levels : ℕ) (ts : List Token) → levels ≡ 0 → not_r levels ts ≡ comparison_r ts
 unfolding not_r

@@ -37,7 +37,7 @@ use Rattle.report_text.specs.declared.reports.Line.TheVariants as line
 use Rattle.report_text.specs.declared.reports.ReplyLine.{ReplyLine}
 use Rattle.report_text.specs.declared.reports.ReplyLine.TheVariants as reply
 use Rattle.report_text.specs.declared.reports.Report.{Report}
-use Rattle.report_laws.proofs.EachLemmas.{all_append, all_front, all_map}
+use Rattle.report_laws.proofs.EachLaws.{all_append, all_front, all_map}
 use Rattle.report_laws.proofs.SoFarLemmas.{same_name}
 
 -- what holds of each item holds of one that is looked up, and of a list with one exchanged

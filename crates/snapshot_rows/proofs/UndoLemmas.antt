@@ -8,7 +8,7 @@ use Rattle.cdb_values.specs.declared.values.Value.{Value}
 use Rattle.snapshot_rows.specs.Ages.{Ages, ages_of, IsAgeUpTo, IsUpTo}
 use Rattle.snapshot_rows.specs.Commits.{ended, newborn, with_death, with_birth, revived, before_in, before}
 use Rattle.snapshot_rows.specs.declared.ages.Age.{Age}
-use Rattle.snapshot_rows.proofs.Tables.{map_unchanged}
+use Rattle.snapshot_rows.proofs.TableLemmas.{map_unchanged}
 
 before_if : (position : ℕ) (b : Bool) (a : Age) (kept : List Age) → map (revived position) (if b then a ∷ kept else kept) ≡ (if b then revived position a ∷ map (revived position) kept else map (revived position) kept)
 before_if position true a kept = refl

@@ -19,7 +19,7 @@ use Rattle.report_laws.specs.Play.{are_up_to, is_last_of}
 use Rattle.cdb_values.specs.declared.items.GenidItem.{GenidItem}
 use Rattle.report_text.specs.declared.reports.ReplyLine.{ReplyLine}
 use Rattle.report_text.specs.declared.reports.ReplyLine.TheVariants as reply
-use Rattle.report_laws.proofs.PieceLemmas.{up_to_rows}
+use Rattle.report_laws.proofs.PieceLaws.{up_to_rows}
 use Rattle.cdb_values.specs.Named.{Place, table_named}
 use Rattle.transaction_answers.specs.Answer.{Condition, answer, answer_to, on_table, on_column, on_condition, rows_seen, condition_of, statement_language}
 

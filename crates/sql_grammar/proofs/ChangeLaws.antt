@@ -11,8 +11,8 @@ use Rattle.sql_grammar.specs.Trees.{DeleteFrom, SnapshotIt, SerializableIt}
 use Rattle.sql_grammar.specs.Words.{kind, code, keyword, sign_code, sign_is, a_name}
 use Rattle.sql_grammar.specs.Grammar.{ChangeS, change, SettingS, setting, pair, TupleS, InsertS, insert_into, UpdateS, update_of, DeleteS, LevelS}
 use Rattle.sql_grammar.specs.Readers.{begins_step, change_r, setting_r, tuple_r, insert_r, update_r, delete_r, level_r}
-use Rattle.sql_grammar.proofs.Operands.{steps, step_test, exact_name, exact_names, exact_literal, exact_operand, exact_word_as, exact_sign_as, exact_listed, exact_enclosed, after_word, before_sign}
-use Rattle.sql_grammar.proofs.Conditions.{exact_where, dot}
+use Rattle.sql_grammar.proofs.OperandLaws.{steps, step_test, exact_name, exact_names, exact_literal, exact_operand, exact_word_as, exact_sign_as, exact_listed, exact_enclosed, after_word, before_sign}
+use Rattle.sql_grammar.proofs.ConditionLaws.{exact_where, dot}
 
 pub exact_change : Exact kind ChangeS change_r false steps dot
 unfolding ChangeS change_r keyword sign_is

@@ -10,7 +10,7 @@ use Rattle.cdb_values.specs.declared.rows.RowRef.TheVariants.{Base, Own}
 use Rattle.cdb_values.specs.declared.rows.Version.{Version}
 use Rattle.cdb_values.specs.declared.tables.TableDef.{TableDef}
 use Rattle.cdb_values.specs.declared.values.Value.{Value}
-use Rattle.query_laws.proofs.ListLemmas.{filter_both, filter_of_map, filter_true, filter_false}
+use Rattle.query_laws.proofs.ListLaws.{filter_both, filter_of_map, filter_true, filter_false}
 use Rattle.query_laws.specs.Stable.{inside, HoldsTheSame, ShowsTheSame}
 use Rattle.query_laws.specs.Intervals.{Interval, lies}
 use Rattle.sql_answer.specs.Combinations.{Seen, seen_version, own_from, is_left, seen}

@@ -16,9 +16,9 @@ use Rattle.sql_grammar.specs.Trees.{BeginIt, CommitIt, RollbackIt, SelectOf, Pri
 use Rattle.sql_grammar.specs.Words.{kind, code, keyword, sign_code, sign_is, a_name}
 use Rattle.sql_grammar.specs.Grammar.{pair, OneS, Closed, StatementS, MarkS, TypeS, PartS, column_part, key_part, definition, CreateS}
 use Rattle.sql_grammar.specs.Readers.{begins_mark, simple_r, one_r, closed, statement_r, mark_r, type_r, uniqueness_r, part_r, table_r, create_r}
-use Rattle.sql_grammar.proofs.Operands.{marks, mark_test, name_test, exact_name, exact_names, exact_word_as, exact_listed, exact_enclosed, after_word, the_word, the_sign}
-use Rattle.sql_grammar.proofs.Changes.{exact_level, exact_insert, exact_update, exact_delete}
-use Rattle.sql_grammar.proofs.Queries.{exact_query, after_query}
+use Rattle.sql_grammar.proofs.OperandLaws.{marks, mark_test, name_test, exact_name, exact_names, exact_word_as, exact_listed, exact_enclosed, after_word, the_word, the_sign}
+use Rattle.sql_grammar.proofs.ChangeLaws.{exact_level, exact_insert, exact_update, exact_delete}
+use Rattle.sql_grammar.proofs.QueryLaws.{exact_query, after_query}
 
 abbrev one_begins : List ℕ
 one_begins = code words.Set ∷ code words.Insert ∷ code words.Update ∷ code words.Delete ∷ code words.Select ∷ code words.Selectv ∷ code words.Begin ∷ code words.Commit ∷ code words.Rollback ∷ []

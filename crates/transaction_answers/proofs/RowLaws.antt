@@ -16,14 +16,14 @@ use Rattle.statement_read.specs.Statements.{statement_of}
 use Rattle.statement_read.specs.declared.statements.Filter.{Filter}
 use Rattle.statement_read.specs.declared.statements.Statement.{Statement}
 use Rattle.statement_read.specs.declared.statements.Statement.TheVariants as statement
-use Rattle.statement_read.proofs.LiteralLemmas.{IsInteger64, IsIntegerRow, HasIntegers64, statement_has_integers_64}
+use Rattle.statement_read.proofs.LiteralLaws.{IsInteger64, IsIntegerRow, HasIntegers64, statement_has_integers_64}
 use Rattle.report_laws.specs.Language.{Answered}
 use Rattle.report_laws.specs.Spelled.{SpellsReply, WritesRow, HaveRows, KeepsRows}
 use Rattle.report_text.specs.Grammar.{IsValue, IsRow}
 use Rattle.report_text.specs.declared.reports.ReplyLine.{ReplyLine}
 use Rattle.report_text.specs.declared.reports.ReplyLine.TheVariants as reply
-use Rattle.report_laws.proofs.EachLemmas.{all_append}
-use Rattle.report_laws.proofs.SpelledLemmas.{all_got, all_exchanged, all_filtered}
+use Rattle.report_laws.proofs.EachLaws.{all_append}
+use Rattle.report_laws.proofs.SpelledLaws.{all_got, all_exchanged, all_filtered}
 use Rattle.transaction_answers.specs.Answer.{Condition, answer, answer_to, on_table, on_column, on_condition, rows_seen, rows_told, condition_of, statement_language, of_table, left_by, chosen, meets, is_own, staying, moving, updated, rewritten, deleted, undone, with_value}
 
 -- an integer of 64 bits is a value, and a row of them a row

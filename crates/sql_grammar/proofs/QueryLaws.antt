@@ -14,8 +14,8 @@ use Rattle.sql_grammar.specs.Trees.{OfItem, CountAll, SumOf, MinOf, MaxOf}
 use Rattle.sql_grammar.specs.Words.{kind, code, keyword, sign_code, sign_is, a_name, a_number, a_large, limit_of}
 use Rattle.sql_grammar.specs.Grammar.{NameS, pair, SourceS, source, FromS, ArgumentS, CountS, ItemS, ItemsS, DirectionS, KeyS, key, GroupS, OrderS, LimitS, tail, TailS, query, QueryS}
 use Rattle.sql_grammar.specs.Readers.{is_name, name_r, source_r, from_r, argument_r, count_r, item_r, items_r, direction_r, key_r, group_r, order_r, limit_r, tail_r, query_r}
-use Rattle.sql_grammar.proofs.Operands.{name_test, exact_name, exact_column, exact_word_as, exact_listed, exact_enclosed, after_word, after_sign, the_sign}
-use Rattle.sql_grammar.proofs.Conditions.{exact_where, dot}
+use Rattle.sql_grammar.proofs.OperandLaws.{name_test, exact_name, exact_column, exact_word_as, exact_listed, exact_enclosed, after_word, after_sign, the_sign}
+use Rattle.sql_grammar.proofs.ConditionLaws.{exact_where, dot}
 
 exact_optional_name : Exact kind (Optional NameS) (optional is_name name_r) true (a_name ∷ []) (a_name ∷ [])
 exact_optional_name = exact_either kind is_name _ _ _ _ (exact_as kind Some _ _ exact_name) (exact_nothing kind None) name_test refl

@@ -8,7 +8,7 @@ use Rattle.phys_log.specs.declared.entries.LogRecord.{LogRecord}
 use Rattle.phys_log.specs.declared.entries.Entry.{Entry}
 use Rattle.phys_log.specs.Logs.{records_of, records_in, replayed, blank_pages, pages_of, page_at, lsn_after, last_lsn_of, lsn_of_first, first_lsn, AreNext, Fits, IsLog}
 use Rattle.phys_log.specs.Undone.{newest_first, later_records, undone, IsLinked}
-use Rattle.phys_log.proofs.ReplayLemmas.{replayed-append, lsn_after-append, next_front, next_behind, next_both, next_last, undone_is, linked_is, lsn_below}
+use Rattle.phys_log.proofs.ReplayLaws.{replayed-append, lsn_after-append, next_front, next_behind, next_both, next_last, undone_is, linked_is, lsn_below}
 
 pub records_in-append : (xs ys : List Entry) → records_in (xs ++ ys) ≡ records_in xs ++ records_in ys
 records_in-append [] ys = refl

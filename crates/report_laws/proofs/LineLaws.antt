@@ -15,7 +15,7 @@ use Rattle.report_text.specs.declared.reports.Line.{Line}
 use Rattle.report_text.specs.declared.reports.Line.TheVariants as line
 use Rattle.report_text.specs.declared.reports.ReplyLine.{ReplyLine}
 use Rattle.report_text.specs.declared.reports.ReplyLine.TheVariants as reply
-use Rattle.report_laws.proofs.EachLemmas.{all_append, all_front}
+use Rattle.report_laws.proofs.EachLaws.{all_append, all_front}
 
 -- the positions that were named stay within a greater bound
 pub named_more : (b c : ℕ) (lines : List Line) → b ≤ c → NameUpTo b lines → NameUpTo c lines

@@ -18,12 +18,12 @@ use Rattle.report_text.specs.declared.reports.EntryLine.{EntryLine}
 use Rattle.report_text.specs.declared.reports.EntryLine.TheVariants.{Setup, Commit}
 use Rattle.report_text.specs.declared.reports.Line.{Line}
 use Rattle.report_text.specs.declared.reports.ReplyLine.{ReplyLine}
-use Rattle.report_laws.proofs.EachLemmas.{all_front, all_map}
-use Rattle.report_laws.proofs.PieceLemmas.{under, under_append, under_own}
+use Rattle.report_laws.proofs.EachLaws.{all_front, all_map}
+use Rattle.report_laws.proofs.PieceLaws.{under, under_append, under_own}
 use Rattle.report_laws.proofs.RestLemmas.{items_are, rest_of, rest_rises, Rising, of_its_rest, told_lones, lones, lones_append}
 use Rattle.report_laws.proofs.SoFarLemmas.{IsEnded, IsHeard, SoFar, same_name, so_far_next}
-use Rattle.report_laws.proofs.TurnedLemmas.{Given, Turned, begun_at, one_turn, turned}
-use Rattle.report_laws.proofs.WorkLemmas.{IsBelow, IsBegun, first_left, after_more, are_numbered, numbered_last, others_below}
+use Rattle.report_laws.proofs.TurnedLaws.{Given, Turned, begun_at, one_turn, turned}
+use Rattle.report_laws.proofs.WorkLaws.{IsBelow, IsBegun, first_left, after_more, are_numbered, numbered_last, others_below}
 
 -- what a lawful report in which no transaction is cut short says of its lines and entries
 record Laws (basis : Basis) (lines : List Line) (entries : List EntryLine) : Type 0 where

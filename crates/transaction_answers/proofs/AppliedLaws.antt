@@ -9,8 +9,8 @@ use Rattle.cdb_values.specs.declared.rows.RowRef.TheVariants.{Base, Own}
 use Rattle.cdb_values.specs.declared.rows.Version.{Version}
 use Rattle.cdb_values.specs.declared.tables.TableDef.{TableDef}
 use Rattle.cdb_values.specs.declared.values.Value.{Value}
-use Rattle.transaction_answers.proofs.AnswerLemmas.{all_append, all_filter, sound_at}
-use Rattle.transaction_answers.proofs.SoundLemmas.{sound_later}
+use Rattle.transaction_answers.proofs.AnswerLaws.{all_append, all_filter, sound_at}
+use Rattle.transaction_answers.proofs.SoundLaws.{sound_later}
 use Rattle.transaction_answers.specs.Sound.{AreSound, FitsIntegers, IsSoundOp, IsSoundVersion}
 
 -- other sound versions of one of the tables

@@ -21,14 +21,14 @@ use Rattle.report_text.specs.declared.reports.EntryLine.TheVariants.{Commit}
 use Rattle.report_text.specs.declared.reports.Line.{Line}
 use Rattle.report_text.specs.declared.reports.ReplyLine.{ReplyLine}
 use Rattle.report_text.specs.declared.reports.ReplyLine.TheVariants as reply
-use Rattle.report_laws.proofs.AnswerLemmas.{replies_append}
+use Rattle.report_laws.proofs.AnswerLaws.{replies_append}
 use Rattle.report_laws.proofs.DecideLemmas.{Decides, IsOutcomes, one_decision, decided}
 use Rattle.report_laws.proofs.FrontLemmas.{rows_front}
-use Rattle.report_laws.proofs.GrowLemmas.{first_begin}
-use Rattle.report_laws.proofs.PieceLemmas.{up_to_same, up_to_last, up_to_one, one_of_one, plain_all_quiet, commit_is_last, no_commit, under, are_uncut, all_at}
-use Rattle.report_laws.proofs.PlainLemmas.{plain_alone}
+use Rattle.report_laws.proofs.GrowLaws.{first_begin}
+use Rattle.report_laws.proofs.PieceLaws.{up_to_same, up_to_last, up_to_one, one_of_one, plain_all_quiet, commit_is_last, no_commit, under, are_uncut, all_at}
+use Rattle.report_laws.proofs.PlainLaws.{plain_alone}
 use Rattle.report_laws.proofs.RestLemmas.{over_by, rest_of, rest_opened, IsOpened, lones}
-use Rattle.report_laws.proofs.WorkLemmas.{first_left}
+use Rattle.report_laws.proofs.WorkLaws.{first_left}
 
 module _ (basis : Basis) (history : List EntryLine) where
   abbrev pub moment : ℕ

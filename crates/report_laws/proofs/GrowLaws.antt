@@ -10,8 +10,8 @@ use Rattle.report_text.specs.declared.reports.EntryLine.TheVariants.{Setup, Comm
 use Rattle.report_text.specs.declared.reports.Line.{Line}
 use Rattle.report_text.specs.declared.reports.ReplyLine.{ReplyLine}
 use Rattle.report_text.specs.declared.reports.ReplyLine.TheVariants as reply
-use Rattle.report_laws.proofs.EachLemmas.{stands_more}
-use Rattle.report_laws.proofs.HistoryLemmas.{last_more, rows_stay}
+use Rattle.report_laws.proofs.EachLaws.{stands_more}
+use Rattle.report_laws.proofs.HistoryLaws.{last_more, rows_stay}
 use Rattle.report_laws.proofs.OutcomeLemmas.{all_right_stay}
 
 -- lists that end by one member each end by the same one where they are the same

@@ -8,7 +8,7 @@ use Rattle.report_laws.specs.Language.{Language, alone_from}
 use Rattle.report_laws.specs.Paced.{Paced}
 use Rattle.report_text.specs.declared.reports.ReplyLine.{ReplyLine}
 use Rattle.report_text.specs.declared.reports.ReplyLine.TheVariants as reply
-use Rattle.report_laws.proofs.EachLemmas.{all_append}
+use Rattle.report_laws.proofs.EachLaws.{all_append}
 
 -- plain replies and then others have the pace of these
 pub plain_then : (now after : ℕ) (rs last : List ReplyLine) → ArePlain rs → Paced now after last → Paced now after (rs ++ last)

@@ -15,8 +15,8 @@ use Rattle.report_text.specs.declared.reports.Line.TheVariants as line
 use Rattle.report_text.specs.declared.reports.ReplyLine.{ReplyLine}
 use Rattle.report_text.specs.declared.reports.ReplyLine.TheVariants as reply
 use Rattle.report_laws.specs.Answers.{IsPlain, ArePlain}
-use Rattle.report_laws.proofs.ToldLemmas.{told_append, told_own, told_other}
-use Rattle.report_laws.proofs.AlongLemmas.{of_number, of_its, of_another}
+use Rattle.report_laws.proofs.ToldLaws.{told_append, told_own, told_other}
+use Rattle.report_laws.proofs.AlongLaws.{of_number, of_its, of_another}
 
 pub same_head : {A : Type 0} (x y : A) (xs ys : List A) → x ∷ xs ≡ y ∷ ys → x ≡ y
 same_head x y xs ys is = cc

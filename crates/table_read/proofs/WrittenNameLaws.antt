@@ -23,7 +23,7 @@ use Rattle.table_read.specs.Tables.{key_over, table_said}
 use Rattle.table_read.specs.Verdict.{unless_fault, defined, table_of}
 use Rattle.table_read.specs.declared.keys.WrittenKey.{WrittenKey}
 use Rattle.table_read.proofs.ReadingLemmas.{is_spelled}
-use Rattle.table_read.proofs.TokenNames.{IsTokenName, Named, tokens_named}
+use Rattle.table_read.proofs.TokenNameLaws.{IsTokenName, Named, tokens_named}
 
 all_halves : {A : Type 0} (P : A → Type 0) (xs ys : List A) → AllByRecursion P (xs ++ ys) → AllByRecursion P xs × AllByRecursion P ys
 all_halves P [] ys all = (tt, all)

@@ -16,7 +16,7 @@ use Rattle.report_laws.specs.History.{first_touched, is_touched}
 use Rattle.report_laws.specs.Outcome.{name_of_table}
 use Rattle.cdb_values.specs.declared.items.GenidItem.{GenidItem}
 use Rattle.cdb_values.specs.Views.{IsBased}
-use Rattle.snapshot_rows.proofs.Based.{on_base_is_based, none_broken}
+use Rattle.snapshot_rows.proofs.BasedLaws.{on_base_is_based, none_broken}
 use Rattle.transaction_answers.specs.Sound.{AreSound, IsSoundOp, IsSoundVersion, IsBelow}
 
 -- versions below a next genid are below a later one

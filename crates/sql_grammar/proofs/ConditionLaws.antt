@@ -14,7 +14,7 @@ use Rattle.sql_grammar.specs.Trees.{Cond, AnyOf, AllOf, NotOf, Grouped}
 use Rattle.sql_grammar.specs.Words.{kind, code, keyword, sign_code, sign_is, a_name}
 use Rattle.sql_grammar.specs.Grammar.{SignS, NegationS, TestS, IsNullTest, CompareTest, tested, ComparisonS, AndS, OrS, NotS, ConditionS, WhereS, joined}
 use Rattle.sql_grammar.specs.Readers.{sign_r, negation_r, test_r, comparison_r, and_of, or_of, not_r, and_r, condition_r, where_r}
-use Rattle.sql_grammar.proofs.Operands.{literals, exact_operand, exact_word_as, exact_sign_as, after_word, exact_enclosed}
+use Rattle.sql_grammar.proofs.OperandLaws.{literals, exact_operand, exact_word_as, exact_sign_as, after_word, exact_enclosed}
 
 abbrev comparisons : List ℕ
 comparisons = sign_code sign.Equal ∷ sign_code sign.NotEqual ∷ sign_code sign.Less ∷ sign_code sign.LessEqual ∷ sign_code sign.Greater ∷ sign_code sign.GreaterEqual ∷ []
