@@ -8,6 +8,8 @@
 //! A name fits the rule `(letter | "_") {letter | digit | "_"}`, has no upper-case letter and at most
 //! 32 bytes.
 //!
+//! A number of fixed width is its 2, 4 or 8 bytes, the highest first: `00 00 00 07` is 7 of 4 bytes.
+//!
 //! The bytes ` 007 bytes` have the piece `007` at their front, which is the number 7 to `take_number`. To
 //! `piece_number` and `numeral_value` it is none, since zeros stand in front of its 7.
 //!
@@ -16,15 +18,18 @@
 //! | lines, and the text of a line | `specs/Lines.antt` |
 //! | pieces, names and numbers | `specs/Words.antt` |
 //! | what an answer says of a reading | `specs/Answers.antt` |
+//! | numbers of fixed width | `big_bytes` of `byteorder` |
 #![tactic(auto)]
 
 mod bytes;
+mod fixed;
 mod lines;
 mod words;
 
 pub use bytes::{
     Blank, Digit, Kind, PieceByte, WordByte, is_lower_case, is_of_kind, skip_blanks, split_while,
 };
+pub use fixed::{put_u16, put_u32, put_u64, take_u32, take_u64};
 pub use lines::{before_last_line, is_comment, line_text, next_line, trim};
 pub use words::{
     fits_name_rule, is_at_end, is_name_word, next_piece, numeral_value, piece_number, take_byte,
