@@ -48,6 +48,7 @@ pub fn fits_name_rule(found: &[u8]) -> bool
     begins_as_name(found) && is_of_kind::<WordByte>(found)
 }
 
+/// Whether the first byte is one with which a name may begin.
 fn begins_as_name(found: &[u8]) -> bool
     ensures { result ≡ is_begun found.now }
 {
@@ -57,6 +58,7 @@ fn begins_as_name(found: &[u8]) -> bool
     }
 }
 
+/// Whether one of the bytes is an upper-case letter.
 fn has_upper_case(found: &[u8]) -> bool
     ensures { result ≡ list_any is_upper found.now }
 {

@@ -75,6 +75,7 @@ impl Draft {
         }
     }
 
+    /// The draft with a line of a session, where such a line may come.
     #[tactic(auto, unfolding(crate::specs::Reading::added))]
     fn add_event(mut self, line: Line) -> Result<Option<Draft>, AllocError>
         ensures { Gives (λ d. d) result (added self (Item.Event line)) }
@@ -87,6 +88,7 @@ impl Draft {
         }
     }
 
+    /// The draft with its base, where it may come.
     #[tactic(auto, unfolding(crate::specs::Reading::added))]
     fn add_base(mut self, position: u64) -> Option<Draft>
         ensures { Finds (λ d. d) result (added self (Item.Base position)) }
@@ -99,6 +101,7 @@ impl Draft {
         }
     }
 
+    /// The draft with an entry, where one may come.
     #[tactic(auto, unfolding(crate::specs::Reading::added))]
     fn add_entry(mut self, entry: EntryLine) -> Result<Option<Draft>, AllocError>
         ensures { Gives (λ d. d) result (added self (Item.Entry entry)) }
@@ -111,6 +114,7 @@ impl Draft {
         }
     }
 
+    /// The draft with a line of a feed, where one may come.
     #[tactic(auto, unfolding(crate::specs::Reading::added))]
     fn add_feed(mut self, feed: FeedLine) -> Result<Option<Draft>, AllocError>
         ensures { Gives (λ d. d) result (added self (Item.Feed feed)) }
@@ -123,6 +127,7 @@ impl Draft {
         }
     }
 
+    /// The draft with its end, where it may come.
     #[tactic(auto, unfolding(crate::specs::Reading::added))]
     fn add_end(mut self, position: u64) -> Option<Draft>
         ensures { Finds (λ d. d) result (added self (Item.End position)) }

@@ -51,6 +51,7 @@ pub fn has_integers_alone(table: &TableDef) -> bool
         .all(|column| is_integer_column(column))
 }
 
+/// Whether a column holds integers.
 fn is_integer_column(column: &ColumnDef) -> bool
     ensures { result ≡ is_integer column.now.kind }
 {
@@ -125,6 +126,7 @@ fn change_fits(column: &Name, filter: &Option<Filter>, table: Option<&TableDef>)
     }
 }
 
+/// Whether a filter, if there is one, names a column of the table.
 fn is_filter_of(table: &TableDef, filter: &Option<Filter>) -> bool
     ensures { result ≡ is_filter_on table.now filter.now }
 {
@@ -134,6 +136,7 @@ fn is_filter_of(table: &TableDef, filter: &Option<Filter>) -> bool
     }
 }
 
+/// Whether the table has a column of that name.
 fn is_column_of(table: &TableDef, column: &Name) -> bool
     ensures { result ≡ has_column table.now column.now }
 {

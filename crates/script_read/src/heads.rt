@@ -68,6 +68,7 @@ pub fn is_among_sessions(name: &[u8], sessions: &[SessionLine]) -> bool
     sessions.iter().any(|session| has_name(session, name))
 }
 
+/// Whether a session has that name.
 fn has_name(session: &SessionLine, name: &[u8]) -> bool
     ensures { result ≡ bytes_eq session.now.name name.now }
 {

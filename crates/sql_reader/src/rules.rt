@@ -1,4 +1,4 @@
-// The rules whose parts stand in lists.
+//! The rules whose parts stand in lists.
 ghost use Rattle.std.specs.Prelude.{◌≡◌, ℕ, List, [], ◌∷◌, ◌++◌};
 
 use crate::changes::{change, is_change_next, setting, tuple};

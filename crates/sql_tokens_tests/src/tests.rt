@@ -1,4 +1,4 @@
-// Texts and the tokens that they are cut into, with the places counted by hand.
+//! Texts and the tokens that they are cut into, with the places counted by hand.
 use sql_tokens::{Bytes, Keyword, Sign, Token, tokens};
 use std::alloc::{AllocError, Global};
 use std::test::Fail;
