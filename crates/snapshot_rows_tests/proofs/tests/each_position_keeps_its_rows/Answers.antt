@@ -5,7 +5,7 @@ use Rattle.cdb_values.specs.Rows.{Rows}
 use Rattle.cdb_values.specs.declared.rows.RowOp.{RowOp}
 use Rattle.cdb_values.specs.Views.{IsOnBase}
 use Rattle.snapshot_rows.proofs.BasedLaws.{none_broken}
-use Rattle.snapshot_rows.proofs.tests.each_position_keeps_its_rows.Goals as goal
+use Rattle.snapshot_rows_tests.proofs.tests.each_position_keeps_its_rows.Goals as goal
 
 on_one : (tables next : ℕ) (ops : List RowOp) → 1 ≡ tables → AllByRecursion (IsOnBase 1 next) ops → AllByRecursion (IsOnBase tables next) ops
 on_one tables next ops is all = subst (λ n. AllByRecursion (IsOnBase n next) ops) is all
