@@ -1,4 +1,4 @@
-// MIN and MAX: the first of the least or the greatest values of a column in a group, without NULL.
+//! MIN and MAX: the first of the least or the greatest values of a column in a group, without NULL.
 ghost use Rattle.std.specs.Prelude.{◌≡◌};
 ghost use Rattle.std.specs.Option.{option_copied};
 ghost use Rattle.cdb_values.specs.declared.values.Value.TheVariants.{Null};

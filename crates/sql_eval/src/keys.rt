@@ -1,4 +1,4 @@
-// The values of a group as the key of a map. NULL is equal to NULL here.
+//! The values of a group as the key of a map. NULL is equal to NULL here.
 ghost use Rattle.std.specs.Prelude.{◌≡◌, refl};
 ghost use Rattle.std.specs.Cmp.{on_total, eq_by_cmp_equiv, partial_equiv_from_equiv, partial_order_from_total};
 ghost use Rattle.std.specs.Cmp.Lexicographic.{slice_cmp, lists_total};

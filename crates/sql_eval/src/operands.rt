@@ -1,5 +1,5 @@
-// What a column or an operand is in a combination. A place or a column that is not there has NULL, so that nothing has to
-// be known of the query or of the rows.
+//! What a column or an operand is in a combination. A place or a column that is not there has NULL, so that nothing has to
+//! be known of the query or of the rows.
 ghost use Rattle.std.specs.Prelude.{◌≡◌, unwrap_or};
 ghost use Rattle.std.specs.Option.{option_copied};
 ghost use Rattle.sql_answer.specs.Conditions.{column_value, operand_value};

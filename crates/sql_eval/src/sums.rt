@@ -1,5 +1,5 @@
-// SUM: integers are added in 128 bits, which no number of integers of 64 bits that memory can hold leaves. So only the
-// total has to be one of 64 bits, whatever the partial sums are.
+//! SUM: integers are added in 128 bits, which no number of integers of 64 bits that memory can hold leaves. So only the
+//! total has to be one of 64 bits, whatever the partial sums are.
 ghost use Rattle.std.specs.Prelude.{◌≡◌, ℕ, ◌+◌, ◌+ℤ◌, pos, unwrap_or};
 ghost use Rattle.std.specs.Option.{option_copied};
 ghost use Rattle.sql_answer.specs.Aggregates.{int_value as int_value_of, values_in};
