@@ -12,7 +12,7 @@ use Rattle.page_store.specs.declared.edits.Edit.TheVariants.{PutCell, TakeCell, 
 use Rattle.std.specs.Result.{IsErr}
 use Rattle.page_workspace.specs.declared.workspaces.EditFault.{EditFault}
 use Rattle.page_workspace.specs.declared.workspaces.EditFault.TheVariants.{Unfit, Gone, NoMemory}
-use Rattle.page_workspace.specs.Drafts.{edited, edited_by, AreFit, TellsFit, IsExcused, IsOfReading}
+use Rattle.page_workspace.specs.Drafts.{edited, edited_by, AreFit, TellsFit, IsExcused, IsNotUnfit}
 
 -- one edit more
 pub edited_by-more : (es : List (ℕ × Edit)) (pages : ℕ → Image) (id : ℕ) (e : Edit)
@@ -56,7 +56,7 @@ pub fit_out : (es : List (ℕ × Edit)) (pages : ℕ → Image) → ∥ AreFit e
 fit_out es pages h = ∥∥₁_elim h (all_fit_prop es pages) (λ f. f)
 
 -- an error of reading tells nothing of the edit
-pub reading_tells : {T : Type 0} (r : Result T EditFault) (fit : Type 0) → IsErr r → IsOfReading r → TellsFit r fit
+pub reading_tells : {T : Type 0} (r : Result T EditFault) (fit : Type 0) → IsErr r → IsNotUnfit r → TellsFit r fit
 reading_tells (Ok x) fit h k = absurd (false≢true h)
 reading_tells (Err Unfit) fit h k = absurd k
 reading_tells (Err Gone) fit h k = tt

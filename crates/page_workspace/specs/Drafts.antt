@@ -46,9 +46,9 @@ IsExcused (Err Unfit) before now = before ≤ now
 IsExcused (Err Gone) before now = (before ≤ now) × Rose before now
 IsExcused (Err NoMemory) before now = before ≤ now
 
--- an answer of reading a page, which no edit can fail
-abbrev pub IsOfReading : {T : Type 0} → Result T EditFault → Type 0
-IsOfReading (Ok x) = Unit {0}
-IsOfReading (Err Unfit) = ⊥
-IsOfReading (Err Gone) = Unit {0}
-IsOfReading (Err NoMemory) = Unit {0}
+-- an answer other than `Unfit`
+abbrev pub IsNotUnfit : {T : Type 0} → Result T EditFault → Type 0
+IsNotUnfit (Ok x) = Unit {0}
+IsNotUnfit (Err Unfit) = ⊥
+IsNotUnfit (Err Gone) = Unit {0}
+IsNotUnfit (Err NoMemory) = Unit {0}

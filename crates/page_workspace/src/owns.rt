@@ -1,7 +1,7 @@
 ghost use Rattle.std.specs.Prelude.{ℕ, ◌≡◌, IsSome, OnOk, OnErr, option_copied};
 ghost use Rattle.page_store.specs.Image.{Image};
 ghost use Rattle.page_store.specs.Edits.{IsFit, TellsFit as TellsPageFit};
-ghost use Rattle.page_workspace.specs.Drafts.{edited, TellsFit, IsExcused, IsOfReading};
+ghost use Rattle.page_workspace.specs.Drafts.{edited, TellsFit, IsExcused, IsNotUnfit};
 ghost use Rattle.page_workspace.specs.Owned.{own_of, own_at, overlay};
 
 use crate::workspaces::EditFault;
@@ -20,7 +20,7 @@ fn load_below<P: PageSource>(base: &mut P, id: u64) -> Result<(), EditFault>
     ensures loaded { OnOk result (P.loaded base.new ≡ Some (P.pages base.old id)) }
     ensures pages { P.pages base.new ≡ P.pages base.old }
     ensures excused { IsExcused result (P.losses base.old) (P.losses base.new) }
-    ensures reading { IsOfReading result }
+    ensures reading { IsNotUnfit result }
 {
     match base.load(id) {
         Ok(()) => Ok(()),
@@ -39,7 +39,7 @@ pub(crate) fn hold<P: PageSource>(
     ensures same { (n : ℕ) → overlay owns.new.entries (P.pages base.old) n ≡ overlay owns.old.entries (P.pages base.old) n }
     ensures pages { P.pages base.new ≡ P.pages base.old }
     ensures excused { IsExcused result (P.losses base.old) (P.losses base.new) }
-    ensures reading { IsOfReading result }
+    ensures reading { IsNotUnfit result }
 {
     if owns.contains_key(&id) {
         return Ok(());

@@ -1,5 +1,6 @@
 ghost use Rattle.std.specs.Prelude.{ℕ, ◌≡◌, ◌+◌, ◌<◌, ◌^◌, IfOk, OnErr, length};
-ghost use Rattle.page_workspace.specs.Drafts.{meant, IsExcused};
+ghost use Rattle.page_workspace.specs.Drafts.{meant, IsExcused, IsNotUnfit};
+ghost use Rattle.page_workspace.specs.Spare.{IsMeta};
 ghost use Rattle.page_workspace.specs.Takes.{with_count, IsCounted, TakesPage};
 
 use crate::workspaces::{EditFault, Workspace};
@@ -24,10 +25,11 @@ struct Counted {
 
 impl<P: PageSource> Workspace<P> {
     /// Takes the first page that was never written, by the meta page, and gives its number. The number of pages stays
-    /// below 2^62: want of memory is the answer where it would not, too. `Unfit` comes where page 0 is no meta page,
+    /// below 2^62: want of memory is the answer where it would not, too. `Unfit` comes only where page 0 is no meta page,
     /// `Gone` only where the source lost its pages.
     pub fn take_page(&mut self, alloc: Global) -> Result<u64, EditFault>
         ensures taken { IfOk result (TakesPage (meant P.pages self.old) (meant P.pages self.new)) }
+        ensures fit { IsMeta (meant P.pages self.old 0) → IsNotUnfit result }
         ensures unchanged { OnErr result (self.new.edits ≡ self.old.edits) }
         ensures base { P.pages self.new.base ≡ P.pages self.old.base }
         ensures excused { IsExcused result (P.losses self.old.base) (P.losses self.new.base) }
@@ -50,6 +52,7 @@ impl<P: PageSource> Workspace<P> {
 /// What the meta page says of the number of pages.
 fn read_count(alloc: Global, page: &Page) -> Result<Counted, EditFault>
     ensures counted { IfOk result (IsCounted page.now) }
+    ensures fit { IsMeta page.now → IsNotUnfit result }
     ensures excused { (count : ℕ) → IsExcused result count count }
 {
     let Some(cell) = page.cell(0) else {

@@ -3,7 +3,7 @@ ghost use Rattle.page_store.specs.Image.{Image};
 ghost use Rattle.page_store.specs.Edits.{IsFit};
 ghost use Rattle.page_store.specs.declared.edits.Edit.{Edit};
 ghost use Rattle.page_store.specs.Sources.{IsExcused as IsLoadExcused};
-ghost use Rattle.page_workspace.specs.Drafts.{meant, edited, edited_by, AreFit, TellsFit, IsExcused};
+ghost use Rattle.page_workspace.specs.Drafts.{meant, edited, edited_by, AreFit, TellsFit, IsExcused, IsNotUnfit};
 ghost use Rattle.page_workspace.specs.Owned.{own_at, or_loaded, IsKept};
 
 use crate::owns::{edit_own, hold, own_page};
@@ -93,13 +93,15 @@ impl<P: PageSource> Workspace<P> {
         }
     }
 
-    /// Makes a page the loaded one, as `load` does, with the faults of an edit. After an error no page is loaded.
+    /// Makes a page the loaded one, as `load` does, with the faults of an edit; `Unfit` never comes. After an error no page
+    /// is loaded.
     pub fn load_to_edit(&mut self, id: u64) -> Result<(), EditFault>
         ensures base { P.pages self.new.base ≡ P.pages self.old.base }
         ensures edits { self.new.edits ≡ self.old.edits }
         ensures pages { meant P.pages self.new ≡ meant P.pages self.old }
         ensures loaded { OnOk result (self.new.loaded ≡ Some (meant P.pages self.old id)) }
         ensures none { OnErr result (self.new.loaded ≡ None) }
+        ensures fit { IsNotUnfit result }
         ensures excused { IsExcused result (P.losses self.old.base) (P.losses self.new.base) }
     {
         match self.load(id) {

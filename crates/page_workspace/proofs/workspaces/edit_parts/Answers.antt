@@ -2,7 +2,7 @@ use Rattle.std.proofs.Common.{ap, sym, subst, ◌≡◌, ◌≤◌, ℕ, ◌∙�
 use Rattle.page_store.specs.Image.{Image}
 use Rattle.page_store.specs.declared.edits.Edit.{Edit}
 use Rattle.page_workspace.specs.Owned.{IsKept}
-use Rattle.page_workspace.specs.Drafts.{IsExcused, IsOfReading}
+use Rattle.page_workspace.specs.Drafts.{IsExcused, IsNotUnfit}
 use Rattle.std.specs.Result.{IsErr}
 use Rattle.page_workspace.proofs.DraftLemmas.{reading_tells, excused_after}
 use Rattle.page_workspace.proofs.OwnLemmas.{kept_same, kept_edit}
@@ -11,7 +11,7 @@ use Rattle.page_workspace.proofs.workspaces.edit_parts.Goals as goal
 pub returns-in_err-hold-clause-fits : goal.returns-in_err-hold-clause-fits
 returns-in_err-hold-clause-fits g c = λ _.
     let err : IsErr c.from_residual.result = search rules in
-    let reading : IsOfReading c.from_residual.result = search rules in
+    let reading : IsNotUnfit c.from_residual.result = search rules in
     reading_tells c.from_residual.result _ err reading
 
 pub returns-in_err-edit_own-clause-excused : goal.returns-in_err-edit_own-clause-excused
