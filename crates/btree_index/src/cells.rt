@@ -1,7 +1,7 @@
-ghost use Rattle.std.specs.Prelude.{◌≡◌, ◌++◌, ◌<◌, ◌^◌, MatchOption, IfOk, OnOk, length};
-ghost use Rattle.byteorder.specs.Endian.{big_bytes};
+ghost use Rattle.std.specs.Prelude.{◌≡◌, ◌<◌, ◌^◌, MatchOption, IfOk, length};
 ghost use Rattle.btree_index.specs.Cells.{key_of, value_of, child_of, leaf_cell, inner_cell};
 
+use byte_words::{put_u16, put_u64};
 use byteorder::{BigEndian, ByteOrder};
 use page_store::Cell;
 use std::alloc::{AllocError, Global};
@@ -54,7 +54,7 @@ pub(crate) fn make_leaf_cell(alloc: Global, key: &[u8], value: &[u8]) -> Result<
     ensures { IfOk result (λ c. c ≡ leaf_cell key.now value.now) }
 {
     let mut bytes = Vec::new(alloc);
-    put_length(&mut bytes, key.len() as u16)?;
+    put_u16(&mut bytes, key.len() as u16)?;
     bytes.extend_from_slice(key)?;
     bytes.extend_from_slice(value)?;
     Ok(Cell::new(bytes))
@@ -66,26 +66,8 @@ pub(crate) fn make_inner_cell(alloc: Global, key: &[u8], child: u64) -> Result<C
     ensures { IfOk result (λ c. c ≡ inner_cell key.now child) }
 {
     let mut bytes = Vec::new(alloc);
-    put_length(&mut bytes, key.len() as u16)?;
+    put_u16(&mut bytes, key.len() as u16)?;
     bytes.extend_from_slice(key)?;
-    put_child(&mut bytes, child)?;
+    put_u64(&mut bytes, child)?;
     Ok(Cell::new(bytes))
-}
-
-/// Adds the 2 bytes of a length, the highest first.
-fn put_length(out: &mut Vec<u8>, n: u16) -> Result<(), AllocError>
-    ensures { OnOk result (out.new.items ≡ out.old.items ++ big_bytes 2 n) }
-{
-    let mut digits = [0u8; 2];
-    BigEndian::write_u16(&mut digits, n);
-    out.extend_from_slice(&digits)
-}
-
-/// Adds the 8 bytes of a child's number, the highest first.
-fn put_child(out: &mut Vec<u8>, n: u64) -> Result<(), AllocError>
-    ensures { OnOk result (out.new.items ≡ out.old.items ++ big_bytes 8 n) }
-{
-    let mut digits = [0u8; 8];
-    BigEndian::write_u64(&mut digits, n);
-    out.extend_from_slice(&digits)
 }

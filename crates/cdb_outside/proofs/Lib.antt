@@ -1,2 +1,2 @@
-pub mod Turns
-pub mod FrontParts
+pub mod FrontLemmas
+pub mod TurnLemmas

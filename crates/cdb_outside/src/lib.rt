@@ -42,8 +42,6 @@ mod mem_store;
 mod sink;
 mod source;
 mod store;
-#[cfg(test)]
-mod tests;
 
 pub use adapters::{ReadSource, WriteSink};
 pub use consumer::{Consumer, RowEvent, Taken};

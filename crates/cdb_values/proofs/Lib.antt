@@ -1,3 +1,4 @@
 pub mod ChangeLaws
 pub mod KeyLemmas
+pub mod NameLemmas
 pub mod ViewLaws

@@ -24,8 +24,6 @@ mod lists;
 mod rows;
 mod schemas;
 mod tables;
-#[cfg(test)]
-mod tests;
 mod values;
 
 pub use items::GenidItem;

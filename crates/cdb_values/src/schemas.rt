@@ -1,5 +1,6 @@
 ghost use Rattle.std.specs.Prelude.{◌≡◌, ◌≤◌, ◌||◌, ◌++◌, ◌∷◌, [], ◌==◌, ◌<◌, map, length, Some, None, nat_lt, IfOk, OnOk, OnErr, option_map, IsErrOf, ◌↔◌, slice_get, IfSome};
 ghost use Rattle.std.specs.Option.{option_copied};
+ghost use Rattle.std.specs.List.{list_any};
 ghost use Rattle.std.specs.Str.{bytes_eq};
 ghost use Rattle.cdb_values.specs.Named.{table_named, place_in};
 ghost use Rattle.cdb_values.specs.Tables.{add_fault, place_of, is_named, has_twice, is_bad_column, are_bad_columns, are_bad_keys, is_unlawful, is_long_name, are_long_names, are_long_keys, is_past_limits};
@@ -65,6 +66,7 @@ impl Schema {
     }
 
     /// Adds a table as the last one.
+    #[tactic(auto, using(crate::proofs::NameLemmas::list_any_map))]
     pub fn add(&mut self, table: TableDef) -> Result<(), AddFault>
         ensures added { OnOk result (self.new ≡ self.old ++ table ∷ []) }
         ensures lawful { OnOk result (add_fault self.old table ≡ None) }
@@ -113,16 +115,12 @@ impl Schema {
 
     /// Whether a table has that name.
     fn holds(&self, name: &Name) -> bool
-        ensures { result ≡ is_named name.now (map (λ t. t.name) self.now) }
+        ensures { result ≡ list_any (λ t. bytes_eq t.name name.now) self.now }
     {
-        let mut rest = self.tables.as_slice();
-        'tables: while let Some((table, after)) = rest.split_first() {
-            if is_same(&table.name, name) {
-                return true;
-            }
-            rest = after;
-        }
-        false
+        self.tables
+            .as_slice()
+            .iter()
+            .any(|table| is_same(&table.name, name))
     }
 
     /// The table at a place; `None` exactly where there is none.
@@ -149,19 +147,13 @@ fn is_same(a: &Name, b: &Name) -> bool
 
 /// Whether a column of these has that name.
 fn is_column(name: &Name, columns: &[ColumnDef]) -> bool
-    ensures { result ≡ is_named name.now (map (λ c. c.name) columns.now) }
+    ensures { result ≡ list_any (λ c. bytes_eq c.name name.now) columns.now }
 {
-    let mut rest = columns;
-    'columns: while let Some((column, after)) = rest.split_first() {
-        if is_same(&column.name, name) {
-            return true;
-        }
-        rest = after;
-    }
-    false
+    columns.iter().any(|column| is_same(&column.name, name))
 }
 
 /// Whether a column name stands twice.
+#[tactic(auto, using(crate::proofs::NameLemmas::list_any_map))]
 fn has_column_twice(columns: &[ColumnDef]) -> bool
     ensures { result ≡ has_twice (map (λ c. c.name) columns.now) }
 {
@@ -177,19 +169,13 @@ fn has_column_twice(columns: &[ColumnDef]) -> bool
 
 /// Whether a key of these has that name.
 fn is_key(name: &Name, keys: &[KeyDef]) -> bool
-    ensures { result ≡ is_named name.now (map (λ k. k.name) keys.now) }
+    ensures { result ≡ list_any (λ k. bytes_eq k.name name.now) keys.now }
 {
-    let mut rest = keys;
-    'keys: while let Some((key, after)) = rest.split_first() {
-        if is_same(&key.name, name) {
-            return true;
-        }
-        rest = after;
-    }
-    false
+    keys.iter().any(|key| is_same(&key.name, name))
 }
 
 /// Whether a key name stands twice.
+#[tactic(auto, using(crate::proofs::NameLemmas::list_any_map))]
 fn has_key_twice(keys: &[KeyDef]) -> bool
     ensures { result ≡ has_twice (map (λ k. k.name) keys.now) }
 {
@@ -217,14 +203,9 @@ fn is_column_bad(columns: &[ColumnDef], unique: bool, place: u8) -> bool
 fn has_bad_column(columns: &[ColumnDef], unique: bool, places: &[u8]) -> bool
     ensures { result ≡ are_bad_columns columns.now unique places.now }
 {
-    let mut rest = places;
-    'places: while let Some((place, after)) = rest.split_first() {
-        if is_column_bad(columns, unique, *place) {
-            return true;
-        }
-        rest = after;
-    }
-    false
+    places
+        .iter()
+        .any(|place| is_column_bad(columns, unique, *place))
 }
 
 /// Whether one of these keys is over no column, over an unknown one, or is unique over one that
@@ -232,14 +213,9 @@ fn has_bad_column(columns: &[ColumnDef], unique: bool, places: &[u8]) -> bool
 fn has_bad_key(columns: &[ColumnDef], keys: &[KeyDef]) -> bool
     ensures { result ≡ are_bad_keys columns.now keys.now }
 {
-    let mut rest = keys;
-    'keys: while let Some((key, after)) = rest.split_first() {
-        if key.columns.is_empty() || has_bad_column(columns, key.unique, key.columns.as_slice()) {
-            return true;
-        }
-        rest = after;
-    }
-    false
+    keys.iter().any(|key| {
+        key.columns.is_empty() || has_bad_column(columns, key.unique, key.columns.as_slice())
+    })
 }
 
 /// Whether a table says something that no table may say.
@@ -261,33 +237,20 @@ fn is_outside(name: &Name) -> bool
 
 /// Whether one of these columns has a name outside 1 to 32 bytes.
 fn has_column_outside(columns: &[ColumnDef]) -> bool
-    ensures { result ≡ are_long_names (map (λ c. c.name) columns.now) }
+    ensures { result ≡ list_any (λ c. is_long_name c.name) columns.now }
 {
-    let mut rest = columns;
-    'columns: while let Some((column, after)) = rest.split_first() {
-        if is_outside(&column.name) {
-            return true;
-        }
-        rest = after;
-    }
-    false
+    columns.iter().any(|column| is_outside(&column.name))
 }
 
 /// Whether one of these keys has a name outside 1 to 32 bytes, or more than 8 columns.
 fn has_key_outside(keys: &[KeyDef]) -> bool
     ensures { result ≡ are_long_keys keys.now }
 {
-    let mut rest = keys;
-    'keys: while let Some((key, after)) = rest.split_first() {
-        if is_outside(&key.name) || MOST_KEY_COLUMNS < key.columns.len() {
-            return true;
-        }
-        rest = after;
-    }
-    false
+    keys.iter().any(|key| is_outside(&key.name) || MOST_KEY_COLUMNS < key.columns.len())
 }
 
 /// Whether a table passes a limit of its own.
+#[tactic(auto, using(crate::proofs::NameLemmas::list_any_map))]
 fn is_past_table_limits(table: &TableDef) -> bool
     ensures { result ≡ is_past_limits table.now }
 {

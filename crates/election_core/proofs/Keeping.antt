@@ -74,7 +74,7 @@ bit_of n f k e = go (k == f) refl
         let x : bit_at n k ≡ 1 = grind arith in
         inr ((Decides-eqb (bit_at n k) 1).1 x)
 
-vote_tests : (a b c d : ℕ) → (a == b && c == d) ≡ true → (a ≡ b) × (c ≡ d)
+pub vote_tests : (a b c d : ℕ) → (a == b && c == d) ≡ true → (a ≡ b) × (c ≡ d)
 vote_tests a b c d h = grind (arith, nat_tests)
 
 length_tests : (b : Bool) (c d : ℕ) → (b && c == d) ≡ true → c ≡ d

@@ -4,3 +4,4 @@ pub mod Refusals
 pub mod Enabling
 pub mod Keeping
 pub mod Allowing
+pub mod Missing

@@ -3,3 +3,4 @@ pub mod Counted
 pub mod Counts
 pub mod Senders
 pub mod Told
+pub mod Without

@@ -1,17 +1,18 @@
 //! What a node decides over numbers is an event of a legal history.
-ghost use Rattle.std.specs.Prelude.{ℕ, ◌≡◌, ◌<◌, ◌≤◌, List};
+ghost use Rattle.std.specs.Prelude.{ℕ, ◌≡◌, ◌<◌, ◌≤◌, false, List};
 ghost use Rattle.cluster_consensus.specs.Events.{Event, change};
 ghost use Rattle.cluster_consensus.specs.Events.Event.{Stand};
 ghost use Rattle.cluster_consensus.specs.Enabled.{Enabled};
 ghost use Rattle.cluster_consensus.specs.Facts.{Own, World};
 ghost use Rattle.election_core.specs.Counted.{counted, acted};
-ghost use Rattle.election_core.specs.Allowed.{MayStand, Allows};
+ghost use Rattle.election_core.specs.Allowed.{MayStand, Allows, Decides};
 ghost use Rattle.election_core.specs.Senders.{sender_of};
 ghost use Rattle.election_core.specs.Told.{IsPart, IsTold, IsCounted, IsNamed};
+ghost use Rattle.election_core.specs.Without.{CountsAll, LacksOnly, comes_up};
 ghost use Rattle.election_core.specs.declared.votes.NodeVote.{NodeVote};
 ghost use Rattle.election_core.specs.declared.messages.Message.{Message};
 ghost use Rattle.election_core.specs.declared.messages.Action.{Action};
-ghost use Rattle.election_core.specs.declared.messages.Action.TheVariants.{Promise};
+ghost use Rattle.election_core.specs.declared.messages.Action.TheVariants.{Nothing, Promise};
 
 /// A node that may stand by its numbers may stand in the history, and its numbers afterwards are those of
 /// its part.
@@ -37,4 +38,15 @@ pub fn what_a_message_allows_is_enabled<E>()
         → Allows v m a
         → (e : Event E) × IsNamed (counted v m) a e × Enabled n w v.node (w.nodes v.node) e
         × IsPart (acted (counted v m) a) (change v.node (w.nodes v.node) e) }
+{}
+
+/// A message that allows nothing by the numbers enables nothing: each event of the node that may happen in
+/// the history may happen as well in one that lacks what the message tells. All votes and lengths that were
+/// told to the node are counted, those of this message too. Coming up is left out, since it may bring what
+/// was under way when the node went down.
+pub fn a_message_that_allows_nothing_enables_nothing<E>()
+    ensures { (n : ℕ) (w u : World E) (v : NodeVote) (m : Message) (e : Event E) → v.nodes ≡ n
+        → IsPart v (w.nodes v.node) → CountsAll w (counted v m) → LacksOnly m w u → Decides v m Nothing
+        → comes_up e ≡ false → Enabled n w v.node (w.nodes v.node) e
+        → Enabled n u v.node (w.nodes v.node) e }
 {}

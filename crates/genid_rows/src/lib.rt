@@ -17,8 +17,6 @@
 
 mod operations;
 mod state;
-#[cfg(test)]
-mod tests;
 
 pub use operations::{OpFault, apply_op};
 pub use state::State;

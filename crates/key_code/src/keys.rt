@@ -4,8 +4,9 @@ ghost use Rattle.key_code.specs.Codes.{key_value, key_code, IsInRange, IsKeyValu
 ghost use Rattle.key_code.specs.Reads.{Reads, Decodes};
 
 use crate::escapes::{put_ended, read_ended};
-use crate::numbers::{lift, lower, put_number, read_number};
+use crate::numbers::{lift, lower};
 use crate::reads::{Read, is_text};
+use byte_words::{put_u64, take_u64};
 use cdb_values::{Bytes, List, Row, Text, Value};
 use std::alloc::{AllocError, Global};
 
@@ -35,7 +36,7 @@ fn put_key_value(out: &mut Vec<u8>, value: &Value) -> Result<(), AllocError>
         }
         Value::Int(x) => {
             out.push(1)?;
-            put_number(out, lift(*x))
+            put_u64(out, lift(*x))
         }
         Value::Text(text) => {
             out.push(2)?;
@@ -91,7 +92,7 @@ fn read_key_value(alloc: Global, bytes: &[u8]) -> Result<Option<Read<'_>>, Alloc
 fn read_key_int(rest: &[u8]) -> Option<Read<'_>>
     ensures { Reads key_value IsKeyValue result (1 ∷ rest.now) }
 {
-    let (number, rest) = read_number(rest)?;
+    let (number, rest) = take_u64(rest)?;
     Some(Read {
         value: Value::Int(lower(number)),
         rest,

@@ -1,10 +1,6 @@
-ghost use Rattle.std.specs.Prelude.{◌≡◌, ◌<◌, ◌++◌, OnOk, MatchOption, length};
-ghost use Rattle.byteorder.specs.Endian.{big_bytes};
+ghost use Rattle.std.specs.Prelude.{◌≡◌};
 ghost use Rattle.cdb_values.specs.declared.values.Value.TheVariants.{Int};
 ghost use Rattle.key_code.specs.Codes.{lifted, complement, IsInRange};
-
-use byteorder::{BigEndian, ByteOrder};
-use std::alloc::AllocError;
 
 /// The number of the sign bit.
 const SIGN: u64 = 1 << 63;
@@ -55,44 +51,4 @@ pub(crate) fn signed(n: u64) -> i64
     } else {
         (n - SIGN) as i64 + i64::MIN
     }
-}
-
-/// Adds the 8 bytes of a number, the highest first.
-pub(crate) fn put_number(out: &mut Vec<u8>, n: u64) -> Result<(), AllocError>
-    ensures { OnOk result (out.new.items ≡ out.old.items ++ big_bytes 8 n) }
-{
-    let mut digits = [0u8; 8];
-    BigEndian::write_u64(&mut digits, n);
-    out.extend_from_slice(&digits)
-}
-
-/// Adds the 4 bytes of a length, the highest first.
-pub(crate) fn put_length(out: &mut Vec<u8>, n: u32) -> Result<(), AllocError>
-    ensures { OnOk result (out.new.items ≡ out.old.items ++ big_bytes 4 n) }
-{
-    let mut digits = [0u8; 4];
-    BigEndian::write_u32(&mut digits, n);
-    out.extend_from_slice(&digits)
-}
-
-/// The number in the first 8 bytes and the bytes behind it; `None` where there are fewer.
-pub(crate) fn read_number(bytes: &[u8]) -> Option<(u64, &[u8])>
-    ensures { MatchOption result (length bytes.now < 8) (λ p. big_bytes 8 p.0 ++ p.1.now ≡ bytes.now) }
-{
-    if bytes.len() < 8 {
-        return None;
-    }
-    let (digits, rest) = bytes.split_at(8);
-    Some((BigEndian::read_u64(digits), rest))
-}
-
-/// The length in the first 4 bytes and the bytes behind it; `None` where there are fewer.
-pub(crate) fn read_length(bytes: &[u8]) -> Option<(u32, &[u8])>
-    ensures { MatchOption result (length bytes.now < 4) (λ p. big_bytes 4 p.0 ++ p.1.now ≡ bytes.now) }
-{
-    if bytes.len() < 4 {
-        return None;
-    }
-    let (digits, rest) = bytes.split_at(4);
-    Some((BigEndian::read_u32(digits), rest))
 }

@@ -3,8 +3,9 @@ ghost use Rattle.std.specs.List.{AllByRecursion};
 ghost use Rattle.key_code.specs.Codes.{counted, row_value, row_code, IsShort, HasRowCode, IsRowValue};
 ghost use Rattle.key_code.specs.Reads.{Reads, Decodes, Counts};
 
-use crate::numbers::{complement_of, put_length, put_number, read_length, read_number, signed};
+use crate::numbers::{complement_of, signed};
 use crate::reads::{Read, is_text};
+use byte_words::{put_u32, put_u64, take_u32, take_u64};
 use cdb_values::{Bytes, List, Row, Text, Value};
 use std::alloc::{AllocError, Global};
 
@@ -36,7 +37,7 @@ fn put_row_value(out: &mut Vec<u8>, value: &Value) -> Result<(), AllocError>
         }
         Value::Int(x) => {
             out.push(1)?;
-            put_number(out, complement_of(*x))
+            put_u64(out, complement_of(*x))
         }
         Value::Text(text) => {
             out.push(2)?;
@@ -54,7 +55,7 @@ fn put_counted(out: &mut Vec<u8>, bytes: &[u8]) -> Result<(), AllocError>
     requires { length bytes.now < 2 ^ 32 }
     ensures { OnOk result (out.new.items ≡ out.old.items ++ counted bytes.now) }
 {
-    put_length(out, bytes.len() as u32)?;
+    put_u32(out, bytes.len() as u32)?;
     out.extend_from_slice(bytes)
 }
 
@@ -101,7 +102,7 @@ fn read_row_value(alloc: Global, bytes: &[u8]) -> Result<Option<Read<'_>>, Alloc
 fn read_row_int(rest: &[u8]) -> Option<Read<'_>>
     ensures { Reads row_value IsRowValue result (1 ∷ rest.now) }
 {
-    let (number, rest) = read_number(rest)?;
+    let (number, rest) = take_u64(rest)?;
     Some(Read {
         value: Value::Int(signed(number)),
         rest,
@@ -150,7 +151,7 @@ pub(crate) struct Counted<'a> {
 fn read_counted(bytes: &[u8]) -> Option<Counted<'_>>
     ensures { Counts result bytes.now }
 {
-    let (size, rest) = read_length(bytes)?;
+    let (size, rest) = take_u32(bytes)?;
     if rest.len() < size as usize {
         return None;
     }

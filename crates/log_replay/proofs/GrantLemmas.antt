@@ -8,7 +8,7 @@ use Rattle.phys_log.specs.declared.entries.LogRecord.{LogRecord}
 use Rattle.phys_log.specs.declared.entries.Entry.{Entry}
 use Rattle.phys_log.specs.Logs.{records_of, records_in, written, replayed, blank_pages, pages_of, AreNext, IsLog}
 use Rattle.phys_log.specs.Undone.{newest_first, later_records, IsLinked}
-use Rattle.phys_log.proofs.ReplayLemmas.{next_front, next_behind, newest_here, newest_other, linked_is}
+use Rattle.phys_log.proofs.ReplayLaws.{next_front, next_behind, newest_here, newest_other, linked_is}
 use Rattle.log_replay.specs.declared.chains.ChainLink.{ChainLink}
 use Rattle.log_replay.specs.Chains.{links_on, chain_from, chain_of, in_records, in_entry, record_by, granted}
 use Rattle.log_replay.specs.Answers.{Rises}

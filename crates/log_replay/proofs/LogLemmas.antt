@@ -13,8 +13,8 @@ use Rattle.phys_log.specs.declared.entries.LogRecord.{LogRecord}
 use Rattle.phys_log.specs.declared.entries.Entry.{Entry}
 use Rattle.phys_log.specs.Logs.{records_of, records_in, written, replayed, blank_pages, pages_of, last_lsn_of, IsNext, AreNext, Fits, IsLog}
 use Rattle.phys_log.specs.Undone.{later_records, IsLinked}
-use Rattle.phys_log.proofs.ReplayLemmas.{next_front, linked_is}
-use Rattle.phys_log.proofs.LogLemmas.{pages_more, log_more, log_parts, log_front, parts_next, parts_pages}
+use Rattle.phys_log.proofs.ReplayLaws.{next_front, linked_is}
+use Rattle.phys_log.proofs.LogLaws.{pages_more, log_more, log_parts, log_front, parts_next, parts_pages}
 use Rattle.log_replay.specs.declared.chains.ChainLink.{ChainLink}
 use Rattle.log_replay.specs.Chains.{links_on, chain_from, chain_of, granted}
 use Rattle.log_replay.specs.Kept.{found, page_in, chain_in, ArePlain, AreEdited, Came, IsKept}

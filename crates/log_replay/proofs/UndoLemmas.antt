@@ -4,12 +4,12 @@ use Rattle.std.proofs.lemmas.Bool.{cases_eq}
 use mathlib.Core.Path.{fun_ext}
 use Rattle.page_store.specs.Image.{Image, HasRoom}
 use Rattle.page_store.specs.Edits.{IsAfter, after_edit, before_edit}
-use Rattle.page_store.proofs.EditLemmas.{edit_back}
+use Rattle.page_store.proofs.EditLaws.{edit_back}
 use Rattle.phys_log.specs.declared.entries.LogRecord.{LogRecord}
 use Rattle.phys_log.specs.declared.entries.Entry.{Entry}
 use Rattle.phys_log.specs.Logs.{written, replayed, IsNext, AreNext, records_of, records_in}
-use Rattle.phys_log.proofs.ReplayLemmas.{replayed-append, next_front, next_behind, written_here, written_other}
-use Rattle.phys_log.proofs.LogLemmas.{records_more}
+use Rattle.phys_log.proofs.ReplayLaws.{replayed-append, next_front, next_behind, written_here, written_other}
+use Rattle.phys_log.proofs.LogLaws.{records_more}
 use Rattle.log_replay.specs.Kept.{page_in, put_at, over, ArePlain, Came}
 use Rattle.log_replay.proofs.KeptLemmas.{put_at_here, put_at_off, over_none}
 use Rattle.log_replay.proofs.WriteLemmas.{plain_replayed}

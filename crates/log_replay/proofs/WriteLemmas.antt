@@ -5,7 +5,7 @@ use mathlib.Core.Path.{fun_ext}
 use Rattle.page_store.specs.Image.{Image}
 use Rattle.phys_log.specs.declared.entries.LogRecord.{LogRecord}
 use Rattle.phys_log.specs.Logs.{written, replayed, IsNext, AreNext}
-use Rattle.phys_log.proofs.ReplayLemmas.{written_here, written_other}
+use Rattle.phys_log.proofs.ReplayLaws.{written_here, written_other}
 use Rattle.log_replay.specs.Kept.{page_in, over, ArePlain}
 use Rattle.log_replay.proofs.KeptLemmas.{over_none, plain_same}
 

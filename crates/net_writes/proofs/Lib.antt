@@ -1,3 +1,3 @@
 pub mod InTurnLemmas
 pub mod OwnLemmas
-pub mod Standing
+pub mod StandingLemmas

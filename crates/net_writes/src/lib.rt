@@ -152,7 +152,7 @@ fn undo(before: Option<RowOp>) -> Option<RowOp>
 }
 
 /// The operations that stand for something, in order.
-#[tactic(auto, using(crate::proofs::Standing::adds))]
+#[tactic(auto, using(crate::proofs::StandingLemmas::adds))]
 fn still_standing(alloc: Global, held: List<Option<RowOp>>) -> Result<List<RowOp>, AllocError>
     ensures { IfOk result (λ ops. ops ≡ standing held) }
 {
@@ -173,6 +173,3 @@ fn add(ops: &mut List<RowOp>, one: Option<RowOp>) -> Result<(), AllocError>
         Some(op) => ops.push(op),
     }
 }
-
-#[cfg(test)]
-mod tests;

@@ -46,6 +46,3 @@ pub use cells::Cell;
 pub use edits::{ApplyFault, Edit, apply, undo, undo_inverts_apply};
 pub use pages::{Head, Page, PageKind};
 pub use sources::{MemPages, PageFault, PageSource};
-
-#[cfg(test)]
-mod tests;

@@ -1,10 +1,10 @@
-ghost use Rattle.std.specs.Prelude.{ℕ, ◌≡◌, ◌+◌, ◌<◌, ◌^◌, ◌++◌, IfOk, OnErr, OnOk, length};
-ghost use Rattle.byteorder.specs.Endian.{big_bytes};
+ghost use Rattle.std.specs.Prelude.{ℕ, ◌≡◌, ◌+◌, ◌<◌, ◌^◌, IfOk, OnErr, length};
 ghost use Rattle.page_workspace.specs.Drafts.{meant, IsExcused, IsNotUnfit};
 ghost use Rattle.page_workspace.specs.Spare.{IsMeta};
 ghost use Rattle.page_workspace.specs.Takes.{with_count, IsCounted, TakesPage};
 
 use crate::workspaces::{EditFault, Workspace};
+use byte_words::put_u64;
 use byteorder::{BigEndian, ByteOrder};
 use page_store::{Cell, Edit, Page, PageSource};
 use std::alloc::{AllocError, Global};
@@ -83,16 +83,7 @@ fn counting(alloc: Global, cell: &[u8], count: u64) -> Result<Cell, AllocError>
     let (front, _) = cell.split_at(8);
     let (_, back) = cell.split_at(16);
     let mut bytes = Vec::from_slice(alloc, front)?;
-    put_number(&mut bytes, count)?;
+    put_u64(&mut bytes, count)?;
     bytes.extend_from_slice(back)?;
     Ok(Cell::new(bytes))
-}
-
-/// Adds the 8 bytes of a number, the highest first.
-fn put_number(out: &mut Vec<u8>, n: u64) -> Result<(), AllocError>
-    ensures { OnOk result (out.new.items ≡ out.old.items ++ big_bytes 8 n) }
-{
-    let mut digits = [0u8; 8];
-    BigEndian::write_u64(&mut digits, n);
-    out.extend_from_slice(&digits)
 }

@@ -1,2 +1,2 @@
-pub mod ReplayLemmas
-pub mod LogLemmas
+pub mod ReplayLaws
+pub mod LogLaws

@@ -1,9 +1,9 @@
 pub mod AloneLemmas
 pub mod ConditionLemmas
-pub mod ListLemmas
+pub mod ListLaws
 pub mod OuterLemmas
 pub mod PlanLemmas
-pub mod RowsLemmas
-pub mod RunLemmas
+pub mod RowsLaws
+pub mod RunLaws
 pub mod StableLemmas
 pub mod WalkLemmas

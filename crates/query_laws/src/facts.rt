@@ -1,4 +1,4 @@
-// Worked facts: the intervals that queries read of a table with two keys (`specs/Worked.antt`).
+//! Worked facts: the intervals that queries read of a table with two keys (`specs/Worked.antt`).
 ghost use Rattle.std.specs.Prelude.{◌≡◌, true, false, [], ◌∷◌, Some, None};
 ghost use Rattle.cdb_values.specs.declared.rows.RowOp.TheVariants as op;
 ghost use Rattle.cdb_values.specs.declared.rows.RowRef.TheVariants.{Base};

@@ -1,4 +1,4 @@
-// What holds of walks by intervals, and of transactions over what they read.
+//! What holds of walks by intervals, and of transactions over what they read.
 ghost use Rattle.std.specs.Prelude.{◌≡◌, ℕ, List, [], false, map, Option};
 ghost use Rattle.std.specs.List.{AllByRecursion};
 ghost use Rattle.cdb_values.specs.Rows.{Rows, apply_all};

@@ -7,7 +7,7 @@ use Rattle.cdb_values.specs.Rows.{Rows}
 use Rattle.report_laws.specs.History.{Origin, Basis, rows_after, rows_among, states_from, states_of, rows_at, entry_at, entries_before, last_position, changes_by, changes_at, taken_at, first_touched, IsUntouched}
 use Rattle.cdb_values.specs.declared.items.GenidItem.{GenidItem}
 use Rattle.report_text.specs.declared.reports.EntryLine.{EntryLine}
-use Rattle.report_laws.proofs.EachLemmas.{get_front, get_next}
+use Rattle.report_laws.proofs.EachLaws.{get_front, get_next}
 
 pub states_count : (basis : Basis) (states : List Rows) (es : List EntryLine) → length (states_from basis states es) ≡ length states + length es
 states_count basis states [] = omega arith

@@ -14,7 +14,7 @@ use Rattle.report_text.specs.declared.reports.Line.{Line}
 use Rattle.report_text.specs.declared.reports.Line.TheVariants as line
 use Rattle.report_text.specs.declared.reports.ReplyLine.{ReplyLine}
 use Rattle.report_text.specs.declared.reports.ReplyLine.TheVariants as reply
-use Rattle.report_laws.proofs.PieceLemmas.{all_at}
+use Rattle.report_laws.proofs.PieceLaws.{all_at}
 use Rattle.report_laws.proofs.SoFarLemmas.{same_name}
 
 -- a member that stands behind others is right after them

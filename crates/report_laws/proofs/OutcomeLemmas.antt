@@ -12,7 +12,7 @@ use Rattle.report_laws.specs.Work.{Transaction}
 use Rattle.report_text.specs.declared.reports.EntryLine.{EntryLine}
 use Rattle.report_text.specs.declared.reports.ReplyLine.{ReplyLine}
 use Rattle.report_text.specs.declared.reports.ReplyLine.TheVariants as reply
-use Rattle.report_laws.proofs.HistoryLemmas.{last_more, rows_stay, entry_stays, taken_stays, untouched_stays}
+use Rattle.report_laws.proofs.HistoryLaws.{last_more, rows_stay, entry_stays, taken_stays, untouched_stays}
 
 -- a position behind the origin at which an entry stands is in the history
 pub entry_within : (origin : Origin) (es : List EntryLine) (d : EntryLine) (k : ℕ) → entry_at origin es k ≡ Some d → k ≤ last_position origin es

@@ -10,8 +10,8 @@ use Rattle.report_laws.specs.Told.{Along, Numbered}
 use Rattle.report_laws.specs.Work.{Transaction, Item, Does, Lone, Place, End, ByCommit, ByRollback, WithItsLine, Nowhere, transaction, with_open, next_by, next_place, place_from, open_item, items_at}
 use Rattle.report_text.specs.declared.reports.ReplyLine.{ReplyLine}
 use Rattle.report_text.specs.declared.reports.ReplyLine.TheVariants as reply
-use Rattle.report_laws.proofs.WorkLemmas.{IsBelow, first_left}
-use Rattle.report_laws.proofs.AlongLemmas.{AllOther, along_its, of_number, of_its, of_another}
+use Rattle.report_laws.proofs.WorkLaws.{IsBelow, first_left}
+use Rattle.report_laws.proofs.AlongLaws.{AllOther, along_its, of_number, of_its, of_another}
 
 -- what is over by a line
 abbrev pub over_by : ℕ → Level → List ℕ → Kind → Option (List (List ℕ)) → List Item

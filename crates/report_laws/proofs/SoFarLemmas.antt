@@ -20,14 +20,14 @@ use Rattle.report_text.specs.declared.reports.EntryLine.TheVariants.{Setup, Comm
 use Rattle.report_text.specs.declared.reports.Line.{Line}
 use Rattle.report_text.specs.declared.reports.ReplyLine.{ReplyLine}
 use Rattle.report_text.specs.declared.reports.ReplyLine.TheVariants as reply
-use Rattle.report_laws.proofs.AnswerLemmas.{replies_more}
+use Rattle.report_laws.proofs.AnswerLaws.{replies_more}
 use Rattle.report_laws.proofs.DecideLemmas.{Decides, Commits}
-use Rattle.report_laws.proofs.EachLemmas.{all_append, all_map}
+use Rattle.report_laws.proofs.EachLaws.{all_append, all_map}
 use Rattle.report_laws.proofs.FrontLemmas.{rows_front}
-use Rattle.report_laws.proofs.PieceLemmas.{under, under_append, under_own, under_number, under_other}
+use Rattle.report_laws.proofs.PieceLaws.{under, under_append, under_own, under_number, under_other}
 use Rattle.report_laws.proofs.RestLemmas.{lones, lones_append}
-use Rattle.report_laws.proofs.TurnedLemmas.{moment, alone_of, IsGoing, begun_at, Turned}
-use Rattle.report_laws.proofs.WorkLemmas.{IsBegun, first_left, after_own, after_other}
+use Rattle.report_laws.proofs.TurnedLaws.{moment, alone_of, IsGoing, begun_at, Turned}
+use Rattle.report_laws.proofs.WorkLaws.{IsBegun, first_left, after_own, after_other}
 
 pub same_name : (name : List ℕ) → bytes_eq name name ≡ true
 same_name name = (bytes_eq-Decides name name).1 refl

@@ -21,7 +21,7 @@ ghost use Rattle.report_text.specs.declared.reports.Report.{Report};
 
 /// A script has one report: two reports of it over the same language and the same history before it, both
 /// lawful, in the order of play and without a transaction that is cut short, are the same.
-#[tactic(auto, using(crate::proofs::OneLemmas::one_report))]
+#[tactic(auto, using(crate::proofs::OneLaws::one_report))]
 pub fn reports_are_one()
     ensures one { (basis : Basis) (report other : Report) → Answers basis.language → Lawful basis report → InPlayOrder basis report → IsUncut report → Lawful basis other → InPlayOrder basis other → IsUncut other → report ≡ other }
 {}
@@ -53,7 +53,7 @@ pub fn the_schema_stands_first()
 /// A lawful report in the order of play, whose numbers fit their types, is of the grammar: what is printed of it
 /// is read again. What it is asked of: the language answers by rows of the grammar, the rows before the run are
 /// such, and sessions, tables and keys are called by names.
-#[tactic(auto, using(crate::proofs::SpelledLemmas::of_the_grammar))]
+#[tactic(auto, using(crate::proofs::SpelledLaws::of_the_grammar))]
 pub fn reports_are_of_the_grammar()
     ensures grammar { (basis : Basis) (report : Report) → IsSpelled basis → Lawful basis report → InPlayOrder basis report → FitsTypes report → IsReport report }
 {}

@@ -5,9 +5,9 @@ use Rattle.std.specs.List.{AllByRecursion}
 use Rattle.std.proofs.lemmas.Bool.{leb-true, le-leb, lt-leb, lt-ltb, le-ltb, cases_lt, ne_eqb}
 use Rattle.std.proofs.lemmas.Bool.Decides.{eqb_tells}
 use Rattle.std.proofs.lemmas.Option.{some_pair_parts, same_Some}
-use Rattle.report_text.specs.Grammar.{is_digit}
+use Rattle.byte_words.specs.Words.{is_digit, ◌>>=◌}
 use Rattle.report_text.specs.Text.{quoted, hex_digit, hexadecimal}
-use Rattle.report_read.specs.Reading.{Read, ◌>>=◌, put, quoted_at, hexadecimal_at, digit_value, byte_of}
+use Rattle.report_read.specs.Reading.{Read, put, quoted_at, hexadecimal_at, digit_value, byte_of}
 use Rattle.report_read.proofs.CodedLemmas.{quoted_byte, hexadecimal_end, hexadecimal_digits, hexadecimal_odd}
 use Rattle.report_read.proofs.ReaderLaws.{Exact, next_is, no_byte, bind_some, guard_some}
 

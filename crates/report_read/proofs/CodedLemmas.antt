@@ -2,7 +2,8 @@
 use Rattle.std.proofs.Common.{◌≡◌, ℕ, List, [], ◌∷◌, ◌++◌, Some, None, refl, sym, ap, ◌∙◌, append_assoc}
 use Rattle.std.proofs.lemmas.Bool.{ne_eqb}
 use Rattle.std.proofs.lemmas.List.{append-nil}
-use Rattle.report_read.specs.Reading.{Read, ◌>>=◌, put, quoted_at, hexadecimal_at, byte_of}
+use Rattle.byte_words.specs.Words.{◌>>=◌}
+use Rattle.report_read.specs.Reading.{Read, put, quoted_at, hexadecimal_at, byte_of}
 
 pub quoted_byte : (b : ℕ) (rest : List ℕ) → (b ≡ 39 → ⊥) → quoted_at (b ∷ rest) ≡ put b (quoted_at rest)
 unfolding quoted_at

@@ -13,7 +13,8 @@ use Rattle.report_read.specs.declared.drafts.Item.{Item}
 use Rattle.report_read.specs.declared.drafts.Item.TheVariants as item
 use Rattle.report_text.specs.Grammar.{is_ending, IsNumber, IsName, IsReply, IsLine, IsEntry, IsFeed}
 use Rattle.report_text.specs.Text.{reply_text, cause_text, level_text, words_of, entry_words, feed_words, ended}
-use Rattle.report_read.specs.Reading.{Read, ◌>>=◌, behind_word, before, only, name_then_at, numbered_at, counted_at, numbered_line_at, reply_at, session_at, cause_at, down_at, barrier_at, node_line_at, setup_at, commit_at, feed_line, is_table, feed_at, mark_at, entry_at, item_at}
+use Rattle.byte_words.specs.Words.{◌>>=◌}
+use Rattle.report_read.specs.Reading.{Read, behind_word, before, only, name_then_at, numbered_at, counted_at, numbered_line_at, reply_at, session_at, cause_at, down_at, barrier_at, node_line_at, setup_at, commit_at, feed_line, is_table, feed_at, mark_at, entry_at, item_at}
 use Rattle.report_read.proofs.ReaderLaws.{Exact, Sound, no_byte, next_none, word_again, sound_before, exact_before, exact_both, exact_only, sound_of, sound_as, sound_either, sound_word}
 use Rattle.report_read.proofs.NumberLemmas.{exact_whole}
 use Rattle.report_read.proofs.ReplyLaws.{exact_number_then, exact_name_then, exact_numbered, exact_counted, exact_level, sound_reply, reply_again}

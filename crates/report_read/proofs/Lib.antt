@@ -1,6 +1,5 @@
 pub mod CodedLaws
 pub mod CodedLemmas
-pub mod FrontLemmas
 pub mod ItemLaws
 pub mod LineLemmas
 pub mod NumberLemmas

@@ -13,9 +13,10 @@ use Rattle.cdb_values.specs.declared.rows.StatementError as errors
 use Rattle.cdb_values.specs.declared.rows.StatementError.TheVariants as error
 use Rattle.report_text.specs.declared.reports.ReplyLine.{ReplyLine}
 use Rattle.report_text.specs.declared.reports.ReplyLine.TheVariants as reply
-use Rattle.report_text.specs.Grammar.{is_digit, is_lower, is_name_byte, is_begun, IsNumber, IsName, IsValue, IsReply}
+use Rattle.byte_words.specs.Words.{is_digit, is_lower, ◌>>=◌}
+use Rattle.report_text.specs.Grammar.{is_name_byte, is_begun, IsNumber, IsName, IsValue, IsReply}
 use Rattle.report_text.specs.Text.{quoted, hexadecimal, value_text, more_values, values_text, error_text, level_text, reply_text}
-use Rattle.report_read.specs.Reading.{Read, ◌>>=◌, behind_word, before, both, only, is_table, number_within, number_at, name_at, number_then_at, name_then_at, numbered_at, counted_at, numbered_line_at, level_at}
+use Rattle.report_read.specs.Reading.{Read, behind_word, before, both, only, is_table, number_within, number_at, name_at, number_then_at, name_then_at, numbered_at, counted_at, numbered_line_at, level_at}
 use Rattle.report_read.proofs.ReaderLaws.{next_none}
 use Rattle.report_read.proofs.NumberLemmas.{exact_whole}
 use Rattle.report_read.proofs.ReplyLaws.{exact_number_then}

@@ -7,13 +7,10 @@ use Rattle.std.proofs.lemmas.Bool.{eqb-true, eq-eqb, ne_eqb, leb-true, le-leb}
 use Rattle.std.proofs.lemmas.Option.{some_pair_parts, same_Some}
 use Rattle.std.proofs.lemmas.Str.Parse.{IsNumeralModel, numerals_by_fold}
 use Rattle.std.proofs.lemmas.Fmt.{digits_decimal, digits_value-decimal, decimal-digits_value, decimal_digit, decimal_nonempty, first_decimal}
-use Rattle.report_text.specs.Grammar.{is_digit, is_name_byte, is_begun, IsName}
-use Rattle.report_read.specs.Reading.{behind_word, front, behind, is_numeral, value_from, at_most, value_of, number_within, number_at, name_of, name_at}
+use Rattle.byte_words.specs.Words.{is_digit, front, behind, is_numeral, value_from, at_most, numeral_of}
+use Rattle.report_text.specs.Grammar.{is_name_byte, is_begun, IsName}
+use Rattle.report_read.specs.Reading.{behind_word, number_within, number_at, name_of, name_at}
 use Rattle.report_read.proofs.ReaderLaws.{Exact, next_is, bind_some, guard_some}
-
-pub value_grows : (digits : List ℕ) (value : ℕ) → value ≤ value_from value digits
-value_grows [] value = omega arith
-value_grows (digit ∷ digits) value = let k = value_grows digits (value * 10 + (digit - 48)) in omega arith
 
 -- ---- the front of bytes
 
@@ -112,7 +109,7 @@ unfolding number_within
 exact_number most small = record {
   found = λ bytes n rest h.
       let ds = front is_digit bytes in
-      let p = bind_some (value_of most ds) (λ v. Some (v, behind is_digit bytes)) (n, rest) h in
+      let p = bind_some (numeral_of most ds) (λ v. Some (v, behind is_digit bytes)) (n, rest) h in
       let same = some_pair_parts p.0 n (behind is_digit bytes) rest p.2 in
       let g = guard_some (is_numeral ds) (at_most most (value_from 0 ds)) p.0 p.1 in
       let v = at_most_is most (value_from 0 ds) p.0 g.1 in

@@ -6,7 +6,8 @@ use Rattle.report_read.specs.declared.drafts.Item.{Item}
 use Rattle.report_read.specs.declared.drafts.Draft.{Draft}
 use Rattle.report_text.specs.Grammar.{IsReport}
 use Rattle.report_text.specs.Text.{report_text}
-use Rattle.report_read.specs.Reading.{Finds, Gives, item_at, added, drafted, report_of}
+use Rattle.byte_words.specs.Answers.{Finds, Gives}
+use Rattle.report_read.specs.Reading.{item_at, added, drafted, report_of}
 use Rattle.report_read.proofs.ReportLaws.{report_found, report_again}
 
 some_found : (bytes : List ℕ) (o : Option Report) → Finds (λ r. r) o (report_of bytes) → IfSome o (λ r. IsReport r × (report_text r ≡ bytes))

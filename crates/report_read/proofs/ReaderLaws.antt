@@ -6,7 +6,8 @@
 use Rattle.std.proofs.Common.{◌≡◌, ℕ, List, [], ◌∷◌, ◌++◌, Option, Some, None, Bool, true, false, cond, eqb, refl, sym, ap, subst, ◌∙◌, append_assoc, ◌⊎◌, inl, inr}
 use Rattle.std.proofs.lemmas.Bool.{eqb-true, eq-eqb}
 use Rattle.std.proofs.lemmas.Option.{some_pair_parts, same_Some}
-use Rattle.report_read.specs.Reading.{Read, ◌>>=◌, or_else, behind_word, after, before, both, as_of, only, either, word_as}
+use Rattle.byte_words.specs.Words.{◌>>=◌}
+use Rattle.report_read.specs.Reading.{Read, or_else, behind_word, after, before, both, as_of, only, either, word_as}
 
 -- whether the next byte passes
 abbrev pub next_is : (ℕ → Bool) → List ℕ → Bool

@@ -8,7 +8,8 @@ use Rattle.cdb_values.specs.declared.rows.StatementError as errors
 use Rattle.cdb_values.specs.declared.rows.StatementError.TheVariants as error
 use Rattle.report_text.specs.declared.reports.ReplyLine.{ReplyLine}
 use Rattle.report_text.specs.declared.reports.ReplyLine.TheVariants as reply
-use Rattle.report_text.specs.Grammar.{is_digit, is_name_byte, IsNumber, IsName, IsKey, IsError, IsReply}
+use Rattle.byte_words.specs.Words.{is_digit}
+use Rattle.report_text.specs.Grammar.{is_name_byte, IsNumber, IsName, IsKey, IsError, IsReply}
 use Rattle.report_text.specs.Text.{level_text, error_text, reply_text}
 use Rattle.report_read.specs.Reading.{behind_word, number_then_at, name_then_at, numbered_at, counted_at, pair_at, level_at, bound_error_at, row_error_at, syntax_at, error_at, answer_at, outcome_at, genid_at, range_at, is_one_key, key_at, duplicate_at, row_at, told_at, reply_at}
 use Rattle.report_read.proofs.ReaderLaws.{Exact, Sound, next_is, no_byte, next_none, exact_after, exact_before, exact_both, exact_only, sound_of, sound_after, sound_as, sound_either, sound_word}

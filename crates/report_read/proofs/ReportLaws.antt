@@ -16,7 +16,8 @@ use Rattle.report_read.specs.declared.drafts.Item.TheVariants as item
 use Rattle.report_read.specs.declared.drafts.Draft.{Draft}
 use Rattle.report_text.specs.Grammar.{IsNumber, IsLine, IsEntry, IsFeed, IsReport}
 use Rattle.report_text.specs.Text.{words_of, entry_words, feed_words, ended, base_text, end_text, lines_text, entries_text, feeds_text, report_text}
-use Rattle.report_read.specs.Reading.{◌>>=◌, item_at, may_end, may_enter, may_tell, added, drafted, empty_draft, finished, report_of}
+use Rattle.byte_words.specs.Words.{◌>>=◌}
+use Rattle.report_read.specs.Reading.{item_at, may_end, may_enter, may_tell, added, drafted, empty_draft, finished, report_of}
 use Rattle.report_read.proofs.ReaderLaws.{bind_some, guard_some}
 use Rattle.report_read.proofs.ItemLaws.{item_text, IsItem, sound_item, item_again}
 

@@ -7,9 +7,10 @@ use Rattle.std.specs.Str.{is_utf8}
 use Rattle.std.proofs.lemmas.Option.{some_pair_parts, same_Some}
 use Rattle.cdb_values.specs.declared.values.Value.{Value}
 use Rattle.cdb_values.specs.declared.values.Value.TheVariants.{Null, Int, Text, Blob}
-use Rattle.report_text.specs.Grammar.{is_digit, IsValue, IsRow}
+use Rattle.byte_words.specs.Words.{is_digit, ◌>>=◌}
+use Rattle.report_text.specs.Grammar.{IsValue, IsRow}
 use Rattle.report_text.specs.Text.{quoted, hexadecimal, value_text, values_text, more_values}
-use Rattle.report_read.specs.Reading.{Read, ◌>>=◌, behind_word, as_of, led, minus, number_within, negative_at, integer_at, plain_value_at, text_at, blob_at, value_at, with_first, more_values_at, values_at}
+use Rattle.report_read.specs.Reading.{Read, behind_word, as_of, led, minus, number_within, negative_at, integer_at, plain_value_at, text_at, blob_at, value_at, with_first, more_values_at, values_at}
 use Rattle.report_read.proofs.ReaderLaws.{Exact, Sound, next_is, next_none, bind_some, word_found, word_again, exact_after, exact_only, sound_of, sound_as, sound_either, sound_word}
 use Rattle.report_read.proofs.NumberLemmas.{exact_number, no_word_here}
 use Rattle.report_read.proofs.CodedLaws.{is_quote, exact_quoted, exact_hexadecimal}

@@ -5,7 +5,7 @@
 -- `entry` was told in its first transaction, the readers are tried in turn, each of them to the end
 -- of the line: no line has two readings. The parts of a report come in their order, since an item is
 -- added only where nothing of a later part has come.
-use Rattle.std.specs.Prelude.{◌≡◌, ℕ, zero, suc, ◌+◌, ◌-◌, ◌*◌, ◌<◌, ◌==◌, ◌++◌, ◌∷◌, [], List, length, Bool, true, false, ◌&&◌, ◌||◌, not, if◌then◌else◌, nat_le, Option, Some, None, is_none, Result, Ok, Err, ℤ, pos, negsuc, codes, bytes_eq}
+use Rattle.std.specs.Prelude.{◌≡◌, ℕ, zero, suc, ◌+◌, ◌-◌, ◌*◌, ◌<◌, ◌==◌, ◌++◌, ◌∷◌, [], List, length, Bool, true, false, ◌&&◌, ◌||◌, not, if◌then◌else◌, nat_le, Option, Some, None, is_none, ℤ, pos, negsuc, codes, bytes_eq}
 use Rattle.std.specs.Str.{is_utf8}
 use Rattle.cdb_values.specs.declared.values.Value.{Value}
 use Rattle.cdb_values.specs.declared.values.Value.TheVariants.{Null, Int, Text, Blob}
@@ -26,26 +26,12 @@ use Rattle.report_read.specs.declared.drafts.Item.TheVariants as item
 use Rattle.report_read.specs.declared.drafts.Draft.{Draft}
 use Rattle.report_read.specs.declared.coded.Piece.{Piece}
 use Rattle.report_read.specs.declared.coded.Piece.TheVariants as piece
-use Rattle.report_text.specs.Grammar.{is_digit, is_name_byte, is_begun, is_ending}
-
--- what a reader that takes no memory found is what the definition reads
-abbrev pub Finds : {X Y : Type 0} → (X → Y) → Option X → Option Y → Type 0
-Finds view None reading = reading ≡ None
-Finds view (Some x) reading = reading ≡ Some (view x)
-
--- the same of one that takes memory, unless it ran out
-abbrev pub Gives : {X Y E : Type 0} → (X → Y) → Result (Option X) E → Option Y → Type 0
-Gives view (Ok x) reading = Finds view x reading
-Gives view (Err _) reading = Unit {0}
+use Rattle.byte_words.specs.Words.{◌>>=◌, is_digit, front, behind, numeral_of}
+use Rattle.report_text.specs.Grammar.{is_name_byte, is_begun, is_ending}
 
 -- what was read, and the bytes behind it
 abbrev pub Read : Type 0 → Type 0
 Read A = Option (A × List ℕ)
-
-infixl 10 ◌>>=◌
-abbrev pub ◌>>=◌ : {A B : Type 0} → Option A → (A → Option B) → Option B
-None >>= next = None
-(Some x) >>= next = next x
 
 abbrev pub or_else : {A : Type 0} → Option A → Option A → Option A
 or_else None other = other
@@ -85,35 +71,9 @@ led (Some rest) next other = next rest
 abbrev pub word_as : {A : Type 0} → List ℕ → A → List ℕ → Read A
 word_as word value bytes = behind_word word bytes >>= (λ rest. Some (value, rest))
 
--- the bytes at the front that pass a test
-abbrev pub front : (ℕ → Bool) → List ℕ → List ℕ
-front test [] = []
-front test (b ∷ bs) = if test b then b ∷ front test bs else []
-
--- the bytes from the first one on that does not pass
-abbrev pub behind : (ℕ → Bool) → List ℕ → List ℕ
-behind test [] = []
-behind test (b ∷ bs) = if test b then behind test bs else b ∷ bs
-
--- one digit or more, and no 0 before others
-abbrev pub is_numeral : List ℕ → Bool
-is_numeral [] = false
-is_numeral (d ∷ ds) = not (d == 48) || (length ds == 0)
-
--- the value of digits behind those that make up a value already
-abbrev pub value_from : ℕ → List ℕ → ℕ
-value_from value [] = value
-value_from value (digit ∷ digits) = value_from (value * 10 + (digit - 48)) digits
-
-abbrev pub at_most : ℕ → ℕ → Option ℕ
-at_most most value = if nat_le value most then Some value else None
-
-abbrev pub value_of : ℕ → List ℕ → Option ℕ
-value_of most digits = if is_numeral digits then at_most most (value_from 0 digits) else None
-
--- a number of at most that size
+-- a number of at most that size; unlike `number_within` of `byte_words`, no 0 stands before other digits
 unfoldable pub number_within : ℕ → List ℕ → Read ℕ
-number_within most bytes = value_of most (front is_digit bytes) >>= (λ value. Some (value, behind is_digit bytes))
+number_within most bytes = numeral_of most (front is_digit bytes) >>= (λ value. Some (value, behind is_digit bytes))
 
 unfoldable pub number_at : List ℕ → Read ℕ
 number_at bytes = number_within 18_446_744_073_709_551_615 bytes

@@ -1,5 +1,6 @@
 ghost use Rattle.std.specs.Prelude.{◌≡◌, ◌≢◌, ◌∷◌, ◌≤◌, ◌<◌, ℕ, List, Option, IfSome};
-ghost use Rattle.report_read.specs.Reading.{Gives, Finds, Read, Steps, quoted_at, hexadecimal_at, digit_value, byte_of};
+ghost use Rattle.byte_words.specs.Answers.{Finds, Gives};
+ghost use Rattle.report_read.specs.Reading.{Read, Steps, quoted_at, hexadecimal_at, digit_value, byte_of};
 
 use std::alloc::{AllocError, Global};
 

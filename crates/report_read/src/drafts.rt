@@ -1,4 +1,5 @@
-ghost use Rattle.report_read.specs.Reading.{Gives, Finds, added, empty_draft, finished, may_tell, may_enter, may_end};
+ghost use Rattle.byte_words.specs.Answers.{Finds, Gives};
+ghost use Rattle.report_read.specs.Reading.{added, empty_draft, finished, may_tell, may_enter, may_end};
 ghost use Rattle.std.specs.Prelude.{◌≡◌};
 
 use cdb_values::List;
@@ -74,6 +75,7 @@ impl Draft {
         }
     }
 
+    /// The draft with a line of a session, where such a line may come.
     #[tactic(auto, unfolding(crate::specs::Reading::added))]
     fn add_event(mut self, line: Line) -> Result<Option<Draft>, AllocError>
         ensures { Gives (λ d. d) result (added self (Item.Event line)) }
@@ -86,6 +88,7 @@ impl Draft {
         }
     }
 
+    /// The draft with its base, where it may come.
     #[tactic(auto, unfolding(crate::specs::Reading::added))]
     fn add_base(mut self, position: u64) -> Option<Draft>
         ensures { Finds (λ d. d) result (added self (Item.Base position)) }
@@ -98,6 +101,7 @@ impl Draft {
         }
     }
 
+    /// The draft with an entry, where one may come.
     #[tactic(auto, unfolding(crate::specs::Reading::added))]
     fn add_entry(mut self, entry: EntryLine) -> Result<Option<Draft>, AllocError>
         ensures { Gives (λ d. d) result (added self (Item.Entry entry)) }
@@ -110,6 +114,7 @@ impl Draft {
         }
     }
 
+    /// The draft with a line of a feed, where one may come.
     #[tactic(auto, unfolding(crate::specs::Reading::added))]
     fn add_feed(mut self, feed: FeedLine) -> Result<Option<Draft>, AllocError>
         ensures { Gives (λ d. d) result (added self (Item.Feed feed)) }
@@ -122,6 +127,7 @@ impl Draft {
         }
     }
 
+    /// The draft with its end, where it may come.
     #[tactic(auto, unfolding(crate::specs::Reading::added))]
     fn add_end(mut self, position: u64) -> Option<Draft>
         ensures { Finds (λ d. d) result (added self (Item.End position)) }

@@ -1,6 +1,7 @@
 ghost use Rattle.std.specs.Prelude.{◌≡◌};
 ghost use Rattle.report_text.specs.Grammar.{is_ending};
-ghost use Rattle.report_read.specs.Reading.{Gives, Finds, only, name_then_at, is_table, session_at, cause_at, down_at, barrier_at, node_line_at, setup_at, commit_at, feed_at, mark_at, entry_at, item_at};
+ghost use Rattle.byte_words.specs.Answers.{Finds, Gives};
+ghost use Rattle.report_read.specs.Reading.{only, name_then_at, is_table, session_at, cause_at, down_at, barrier_at, node_line_at, setup_at, commit_at, feed_at, mark_at, entry_at, item_at};
 
 use super::drafts::Item;
 use super::replies::{read_reply, take_level};

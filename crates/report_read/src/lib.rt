@@ -33,6 +33,7 @@
 //! | Notion | Definition |
 //! |---|---|
 //! | what is read at the front of bytes, and the report of bytes | `specs/Reading.antt` |
+//! | the bytes at the front that pass a test, numerals, what a reader's answer says | `specs/Words.antt` and `specs/Answers.antt` of `byte_words` |
 //! | the parts in their order | `added` there |
 #![tactic(auto)]
 

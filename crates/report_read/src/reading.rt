@@ -2,7 +2,8 @@ ghost use Rattle.std.specs.Prelude.{◌≡◌, length, IfOk, IfSome, IfNone, Som
 ghost use Rattle.report_text.specs.declared.reports.Report.{Report};
 ghost use Rattle.report_text.specs.Text.{report_text};
 ghost use Rattle.report_text.specs.Grammar.{IsReport};
-ghost use Rattle.report_read.specs.Reading.{Gives, drafted, empty_draft, report_of};
+ghost use Rattle.byte_words.specs.Answers.{Gives};
+ghost use Rattle.report_read.specs.Reading.{drafted, empty_draft, report_of};
 
 use super::drafts::Draft;
 use super::items::read_item;

@@ -1,5 +1,6 @@
 ghost use Rattle.std.specs.Prelude.{◌≡◌, codes};
-ghost use Rattle.report_read.specs.Reading.{Gives, Finds, after, level_at, bound_error_at, row_error_at, syntax_at, error_at, answer_at, outcome_at, genid_at, range_at, is_one_key, key_at, duplicate_at, row_at, told_at, reply_at};
+ghost use Rattle.byte_words.specs.Answers.{Finds, Gives};
+ghost use Rattle.report_read.specs.Reading.{after, level_at, bound_error_at, row_error_at, syntax_at, error_at, answer_at, outcome_at, genid_at, range_at, is_one_key, key_at, duplicate_at, row_at, told_at, reply_at};
 
 use super::values::read_values;
 use super::words::{

@@ -1,6 +1,7 @@
 ghost use Rattle.std.specs.Prelude.{◌≡◌, ◌∷◌, ◌≤◌, ◌↔◌, ◌^◌, IsTrue, length, pos, negsuc};
 ghost use Rattle.std.specs.Str.{IsUtf8, is_utf8};
-ghost use Rattle.report_read.specs.Reading.{Gives, Finds, minus, negative_at, integer_at, plain_value_at, text_at, blob_at, value_at, with_first, more_values_at, values_at};
+ghost use Rattle.byte_words.specs.Answers.{Finds, Gives};
+ghost use Rattle.report_read.specs.Reading.{minus, negative_at, integer_at, plain_value_at, text_at, blob_at, value_at, with_first, more_values_at, values_at};
 
 use super::coded::{Hexadecimal, Quoted, read_coded};
 use super::words::{take_number_within, take_word};

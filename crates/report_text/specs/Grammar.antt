@@ -5,13 +5,14 @@
 -- is not `all`, which stands for a whole table, and a feed's table is none of `lost`, `nomajority` and
 -- `tooold`. A number fits 64 bits, the offset of a syntax error 32, and an integer 64 with its sign. A
 -- row has a value, and a text is UTF-8.
-use Rattle.std.specs.Prelude.{◌≡◌, ℕ, ◌<◌, ◌≤◌, ◌^◌, ◌==◌, ◌∷◌, [], List, length, Bool, true, false, ◌&&◌, ◌||◌, nat_le, pos, negsuc, codes, bytes_eq, IfSome}
+use Rattle.std.specs.Prelude.{◌≡◌, ℕ, ◌<◌, ◌≤◌, ◌^◌, ◌==◌, ◌∷◌, [], List, length, Bool, true, false, ◌&&◌, ◌||◌, pos, negsuc, codes, bytes_eq, IfSome}
 use Rattle.std.specs.List.{list_all, AllByRecursion}
 use Rattle.std.specs.Str.{is_utf8}
 use Rattle.cdb_values.specs.declared.values.Value.{Value}
 use Rattle.cdb_values.specs.declared.values.Value.TheVariants.{Null, Int, Text, Blob}
 use Rattle.cdb_values.specs.declared.rows.StatementError as errors
 use Rattle.cdb_values.specs.declared.rows.StatementError.TheVariants as error
+use Rattle.byte_words.specs.Words.{is_digit, is_lower}
 use Rattle.report_text.specs.declared.reports.Report.{Report}
 use Rattle.report_text.specs.declared.reports.Line.{Line}
 use Rattle.report_text.specs.declared.reports.Line.TheVariants as line
@@ -21,17 +22,11 @@ use Rattle.report_text.specs.declared.reports.EntryLine.{EntryLine}
 use Rattle.report_text.specs.declared.reports.EntryLine.TheVariants.{Setup, Commit}
 use Rattle.report_text.specs.declared.reports.FeedLine.{FeedLine}
 
-abbrev pub is_digit : ℕ → Bool
-is_digit b = nat_le 48 b && nat_le b 57
-
-abbrev pub is_lower : ℕ → Bool
-is_lower b = nat_le 97 b && nat_le b 122
-
 -- a byte of a name
 abbrev pub is_name_byte : ℕ → Bool
 is_name_byte b = is_lower b || (is_digit b || (b == 95))
 
--- the first byte of a name is no digit
+-- the first byte of a name is no digit; unlike `is_begun` of `byte_words`, it is no upper-case letter either
 abbrev pub is_begun : List ℕ → Bool
 is_begun [] = false
 is_begun (b ∷ bs) = is_lower b || (b == 95)

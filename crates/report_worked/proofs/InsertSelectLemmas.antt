@@ -15,7 +15,7 @@ use Rattle.script_form.specs.CanRun.{tables_of}
 use Rattle.report_worked.specs.Worked.{worked_table, insert_select, insert_select_report, insert_select_text, insert_text, select_text, inserted_entries, row, of_a}
 use Rattle.report_text.specs.declared.reports.ReplyLine.{ReplyLine}
 use Rattle.report_text.specs.declared.reports.ReplyLine.TheVariants as reply
-use Rattle.report_laws.proofs.LineLemmas.{fresh_begin}
+use Rattle.report_laws.proofs.LineLaws.{fresh_begin}
 use Rattle.report_worked.proofs.WorkedLemmas.{along_each, along_parts, EachPart, whole, in_turns, is_turn}
 use Rattle.transaction_answers.specs.Answer.{from_nothing, statement_language}
 

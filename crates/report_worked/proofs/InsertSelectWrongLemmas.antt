@@ -12,17 +12,17 @@ use Rattle.report_text.specs.declared.reports.Line.{Line}
 use Rattle.report_text.specs.declared.reports.ReplyLine.{ReplyLine}
 use Rattle.report_text.specs.declared.reports.ReplyLine.TheVariants as reply
 use Rattle.report_worked.proofs.InsertSelectLemmas.{inserting, selecting, items_of_a, work_of_a, good_insert, insert_select_is_lawful, insert_select_is_in_order}
-use Rattle.report_laws.proofs.OneLemmas.{one_report}
+use Rattle.report_laws.proofs.OneLaws.{one_report}
 use Rattle.report_text.specs.declared.reports.Report.{Report}
-use Rattle.report_laws.proofs.LineLemmas.{fresh_begin}
+use Rattle.report_laws.proofs.LineLaws.{fresh_begin}
 use Rattle.report_worked.proofs.WorkedLemmas.{along_each, along_parts, EachPart, whole, ToldAt, told_at}
 use Rattle.transaction_answers.specs.Answer.{from_nothing, statement_language}
 use Rattle.report_laws.specs.Cut.{cuts}
 use Rattle.report_laws.specs.History.{nothing_before, used_by}
 use Rattle.report_laws.specs.Outcome.{IsRight}
 use Rattle.report_laws.specs.Work.{Transaction}
-use Rattle.report_laws.proofs.AlongLemmas.{AllOther, along_its, of_number}
-use Rattle.transaction_answers.proofs.LanguageLemmas.{statements_answer}
+use Rattle.report_laws.proofs.AlongLaws.{AllOther, along_its, of_number}
+use Rattle.transaction_answers.proofs.LanguageLaws.{statements_answer}
 
 -- what a transaction was told, where the law on replies holds: the replies at its begin, and a right outcome
 its_told : (t : Transaction) (before after : List Item) (lines : List Line) (begin : ℕ) (back front : List ReplyLine) (outcome : ReplyLine) → before ++ Does t ∷ after ≡ items_of_a → AllOther t.number before → AllOther t.number after →

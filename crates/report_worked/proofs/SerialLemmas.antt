@@ -7,7 +7,7 @@ use Rattle.report_laws.specs.History.{nothing_before, rows_at}
 use Rattle.report_laws.specs.Lawful.{Lawful}
 use Rattle.report_laws.specs.One.{IsUncut}
 use Rattle.report_laws.specs.Play.{InPlayOrder}
-use Rattle.report_laws.proofs.OneLemmas.{one_report}
+use Rattle.report_laws.proofs.OneLaws.{one_report}
 use Rattle.report_worked.specs.WorkedWrong.{serial}
 use Rattle.report_laws.specs.Told.{told, Along, IsTold}
 use Rattle.report_laws.specs.Work.{Item, work}
@@ -16,11 +16,11 @@ use Rattle.report_worked.specs.Worked.{two_updates, two_updates_report, worked_t
 use Rattle.report_text.specs.declared.reports.Report.{Report}
 use Rattle.report_text.specs.declared.reports.ReplyLine.{ReplyLine}
 use Rattle.report_text.specs.declared.reports.ReplyLine.TheVariants as reply
-use Rattle.report_laws.proofs.LineLemmas.{fresh_begin}
+use Rattle.report_laws.proofs.LineLaws.{fresh_begin}
 use Rattle.report_worked.proofs.TwoUpdatesLemmas.{second_update, items_of_a, work_of_a, items_of_b, work_of_b, two_updates_is_lawful, two_updates_is_in_order}
 use Rattle.report_worked.proofs.WorkedLemmas.{along_each, along_parts, EachPart, whole}
 use Rattle.transaction_answers.specs.Answer.{from_nothing, statement_language}
-use Rattle.transaction_answers.proofs.LanguageLemmas.{statements_answer}
+use Rattle.transaction_answers.proofs.LanguageLaws.{statements_answer}
 
 abbrev pub serial_of_a : List (List ReplyLine)
 serial_of_a = ((reply.Begin 1) ∷ (reply.Changed 1) ∷ (reply.Committed 2) ∷ []) ∷ ((reply.Begin 2) ∷ (reply.Changed 1) ∷ (reply.Committed 3) ∷ []) ∷ []

@@ -13,7 +13,7 @@ use Rattle.script_form.specs.CanRun.{tables_of}
 use Rattle.report_worked.specs.Worked.{worked_table, two_updates, two_updates_report, two_updates_entries, insert_text, conflict, of_a, of_b}
 use Rattle.report_text.specs.declared.reports.ReplyLine.{ReplyLine}
 use Rattle.report_text.specs.declared.reports.ReplyLine.TheVariants as reply
-use Rattle.report_laws.proofs.LineLemmas.{fresh_begin}
+use Rattle.report_laws.proofs.LineLaws.{fresh_begin}
 use Rattle.report_worked.proofs.WorkedLemmas.{along_each, along_parts, EachPart, whole, in_turns, is_turn}
 use Rattle.transaction_answers.specs.Answer.{from_nothing, statement_language}
 use Rattle.cdb_values.specs.Changes.{genid_item}

@@ -18,7 +18,7 @@ use Rattle.transaction_answers.specs.Answer.{from_nothing}
 use Rattle.std.specs.List.{AllByRecursion}
 use Rattle.report_laws.specs.Language.{Answered}
 use Rattle.report_text.specs.declared.reports.ReplyLine.{ReplyLine}
-use Rattle.report_laws.proofs.AlongLemmas.{along_its}
+use Rattle.report_laws.proofs.AlongLaws.{along_its}
 
 same_item : (a b : GenidItem) → Some a ≡ Some b → a ≡ b
 same_item a b is = cc

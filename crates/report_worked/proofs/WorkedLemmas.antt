@@ -15,7 +15,7 @@ use Rattle.report_text.specs.declared.reports.Line.{Line}
 use Rattle.report_text.specs.declared.reports.Line.TheVariants as line
 use Rattle.report_text.specs.declared.reports.ReplyLine.{ReplyLine}
 use Rattle.report_text.specs.declared.reports.ReplyLine.TheVariants as reply
-use Rattle.report_laws.proofs.GrowLemmas.{first_begin, first_rest, same_last}
+use Rattle.report_laws.proofs.GrowLaws.{first_begin, first_rest, same_last}
 use Rattle.transaction_answers.specs.Answer.{statement_language}
 use Rattle.report_laws.specs.Cut.{cuts}
 use Rattle.report_laws.specs.Language.{Answered}

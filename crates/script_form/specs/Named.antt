@@ -1,17 +1,12 @@
 -- Names of a script. A name is 1 to 32 lower-case letters, digits and underscores, with no digit at its front. No key is
 -- named `all`, the word that stands for a whole table.
-use Rattle.std.specs.Prelude.{◌≡◌, ℕ, ◌≤◌, ◌==◌, ◌∷◌, [], List, length, Bool, true, false, ◌&&◌, ◌||◌, nat_le, codes, bytes_eq}
+use Rattle.std.specs.Prelude.{◌≡◌, ℕ, ◌≤◌, ◌==◌, ◌∷◌, [], List, length, Bool, true, false, ◌||◌, codes, bytes_eq}
 use Rattle.std.specs.List.{list_all, AllByRecursion}
+use Rattle.byte_words.specs.Words.{is_digit, is_lower}
 use Rattle.cdb_values.specs.declared.tables.TableDef.{TableDef}
 use Rattle.script_form.specs.declared.scripts.Act.{Act}
 use Rattle.script_form.specs.declared.scripts.Act.TheVariants as acts
 use Rattle.script_form.specs.declared.scripts.Script.{Script}
-
-abbrev pub is_digit : ℕ → Bool
-is_digit b = nat_le 48 b && nat_le b 57
-
-abbrev pub is_lower : ℕ → Bool
-is_lower b = nat_le 97 b && nat_le b 122
 
 -- a byte of a name
 abbrev pub is_name_byte : ℕ → Bool

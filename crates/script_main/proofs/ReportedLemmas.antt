@@ -13,15 +13,15 @@ use Rattle.script_form.specs.declared.scripts.TableLine.{TableLine}
 use Rattle.report_laws.specs.Lawful.{Lawful}
 use Rattle.report_laws.specs.Play.{InPlayOrder}
 use Rattle.report_laws.specs.Spelled.{IsNamedTable, SaysAsNamed, IsSpelled}
-use Rattle.report_laws.proofs.OneLemmas.{one_report}
-use Rattle.report_laws.proofs.SpelledLemmas.{of_the_grammar}
+use Rattle.report_laws.proofs.OneLaws.{one_report}
+use Rattle.report_laws.proofs.SpelledLaws.{of_the_grammar}
 use Rattle.report_text.specs.Grammar.{IsName, IsKey}
 use Rattle.report_text.specs.Text.{report_text}
 use Rattle.report_text.specs.Types.{FitsTypes}
 use Rattle.report_text.specs.declared.reports.Report.{Report}
 use Rattle.transaction_answers.specs.Answer.{from_nothing}
-use Rattle.transaction_answers.proofs.LanguageLemmas.{statements_answer}
-use Rattle.transaction_answers.proofs.RowLemmas.{statements_keep}
+use Rattle.transaction_answers.proofs.LanguageLaws.{statements_answer}
+use Rattle.transaction_answers.proofs.RowLaws.{statements_keep}
 use Rattle.script_main.specs.Run.{IsReported}
 
 -- a name of a script is a name of a report

@@ -7,7 +7,7 @@ use Rattle.cdb_outside.specs.Faults.{Rose}
 use Rattle.script_read.specs.Answers.{Refusal, refusal}
 use Rattle.script_read.specs.ScriptText.{script_of, most_bytes, past_limit, read_lines, no_draft, whole_script, and_then}
 use Rattle.script_read.specs.declared.drafts.Draft.{Draft}
-use Rattle.script_words.specs.Lines.{lines_of, but_last}
+use Rattle.byte_words.specs.Lines.{lines_of, but_last}
 use Rattle.script_form.specs.declared.scripts.Script.{Script}
 use Rattle.script_main.specs.Run.{IsText, IsWritten, Finishes, AsksNoStore, Writes, AnswersSource, IsStop, IsFault, TellsRefusal, TellsUsage, usage_text}
 use Rattle.script_main.specs.declared.statuses.Status.{Status}

@@ -16,7 +16,7 @@ use Rattle.report_laws.specs.Play.{number_by}
 use Rattle.report_laws.specs.Told.{Numbered, IsCut, numbered, alone_at}
 use Rattle.report_laws.specs.Work.{Does, Place, End, ByCommit, ByRollback, WithItsLine, Nowhere, transaction, with_open, with_own_line, closed, next_by}
 use Rattle.cdb_values.specs.declared.items.GenidItem.{GenidItem}
-use Rattle.report_laws.proofs.AnswerLemmas.{replies_more}
+use Rattle.report_laws.proofs.AnswerLaws.{replies_more}
 use Rattle.script_play.specs.SoFar.{Standing}
 use Rattle.script_play.specs.Step.{Cut, cut_by, state}
 use Rattle.script_play.specs.declared.states.InTransaction.{InTransaction}

@@ -21,8 +21,8 @@ use Rattle.report_laws.specs.Work.{Transaction}
 use Rattle.transaction_answers.specs.Answer.{from_nothing}
 use Rattle.cdb_values.specs.declared.items.GenidItem.{GenidItem}
 use Rattle.transaction_answers.specs.Decisions.{first_conflict, Touched, decision, judged, by_key, added_by}
-use Rattle.transaction_answers.proofs.ConflictLemmas.{one_since, IsFirstSince}
-use Rattle.transaction_answers.proofs.SoundLemmas.{named}
+use Rattle.transaction_answers.proofs.ConflictLaws.{one_since, IsFirstSince}
+use Rattle.transaction_answers.proofs.SoundLaws.{named}
 use Rattle.script_play.specs.SoFar.{Stored}
 use Rattle.script_play.specs.Step.{IsKept}
 use Rattle.script_play.proofs.StoredLemmas.{Commits, entry_of, untouched_now, stored_more, committed_right, next_is}

@@ -7,5 +7,5 @@ pub mod RunLemmas
 pub mod WholeLemmas
 pub mod CourseLemmas
 pub mod SiteLemmas
-pub mod PlayLemmas
+pub mod PlayLaws
 pub mod TakeLemmas

@@ -33,11 +33,11 @@ use Rattle.report_laws.specs.Play.{InTurns, IsTurn, IsTurnOf, WasCut, IsTimely, 
 use Rattle.report_laws.specs.Told.{Numbered, told, lines_of, numbered}
 use Rattle.report_laws.specs.Work.{Place, next_by, next_place, place_after}
 use Rattle.cdb_values.specs.declared.items.GenidItem.{GenidItem}
-use Rattle.report_laws.proofs.EachLemmas.{each_append, all_append, all_map, stands_more, stands_added}
-use Rattle.report_laws.proofs.LineLemmas.{ArePaced, paced_laws, named_more, in_turns_more, timely_paced}
-use Rattle.report_laws.proofs.PieceLemmas.{same_head, same_tail}
-use Rattle.report_laws.proofs.ToldLemmas.{told_append, told_own, told_other}
-use Rattle.report_laws.proofs.WorkLemmas.{after_own, after_other, its_transaction}
+use Rattle.report_laws.proofs.EachLaws.{each_append, all_append, all_map, stands_more, stands_added}
+use Rattle.report_laws.proofs.LineLaws.{ArePaced, paced_laws, named_more, in_turns_more, timely_paced}
+use Rattle.report_laws.proofs.PieceLaws.{same_head, same_tail}
+use Rattle.report_laws.proofs.ToldLaws.{told_append, told_own, told_other}
+use Rattle.report_laws.proofs.WorkLaws.{after_own, after_other, its_transaction}
 use Rattle.transaction_answers.specs.Answer.{kind_by, from_nothing, statement_language}
 use Rattle.script_play.specs.SoFar.{SoFar, Stored, Standing, IsPast, IsEnded, state_of}
 use Rattle.script_play.specs.Step.{Turned, Cut, IsTurned, IsCutShort, IsKept, turn, turn_by, cut_by, entries_added}

@@ -23,7 +23,7 @@ use Rattle.report_text.specs.declared.reports.ReplyLine.{ReplyLine}
 use Rattle.report_laws.specs.Work.{Place, place_after}
 use Rattle.transaction_answers.specs.Answer.{statement_language}
 use Rattle.cdb_values.specs.declared.items.GenidItem.{GenidItem}
-use Rattle.transaction_answers.proofs.SoundLemmas.{sound_length}
+use Rattle.transaction_answers.proofs.SoundLaws.{sound_length}
 use Rattle.script_play.specs.Ready.{IsReady, IsReadyToGo}
 use Rattle.script_play.specs.SoFar.{IsBefore, IsDoing, SoFar, Stored, state_of, session_from, session_at}
 use Rattle.script_play.specs.Step.{IsTaken, world_of}

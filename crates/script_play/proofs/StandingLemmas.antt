@@ -14,10 +14,10 @@ use Rattle.report_laws.specs.Language.{Answered, alone}
 use Rattle.report_laws.specs.Told.{Along, Numbered, IsTold, numbered}
 use Rattle.report_laws.specs.Work.{Item, Place, Nowhere, transaction, with_open, number_of}
 use Rattle.transaction_answers.specs.Answer.{from_nothing, statement_language}
-use Rattle.report_laws.proofs.GrowLemmas.{told_stays, cut_stays}
-use Rattle.report_laws.proofs.HistoryLemmas.{rows_stay}
-use Rattle.report_laws.proofs.ToldLemmas.{along_append, along_one, along_map}
-use Rattle.transaction_answers.proofs.SoundLemmas.{ops_later}
+use Rattle.report_laws.proofs.GrowLaws.{told_stays, cut_stays}
+use Rattle.report_laws.proofs.HistoryLaws.{rows_stay}
+use Rattle.report_laws.proofs.ToldLaws.{along_append, along_one, along_map}
+use Rattle.transaction_answers.proofs.SoundLaws.{ops_later}
 use Rattle.script_play.specs.SoFar.{IsOpen, IsDoing, Standing}
 use Rattle.script_play.specs.Step.{state}
 use Rattle.script_play.specs.declared.states.SessionState.{SessionState}

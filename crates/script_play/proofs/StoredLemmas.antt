@@ -21,14 +21,14 @@ use Rattle.report_laws.specs.Told.{alone_at}
 use Rattle.script_form.specs.CanRun.{tables_of}
 use Rattle.report_laws.specs.Work.{Transaction, transaction_of}
 use Rattle.transaction_answers.specs.Answer.{from_nothing, statement_language}
-use Rattle.transaction_answers.proofs.LanguageLemmas.{used_alone}
+use Rattle.transaction_answers.proofs.LanguageLaws.{used_alone}
 use Rattle.cdb_values.specs.declared.items.GenidItem.{GenidItem}
-use Rattle.report_laws.proofs.EachLemmas.{each_append, get_front, get_next}
-use Rattle.report_laws.proofs.HistoryLemmas.{rows_stay, rows_new, entry_new, taken_stays, taken_new, untouched_stays}
+use Rattle.report_laws.proofs.EachLaws.{each_append, get_front, get_next}
+use Rattle.report_laws.proofs.HistoryLaws.{rows_stay, rows_new, entry_new, taken_stays, taken_new, untouched_stays}
 use Rattle.transaction_answers.specs.Decisions.{first_conflict}
 use Rattle.transaction_answers.specs.Sound.{AreSound, IsSoundOp}
-use Rattle.transaction_answers.proofs.ConflictLemmas.{none_since}
-use Rattle.transaction_answers.proofs.SoundLemmas.{sound_later}
+use Rattle.transaction_answers.proofs.ConflictLaws.{none_since}
+use Rattle.transaction_answers.proofs.SoundLaws.{sound_later}
 use Rattle.script_play.specs.SoFar.{Stored}
 use Rattle.script_play.specs.Step.{World, world_of, IsKept}
 

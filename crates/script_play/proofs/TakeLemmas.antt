@@ -20,8 +20,8 @@ use Rattle.report_laws.specs.Told.{lines_of}
 use Rattle.cdb_values.specs.declared.items.GenidItem.{GenidItem}
 use Rattle.transaction_answers.specs.Decisions.{added_by}
 use Rattle.transaction_answers.specs.Sound.{IsSoundOp}
-use Rattle.transaction_answers.proofs.AnswerLemmas.{sound_answer}
-use Rattle.transaction_answers.proofs.SoundLemmas.{sound_based}
+use Rattle.transaction_answers.proofs.AnswerLaws.{sound_answer}
+use Rattle.transaction_answers.proofs.SoundLaws.{sound_based}
 use Rattle.script_play.specs.Effects.{IsEffect, IsEffectDone, added_in, cut_in, entries_of}
 use Rattle.script_play.specs.Ready.{IsReady, IsReadyToGo}
 use Rattle.script_play.specs.Step.{World, Turned, IsTaken, IsKept, answer_at, outcome, turn_by, cut_by, world_of}

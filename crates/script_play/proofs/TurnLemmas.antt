@@ -36,18 +36,18 @@ use Rattle.report_laws.specs.Play.{number_by, is_own_by, are_up_to, is_last_of}
 use Rattle.report_laws.specs.Told.{Along, Numbered, IsTold, IsWhole, IsCut, numbered, alone_at}
 use Rattle.report_laws.specs.Work.{Transaction, Does, Lone, Place, End, ByCommit, ByRollback, WithItsLine, Nowhere, transaction, transaction_of, with_open, with_own_line, closed, next_by}
 use Rattle.cdb_values.specs.declared.items.GenidItem.{GenidItem}
-use Rattle.report_laws.proofs.AnswerLemmas.{replies_more, ops_more}
-use Rattle.report_laws.proofs.PieceLemmas.{up_to_last, up_to_one, plain_all_quiet}
-use Rattle.report_laws.proofs.TurnedLemmas.{loud, no_row}
+use Rattle.report_laws.proofs.AnswerLaws.{replies_more, ops_more}
+use Rattle.report_laws.proofs.PieceLaws.{up_to_last, up_to_one, plain_all_quiet}
+use Rattle.report_laws.proofs.TurnedLaws.{loud, no_row}
 use Rattle.report_laws.specs.Answers.{ArePlain}
-use Rattle.report_laws.proofs.PlainLemmas.{plain_then, plain_paced}
-use Rattle.transaction_answers.proofs.LanguageLemmas.{statements_answer, used_alone}
-use Rattle.report_laws.proofs.ToldLemmas.{numbered_append}
+use Rattle.report_laws.proofs.PlainLaws.{plain_then, plain_paced}
+use Rattle.transaction_answers.proofs.LanguageLaws.{statements_answer, used_alone}
+use Rattle.report_laws.proofs.ToldLaws.{numbered_append}
 use Rattle.transaction_answers.specs.Decisions.{added_by}
 use Rattle.transaction_answers.specs.Sound.{AreSound, IsSoundOp}
-use Rattle.transaction_answers.proofs.AnswerLemmas.{sound_answer}
-use Rattle.transaction_answers.proofs.AppliedLemmas.{sound_applied}
-use Rattle.transaction_answers.proofs.FitLemmas.{sound_fits}
+use Rattle.transaction_answers.proofs.AnswerLaws.{sound_answer}
+use Rattle.transaction_answers.proofs.AppliedLaws.{sound_applied}
+use Rattle.transaction_answers.proofs.FitLaws.{sound_fits}
 use Rattle.script_play.specs.SoFar.{Stored, IsOpen, IsDoing, IsPast, Standing}
 use Rattle.script_play.specs.Step.{World, Turned, state, turned, turn_by, outcome, answer_at, own_line, committed, goes_on, entries_added, IsKept}
 use Rattle.script_play.specs.declared.states.SessionState.{SessionState}

@@ -25,9 +25,9 @@ use Rattle.report_laws.specs.Play.{InPlayOrder, InTurns}
 use Rattle.report_laws.specs.Told.{Along, Numbered, IsTold, IsCut, told, numbered, alone_at}
 use Rattle.report_laws.specs.Work.{Transaction, Item, Does, Place, Nowhere, transaction, work, place_after, items_at, open_item, start}
 use Rattle.cdb_values.specs.declared.items.GenidItem.{GenidItem}
-use Rattle.report_laws.proofs.ToldLemmas.{along_append, along_one, along_map}
+use Rattle.report_laws.proofs.ToldLaws.{along_append, along_one, along_map}
 use Rattle.transaction_answers.specs.Sound.{AreSound}
-use Rattle.transaction_answers.proofs.SoundLemmas.{sound_none, fits_none}
+use Rattle.transaction_answers.proofs.SoundLaws.{sound_none, fits_none}
 use Rattle.script_play.specs.SoFar.{SoFar, Standing, IsOpen, IsDoing, at_start, state_of, report_of}
 use Rattle.script_play.specs.declared.states.SessionState.{SessionState}
 use Rattle.script_play.specs.declared.states.InTransaction.{InTransaction}

@@ -6,11 +6,11 @@ use Rattle.std.specs.Str.{is_utf8}
 use Rattle.cdb_values.specs.Tables.{add_fault, place_of}
 use Rattle.cdb_values.specs.declared.tables.ColumnType.TheVariants.{Integer}
 use Rattle.cdb_values.specs.declared.tables.TableDef.{TableDef}
-use Rattle.script_words.specs.Lines.{lines_of, text_of, is_skipped}
-use Rattle.script_words.specs.Words.{after_piece, is_end, is_name}
-use Rattle.statement_read.proofs.IntegerLemmas.{statement_has_integers}
+use Rattle.byte_words.specs.Lines.{lines_of, text_of, is_skipped}
+use Rattle.byte_words.specs.Words.{after_piece, is_end, is_name}
+use Rattle.statement_read.proofs.IntegerLaws.{statement_has_integers}
 use Rattle.statement_read.specs.Statements.{statement_of}
-use Rattle.table_read.proofs.TableLemmas.{lawful}
+use Rattle.table_read.proofs.TableLaws.{lawful}
 use Rattle.table_read.specs.Verdict.{TableFault, Unlawful, Limit, table_of}
 use Rattle.script_read.proofs.LimitLemmas.{within_is_whole}
 use Rattle.script_read.proofs.NameLemmas.{well_formed, table_named, says_named}

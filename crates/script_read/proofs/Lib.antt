@@ -5,4 +5,4 @@ pub mod NameLemmas
 pub mod OnTableLemmas
 pub mod ReadLemmas
 pub mod TextLemmas
-pub mod Worked
+pub mod WorkedLemmas

@@ -2,7 +2,7 @@
 use Rattle.std.proofs.Common.{◌≡◌, ℕ, ◌+◌, ◌<◌, ◌≤◌, List, ◌++◌, length, take, Bool, true, false, Result, Ok, Err, refl, arith, if◌then◌else◌, nat_lt, length-append}
 use Rattle.std.proofs.lemmas.Bool.{lt-ltb}
 use Rattle.std.proofs.lemmas.List.{take-append-le}
-use Rattle.script_words.specs.Lines.{lines_of, but_last}
+use Rattle.byte_words.specs.Lines.{lines_of, but_last}
 use Rattle.script_read.specs.Answers.{Refusal, refusal}
 use Rattle.script_read.specs.ScriptText.{script_of, whole_script, past_limit, and_then, read_lines, no_draft, most_bytes}
 use Rattle.script_read.specs.declared.drafts.Draft.{Draft}

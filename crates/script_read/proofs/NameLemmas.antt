@@ -3,10 +3,10 @@
 use Rattle.std.proofs.Common.{◌≡◌, ℕ, ◌≤◌, List, [], ◌∷◌, length, Bool, true, false, not, ◌&&◌, ◌||◌, nat_le, codes, Ok, inl, inr, refl, ap₂, subst, arith}
 use Rattle.std.specs.List.{list_all, list_any, AllByRecursion}
 use Rattle.cdb_values.specs.declared.tables.TableDef.{TableDef}
-use Rattle.script_words.specs.Words as words
+use Rattle.byte_words.specs.Words as words
 use Rattle.table_read.specs.Verdict.{table_of}
-use Rattle.table_read.proofs.TokenNames.{IsTokenName}
-use Rattle.table_read.proofs.WrittenNames.{tables_named}
+use Rattle.table_read.proofs.TokenNameLaws.{IsTokenName}
+use Rattle.table_read.proofs.WrittenNameLaws.{tables_named}
 use Rattle.script_form.specs.CanRun.{IsDeclared, IsSaid}
 use Rattle.script_form.specs.Named.{is_name_byte, is_begun, IsName, IsFreeKey, IsNamedTable, SaysNamed}
 use Rattle.script_form.specs.declared.scripts.Act.{Act}

@@ -8,8 +8,8 @@ use Rattle.cdb_values.specs.declared.tables.ColumnDef.{ColumnDef}
 use Rattle.cdb_values.specs.declared.tables.ColumnType.{ColumnType}
 use Rattle.cdb_values.specs.declared.tables.ColumnType.TheVariants as types
 use Rattle.cdb_values.specs.declared.tables.TableDef.{TableDef}
-use Rattle.script_words.specs.Words.{◌>>=◌}
-use Rattle.statement_read.proofs.IntegerLemmas.{HasInteger, HasIntegers}
+use Rattle.byte_words.specs.Words.{◌>>=◌}
+use Rattle.statement_read.proofs.IntegerLaws.{HasInteger, HasIntegers}
 use Rattle.cdb_values.specs.Columns.{column_at}
 use Rattle.statement_read.specs.OnTables.{IsColumn, IsFilterOn, IsOn}
 use Rattle.statement_read.specs.declared.statements.Filter.{Filter}

@@ -1,7 +1,7 @@
 -- One line more, or no more, of a script that is read.
 use Rattle.std.proofs.Common.{◌≡◌, ℕ, ◌+◌, List, [], ◌∷◌, Result, Ok, sym, subst}
 use Rattle.script_read.specs.Answers.{Refusal, Stops}
-use Rattle.script_words.specs.Lines.{lines_of}
+use Rattle.byte_words.specs.Lines.{lines_of}
 use Rattle.script_read.specs.ScriptText.{read_lines, read_line, and_then}
 use Rattle.script_read.specs.declared.drafts.Draft.{Draft}
 use Rattle.script_read.specs.declared.scripts.ScriptStop.{ScriptStop}

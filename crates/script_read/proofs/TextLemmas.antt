@@ -2,9 +2,9 @@
 use Rattle.std.proofs.Common.{◌≡◌, ℕ, ◌≤◌, ◌<◌, ◌^◌, List, [], ◌∷◌, length, Bool, true, false, ◌==◌, if◌then◌else◌, refl, arith}
 use Rattle.std.specs.Str.{is_utf8, IsUtf8}
 use Rattle.std.proofs.lemmas.Str.{IsUtf8-from_is_utf8, is_utf8-from_IsUtf8}
-use Rattle.script_words.specs.Lines.{text_of, without_return, without_end, kept_before}
-use Rattle.script_words.specs.Words.{is_blank}
-use Rattle.script_words.proofs.LineLemmas.{behind_is_shorter}
+use Rattle.byte_words.specs.Lines.{text_of, without_return, without_end, kept_before}
+use Rattle.byte_words.specs.Words.{is_blank}
+use Rattle.byte_words.proofs.LineLaws.{behind_is_shorter}
 
 pub is_text : (bytes : List ℕ) → IsUtf8 bytes → is_utf8 bytes ≡ true
 is_text bytes h = is_utf8-from_IsUtf8 bytes h

@@ -12,8 +12,8 @@
 -- A line that is none of these has reason 3, one that names no declared session reason 5, and one
 -- that names no node reason 6. A malformed name is never declared.
 use Rattle.std.specs.Prelude.{ℕ, ◌==◌, List, if◌then◌else◌, Option, Some, None, Result, Ok, Err, codes, bytes_eq}
-use Rattle.script_words.specs.Lines.{trimmed}
-use Rattle.script_words.specs.Words.{◌>>=◌, front, behind, is_word_byte, after_sign, piece, after_piece, is_end, fits_name}
+use Rattle.byte_words.specs.Lines.{trimmed}
+use Rattle.byte_words.specs.Words.{◌>>=◌, front, behind, is_word_byte, after_sign, piece, after_piece, is_end, fits_name}
 use Rattle.script_read.specs.Answers.{Refusal, refusal}
 use Rattle.script_read.specs.Heads.{fitting_at, alone, only_number, is_declared, is_node}
 use Rattle.script_read.specs.declared.drafts.Draft.{Draft}

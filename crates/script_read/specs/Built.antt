@@ -9,7 +9,7 @@ use Rattle.cdb_values.specs.Tables.{place_of}
 use Rattle.cdb_values.specs.declared.tables.ColumnType.{ColumnType}
 use Rattle.cdb_values.specs.declared.tables.ColumnType.TheVariants as types
 use Rattle.cdb_values.specs.declared.tables.TableDef.{TableDef}
-use Rattle.script_words.specs.Words.{◌>>=◌}
+use Rattle.byte_words.specs.Words.{◌>>=◌}
 use Rattle.cdb_values.specs.Columns.{column_at}
 use Rattle.statement_read.specs.Statements.{statement_of}
 use Rattle.statement_read.specs.declared.statements.Filter.{Filter}

@@ -14,7 +14,7 @@ use Rattle.std.specs.List.{list_any}
 use Rattle.std.specs.Str.{is_utf8}
 use Rattle.cdb_values.specs.Tables.{place_of}
 use Rattle.cdb_values.specs.declared.tables.TableDef.{TableDef}
-use Rattle.script_words.specs.Words.{◌>>=◌, piece, after_piece, is_end, is_name, fits_name, number_of}
+use Rattle.byte_words.specs.Words.{◌>>=◌, piece, after_piece, is_end, is_name, fits_name, number_of}
 use Rattle.table_read.specs.Verdict.{TableFault, Unlawful, Limit, table_of}
 use Rattle.script_read.specs.Answers.{Refusal, refusal}
 use Rattle.script_read.specs.declared.drafts.Draft.{Draft}

@@ -7,7 +7,7 @@
 -- watches, and the body. They come in this order, each of the first three at most once.
 use Rattle.std.specs.Prelude.{ℕ, ◌==◌, ◌∷◌, [], List, map, Bool, false, ◌&&◌, ◌||◌, if◌then◌else◌, nat_lt, nat_le, Option, Some, None, codes, bytes_eq}
 use Rattle.std.specs.Char.{to_ascii_lowercase}
-use Rattle.script_words.specs.Words.{front, behind, is_word_byte, piece}
+use Rattle.byte_words.specs.Words.{front, behind, is_word_byte, piece}
 use Rattle.script_read.specs.declared.kinds.Keyword.{Keyword}
 use Rattle.script_read.specs.declared.kinds.Keyword.TheVariants as keywords
 use Rattle.script_read.specs.declared.kinds.LineKind.{LineKind}

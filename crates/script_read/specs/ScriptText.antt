@@ -20,8 +20,8 @@
 use Rattle.std.specs.Prelude.{ℕ, ◌+◌, ◌==◌, ◌++◌, ◌∷◌, [], List, length, take, if◌then◌else◌, nat_lt, Option, Some, None, Result, Ok, Err, codes}
 use Rattle.std.specs.Str.{is_utf8}
 use Rattle.cdb_values.specs.declared.tables.TableDef.{TableDef}
-use Rattle.script_words.specs.Lines.{lines_of, but_last, text_of, is_skipped}
-use Rattle.script_words.specs.Words.{after_piece}
+use Rattle.byte_words.specs.Lines.{lines_of, but_last, text_of, is_skipped}
+use Rattle.byte_words.specs.Words.{after_piece}
 use Rattle.script_read.specs.Answers.{Refusal, refusal}
 use Rattle.script_read.specs.Bodies.{said_of, say_said, stop_said, start_said, arm_of, arm_said, barrier_said, feed_said}
 use Rattle.script_read.specs.Built.{is_built, has_integers}

@@ -1,5 +1,5 @@
 ghost use Rattle.std.specs.Prelude.{◌≡◌, codes};
-ghost use Rattle.script_words.specs.Answers.{Finds};
+ghost use Rattle.byte_words.specs.Answers.{Finds};
 ghost use Rattle.script_read.specs.Answers.{Answers};
 ghost use Rattle.script_read.specs.Heads.{only_number, alone};
 ghost use Rattle.script_read.specs.Bodies.{said_of, say_said, stop_said, start_said, row_of, moment_of, arm_of, arm_said, barrier_said, feed_said};
@@ -9,9 +9,9 @@ use super::heads::{is_among_sessions, is_number_of_node, lone_number, take_fitti
 use super::reasons::{NO_LINE, WRONG_NODE, WRONG_SESSION};
 use super::said::Said;
 use super::scripts::ScriptStop;
+use byte_words::{WordByte, fits_name_rule, is_at_end, next_piece, split_while, take_byte, trim};
 use cdb_values::{Name, Text};
 use script_form::{Act, Moment};
-use script_words::{WordByte, fits_name_rule, is_at_end, next_piece, split_while, take_byte, trim};
 use std::alloc::Global;
 
 /// A statement of a session.

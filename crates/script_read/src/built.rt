@@ -44,16 +44,14 @@ fn act_runs(alloc: Global, schema: &Schema, act: &Act) -> Result<bool, AllocErro
 pub fn has_integers_alone(table: &TableDef) -> bool
     ensures { result ≡ has_integers table.now }
 {
-    let mut rest = table.columns.as_slice();
-    'columns: while let Some((column, after)) = rest.split_first() {
-        if !is_integer_column(column) {
-            return false;
-        }
-        rest = after;
-    }
-    true
+    table
+        .columns
+        .as_slice()
+        .iter()
+        .all(|column| is_integer_column(column))
 }
 
+/// Whether a column holds integers.
 fn is_integer_column(column: &ColumnDef) -> bool
     ensures { result ≡ is_integer column.now.kind }
 {
@@ -128,6 +126,7 @@ fn change_fits(column: &Name, filter: &Option<Filter>, table: Option<&TableDef>)
     }
 }
 
+/// Whether a filter, if there is one, names a column of the table.
 fn is_filter_of(table: &TableDef, filter: &Option<Filter>) -> bool
     ensures { result ≡ is_filter_on table.now filter.now }
 {
@@ -137,6 +136,7 @@ fn is_filter_of(table: &TableDef, filter: &Option<Filter>) -> bool
     }
 }
 
+/// Whether the table has a column of that name.
 fn is_column_of(table: &TableDef, column: &Name) -> bool
     ensures { result ≡ has_column table.now column.now }
 {

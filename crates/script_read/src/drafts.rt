@@ -1,7 +1,7 @@
 ghost use Rattle.std.specs.Prelude.{◌≡◌, ◌<◌, ◌≤◌, ◌^◌, ◌∷◌, ◌++◌, [], IfOk, OnErr, length, nat_lt, MatchOption, true, false};
 ghost use Rattle.std.specs.Str.{is_utf8};
-ghost use Rattle.script_words.specs.Lines.{text_of};
-ghost use Rattle.script_words.specs.Words.{after_piece};
+ghost use Rattle.byte_words.specs.Lines.{text_of};
+ghost use Rattle.byte_words.specs.Words.{after_piece};
 ghost use Rattle.table_read.specs.Verdict.{table_of};
 ghost use Rattle.script_read.specs.Answers.{Answers};
 ghost use Rattle.script_read.specs.Heads.{table_said, tabled};
@@ -15,9 +15,9 @@ use super::kinds::{Keyword, LineKind, line_kind, line_part, may_follow};
 use super::reasons::{LIMIT, LONG_LINE, NO_LINE, NO_NODES, NOT_BUILT, NOT_TEXT, WRONG_TABLE};
 use super::said::Said;
 use super::scripts::ScriptStop;
+use byte_words::{is_comment, line_text, next_piece};
 use cdb_values::{List, Name, Schema, TableDef};
 use script_form::{BodyLine, Script, SessionLine, TableLine};
-use script_words::{is_comment, line_text, next_piece};
 use std::alloc::{AllocError, Global};
 use table_read::{TableStop, read_table};
 

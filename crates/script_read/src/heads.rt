@@ -1,8 +1,8 @@
 ghost use Rattle.std.specs.Prelude.{◌≡◌, ◌≤◌, ◌^◌, ◌<◌, not, bytes_eq, length};
 ghost use Rattle.std.specs.List.{list_any};
 ghost use Rattle.cdb_values.specs.Tables.{place_of};
-ghost use Rattle.script_words.specs.Answers.{Finds};
-ghost use Rattle.script_words.specs.Words.{is_name};
+ghost use Rattle.byte_words.specs.Answers.{Finds};
+ghost use Rattle.byte_words.specs.Words.{is_name};
 ghost use Rattle.script_read.specs.Answers.{Answers};
 ghost use Rattle.script_read.specs.Heads.{fitting_at, numeral_at, only_number, only_fitting, alone, is_declared, is_node, nodes_said, cluster_said, workers_said, hasql_of, session_of, session_said, watched, watch_said};
 
@@ -10,9 +10,9 @@ use super::drafts::Draft;
 use super::reasons::{LIMIT, NO_LINE, NO_NODES, WRONG_NODE, WRONG_SESSION, WRONG_TABLE};
 use super::said::Said;
 use super::scripts::ScriptStop;
+use byte_words::{fits_name_rule, is_at_end, is_name_word, next_piece, piece_number};
 use cdb_values::Name;
 use script_form::SessionLine;
-use script_words::{fits_name_rule, is_at_end, is_name_word, next_piece, piece_number};
 use std::alloc::Global;
 
 /// The most nodes.
@@ -65,16 +65,10 @@ fn lone_fitting(bytes: &[u8]) -> Option<&[u8]>
 pub fn is_among_sessions(name: &[u8], sessions: &[SessionLine]) -> bool
     ensures { result ≡ is_declared name.now sessions.now }
 {
-    let mut rest = sessions;
-    'sessions: while let Some((session, after)) = rest.split_first() {
-        if has_name(session, name) {
-            return true;
-        }
-        rest = after;
-    }
-    false
+    sessions.iter().any(|session| has_name(session, name))
 }
 
+/// Whether a session has that name.
 fn has_name(session: &SessionLine, name: &[u8]) -> bool
     ensures { result ≡ bytes_eq session.now.name name.now }
 {

@@ -2,7 +2,7 @@ ghost use Rattle.std.specs.Prelude.{◌≡◌, map, codes, bytes_eq};
 ghost use Rattle.std.specs.Char.{to_ascii_lowercase};
 ghost use Rattle.script_read.specs.Kinds.{head_keyword, keyword_of, begins_with, is_create, kind_of_keyword, kind_of, keyword_part, part_of, may_come};
 
-use script_words::{WordByte, next_piece, split_while};
+use byte_words::{WordByte, next_piece, split_while};
 
 /// The words that begin lines of a script, but for `create`.
 #[derive(Clone, Copy, PartialEq, Eq, Debug)]
@@ -76,6 +76,7 @@ pub fn may_follow(before: u8, part: u8) -> bool
     }
 }
 
+/// Whether that byte stands first.
 fn begins_with_byte(sign: u8, bytes: &[u8]) -> bool
     ensures { result ≡ begins_with sign bytes.now }
 {
@@ -92,6 +93,7 @@ fn is_create_word(word: &[u8]) -> bool
     word.eq_ignore_ascii_case(b"create")
 }
 
+/// The kind of a line that begins with this keyword, if it begins with one.
 fn keyword_kind(found: Option<Keyword>) -> Option<LineKind>
     ensures { result ≡ kind_of_keyword found }
 {

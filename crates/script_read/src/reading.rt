@@ -1,13 +1,13 @@
 ghost use Rattle.std.specs.Prelude.{◌≡◌, ◌+◌, length, take, List, ℕ, [], ◌∷◌, ◌≤◌};
 ghost use Rattle.script_read.specs.Answers.{Answers};
-ghost use Rattle.script_words.specs.Lines.{lines_of, but_last};
+ghost use Rattle.byte_words.specs.Lines.{lines_of, but_last};
 ghost use Rattle.script_read.specs.ScriptText.{script_of, read_lines, no_draft, most_bytes, past_limit, whole_script};
 
 use super::drafts::{Draft, finish, line_after};
 use super::reasons::LIMIT;
 use super::scripts::ScriptStop;
+use byte_words::{before_last_line, next_line};
 use script_form::Script;
-use script_words::{before_last_line, next_line};
 use std::alloc::Global;
 
 /// The most bytes of a script.

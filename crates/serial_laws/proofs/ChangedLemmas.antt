@@ -15,7 +15,7 @@ use Rattle.sql_answer.specs.Answers.{Meaning, answer, ops_after}
 use Rattle.query_laws.specs.Intervals.{Interval, lies}
 use Rattle.query_laws.specs.Runs.{run_from}
 use Rattle.query_laws.specs.Touched.{leaves, enters, touches}
-use Rattle.query_laws.proofs.ListLemmas.{all_append, all_weaker}
+use Rattle.query_laws.proofs.ListLaws.{all_append, all_weaker}
 use Rattle.serial_laws.specs.Histories.{Entry, Setup, Commit, Origin, alone, states_of, ops_of, entry_at, ops_or_none, ops_at, IsUntouched, IsBegun, IsRight, AllEntries, AllRight, IsPlaced, IsSerial}
 use Rattle.serial_laws.specs.Changed.{lies_in, changes_touch, IsRowOf, IsTrueTarget, IsTrueOp, IsSound, TellsTrue, IsUnchanged, IsFair, AllFair}
 use Rattle.serial_laws.proofs.SerialLemmas.{place, now, IsStep, step_at, rows_step, states_stay, get_within, right_is_serial}

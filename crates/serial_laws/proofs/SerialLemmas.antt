@@ -10,9 +10,9 @@ use Rattle.sql_answer.specs.Answers.{Meaning}
 use Rattle.query_laws.specs.Intervals.{Interval}
 use Rattle.query_laws.specs.Stable.{HoldsTheSame}
 use Rattle.query_laws.specs.Touched.{touches}
-use Rattle.query_laws.proofs.ListLemmas.{all_weaker}
-use Rattle.query_laws.proofs.RowsLemmas.{untouched_stays}
-use Rattle.query_laws.proofs.RunLemmas.{run_same}
+use Rattle.query_laws.proofs.ListLaws.{all_weaker}
+use Rattle.query_laws.proofs.RowsLaws.{untouched_stays}
+use Rattle.query_laws.proofs.RunLaws.{run_same}
 use Rattle.serial_laws.specs.Histories.{Entry, Setup, Commit, Origin, rows_among, alone, ops_of, rows_after, states_from, states_of, rows_at, entry_at, ops_or_none, ops_at, IsUntouched, IsBegun, IsRight, AllEntries, AllRight, IsSerialAt, IsSerial, IsPlaced}
 
 get_front : {A : Type 0} (xs ys : List A) (k : ℕ) → k < length xs → slice_get (xs ++ ys) k ≡ slice_get xs k

@@ -19,7 +19,7 @@ use Rattle.sql_answer.specs.Answers.{Meaning, Fails, Gives, told_only, most_net_
 use Rattle.sql_answer.specs.Combinations.{Seen, seen_version, seen_own, own_from, is_left, seen, rows_of, extended, met}
 use Rattle.sql_answer.specs.Shapes.{shape}
 use Rattle.sql_answer.specs.Writes.{set_row, rows_error}
-use Rattle.query_laws.proofs.ListLemmas.{all_append, all_flat, map_all, all_of_each, all_weaker}
+use Rattle.query_laws.proofs.ListLaws.{all_append, all_flat, map_all, all_of_each, all_weaker}
 use Rattle.serial_laws.specs.Changed.{IsRowOf, IsTrueTarget, IsTrueOp, IsSound, TellsTrue}
 use Rattle.serial_laws.proofs.ChangedLemmas.{all_filter}
 

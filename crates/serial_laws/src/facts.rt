@@ -1,4 +1,4 @@
-// Worked facts: what two transactions read and change (`specs/Worked.antt`).
+//! Worked facts: what two transactions read and change (`specs/Worked.antt`).
 ghost use Rattle.std.specs.Prelude.{◌≡◌, true, false, [], ◌∷◌};
 ghost use Rattle.report_text.specs.declared.reports.ReplyLine.TheVariants as reply;
 ghost use Rattle.sql_answer.specs.Worked.{int, tells};

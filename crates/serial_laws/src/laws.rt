@@ -1,4 +1,4 @@
-// What makes a history of SQL serial.
+//! What makes a history of SQL serial.
 ghost use Rattle.std.specs.Prelude.{List};
 ghost use Rattle.cdb_values.specs.Rows.{Rows, no_rows, apply_all};
 ghost use Rattle.cdb_values.specs.declared.rows.RowOp.{RowOp};

@@ -14,7 +14,7 @@ use Rattle.cdb_values.specs.declared.values.Value.{Value}
 use Rattle.snapshot_rows.specs.Ages.{Ages, ages_of, no_ages, is_seen, seen_in, seen, rows_seen, IsAgeUpTo, IsUpTo}
 use Rattle.snapshot_rows.specs.Commits.{ended, newborn, with_death, with_birth, after_op, after_ops}
 use Rattle.snapshot_rows.specs.declared.ages.Age.{Age}
-use Rattle.snapshot_rows.proofs.Tables.{map_unchanged, map_changed, all_changed, all_added}
+use Rattle.snapshot_rows.proofs.TableLemmas.{map_unchanged, map_changed, all_changed, all_added}
 
 -- the versions of the ages that a test keeps
 abbrev pub shown : (Age → Bool) → List Age → List Version

@@ -1,7 +1,7 @@
 pub mod AgeLemmas
-pub mod Undo
-pub mod Tables
-pub mod Placed
+pub mod BasedLaws
 pub mod BrokenLemmas
+pub mod PlacedLemmas
+pub mod TableLemmas
+pub mod UndoLemmas
 pub mod WriteLemmas
-pub mod Based

@@ -10,7 +10,7 @@ use Rattle.cdb_values.specs.declared.tables.KeyDef.{KeyDef}
 use Rattle.cdb_values.specs.declared.values.Value.{Value}
 use Rattle.snapshot_rows.specs.Broken.{is_row_taken, are_rows_apart}
 use Rattle.snapshot_rows.proofs.BrokenLemmas.{apart_append, not_true}
-use Rattle.snapshot_rows.proofs.Tables.{some_same}
+use Rattle.snapshot_rows.proofs.TableLemmas.{some_same}
 
 first_if : (b : Bool) (row : List Value) (later : List (List Value)) → (if b then row ∷ later else later) ≡ (if b then row ∷ [] else []) ++ later
 first_if true row later = refl

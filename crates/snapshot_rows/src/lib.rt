@@ -18,8 +18,6 @@
 mod ages;
 mod keys;
 mod snapshots;
-#[cfg(test)]
-mod tests;
 
 pub use ages::Age;
 pub use keys::BrokenKey;

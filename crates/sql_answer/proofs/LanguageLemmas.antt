@@ -14,7 +14,7 @@ use Rattle.cdb_values.specs.declared.values.Value.{Value}
 use Rattle.net_writes.specs.Net.{net_of}
 use Rattle.report_laws.specs.Answers.{Answers, ArePlain}
 use Rattle.report_laws.specs.Play.{are_up_to, is_last_of}
-use Rattle.report_laws.proofs.PieceLemmas.{up_to_rows}
+use Rattle.report_laws.proofs.PieceLaws.{up_to_rows}
 use Rattle.report_text.specs.declared.reports.ReplyLine.{ReplyLine}
 use Rattle.report_text.specs.declared.reports.ReplyLine.TheVariants as reply
 use Rattle.sql_bind.specs.Bound.{BoundStatement, BeginIt, CommitIt, RollbackIt, SetIt, InsertInto, UpdateOf, DeleteFrom, SelectOf}

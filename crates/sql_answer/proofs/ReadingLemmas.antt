@@ -18,9 +18,9 @@ use Rattle.std.proofs.lemmas.List.{length-map, map-append}
 use Rattle.sql_grammar.specs.Grammar.{StatementS}
 use Rattle.sql_grammar.specs.Readers.{statement_r}
 use Rattle.sql_grammar.specs.Trees.{Statement}
-use Rattle.sql_grammar.proofs.Statements.{exact_statement}
+use Rattle.sql_grammar.proofs.StatementLaws.{exact_statement}
 use Rattle.sql_reader.specs.Promise.{Spells, IsRefusedAt, offset_of}
-use Rattle.sql_reader.proofs.Top.{found, reads_it, no_refusal}
+use Rattle.sql_reader.proofs.TopLaws.{found, reads_it, no_refusal}
 use Rattle.sql_answer.specs.Reading.{first_token, spots_by, spots_behind, spots_within, spots_of, spots_left, verdict, reading}
 
 -- The spots are the tokens of the text.

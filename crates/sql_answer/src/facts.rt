@@ -1,4 +1,4 @@
-// Worked facts: what conditions, sums, queries and writes come to on a few rows (`specs/Worked.antt`).
+//! Worked facts: what conditions, sums, queries and writes come to on a few rows (`specs/Worked.antt`).
 ghost use Rattle.std.specs.Prelude.{◌≡◌, true, false, [], ◌∷◌, Ok, Some, None};
 ghost use Rattle.cdb_values.specs.declared.rows.RowOp.TheVariants as op;
 ghost use Rattle.cdb_values.specs.declared.rows.RowRef.TheVariants.{Base};

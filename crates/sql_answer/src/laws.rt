@@ -1,4 +1,4 @@
-// What holds of every text and of every statement.
+//! What holds of every text and of every statement.
 ghost use Rattle.std.specs.Prelude.{◌≡◌, ℕ, ◌↔◌, List, Ok, Err};
 ghost use Rattle.std.specs.List.Sorted.{IsStableBy};
 ghost use Rattle.cdb_values.specs.Rows.{Rows, view};

@@ -1,4 +1,4 @@
-// Binding: each statement is judged by its kinds of errors in order, and then bound.
+//! Binding: each statement is judged by its kinds of errors in order, and then bound.
 ghost use Rattle.std.specs.Prelude.{◌≡◌, map, option_map, Ok, IfOk, IfErr};
 ghost use Rattle.std.specs.List.{list_any};
 ghost use Rattle.sql_grammar.specs.Trees.{InsertInto, UpdateOf, DeleteFrom, SelectOf};

@@ -1,4 +1,4 @@
-// Whether one of the columns that a statement names is unknown, or ambiguous.
+//! Whether one of the columns that a statement names is unknown, or ambiguous.
 ghost use Rattle.std.specs.Prelude.{◌≡◌, ◌++◌, ◌||◌, map, flat_map};
 ghost use Rattle.std.specs.List.{list_any};
 ghost use Rattle.sql_grammar.specs.Views.{column_in, operand_in, condition_in, filter_in, item_in, setting_in, change_in};

@@ -1,4 +1,4 @@
-// Operands and conditions: their values and columns in the place of what is written.
+//! Operands and conditions: their values and columns in the place of what is written.
 ghost use Rattle.std.specs.Prelude.{◌≡◌, ◌≤◌, length, map, IfOk};
 ghost use Rattle.sql_grammar.specs.Views.{literal_in, operand_in, condition_in, filter_in as written_filter};
 ghost use Rattle.sql_bind.specs.Meaning.{value_of, bound_side, cmp_of, bound_cond, bound_filter};

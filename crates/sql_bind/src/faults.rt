@@ -1,4 +1,4 @@
-// Why a statement is not bound.
+//! Why a statement is not bound.
 ghost use Rattle.std.specs.Prelude.{◌≡◌};
 ghost use Rattle.sql_bind.specs.declared.faults.BindFault.TheVariants.{NoMemory};
 

@@ -1,4 +1,4 @@
-// INSERT: what is wrong with its list and its tuples, and the rows that they are.
+//! INSERT: what is wrong with its list and its tuples, and the rows that they are.
 ghost use Rattle.std.specs.Prelude.{◌≡◌, ◌==◌, ◌∷◌, [], not, map, length, IfOk, Some};
 ghost use Rattle.std.specs.List.{list_any};
 ghost use Rattle.cdb_values.specs.Tables.{has_twice};

@@ -1,4 +1,4 @@
-// The items of a query and of its ORDER BY, and what is wrong with them.
+//! The items of a query and of its ORDER BY, and what is wrong with them.
 ghost use Rattle.std.specs.Prelude.{◌≡◌, ◌++◌, ◌||◌, ◌&&◌, not, map, flat_map, is_none, IfOk};
 ghost use Rattle.std.specs.List.{list_any};
 ghost use Rattle.sql_grammar.specs.Views.{column_in, item_in, items_in, key_in, filter_in};

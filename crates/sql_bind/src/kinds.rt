@@ -1,4 +1,4 @@
-// The types of operands and values. NULL has none, and goes with each.
+//! The types of operands and values. NULL has none, and goes with each.
 ghost use Rattle.std.specs.Prelude.{◌≡◌, ◌||◌, List, Option, map};
 ghost use Rattle.std.specs.List.{list_any};
 ghost use Rattle.cdb_values.specs.declared.tables.ColumnType.{ColumnType};

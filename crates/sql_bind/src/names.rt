@@ -1,4 +1,4 @@
-// Names that may stand once.
+//! Names that may stand once.
 ghost use Rattle.std.specs.Prelude.{◌≡◌, map};
 ghost use Rattle.std.specs.List.{list_any};
 ghost use Rattle.std.specs.Str.{bytes_eq};

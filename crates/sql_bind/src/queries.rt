@@ -1,4 +1,4 @@
-// What a query means: its items, tables, groups and order by their places.
+//! What a query means: its items, tables, groups and order by their places.
 ghost use Rattle.std.specs.Prelude.{◌≡◌, ◌≤◌, ◌++◌, length, map, IfOk, OnOk};
 ghost use Rattle.sql_grammar.specs.Views.{column_in, item_in, items_in, key_in, query_in as written_query};
 ghost use Rattle.sql_bind.specs.Meaning.{bound_item as item_meant, bound_items as items_meant, bound_key as key_meant, bound_query, columns_from, all_from};

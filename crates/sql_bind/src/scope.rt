@@ -1,4 +1,4 @@
-// The tables of a statement, and the columns that a name may mean.
+//! The tables of a statement, and the columns that a name may mean.
 ghost use Rattle.std.specs.Prelude.{◌≡◌, ◌≤◌, map, take, length, Some, None, ◌∷◌, []};
 ghost use Rattle.std.specs.List.{list_any};
 ghost use Rattle.sql_grammar.specs.Views.{name_in, column_in};

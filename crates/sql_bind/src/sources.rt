@@ -1,4 +1,4 @@
-// The tables of a statement, looked up in a schema.
+//! The tables of a statement, looked up in a schema.
 ghost use Rattle.std.specs.Prelude.{◌≡◌, false, map, IfOk, IfErr};
 ghost use Rattle.std.specs.List.{list_any};
 ghost use Rattle.cdb_values.specs.Named.{table_named};

@@ -1,4 +1,4 @@
-// What a statement means in a schema: tables and columns by their places, values as rows hold them.
+//! What a statement means in a schema: tables and columns by their places, values as rows hold them.
 use cdb_values::{Level, List, Row, Value};
 use sql_grammar::Seq;
 

@@ -1,4 +1,4 @@
-// UPDATE: what is wrong with it, and what its SET means.
+//! UPDATE: what is wrong with it, and what its SET means.
 ghost use Rattle.std.specs.Prelude.{◌≡◌, ◌≤◌, ◌∷◌, [], length, map, IfOk};
 ghost use Rattle.std.specs.List.{list_any};
 ghost use Rattle.sql_grammar.specs.Views.{name_in, operand_in, filter_in, setting_in, change_in};

@@ -1,6 +1,6 @@
-pub mod Operands
-pub mod Conditions
-pub mod Changes
-pub mod Queries
-pub mod Statements
-pub mod Same
+pub mod ChangeLaws
+pub mod ConditionLaws
+pub mod OperandLaws
+pub mod QueryLaws
+pub mod SameLaws
+pub mod StatementLaws

@@ -1,4 +1,4 @@
-// What a text of SQL says: statements, and the definition of a table.
+//! What a text of SQL says: statements, and the definition of a table.
 use crate::seq::Seq;
 
 /// A statement.

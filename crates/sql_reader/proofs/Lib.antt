@@ -1,5 +1,5 @@
-pub mod Joined
-pub mod Levels
-pub mod Steps
-pub mod Top
-pub mod Whole
+pub mod JoinedLemmas
+pub mod LevelLemmas
+pub mod StepLemmas
+pub mod TopLaws
+pub mod WholeLemmas

@@ -1,4 +1,4 @@
-// INSERT, UPDATE, DELETE and SET TRANSACTION.
+//! INSERT, UPDATE, DELETE and SET TRANSACTION.
 ghost use Rattle.std.specs.Prelude.{◌≡◌, ℕ, option_map};
 ghost use Rattle.grammar_forms.specs.Parts.{optional};
 ghost use Rattle.sql_tokens.specs.declared.kinds.Sign.TheVariants as sign;
@@ -39,7 +39,7 @@ pub(crate) fn tuple(
     in_parentheses::<LiteralRule>(alloc, tokens)
 }
 
-// Whether a step of SET begins with this token.
+/// Whether a step of SET begins with this token.
 #[tactic(auto, unfolding(sql_grammar::specs::Readers::begins_step))]
 fn begins_change(token: &Token) -> bool
     ensures { result ≡ begins_step token.now }
@@ -101,7 +101,7 @@ pub(crate) fn setting(alloc: Global, tokens: &[Token]) -> Result<(Assign, &[Toke
     ))
 }
 
-// The columns that an INSERT names, if it names any.
+/// The columns that an INSERT names, if it names any.
 fn columns(
     alloc: Global,
     tokens: &[Token],

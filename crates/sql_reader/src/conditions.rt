@@ -1,4 +1,4 @@
-// Comparisons and conditions.
+//! Comparisons and conditions.
 ghost use Rattle.std.specs.Prelude.{◌≡◌, ℕ, ◌≤◌};
 ghost use Rattle.sql_grammar.specs.Readers.{sign_r, negation_r, comparison_r, not_r, and_r, condition_r, where_r};
 ghost use Rattle.sql_grammar.specs.Views.{condition_in, filter_in};
@@ -13,7 +13,7 @@ use std::alloc::Global;
 /// How many `(` and `not` may be open at once.
 pub(crate) const LEVELS: u8 = 100;
 
-// The sign of a comparison.
+/// The sign of a comparison.
 #[tactic(auto, unfolding(sql_grammar::specs::Readers::sign_r))]
 fn comparison_sign(tokens: &[Token]) -> Result<(Comparison, &[Token]), ReadError<'_>>
     ensures { Gives (λ x. x.0) (λ x. x.1.now) result (sign_r tokens.now) }
@@ -36,7 +36,7 @@ fn comparison_sign(tokens: &[Token]) -> Result<(Comparison, &[Token]), ReadError
     Ok((Comparison::Ge, expect_sign(tokens, Sign::GreaterEqual)?))
 }
 
-// Whether `not` stands here, and the tokens behind it.
+/// Whether `not` stands here, and the tokens behind it.
 #[tactic(auto, unfolding(sql_grammar::specs::Readers::negation_r))]
 fn negation(tokens: &[Token]) -> Result<(bool, &[Token]), ReadError<'_>>
     ensures { Gives (λ x. x.0) (λ x. x.1.now) result (negation_r tokens.now) }
@@ -47,7 +47,7 @@ fn negation(tokens: &[Token]) -> Result<(bool, &[Token]), ReadError<'_>>
     Ok((false, tokens))
 }
 
-// Two operands, or one that is tested for NULL.
+/// Two operands, or one that is tested for NULL.
 #[tactic(auto, unfolding(sql_grammar::specs::Readers::comparison_r, sql_grammar::specs::Readers::test_r, sql_grammar::specs::Views::condition_in))]
 fn comparison(alloc: Global, tokens: &[Token]) -> Result<(Test, &[Token]), ReadError<'_>>
     ensures { Gives (λ x. condition_in x.0) (λ x. x.1.now) result (comparison_r tokens.now) }
@@ -69,9 +69,9 @@ fn comparison(alloc: Global, tokens: &[Token]) -> Result<(Test, &[Token]), ReadE
     Ok((Test::Compare { op, left, right }, rest))
 }
 
-// A comparison, or a condition behind `not` or in parentheses, with so many levels to open.
+/// A comparison, or a condition behind `not` or in parentheses, with so many levels to open.
 #[cycle(conditions)]
-#[tactic(auto, using(crate::proofs::Levels::not_deeper, crate::proofs::Levels::not_last), unfolding(sql_grammar::specs::Views::condition_in))]
+#[tactic(auto, using(crate::proofs::LevelLemmas::not_deeper, crate::proofs::LevelLemmas::not_last), unfolding(sql_grammar::specs::Views::condition_in))]
 fn not(alloc: Global, tokens: &[Token], levels: u8) -> Result<(Test, &[Token]), ReadError<'_>>
     ensures { Gives (λ x. condition_in x.0) (λ x. x.1.now) result (not_r levels tokens.now) }
 {
@@ -90,7 +90,7 @@ fn not(alloc: Global, tokens: &[Token], levels: u8) -> Result<(Test, &[Token]), 
     comparison(alloc, tokens)
 }
 
-// One part, or parts with `and` between them.
+/// One part, or parts with `and` between them.
 #[cycle(conditions)]
 fn all_of(alloc: Global, tokens: &[Token], levels: u8) -> Result<(Test, &[Token]), ReadError<'_>>
     ensures { Gives (λ x. condition_in x.0) (λ x. x.1.now) result (and_r levels tokens.now) }
@@ -110,7 +110,7 @@ fn all_of(alloc: Global, tokens: &[Token], levels: u8) -> Result<(Test, &[Token]
     Ok((Test::And(Seq::from_vec(parts)), rest))
 }
 
-// One part, or parts with `or` between them.
+/// One part, or parts with `or` between them.
 #[cycle(conditions)]
 fn any_of(alloc: Global, tokens: &[Token], levels: u8) -> Result<(Test, &[Token]), ReadError<'_>>
     ensures { Gives (λ x. condition_in x.0) (λ x. x.1.now) result (condition_r levels tokens.now) }

@@ -1,4 +1,4 @@
-// The tokens that are still to be read: steps over one of them, and why a reader stops.
+//! The tokens that are still to be read: steps over one of them, and why a reader stops.
 ghost use Rattle.std.specs.Prelude.{◌≡◌, ℕ};
 ghost use Rattle.grammar_forms.specs.Forms.{next_is};
 ghost use Rattle.grammar_forms.specs.Parts.{word};
@@ -121,7 +121,7 @@ pub(crate) fn is_name_next(tokens: &[Token]) -> bool
     }
 }
 
-// Whether the token is a name, of at most 32 bytes.
+/// Whether the token is a name, of at most 32 bytes.
 #[tactic(auto, unfolding(sql_grammar::specs::Readers::is_name))]
 fn is_short_name(token: &Token) -> bool
     ensures { result ≡ is_name token.now }

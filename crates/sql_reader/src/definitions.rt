@@ -1,4 +1,4 @@
-// CREATE TABLE.
+//! CREATE TABLE.
 ghost use Rattle.std.specs.Prelude.{◌≡◌, ℕ, map};
 ghost use Rattle.grammar_forms.specs.Forms.{next_is};
 ghost use Rattle.sql_grammar.specs.Readers.{begins_mark, mark_r, type_r, uniqueness_r, part_r, table_r};
@@ -13,7 +13,7 @@ use sql_grammar::{CreatePart, CreateTable, Kind, Mark};
 use sql_tokens::{Keyword, Token};
 use std::alloc::Global;
 
-// Whether a mark of a column begins with this token.
+/// Whether a mark of a column begins with this token.
 #[tactic(auto, unfolding(sql_grammar::specs::Readers::begins_mark))]
 fn begins_mark(token: &Token) -> bool
     ensures { result ≡ begins_mark token.now }
@@ -49,7 +49,7 @@ pub(crate) fn mark(tokens: &[Token]) -> Result<(Mark, &[Token]), ReadError<'_>>
     Ok((Mark::Unique, expect(tokens, Keyword::Unique)?))
 }
 
-// The type of a column.
+/// The type of a column.
 #[tactic(auto, unfolding(sql_grammar::specs::Readers::type_r))]
 fn kind(tokens: &[Token]) -> Result<(Kind, &[Token]), ReadError<'_>>
     ensures { Gives (λ x. x.0) (λ x. x.1.now) result (type_r tokens.now) }
@@ -66,7 +66,7 @@ fn kind(tokens: &[Token]) -> Result<(Kind, &[Token]), ReadError<'_>>
     Ok((Kind::Blob, expect(tokens, Keyword::Blob)?))
 }
 
-// Whether a key is unique.
+/// Whether a key is unique.
 #[tactic(auto, unfolding(sql_grammar::specs::Readers::uniqueness_r))]
 fn uniqueness(tokens: &[Token]) -> Result<(bool, &[Token]), ReadError<'_>>
     ensures { Gives (λ x. x.0) (λ x. x.1.now) result (uniqueness_r tokens.now) }

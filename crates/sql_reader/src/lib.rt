@@ -85,7 +85,7 @@ pub enum ReadStop {
     NoMemory,
 }
 
-// How a stop is told: by the place of the first token that is left, or by the end.
+/// How a stop is told: by the place of the first token that is left, or by the end.
 fn stopped(spots: &Spots, end: u32, stop: ReadError<'_>) -> ReadStop
     ensures { StopsAs spots.now end stop.entry result }
 {

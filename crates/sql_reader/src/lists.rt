@@ -1,4 +1,4 @@
-// Lists of parts: with a comma between every two, and one behind the other.
+//! Lists of parts: with a comma between every two, and one behind the other.
 ghost use Rattle.std.specs.Prelude.{◌≡◌, ℕ, List, Bool, false, true, map};
 ghost use Rattle.grammar_forms.specs.Forms.{Spelling, Reader, many, next_is};
 ghost use Rattle.grammar_forms.specs.Kinds.{has, apart};
@@ -29,6 +29,7 @@ pub(crate) trait Rule {
 
     ghost goes_on: { List ℕ };
 
+    /// Reads what stands at the front of the tokens.
     fn read(alloc: Global, tokens: &[Token]) -> Result<(Self::Item, &[Token]), ReadError<'_>>
         ensures { Gives (λ x. value x.0) (λ x. x.1.now) result (reads tokens.now) };
 

@@ -1,4 +1,4 @@
-// Literals, columns and operands.
+//! Literals, columns and operands.
 ghost use Rattle.std.specs.Prelude.{◌≡◌, ℕ, ◌<◌, ◌≤◌, ◌^◌, pos, neg_ℤ, IfOk};
 ghost use Rattle.grammar_forms.specs.Forms.{next_is, one};
 ghost use Rattle.sql_grammar.specs.Words.{negated, constant_of};
@@ -15,7 +15,7 @@ use std::alloc::{AllocError, Global};
 
 const LARGEST: u64 = 9223372036854775807;
 
-// The number behind a minus: up to one more than the largest.
+/// The number behind a minus: up to one more than the largest.
 fn negative(tokens: &[Token]) -> Result<(Literal, &[Token]), ReadError<'_>>
     ensures { Gives (λ x. literal_in x.0) (λ x. x.1.now) result (one negated tokens.now) }
 {
@@ -32,14 +32,14 @@ fn negative(tokens: &[Token]) -> Result<(Literal, &[Token]), ReadError<'_>>
     }
 }
 
-// A copy of the bytes of a token.
+/// A copy of the bytes of a token.
 fn copied(alloc: Global, bytes: &Bytes) -> Result<Seq<u8>, AllocError>
     ensures { IfOk result (λ s. s.items.items ≡ bytes.now) }
 {
     Ok(Seq::from_vec(bytes.copy_to_vec(alloc)?))
 }
 
-// A number, a text or a blob.
+/// A number, a text or a blob.
 fn constant(alloc: Global, tokens: &[Token]) -> Result<(Literal, &[Token]), ReadError<'_>>
     ensures { Gives (λ x. literal_in x.0) (λ x. x.1.now) result (one constant_of tokens.now) }
 {
@@ -97,7 +97,7 @@ pub(crate) fn column(
     ))
 }
 
-// Whether a literal begins with this token.
+/// Whether a literal begins with this token.
 #[tactic(auto, unfolding(sql_grammar::specs::Readers::begins_literal))]
 fn begins_literal(token: &Token) -> bool
     ensures { result ≡ begins_literal token.now }
@@ -110,7 +110,7 @@ fn begins_literal(token: &Token) -> bool
     }
 }
 
-// Whether a literal begins here.
+/// Whether a literal begins here.
 fn is_literal_next(tokens: &[Token]) -> bool
     ensures { result ≡ next_is begins_literal tokens.now }
 {

@@ -1,4 +1,4 @@
-// SELECT.
+//! SELECT.
 ghost use Rattle.std.specs.Prelude.{◌≡◌, ℕ, ◌^◌, ◌<◌, map, option_map, List};
 ghost use Rattle.grammar_forms.specs.Forms.{one};
 ghost use Rattle.sql_grammar.specs.Words.{limit_of};
@@ -16,7 +16,7 @@ use sql_grammar::{ColumnName, FromTable, OrderKey, SelectItem, SelectStmt, Seq, 
 use sql_tokens::{Keyword, Sign, Token};
 use std::alloc::Global;
 
-// A column in parentheses.
+/// A column in parentheses.
 #[tactic(auto, unfolding(sql_grammar::specs::Readers::argument_r))]
 fn argument(alloc: Global, tokens: &[Token]) -> Result<(ColumnName, &[Token]), ReadError<'_>>
     ensures { Gives (λ x. column_in x.0) (λ x. x.1.now) result (argument_r tokens.now) }
@@ -26,7 +26,7 @@ fn argument(alloc: Global, tokens: &[Token]) -> Result<(ColumnName, &[Token]), R
     Ok((column, expect_sign(rest, Sign::Close)?))
 }
 
-// What stands behind `count`.
+/// What stands behind `count`.
 #[tactic(auto, unfolding(sql_grammar::specs::Readers::count_r))]
 fn count(tokens: &[Token]) -> Result<(SelectItem, &[Token]), ReadError<'_>>
     ensures { Gives (λ x. item_in x.0) (λ x. x.1.now) result (count_r tokens.now) }
@@ -61,7 +61,7 @@ pub(crate) fn item(alloc: Global, tokens: &[Token]) -> Result<(SelectItem, &[Tok
     Ok((SelectItem::Column(column), rest))
 }
 
-// `*`, or the columns of the answer.
+/// `*`, or the columns of the answer.
 #[tactic(auto, unfolding(sql_grammar::specs::Readers::items_r))]
 fn items(
     alloc: Global,
@@ -76,7 +76,7 @@ fn items(
     Ok((Some(items), rest))
 }
 
-// The alias of a table, if there is one.
+/// The alias of a table, if there is one.
 fn alias(alloc: Global, tokens: &[Token]) -> Result<(Option<Seq<u8>>, &[Token]), ReadError<'_>>
     ensures { Gives (λ x. option_map name_in x.0) (λ x. x.1.now) result (alias_r tokens.now) }
 {
@@ -91,7 +91,7 @@ fn alias(alloc: Global, tokens: &[Token]) -> Result<(Option<Seq<u8>>, &[Token]),
     Ok((None, tokens))
 }
 
-// A table of FROM.
+/// A table of FROM.
 #[tactic(auto, unfolding(sql_grammar::specs::Readers::source_r))]
 fn source(alloc: Global, tokens: &[Token]) -> Result<(FromTable, &[Token]), ReadError<'_>>
     ensures { Gives (λ x. source_in x.0) (λ x. x.1.now) result (source_r tokens.now) }
@@ -101,7 +101,7 @@ fn source(alloc: Global, tokens: &[Token]) -> Result<(FromTable, &[Token]), Read
     Ok((FromTable { table, alias }, rest))
 }
 
-// FROM and one to three tables.
+/// FROM and one to three tables.
 #[tactic(auto, unfolding(sql_grammar::specs::Readers::from_r))]
 fn from(alloc: Global, tokens: &[Token]) -> Result<(Seq<FromTable>, &[Token]), ReadError<'_>>
     ensures { Gives (λ x. map source_in x.0.items.items) (λ x. x.1.now) result (from_r tokens.now) }
@@ -123,7 +123,7 @@ fn from(alloc: Global, tokens: &[Token]) -> Result<(Seq<FromTable>, &[Token]), R
     Ok((Seq::from_vec(tables), rest))
 }
 
-// Whether `desc` stands here, and the tokens behind it or behind `asc`.
+/// Whether `desc` stands here, and the tokens behind it or behind `asc`.
 #[tactic(auto, unfolding(sql_grammar::specs::Readers::direction_r))]
 fn direction(tokens: &[Token]) -> Result<(bool, &[Token]), ReadError<'_>>
     ensures { Gives (λ x. x.0) (λ x. x.1.now) result (direction_r tokens.now) }
@@ -147,7 +147,7 @@ pub(crate) fn key(alloc: Global, tokens: &[Token]) -> Result<(OrderKey, &[Token]
     Ok((OrderKey { item, descending }, rest))
 }
 
-// The columns of GROUP BY.
+/// The columns of GROUP BY.
 #[tactic(auto, unfolding(sql_grammar::specs::Readers::group_r))]
 fn group(alloc: Global, tokens: &[Token]) -> Result<(Seq<ColumnName>, &[Token]), ReadError<'_>>
     ensures { Gives (λ x. map column_in x.0.items.items) (λ x. x.1.now) result (group_r tokens.now) }
@@ -161,7 +161,7 @@ fn group(alloc: Global, tokens: &[Token]) -> Result<(Seq<ColumnName>, &[Token]),
     Ok((Seq::from_vec(Vec::new(alloc)), tokens))
 }
 
-// The keys of ORDER BY.
+/// The keys of ORDER BY.
 #[tactic(auto, unfolding(sql_grammar::specs::Readers::order_r))]
 fn order(alloc: Global, tokens: &[Token]) -> Result<(Seq<OrderKey>, &[Token]), ReadError<'_>>
     ensures { Gives (λ x. map key_in x.0.items.items) (λ x. x.1.now) result (order_r tokens.now) }
@@ -175,7 +175,7 @@ fn order(alloc: Global, tokens: &[Token]) -> Result<(Seq<OrderKey>, &[Token]), R
     Ok((Seq::from_vec(Vec::new(alloc)), tokens))
 }
 
-// A number below 2 ^ 63.
+/// A number below 2 ^ 63.
 fn bound(tokens: &[Token]) -> Result<(u64, &[Token]), ReadError<'_>>
     ensures { Gives (λ x. x.0) (λ x. x.1.now) result (one limit_of tokens.now) }
 {
@@ -185,7 +185,7 @@ fn bound(tokens: &[Token]) -> Result<(u64, &[Token]), ReadError<'_>>
     }
 }
 
-// The number of LIMIT, if there is one.
+/// The number of LIMIT, if there is one.
 #[tactic(auto, unfolding(sql_grammar::specs::Readers::limit_r))]
 fn limit(tokens: &[Token]) -> Result<(Option<u64>, &[Token]), ReadError<'_>>
     ensures { Gives (λ x. x.0) (λ x. x.1.now) result (limit_r tokens.now) }
@@ -197,7 +197,7 @@ fn limit(tokens: &[Token]) -> Result<(Option<u64>, &[Token]), ReadError<'_>>
     Ok((None, tokens))
 }
 
-// What stands behind FROM.
+/// What stands behind FROM.
 #[derive(Drop)]
 struct Ending {
     filter: Option<Test>,
@@ -206,6 +206,7 @@ struct Ending {
     limit: Option<u64>,
 }
 
+/// What may stand behind the tables of a query: WHERE, GROUP BY, ORDER BY and LIMIT.
 #[tactic(auto, unfolding(sql_grammar::specs::Readers::tail_r))]
 fn behind_from(alloc: Global, tokens: &[Token]) -> Result<(Ending, &[Token]), ReadError<'_>>
     ensures { Gives (λ x. ending_in x.0) (λ x. x.1.now) result (tail_r tokens.now) }
@@ -225,7 +226,7 @@ fn behind_from(alloc: Global, tokens: &[Token]) -> Result<(Ending, &[Token]), Re
     ))
 }
 
-// Whether it is `selectv`.
+/// Whether it is `selectv`.
 fn verb(tokens: &[Token]) -> Result<(bool, &[Token]), ReadError<'_>>
     ensures { Gives (λ x. x.0) (λ x. x.1.now) result (verb_r tokens.now) }
 {

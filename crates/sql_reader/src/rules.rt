@@ -1,4 +1,4 @@
-// The rules whose parts stand in lists.
+//! The rules whose parts stand in lists.
 ghost use Rattle.std.specs.Prelude.{◌≡◌, ℕ, List, [], ◌∷◌, ◌++◌};
 
 use crate::changes::{change, is_change_next, setting, tuple};
@@ -22,7 +22,7 @@ impl Rule for NameRule {
     ghost use Rattle.sql_grammar.specs.Words.{a_name};
     ghost use Rattle.sql_grammar.specs.Grammar.{NameS};
     ghost use Rattle.sql_grammar.specs.Readers.{name_r};
-    ghost use Rattle.sql_grammar.proofs.Operands.{exact_name};
+    ghost use Rattle.sql_grammar.proofs.OperandLaws.{exact_name};
 
     ghost Tree = { Name };
 
@@ -53,7 +53,7 @@ impl Rule for LiteralRule {
     ghost use Rattle.sql_grammar.specs.Views.{literal_in};
     ghost use Rattle.sql_grammar.specs.Grammar.{LiteralS};
     ghost use Rattle.sql_grammar.specs.Readers.{literal_r};
-    ghost use Rattle.sql_grammar.proofs.Operands.{literals, exact_literal};
+    ghost use Rattle.sql_grammar.proofs.OperandLaws.{literals, exact_literal};
 
     ghost Tree = { Constant };
 
@@ -86,7 +86,7 @@ impl Rule for TupleRule {
     ghost use Rattle.sql_tokens.specs.declared.kinds.Sign.TheVariants as sign;
     ghost use Rattle.sql_grammar.specs.Grammar.{TupleS};
     ghost use Rattle.sql_grammar.specs.Readers.{tuple_r};
-    ghost use Rattle.sql_grammar.proofs.Changes.{exact_tuple};
+    ghost use Rattle.sql_grammar.proofs.ChangeLaws.{exact_tuple};
 
     ghost Tree = { List Constant };
 
@@ -119,8 +119,8 @@ impl Rule for SettingRule {
     ghost use Rattle.sql_tokens.specs.declared.kinds.Sign.TheVariants as sign;
     ghost use Rattle.sql_grammar.specs.Grammar.{SettingS};
     ghost use Rattle.sql_grammar.specs.Readers.{setting_r};
-    ghost use Rattle.sql_grammar.proofs.Operands.{steps};
-    ghost use Rattle.sql_grammar.proofs.Changes.{exact_setting};
+    ghost use Rattle.sql_grammar.proofs.OperandLaws.{steps};
+    ghost use Rattle.sql_grammar.proofs.ChangeLaws.{exact_setting};
 
     ghost Tree = { Setting };
 
@@ -151,9 +151,9 @@ impl Rule for ChangeRule {
     ghost use Rattle.sql_grammar.specs.Views.{change_in};
     ghost use Rattle.sql_grammar.specs.Grammar.{ChangeS};
     ghost use Rattle.sql_grammar.specs.Readers.{change_r};
-    ghost use Rattle.sql_grammar.proofs.Operands.{steps};
-    ghost use Rattle.sql_grammar.proofs.Conditions.{dot};
-    ghost use Rattle.sql_grammar.proofs.Changes.{exact_change};
+    ghost use Rattle.sql_grammar.proofs.OperandLaws.{steps};
+    ghost use Rattle.sql_grammar.proofs.ConditionLaws.{dot};
+    ghost use Rattle.sql_grammar.proofs.ChangeLaws.{exact_change};
 
     ghost Tree = { Change };
 
@@ -185,8 +185,8 @@ impl Rule for ColumnRule {
     ghost use Rattle.sql_grammar.specs.Words.{a_name};
     ghost use Rattle.sql_grammar.specs.Grammar.{ColumnS};
     ghost use Rattle.sql_grammar.specs.Readers.{column_r};
-    ghost use Rattle.sql_grammar.proofs.Conditions.{dot};
-    ghost use Rattle.sql_grammar.proofs.Operands.{exact_column};
+    ghost use Rattle.sql_grammar.proofs.ConditionLaws.{dot};
+    ghost use Rattle.sql_grammar.proofs.OperandLaws.{exact_column};
 
     ghost Tree = { Column };
 
@@ -217,8 +217,8 @@ impl Rule for ItemRule {
     ghost use Rattle.sql_grammar.specs.Views.{item_in};
     ghost use Rattle.sql_grammar.specs.Grammar.{ItemS};
     ghost use Rattle.sql_grammar.specs.Readers.{item_r};
-    ghost use Rattle.sql_grammar.proofs.Queries.{item_begins, exact_item};
-    ghost use Rattle.sql_grammar.proofs.Conditions.{dot};
+    ghost use Rattle.sql_grammar.proofs.QueryLaws.{item_begins, exact_item};
+    ghost use Rattle.sql_grammar.proofs.ConditionLaws.{dot};
 
     ghost Tree = { Item };
 
@@ -252,7 +252,7 @@ impl Rule for KeyRule {
     ghost use Rattle.sql_tokens.specs.declared.kinds.Keyword.TheVariants as words;
     ghost use Rattle.sql_grammar.specs.Grammar.{KeyS};
     ghost use Rattle.sql_grammar.specs.Readers.{key_r};
-    ghost use Rattle.sql_grammar.proofs.Queries.{item_begins, exact_key};
+    ghost use Rattle.sql_grammar.proofs.QueryLaws.{item_begins, exact_key};
 
     ghost Tree = { Key };
 
@@ -283,8 +283,8 @@ impl Rule for PartRule {
     ghost use Rattle.sql_grammar.specs.Views.{part_in};
     ghost use Rattle.sql_grammar.specs.Grammar.{PartS};
     ghost use Rattle.sql_grammar.specs.Readers.{part_r};
-    ghost use Rattle.sql_grammar.proofs.Statements.{part_begins, exact_part};
-    ghost use Rattle.sql_grammar.proofs.Operands.{marks};
+    ghost use Rattle.sql_grammar.proofs.StatementLaws.{part_begins, exact_part};
+    ghost use Rattle.sql_grammar.proofs.OperandLaws.{marks};
 
     ghost Tree = { Part };
 
@@ -314,8 +314,8 @@ impl Rule for MarkRule {
     ghost use Rattle.sql_grammar.specs.declared.types.Mark.{Mark as TheMark};
     ghost use Rattle.sql_grammar.specs.Grammar.{MarkS};
     ghost use Rattle.sql_grammar.specs.Readers.{mark_r};
-    ghost use Rattle.sql_grammar.proofs.Operands.{marks};
-    ghost use Rattle.sql_grammar.proofs.Statements.{exact_mark};
+    ghost use Rattle.sql_grammar.proofs.OperandLaws.{marks};
+    ghost use Rattle.sql_grammar.proofs.StatementLaws.{exact_mark};
 
     ghost Tree = { TheMark };
 

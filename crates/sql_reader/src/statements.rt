@@ -1,4 +1,4 @@
-// Whole statements, and what may stand behind one.
+//! Whole statements, and what may stand behind one.
 ghost use Rattle.std.specs.Prelude.{◌≡◌, ℕ, []};
 ghost use Rattle.grammar_forms.specs.Forms.{only};
 ghost use Rattle.sql_grammar.specs.Readers.{simple_r, one_r, statement_r, create_r, ended, no_more};
@@ -13,7 +13,7 @@ use sql_grammar::{CreateTable, Stmt};
 use sql_tokens::{Keyword, Sign, Token};
 use std::alloc::Global;
 
-// A statement of one word, or a query.
+/// A statement of one word, or a query.
 #[tactic(auto, unfolding(sql_grammar::specs::Readers::simple_r))]
 fn simple(alloc: Global, tokens: &[Token]) -> Result<(Stmt, &[Token]), ReadError<'_>>
     ensures { Gives (λ x. statement_in x.0) (λ x. x.1.now) result (simple_r tokens.now) }
@@ -34,7 +34,7 @@ fn simple(alloc: Global, tokens: &[Token]) -> Result<(Stmt, &[Token]), ReadError
     Ok((Stmt::Select(found), rest))
 }
 
-// A statement, up to its closing sign.
+/// A statement, up to its closing sign.
 #[tactic(auto, unfolding(sql_grammar::specs::Readers::one_r))]
 fn one(alloc: Global, tokens: &[Token]) -> Result<(Stmt, &[Token]), ReadError<'_>>
     ensures { Gives (λ x. statement_in x.0) (λ x. x.1.now) result (one_r tokens.now) }
@@ -54,7 +54,7 @@ fn one(alloc: Global, tokens: &[Token]) -> Result<(Stmt, &[Token]), ReadError<'_
     simple(alloc, tokens)
 }
 
-// The end, with or without a closing sign before it.
+/// The end, with or without a closing sign before it.
 fn end(tokens: &[Token]) -> Result<(), ReadError<'_>>
     ensures { Gives (λ _. tt) (λ _. []) result (ended tokens.now) }
 {
@@ -65,7 +65,7 @@ fn end(tokens: &[Token]) -> Result<(), ReadError<'_>>
     }
 }
 
-// No token more.
+/// No token more.
 fn no_more(tokens: &[Token]) -> Result<(), ReadError<'_>>
     ensures { Gives (λ _. tt) (λ _. []) result (no_more tokens.now) }
 {

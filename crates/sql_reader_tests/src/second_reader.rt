@@ -1,9 +1,9 @@
-// A second reader for the tests, slow and with nothing of the first: it keeps each way in which the tokens so far may
-// go on, and a text is refused at the first token with which none does.
+//! A second reader for the tests, slow and with nothing of the first: it keeps each way in which the tokens so far may
+//! go on, and a text is refused at the first token with which none does.
 use std::alloc::{AllocError, Global};
 
-// The grammar: each rule with its ways. In a way a word in capitals is a rule, one in angle brackets a kind of token,
-// and any other the token that it spells. Levels of parentheses and `not` are not counted.
+/// The grammar: each rule with its ways. In a way a word in capitals is a rule, one in angle brackets a kind of token,
+/// and any other the token that it spells. Levels of parentheses and `not` are not counted.
 static RULES: [(&str, &[&str]); 37] = [
     ("STATEMENT", &["ONE END"]),
     ("END", &["", ";"]),
@@ -98,7 +98,7 @@ static RULES: [(&str, &[&str]); 37] = [
     ),
 ];
 
-// The reserved words.
+/// The reserved words.
 static RESERVED: [&str; 46] = [
     "all",
     "and",
@@ -148,10 +148,10 @@ static RESERVED: [&str; 46] = [
     "where",
 ];
 
-// The most ways and rules that are looked at for one token.
+/// The most ways and rules that are looked at for one token.
 const STEPS: usize = 1000;
 
-// What stands at the head of a text.
+/// What stands at the head of a text.
 #[derive(Clone, Copy)]
 enum Head<'a> {
     // A reserved word or a sign, by its bytes.
@@ -220,7 +220,7 @@ fn without_blanks(bytes: &[u8]) -> &[u8] {
     &[]
 }
 
-// The ways in which the tokens go on behind this one.
+/// The ways in which the tokens go on behind this one.
 fn ways_after(alloc: Global, ways: &[String], head: Head<'_>) -> Result<Vec<String>, AllocError> {
     let mut pending = copied(alloc, ways)?;
     let mut after = Vec::new(alloc);
@@ -246,7 +246,7 @@ fn copied(alloc: Global, ways: &[String]) -> Result<Vec<String>, AllocError> {
     Ok(copies)
 }
 
-// Each way of a rule, with the rest behind it.
+/// Each way of a rule, with the rest behind it.
 fn expand(
     alloc: Global,
     rule: &str,
@@ -292,7 +292,7 @@ fn is_head(symbol: &str, head: Head<'_>) -> bool {
     }
 }
 
-// The token at the head of these bytes, and how many it takes.
+/// The token at the head of these bytes, and how many it takes.
 fn first_token(bytes: &[u8]) -> (Head<'_>, usize) {
     for size in 1..bytes.len() + 1 {
         let (piece, rest) = bytes.split_at(size);
@@ -310,7 +310,7 @@ fn first_token(bytes: &[u8]) -> (Head<'_>, usize) {
     )
 }
 
-// What a piece is as a token, with this byte behind it.
+/// What a piece is as a token, with this byte behind it.
 fn head_of(piece: &[u8], next: u8) -> Option<Head<'_>> {
     if is_word(piece, next) {
         return Some(word(piece));

@@ -1,4 +1,4 @@
-// Texts, whether each is read, and where it is refused: with the offsets counted by hand, and as a second reader answers.
+//! Texts, whether each is read, and where it is refused: with the offsets counted by hand, and as a second reader answers.
 use super::second_reader::{refusal_from, rule_alone, ways_behind};
 use sql_reader::{
     CreatePart, CreateTable, Kind, Literal, Mark, Operand, ReadStop, Sign, Stmt, Test, read,
@@ -16,7 +16,7 @@ fn place(stop: ReadStop) -> Result<Option<u32>, AllocError> {
     }
 }
 
-// Where a text is refused as a statement, if it is.
+/// Where a text is refused as a statement, if it is.
 fn refusal(alloc: Global, text: &str) -> Result<Option<u32>, AllocError> {
     if text.len() > LONGEST {
         return Err(AllocError);
@@ -27,7 +27,7 @@ fn refusal(alloc: Global, text: &str) -> Result<Option<u32>, AllocError> {
     }
 }
 
-// Where a text is refused as the definition of a table, if it is.
+/// Where a text is refused as the definition of a table, if it is.
 fn create_refusal(alloc: Global, text: &str) -> Result<Option<u32>, AllocError> {
     if text.len() > LONGEST {
         return Err(AllocError);
@@ -272,7 +272,7 @@ fn what_is_defined(rt: HostRuntime) -> Result<(), Fail> {
     Ok(())
 }
 
-// Statements and definitions that tell most, with a blank between every two tokens.
+/// Statements and definitions that tell most, with a blank between every two tokens.
 static TELLING: [&str; 12] = [
     "begin ;",
     "set transaction serializable",
@@ -293,8 +293,8 @@ static DEFINITIONS: [&str; 2] = [
     "create table t ( a int , primary key ( a , b ) , unique u ( b ) , key k ( a , b ) )",
 ];
 
-// Each kind of token: a word of each class that stands in the same places, names, numbers, a text, a blob, the signs,
-// and what is none.
+/// Each kind of token: a word of each class that stands in the same places, names, numbers, a text, a blob, the signs,
+/// and what is none.
 static TOKENS: [&str; 58] = [
     "all",
     "and",
@@ -356,7 +356,7 @@ static TOKENS: [&str; 58] = [
     "'",
 ];
 
-// Where a text is refused by one of the second reader's rules, if it is, as the first reader answers.
+/// Where a text is refused by one of the second reader's rules, if it is, as the first reader answers.
 fn first_refusal(alloc: Global, rule: &str, text: &str) -> Result<Option<usize>, AllocError> {
     let at = if rule == "CREATE" {
         create_refusal(alloc, text)?
@@ -366,7 +366,7 @@ fn first_refusal(alloc: Global, rule: &str, text: &str) -> Result<Option<usize>,
     Ok(at.map(|at| at as usize))
 }
 
-// Whether both readers answer alike of a text that is cut after each of its bytes; a character stays whole.
+/// Whether both readers answer alike of a text that is cut after each of its bytes; a character stays whole.
 fn is_alike_cut(alloc: Global, rule: &str, text: &str) -> Result<bool, AllocError> {
     let ways = rule_alone(alloc, rule)?;
     for size in 0..text.len() {
@@ -379,7 +379,7 @@ fn is_alike_cut(alloc: Global, rule: &str, text: &str) -> Result<bool, AllocErro
     Ok(true)
 }
 
-// The text with another token in place of that with this number, and where that one begins.
+/// The text with another token in place of that with this number, and where that one begins.
 fn with_token(
     alloc: Global,
     text: &str,
@@ -400,8 +400,8 @@ fn with_token(
     Ok((changed, offset))
 }
 
-// Whether they do of a text with each kind of token in place of that with this number, before which the text goes on in
-// these ways.
+/// Whether they do of a text with each kind of token in place of that with this number, before which the text goes on in
+/// these ways.
 fn is_alike_at(
     alloc: Global,
     rule: &str,
@@ -419,7 +419,7 @@ fn is_alike_at(
     Ok(true)
 }
 
-// Whether they do of a text with each kind of token in place of each of its own.
+/// Whether they do of a text with each kind of token in place of each of its own.
 fn is_alike_changed(alloc: Global, rule: &str, text: &str) -> Result<bool, AllocError> {
     let mut ways = rule_alone(alloc, rule)?;
     for (number, token) in text.split(' ').enumerate() {
@@ -431,7 +431,7 @@ fn is_alike_changed(alloc: Global, rule: &str, text: &str) -> Result<bool, Alloc
     Ok(true)
 }
 
-// Whether they do of a text that both read, where it is cut and where it is changed.
+/// Whether they do of a text that both read, where it is cut and where it is changed.
 fn is_alike(alloc: Global, rule: &str, text: &str) -> Result<bool, AllocError> {
     let ways = rule_alone(alloc, rule)?;
     let is_read = first_refusal(alloc, rule, text)?.is_none()

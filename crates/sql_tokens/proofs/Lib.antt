@@ -1,9 +1,9 @@
-pub mod Basics
-pub mod Finds
+pub mod BasicLaws
+pub mod FindLaws
+pub mod ListLaws
+pub mod NextLaws
+pub mod SignLaws
+pub mod SpotLemmas
+pub mod ValueLaws
 pub mod ValueLemmas
 pub mod WordLaws
-pub mod ValueLaws
-pub mod SignLaws
-pub mod NextLaws
-pub mod ListLaws
-pub mod SpotLemmas

@@ -12,8 +12,8 @@ use Rattle.sql_tokens.specs.Reading.{found, next, IsSoFar}
 use Rattle.sql_tokens.specs.declared.found.Found.{Found}
 use Rattle.sql_tokens.specs.declared.kinds.Token.{Token}
 use Rattle.sql_tokens.specs.declared.kinds.Token.TheVariants as token
-use Rattle.sql_tokens.proofs.Basics.{bool_cases, never_both, cancel_front}
-use Rattle.sql_tokens.proofs.Finds.{IsFound}
+use Rattle.sql_tokens.proofs.BasicLaws.{bool_cases, never_both, cancel_front}
+use Rattle.sql_tokens.proofs.FindLaws.{IsFound}
 use Rattle.sql_tokens.proofs.NextLaws.{next_is_token, token_is_next, none_is_next, token_has_a_byte, blank_begins_none}
 
 -- a token does not begin with a blank

@@ -16,8 +16,8 @@ use Rattle.sql_tokens.specs.declared.kinds.Keyword.{Keyword}
 use Rattle.sql_tokens.specs.declared.kinds.Sign.{Sign}
 use Rattle.sql_tokens.specs.declared.kinds.Token.{Token}
 use Rattle.sql_tokens.specs.declared.kinds.Token.TheVariants as token
-use Rattle.sql_tokens.proofs.Basics.{bool_cases, never_both, IsMapped, mapped}
-use Rattle.sql_tokens.proofs.Finds.{IsFound}
+use Rattle.sql_tokens.proofs.BasicLaws.{bool_cases, never_both, IsMapped, mapped}
+use Rattle.sql_tokens.proofs.FindLaws.{IsFound}
 use Rattle.sql_tokens.proofs.WordLaws.{keyword_word, name_word, word_is_token, word_begins}
 use Rattle.sql_tokens.proofs.ValueLaws.{IsCopied, text_is_copied, text_is_found, IsBlobCopied, blob_is_copied, blob_is_found, number_is_found, number_is_token}
 use Rattle.sql_tokens.proofs.SignLaws.{sign_size, short_is_found, long_is_found, long_is_sign, short_is_sign, sign_byte, sign_begins}

@@ -6,7 +6,7 @@ use Rattle.sql_tokens.specs.Signs.{SpellsSign, IsSign}
 use Rattle.sql_tokens.specs.Reading.{long_sign, short_sign}
 use Rattle.sql_tokens.specs.declared.kinds.Sign.{Sign}
 use Rattle.sql_tokens.specs.declared.kinds.Sign.TheVariants as sign
-use Rattle.sql_tokens.proofs.Basics.{either_way}
+use Rattle.sql_tokens.proofs.BasicLaws.{either_way}
 
 -- a sign is one byte or two
 pub sign_size : (s : Sign) (w : List ℕ) → SpellsSign s w → (0 < length w) × (length w ≤ 2)

@@ -10,11 +10,11 @@ use Rattle.sql_tokens.specs.Reading.{found, copied, with_byte, text_from, blob_f
 use Rattle.sql_tokens.specs.Token.{IsNumber}
 use Rattle.sql_tokens.specs.declared.found.Found.{Found}
 use Rattle.sql_tokens.specs.declared.kinds.Token.TheVariants as token
-use Rattle.sql_tokens.proofs.Finds.{IsFound}
+use Rattle.sql_tokens.proofs.FindLaws.{IsFound}
 use Rattle.std.proofs.lemmas.List.Folds.{length-prefix_len}
 use Rattle.std.proofs.lemmas.Bool.Decides.{nat_tests}
 use Rattle.sql_tokens.specs.declared.found.Copied.{Copied}
-use Rattle.sql_tokens.proofs.Basics.{bool_cases, front_is, front_passes, front_ends, front_begins, IsMapped, mapped}
+use Rattle.sql_tokens.proofs.BasicLaws.{bool_cases, front_is, front_passes, front_ends, front_begins, IsMapped, mapped}
 use Rattle.sql_tokens.proofs.ValueLemmas.{text_other, text_doubled, text_closed, text_open, blob_pair, blob_no_pair, blob_closed, blob_single, blob_open}
 
 -- each text is found

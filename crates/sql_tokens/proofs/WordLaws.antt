@@ -14,7 +14,7 @@ use Rattle.sql_tokens.specs.declared.words.TheConstants.{KEYWORDS}
 use Rattle.sql_tokens.specs.declared.kinds.Keyword.{Keyword}
 use Rattle.sql_tokens.specs.declared.kinds.Keyword.TheVariants as keyword
 use Rattle.sql_tokens.specs.declared.kinds.Token.TheVariants as token
-use Rattle.sql_tokens.proofs.Basics.{front_passes, front_ends, front_is, front_begins}
+use Rattle.sql_tokens.proofs.BasicLaws.{front_passes, front_ends, front_is, front_begins}
 
 -- an element that a search finds passes its test
 pub find_passes : {X : Type 0} (p : X → Bool) (xs : List X) (x : X) → find p xs ≡ Some x → p x ≡ true

@@ -1,4 +1,4 @@
-// What one step of the tokenizer finds.
+//! What one step of the tokenizer finds.
 use crate::kinds::{Bytes, Token};
 
 /// A token, and how many bytes spell it.

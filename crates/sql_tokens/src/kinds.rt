@@ -1,4 +1,4 @@
-// What a token is: the keywords, the signs, the tokens, and the bytes that a name, a text or a blob holds.
+//! What a token is: the keywords, the signs, the tokens, and the bytes that a name, a text or a blob holds.
 ghost use Rattle.std.specs.Prelude.{◌≡◌, length, IfOk, bytes_eq};
 
 use std::alloc::{AllocError, Global};

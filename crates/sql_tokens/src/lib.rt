@@ -53,7 +53,7 @@ use next::{is_blank, next};
 pub use placed::Spots;
 use std::alloc::{AllocError, Global};
 
-// What stands behind a token of that size.
+/// What stands behind a token of that size.
 fn behind_token(bytes: &[u8], size: usize) -> &[u8]
     requires { size ≤ length bytes.now }
     ensures { result.now ≡ drop size bytes.now }
@@ -110,6 +110,3 @@ pub fn only_the_last_is_unknown()
 pub fn names_and_numbers_are_in_bounds()
     ensures { (at : ℕ) (text : List ℕ) (ss : List Spot) → Tokens at text ss → AreInBounds ss }
 {}
-
-#[cfg(test)]
-mod tests;

@@ -1,4 +1,4 @@
-// The tokens of a text and the place of each.
+//! The tokens of a text and the place of each.
 ghost use Rattle.std.specs.Prelude.{◌≡◌, ◌<◌, ◌^◌, ◌∷◌, ◌++◌, [], List, length, map, option_map, slice_get, OnOk, OnErr};
 ghost use Rattle.sql_tokens.specs.Spot.{spot, token_of, place_of};
 
@@ -25,6 +25,7 @@ impl Model for Spots {
 }
 
 impl Spots {
+    /// No token yet.
     pub(crate) fn new(alloc: Global) -> Self
         ensures { result ≡ [] }
     {
@@ -34,6 +35,7 @@ impl Spots {
         }
     }
 
+    /// Adds a token and its place behind those that are there.
     pub(crate) fn push(&mut self, token: Token, place: u32) -> Result<(), AllocError>
         ensures ok { OnOk result (self.new ≡ self.old ++ spot place token ∷ []) }
         ensures err { OnErr result (self.new ≡ self.old) }

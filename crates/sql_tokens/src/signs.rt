@@ -1,10 +1,11 @@
-// Signs, of one byte or two.
+//! Signs, of one byte or two.
 ghost use Rattle.std.specs.Prelude.{◌≡◌};
 ghost use Rattle.sql_tokens.specs.Reading.{found, long_sign, short_sign, sign_found};
 
 use crate::found::Found;
 use crate::kinds::{Sign, Token};
 
+/// The sign of two bytes.
 fn long_sign(first: u8, second: u8) -> Option<Sign>
     ensures { result ≡ long_sign first second }
 {
@@ -17,6 +18,7 @@ fn long_sign(first: u8, second: u8) -> Option<Sign>
     }
 }
 
+/// The sign of one byte.
 fn short_sign(byte: u8) -> Option<Sign>
     ensures { result ≡ short_sign byte }
 {
@@ -36,6 +38,7 @@ fn short_sign(byte: u8) -> Option<Sign>
     }
 }
 
+/// A sign as a token of so many bytes.
 fn sign_token(sign: Sign, size: usize) -> Found
     ensures { result ≡ found (Token.Sign sign) size }
 {
@@ -45,7 +48,7 @@ fn sign_token(sign: Sign, size: usize) -> Found
     }
 }
 
-// The longest sign at the front.
+/// The longest sign at the front.
 #[tactic(auto, unfolding(crate::specs::Reading::sign_found))]
 pub(crate) fn sign(bytes: &[u8]) -> Option<Found>
     ensures { result ≡ sign_found bytes.now }

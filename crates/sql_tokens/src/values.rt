@@ -1,4 +1,4 @@
-// Numbers, texts and blobs.
+//! Numbers, texts and blobs.
 ghost use Rattle.std.specs.Prelude.{◌≡◌, IfOk, IfSome, IfNone, Bool, true, false, List, [], ◌∷◌, length, option_map, ◌<◌, ◌≤◌};
 ghost use Rattle.std.specs.List.{prefix_len};
 ghost use Rattle.std.specs.Char.{is_ascii_digit};
@@ -11,13 +11,14 @@ use std::alloc::{AllocError, Global};
 
 const LARGEST: u64 = 9223372036854775808;
 
+/// How many digits stand at the front.
 fn digits_len(bytes: &[u8]) -> usize
     ensures { result ≡ prefix_len is_ascii_digit bytes.now }
 {
     bytes.iter().take_while(|b| b.is_ascii_digit()).count()
 }
 
-// A digit more makes the value no smaller, so the first value that is too large decides.
+/// A digit more makes the value no smaller, so the first value that is too large decides.
 #[tactic(auto, using(crate::proofs::ValueLemmas::value_stays_large))]
 fn number_value(digits: &[u8]) -> Option<u64>
     ensures { result ≡ number_value digits.now }
@@ -35,6 +36,7 @@ fn number_value(digits: &[u8]) -> Option<u64>
     Some(value)
 }
 
+/// The number at the front, if digits stand there.
 #[tactic(auto, unfolding(crate::specs::Reading::number_found))]
 pub(crate) fn number(bytes: &[u8]) -> Option<Found>
     ensures { result ≡ number_found bytes.now }
@@ -49,13 +51,14 @@ pub(crate) fn number(bytes: &[u8]) -> Option<Found>
     }
 }
 
+/// Whether a byte is the quote of texts.
 fn is_quote(byte: u8) -> bool
     ensures { result ≡ is_quote byte }
 {
     byte == b'\''
 }
 
-// What stands behind a quote, if there is one.
+/// What stands behind a quote, if there is one.
 fn after_quote(bytes: &[u8]) -> Option<&[u8]>
     ensures none { IfNone result (next_is is_quote bytes.now ≡ false) }
     ensures some { IfSome result (λ after. bytes.now ≡ 39 ∷ after.now) }
@@ -66,7 +69,7 @@ fn after_quote(bytes: &[u8]) -> Option<&[u8]>
     }
 }
 
-// The characters behind the first quote of a text, each doubled quote as one.
+/// The characters behind the first quote of a text, each doubled quote as one.
 fn text_bytes(alloc: Global, after: &[u8]) -> Result<Option<Copied>, AllocError>
     ensures value { IfOk result (λ c. c ≡ text_from after.now) }
     ensures left { IfOk result (λ c. IfSome c (λ c. c.left ≤ length after.now)) }
@@ -91,6 +94,7 @@ fn text_bytes(alloc: Global, after: &[u8]) -> Result<Option<Copied>, AllocError>
     Ok(None)
 }
 
+/// The value of a hexadecimal digit, in either case.
 fn hex_digit(byte: u8) -> Option<u8>
     ensures value { result ≡ hex_digit byte }
     ensures bound { IfSome result (λ d. d < 16) }
@@ -103,6 +107,7 @@ fn hex_digit(byte: u8) -> Option<u8>
     }
 }
 
+/// The byte of two hexadecimal digits, the higher one first.
 fn hex_byte(high: u8, low: u8) -> Option<u8>
     ensures { result ≡ hex_byte high low }
 {
@@ -111,7 +116,7 @@ fn hex_byte(high: u8, low: u8) -> Option<u8>
     Some(16 * high + low)
 }
 
-// The bytes that the digits behind the first quote of a blob spell.
+/// The bytes that the digits behind the first quote of a blob spell.
 fn blob_bytes(alloc: Global, after: &[u8]) -> Result<Option<Copied>, AllocError>
     ensures value { IfOk result (λ c. c ≡ blob_from after.now) }
     ensures left { IfOk result (λ c. IfSome c (λ c. c.left ≤ length after.now)) }
@@ -137,6 +142,7 @@ fn blob_bytes(alloc: Global, after: &[u8]) -> Result<Option<Copied>, AllocError>
     Ok(None)
 }
 
+/// The text behind its opening quote, if it is closed.
 pub(crate) fn text(alloc: Global, after: &[u8]) -> Result<Option<Found>, AllocError>
     ensures { IfOk result (λ f. f ≡ text_found after.now) }
 {
@@ -149,6 +155,7 @@ pub(crate) fn text(alloc: Global, after: &[u8]) -> Result<Option<Found>, AllocEr
     }
 }
 
+/// The blob behind its letter and opening quote, if it is well formed and closed.
 pub(crate) fn blob(alloc: Global, after: &[u8]) -> Result<Option<Found>, AllocError>
     ensures { IfOk result (λ f. f ≡ blob_found after.now) }
 {

@@ -1,4 +1,4 @@
-// Words: how far one goes, and which keyword or name it is.
+//! Words: how far one goes, and which keyword or name it is.
 ghost use Rattle.std.specs.Prelude.{◌≡◌, IfOk, length, ◌≤◌};
 ghost use Rattle.std.specs.List.{prefix_len};
 ghost use Rattle.sql_tokens.specs.Letters.{is_word_byte, is_word_start};
@@ -58,18 +58,21 @@ const KEYWORDS: [Keyword; 46] = [
     Keyword::Where,
 ];
 
+/// Whether a word may begin with this byte.
 pub(crate) fn is_word_start(byte: u8) -> bool
     ensures { result ≡ is_word_start byte }
 {
     byte.is_ascii_alphabetic() || byte == b'_'
 }
 
+/// Whether a byte may stand in a word.
 fn is_word_byte(byte: u8) -> bool
     ensures { result ≡ is_word_byte byte }
 {
     is_word_start(byte) || byte.is_ascii_digit()
 }
 
+/// How a keyword is written, in lower case.
 fn spelling(keyword: Keyword) -> &'static [u8]
     ensures { result.now ≡ spelling keyword }
 {
@@ -123,6 +126,7 @@ fn spelling(keyword: Keyword) -> &'static [u8]
     }
 }
 
+/// The keyword that a word in lower case is.
 #[tactic(auto, unfolding(crate::specs::Reading::keyword_of))]
 fn keyword(word: &[u8]) -> Option<Keyword>
     ensures { result ≡ keyword_of word.now }
@@ -130,18 +134,21 @@ fn keyword(word: &[u8]) -> Option<Keyword>
     KEYWORDS.iter().copied().find(|k| spelling(*k) == word)
 }
 
+/// How many bytes of a word stand at the front.
 fn word_len(bytes: &[u8]) -> usize
     ensures { result ≡ prefix_len is_word_byte bytes.now }
 {
     bytes.iter().take_while(|b| is_word_byte(**b)).count()
 }
 
+/// A word in lower case.
 fn folded(alloc: Global, word: &[u8]) -> Result<Vec<u8>, AllocError>
     ensures { IfOk result (λ v. v.items ≡ folded word.now) }
 {
     word.iter().map(|b| b.to_ascii_lowercase()).collect(alloc)
 }
 
+/// The word at the front: a keyword, a name, or nothing known.
 #[tactic(auto, unfolding(crate::specs::Reading::word_found))]
 pub(crate) fn word(alloc: Global, bytes: &[u8]) -> Result<Found, AllocError>
     ensures { IfOk result (λ f. f ≡ word_found bytes.now) }

@@ -1,7 +1,7 @@
 -- Inserts, selects, updates and deletes neither open nor end a transaction, and set no level.
 use Rattle.std.proofs.Common.{◌≡◌, ℕ, List, Bool, true, false, Option, Some, None, refl, if◌then◌else◌}
 use Rattle.cdb_values.specs.declared.values.Value.{Value}
-use Rattle.script_words.specs.Words.{◌>>=◌, is_end}
+use Rattle.byte_words.specs.Words.{◌>>=◌, is_end}
 use Rattle.statement_read.specs.Statements.{kind_of, insert_of, insert_head_of, select_of, selected_of, update_of, updated_of, delete_of, deleted_of, equation_at, filter_of, items_at, literal_at, ended}
 use Rattle.statement_read.specs.declared.statements.Filter.{Filter}
 use Rattle.statement_read.specs.declared.statements.Statement.TheVariants as statements

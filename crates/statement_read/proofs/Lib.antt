@@ -1,5 +1,5 @@
-pub mod IntegerLemmas
+pub mod IntegerLaws
 pub mod ItemLemmas
 pub mod KindLemmas
-pub mod LiteralLemmas
+pub mod LiteralLaws
 pub mod ValueLemmas

@@ -3,7 +3,8 @@ use Rattle.std.proofs.Common.{◌≡◌, ℕ, zero, suc, List, [], ◌∷◌, le
 use Rattle.std.specs.List.{AllByRecursion}
 use Rattle.cdb_values.specs.declared.values.Value.{Value}
 use Rattle.cdb_values.specs.declared.values.Value.TheVariants.{Int}
-use Rattle.script_words.specs.Words.{◌>>=◌, word, after_word, word_at, sign_at, free_name_at, number_at, is_end}
+use Rattle.byte_words.specs.Words.{◌>>=◌, number_at, is_end}
+use Rattle.statement_read.specs.Words.{word, after_word, word_at, sign_at, free_name_at}
 use Rattle.statement_read.specs.Statements.{statement_of, statement_behind, verb_of, snapshot_at, set_of, insert_of, insert_head_of, select_of, selected_of, update_of, updated_of, delete_of, deleted_of, equation_at, where_of, filter_of, or_no_filter, some_filter, items_within, items_at, separator_at, with_first, literal_at, literal_from, below_half, ended}
 use Rattle.statement_read.specs.declared.statements.Filter.{Filter}
 use Rattle.statement_read.specs.declared.statements.Statement.{Statement}

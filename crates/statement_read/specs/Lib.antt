@@ -1,2 +1,3 @@
 pub mod OnTables
 pub mod Statements
+pub mod Words

@@ -12,7 +12,8 @@
 use Rattle.std.specs.Prelude.{ℕ, zero, suc, ◌^◌, ◌∷◌, [], List, length, Bool, true, false, if◌then◌else◌, nat_lt, Option, Some, None, codes, pos, ◌-ℤ◌, bytes_eq}
 use Rattle.cdb_values.specs.declared.values.Value.{Value}
 use Rattle.cdb_values.specs.declared.values.Value.TheVariants.{Int}
-use Rattle.script_words.specs.Words.{◌>>=◌, word, after_word, word_at, sign_at, free_name_at, number_at, is_end}
+use Rattle.byte_words.specs.Words.{◌>>=◌, number_at, is_end}
+use Rattle.statement_read.specs.Words.{word, after_word, word_at, sign_at, free_name_at}
 use Rattle.statement_read.specs.declared.statements.Filter.{Filter}
 use Rattle.statement_read.specs.declared.statements.Statement.{Statement}
 use Rattle.statement_read.specs.declared.statements.Statement.TheVariants as statements

@@ -19,11 +19,13 @@
 //! | Notion | Definition |
 //! |---|---|
 //! | the statement of a text, and what it is to transactions | `specs/Statements.antt` |
+//! | words, signs, and the names of tables and columns | `specs/Words.antt` |
 //! | a statement on the tables of a schema | `specs/OnTables.antt` |
 #![tactic(auto)]
 
 mod statements;
 mod verbs;
+mod words;
 
 pub use statements::{Filter, Statement, TextKind, kind_of_text, read_statement};
 

@@ -1,11 +1,12 @@
 ghost use Rattle.std.specs.Prelude.{◌≡◌, ◌≤◌, ◌^◌, pos, ◌-ℤ◌, IfOk, IsNone, ◌∷◌};
-ghost use Rattle.script_words.specs.Answers.{Finds, Gives};
-ghost use Rattle.script_words.specs.Words.{word, after_word};
+ghost use Rattle.byte_words.specs.Answers.{Finds, Gives};
+ghost use Rattle.statement_read.specs.Words.{word, after_word};
 ghost use Rattle.statement_read.specs.Statements.{separator_at, literal_at, literal_from, items_at, equation_at, where_of, filter_of, some_filter, snapshot_at, set_of, insert_of, insert_head_of, selected_of, select_of, updated_of, update_of, deleted_of, delete_of, verb_of, statement_behind, statement_of, kind_of, ended};
 
 use super::verbs::{Verb, verb_word};
+use super::words::{next_word, take_free_name, take_sign, take_word};
+use byte_words::{is_at_end, take_number};
 use cdb_values::{List, Name, Row, Value};
-use script_words::{is_at_end, next_word, take_free_name, take_number, take_sign, take_word};
 use std::alloc::{AllocError, Global};
 
 /// The rows that have one value in one column.

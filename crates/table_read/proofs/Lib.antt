@@ -1,7 +1,7 @@
+pub mod NameLemmas
 pub mod ReadingLemmas
 pub mod StandInLemmas
-pub mod TableLemmas
-pub mod Worked
-pub mod NameLemmas
-pub mod TokenNames
-pub mod WrittenNames
+pub mod TableLaws
+pub mod TokenNameLaws
+pub mod WorkedLemmas
+pub mod WrittenNameLaws

@@ -9,15 +9,15 @@ use Rattle.sql_tokens.specs.Tokens.{Tokens, no_more, a_blank, a_token, none_begi
 use Rattle.sql_tokens.specs.Reading.{next}
 use Rattle.sql_tokens.specs.declared.kinds.Token.{Token}
 use Rattle.sql_tokens.specs.declared.kinds.Token.TheVariants as token
-use Rattle.sql_tokens.proofs.Basics.{bool_cases}
-use Rattle.sql_tokens.proofs.Finds.{IsFound}
+use Rattle.sql_tokens.proofs.BasicLaws.{bool_cases}
+use Rattle.sql_tokens.proofs.FindLaws.{IsFound}
 use Rattle.sql_tokens.proofs.NextLaws.{next_is_token, none_is_next, taken, passed}
 use Rattle.sql_tokens.proofs.ListLaws.{one_list, front_is_longer}
 use Rattle.sql_grammar.specs.Trees.{Definition}
 use Rattle.sql_grammar.specs.Words.{kind}
 use Rattle.sql_grammar.specs.Grammar.{CreateS}
 use Rattle.sql_grammar.specs.Readers.{create_r}
-use Rattle.sql_grammar.proofs.Statements.{exact_create}
+use Rattle.sql_grammar.proofs.StatementLaws.{exact_create}
 use Rattle.sql_reader.specs.Promise.{Spells}
 use Rattle.table_read.specs.Reading.{where_found, with_token, tokens_within, tokens_of, all_of, definition_of}
 

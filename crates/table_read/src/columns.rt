@@ -1,4 +1,4 @@
-// The columns that a definition declares, in the order of its text.
+//! The columns that a definition declares, in the order of its text.
 ghost use Rattle.std.specs.Prelude.{◌≡◌, ◌++◌, map, IfOk, OnOk};
 ghost use Rattle.std.specs.List.{list_any};
 ghost use Rattle.cdb_values.specs.Tables.{is_named};

@@ -1,4 +1,4 @@
-// The keys that a definition writes, in the order of its text.
+//! The keys that a definition writes, in the order of its text.
 ghost use Rattle.std.specs.Prelude.{◌≡◌, ◌++◌, ◌∷◌, [], map, flat_map, IfOk, OnOk};
 ghost use Rattle.sql_grammar.specs.Views.{name_in, part_in};
 ghost use Rattle.table_read.specs.Keys.{primary_over, keys_of_mark, keys_of_part, written_keys as keys_written};

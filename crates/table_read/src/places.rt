@@ -1,4 +1,4 @@
-// The keys of a table, over the places of their columns.
+//! The keys of a table, over the places of their columns.
 ghost use Rattle.std.specs.Prelude.{◌≡◌, ◌<◌, ℕ, List, map, length, slice_get, IfOk};
 ghost use Rattle.std.specs.Option.{option_copied};
 ghost use Rattle.std.specs.List.{list_any};

@@ -1,4 +1,4 @@
-// The table of a text, added to a schema.
+//! The table of a text, added to a schema.
 ghost use Rattle.std.specs.Prelude.{◌≡◌, ◌<◌, ◌^◌, ◌++◌, ◌∷◌, [], List, length, IfOk, OnErr};
 ghost use Rattle.cdb_values.specs.declared.tables.TableDef.{TableDef};
 ghost use Rattle.sql_grammar.specs.Views.{definition_in};

@@ -5,7 +5,7 @@ use table_read::*;
 
 const LONGEST: usize = 10_000;
 
-// Adds a column as `a i` or `a i?`: its name, its type, and whether NULL may stand in it.
+/// Adds a column as `a i` or `a i?`: its name, its type, and whether NULL may stand in it.
 fn show_column(line: &mut Vec<u8>, column: &ColumnDef) -> Result<(), AllocError> {
     line.extend_from_slice(column.name.as_bytes())?;
     line.extend_from_slice(match column.kind {
@@ -20,7 +20,7 @@ fn show_column(line: &mut Vec<u8>, column: &ColumnDef) -> Result<(), AllocError>
     Ok(())
 }
 
-// Adds a key as `k(1,0,)`, or `k!(0,)` where it is unique; places are below 10.
+/// Adds a key as `k(1,0,)`, or `k!(0,)` where it is unique; places are below 10.
 fn show_key(line: &mut Vec<u8>, key: &KeyDef) -> Result<(), AllocError> {
     line.push(b' ')?;
     line.extend_from_slice(key.name.as_bytes())?;
@@ -36,7 +36,7 @@ fn show_key(line: &mut Vec<u8>, key: &KeyDef) -> Result<(), AllocError> {
     Ok(())
 }
 
-// A table in one line.
+/// A table in one line.
 fn shown(alloc: Global, table: &TableDef) -> Result<Vec<u8>, AllocError> {
     let mut line = Vec::new(alloc);
     line.extend_from_slice(table.name.as_bytes())?;
@@ -51,7 +51,7 @@ fn shown(alloc: Global, table: &TableDef) -> Result<Vec<u8>, AllocError> {
     Ok(line)
 }
 
-// The answer to a text of at most so many bytes.
+/// The answer to a text of at most so many bytes.
 fn added(alloc: Global, text: &str, schema: &mut Schema) -> Result<TableDef, TableStop> {
     if LONGEST < text.len() {
         return Err(TableStop::NoMemory);
@@ -59,7 +59,7 @@ fn added(alloc: Global, text: &str, schema: &mut Schema) -> Result<TableDef, Tab
     read_table(alloc, text, schema)
 }
 
-// The answer to a text behind the table `s`, in one line.
+/// The answer to a text behind the table `s`, in one line.
 fn answer(alloc: Global, text: &str) -> Result<Vec<u8>, AllocError> {
     let mut schema = Schema::new(alloc);
     let _ = added(alloc, "create table s(a int)", &mut schema);
@@ -138,7 +138,7 @@ fn unlawful_texts(rt: HostRuntime) -> Result<(), Fail> {
     Ok(())
 }
 
-// A text with so many columns `c0`, `c1` and so on, and then an end.
+/// A text with so many columns `c0`, `c1` and so on, and then an end.
 fn wide(alloc: Global, columns: u32, end: &str) -> Result<String, AllocError> {
     let mut text = String::from_str(alloc, "create table t (x int not null")?;
     for at in 1..columns {

@@ -13,7 +13,7 @@ use Rattle.cdb_values.specs.Changes.{taken_by}
 use Rattle.report_laws.specs.History.{first_touched}
 use Rattle.cdb_values.specs.declared.items.GenidItem.{GenidItem}
 use Rattle.report_text.specs.declared.reports.ReplyLine.TheVariants as reply
-use Rattle.transaction_answers.proofs.SoundLemmas.{sound_on_base}
+use Rattle.transaction_answers.proofs.SoundLaws.{sound_on_base}
 use Rattle.transaction_answers.specs.Decisions.{decision, first_conflict, judged, or_later}
 use Rattle.transaction_answers.specs.Sound.{IsSoundOp}
 

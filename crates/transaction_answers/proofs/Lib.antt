@@ -1,9 +1,9 @@
-pub mod AnswerLemmas
-pub mod AppliedLemmas
+pub mod AnswerLaws
+pub mod AppliedLaws
 pub mod ChosenLemmas
-pub mod ConflictLemmas
+pub mod ConflictLaws
 pub mod DecisionLemmas
-pub mod FitLemmas
-pub mod LanguageLemmas
-pub mod RowLemmas
-pub mod SoundLemmas
+pub mod FitLaws
+pub mod LanguageLaws
+pub mod RowLaws
+pub mod SoundLaws

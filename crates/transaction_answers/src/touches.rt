@@ -71,14 +71,7 @@ pub(crate) fn first_touched(taken: &[GenidItem], used: &[GenidItem]) -> Option<G
 fn is_touched(taken: &[GenidItem], item: GenidItem) -> bool
     ensures { result ≡ is_touched_of taken.now item }
 {
-    let mut rest = taken;
-    'taken: while let Some((other, after)) = rest.split_first() {
-        if is_same(item, *other) {
-            return true;
-        }
-        rest = after;
-    }
-    false
+    taken.iter().any(|other| is_same(item, *other))
 }
 
 /// Whether two versions are the same one.

@@ -4,9 +4,9 @@ use Rattle.grammar_forms.specs.Forms.{only}
 use Rattle.sql_grammar.specs.Grammar.{StatementS}
 use Rattle.sql_grammar.specs.Readers.{statement_r}
 use Rattle.sql_grammar.specs.Views.{statement_in}
-use Rattle.sql_grammar.proofs.Statements.{exact_statement}
+use Rattle.sql_grammar.proofs.StatementLaws.{exact_statement}
 use Rattle.sql_reader.specs.Gives.{Fails}
-use Rattle.sql_reader.proofs.Top.{one_reading, found, no_refusal, stops_right, answers_ok, answers_stop, refuses_stop}
+use Rattle.sql_reader.proofs.TopLaws.{one_reading, found, no_refusal, stops_right, answers_ok, answers_stop, refuses_stop}
 use Rattle.sql_reader.proofs.read.Goals as goal
 
 pub returns-in_default-clause-one_reading : goal.returns-in_default-clause-one_reading

@@ -1,5 +1,5 @@
 use Rattle.std.proofs.Common.{rules}
-use Rattle.cdb_outside.proofs.Turns.{writes_more}
+use Rattle.cdb_outside.proofs.TurnLemmas.{writes_more}
 use Rattle.cdb_outside.proofs.sink.write_whole.Goals as goal
 
 pub loop-written-preserved : goal.loop-written-preserved

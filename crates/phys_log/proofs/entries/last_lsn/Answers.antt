@@ -2,7 +2,7 @@ use Rattle.std.proofs.Common.{◌≡◌, List, ◌++◌, ◌∷◌, [], length, 
 use Rattle.phys_log.specs.declared.entries.Entry.{Entry}
 use Rattle.phys_log.specs.declared.entries.LogRecord.{LogRecord}
 use Rattle.phys_log.specs.Logs.{records_of}
-use Rattle.phys_log.proofs.LogLemmas.{last_lsn_told, last_lsn_before}
+use Rattle.phys_log.proofs.LogLaws.{last_lsn_told, last_lsn_before}
 use Rattle.phys_log.proofs.entries.last_lsn.Goals as goal
 
 pub returns-in-Some-split_last : goal.returns-in-Some-split_last

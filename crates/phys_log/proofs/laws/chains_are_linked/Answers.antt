@@ -1,6 +1,6 @@
 use Rattle.phys_log.specs.Logs.{records_in, blank_pages}
-use Rattle.phys_log.proofs.ReplayLemmas.{lsn_is}
-use Rattle.phys_log.proofs.LogLemmas.{linked_at}
+use Rattle.phys_log.proofs.ReplayLaws.{lsn_is}
+use Rattle.phys_log.proofs.LogLaws.{linked_at}
 use Rattle.phys_log.proofs.laws.chains_are_linked.Goals as goal
 
 pub returns-clause-linked : goal.returns-clause-linked

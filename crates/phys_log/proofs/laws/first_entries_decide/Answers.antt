@@ -1,4 +1,4 @@
-use Rattle.phys_log.proofs.LogLemmas.{page_first, page_whole}
+use Rattle.phys_log.proofs.LogLaws.{page_first, page_whole}
 use Rattle.phys_log.proofs.laws.first_entries_decide.Goals as goal
 
 pub returns-clause-first : goal.returns-clause-first

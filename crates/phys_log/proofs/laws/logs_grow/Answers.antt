@@ -1,5 +1,5 @@
 use Rattle.std.proofs.Common.{[], ◌∷◌}
-use Rattle.phys_log.proofs.LogLemmas.{log_more, log_front, log_fits, last_is}
+use Rattle.phys_log.proofs.LogLaws.{log_more, log_front, log_fits, last_is}
 use Rattle.phys_log.proofs.laws.logs_grow.Goals as goal
 
 pub returns-clause-more : goal.returns-clause-more

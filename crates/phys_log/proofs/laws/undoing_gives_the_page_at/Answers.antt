@@ -1,4 +1,4 @@
-use Rattle.phys_log.proofs.LogLemmas.{undone_at}
+use Rattle.phys_log.proofs.LogLaws.{undone_at}
 use Rattle.phys_log.proofs.laws.undoing_gives_the_page_at.Goals as goal
 
 pub returns : goal.returns

@@ -1,4 +1,4 @@
-use Rattle.query_laws.proofs.RunLemmas.{answer_same, run_same}
+use Rattle.query_laws.proofs.RunLaws.{answer_same, run_same}
 use Rattle.query_laws.proofs.laws.answers_depend_on_what_is_read.Goals as goal
 
 pub returns : goal.returns

@@ -1,4 +1,4 @@
-use Rattle.query_laws.proofs.RowsLemmas.{untouched_stays}
+use Rattle.query_laws.proofs.RowsLaws.{untouched_stays}
 use Rattle.query_laws.proofs.laws.untouched_intervals_stay.Goals as goal
 
 pub returns : goal.returns

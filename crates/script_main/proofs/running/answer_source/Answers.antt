@@ -1,4 +1,4 @@
-use Rattle.script_play.proofs.PlayLemmas.{if_ok}
+use Rattle.script_play.proofs.PlayLaws.{if_ok}
 use Rattle.script_main.proofs.WrittenLemmas.{source_answered}
 use Rattle.script_main.proofs.running.answer_source.Goals as goal
 

@@ -1,6 +1,6 @@
 use Rattle.std.proofs.Common.{length, arith, ◌∙◌}
 use Rattle.script_play.specs.Step.{world_of}
-use Rattle.script_play.proofs.PlayLemmas.{if_ok}
+use Rattle.script_play.proofs.PlayLaws.{if_ok}
 use Rattle.script_play.proofs.TakeLemmas.{cut_taken}
 use Rattle.script_play.proofs.lines.run_session_line.Goals as goal
 

@@ -1,6 +1,6 @@
 use Rattle.std.proofs.Common.{◌∙◌, ap, map, sym, subst}
 use Rattle.script_play.specs.SoFar.{IsBefore, at_start}
-use Rattle.script_play.proofs.PlayLemmas.{opens_so, ends_so}
+use Rattle.script_play.proofs.PlayLaws.{opens_so, ends_so}
 use Rattle.script_play.proofs.playing.play.Goals as goal
 
 pub lines-init : goal.lines-init

@@ -1,6 +1,6 @@
 use Rattle.std.proofs.Common.{◌<◌, length, arith}
 use Rattle.std.proofs.lemmas.Result.{err_from_is_err_and}
-use Rattle.script_words.specs.Lines.{lines_of}
+use Rattle.byte_words.specs.Lines.{lines_of}
 use Rattle.script_read.specs.ScriptText.{read_lines, no_draft}
 use Rattle.script_read.proofs.ReadLemmas.{lines_more, lines_stop, lines_done}
 use Rattle.script_read.proofs.reading.lines_read.Goals as goal

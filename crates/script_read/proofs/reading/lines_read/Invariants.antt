@@ -1,5 +1,5 @@
 use Rattle.std.proofs.Common.{◌≡◌, ◌+◌, ◌≤◌, length}
-use Rattle.script_words.specs.Lines.{lines_of}
+use Rattle.byte_words.specs.Lines.{lines_of}
 use Rattle.script_read.specs.ScriptText.{read_lines, no_draft}
 use Rattle.script_read.proofs.reading.lines_read.Given as goal
 

@@ -1,7 +1,7 @@
 use Rattle.std.proofs.Common.{◌<◌, length, get_or, arith}
 use Rattle.snapshot_rows.specs.Commits.{ended}
 use Rattle.snapshot_rows.specs.declared.ages.Age.{Age}
-use Rattle.snapshot_rows.proofs.Tables.{map_read}
+use Rattle.snapshot_rows.proofs.TableLemmas.{map_read}
 use Rattle.snapshot_rows.proofs.ages.ended.Goals as goal
 
 pub ages-preserved : goal.ages-preserved

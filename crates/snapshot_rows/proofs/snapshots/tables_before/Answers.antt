@@ -1,7 +1,7 @@
 use Rattle.std.proofs.Common.{◌∙◌}
 use Rattle.snapshot_rows.specs.Commits.{before_in}
-use Rattle.snapshot_rows.proofs.Placed.{placed}
-use Rattle.snapshot_rows.proofs.Tables.{map_more}
+use Rattle.snapshot_rows.proofs.PlacedLemmas.{placed}
+use Rattle.snapshot_rows.proofs.TableLemmas.{map_more}
 use Rattle.snapshot_rows.proofs.snapshots.tables_before.Goals as goal
 
 pub tables-preserved : goal.tables-preserved

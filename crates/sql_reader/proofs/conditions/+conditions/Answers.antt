@@ -12,11 +12,11 @@ use Rattle.sql_grammar.specs.Words.{kind, keyword}
 use Rattle.sql_grammar.specs.Grammar.{NotS, AndS}
 use Rattle.sql_grammar.specs.Readers.{not_r, and_r, condition_r}
 use Rattle.sql_grammar.specs.Views.{condition_in}
-use Rattle.sql_grammar.proofs.Operands.{after_word}
-use Rattle.sql_grammar.proofs.Conditions.{exact_not, exact_all}
-use Rattle.sql_reader.proofs.Steps.{after_read, after_fails}
-use Rattle.sql_reader.proofs.Joined.{first_fails, joined_one, joined_all, joined_fails, seen_and, seen_or, seen_not, seen_group}
-use Rattle.sql_reader.proofs.Levels.{take_not, take_group}
+use Rattle.sql_grammar.proofs.OperandLaws.{after_word}
+use Rattle.sql_grammar.proofs.ConditionLaws.{exact_not, exact_all}
+use Rattle.sql_reader.proofs.StepLemmas.{after_read, after_fails}
+use Rattle.sql_reader.proofs.JoinedLemmas.{first_fails, joined_one, joined_all, joined_fails, seen_and, seen_or, seen_not, seen_group}
+use Rattle.sql_reader.proofs.LevelLemmas.{take_not, take_group}
 use Rattle.sql_reader.proofs.conditions.+conditions.Goals as goal
 
 not_true : (b : _) → not b ≡ true → b ≡ false

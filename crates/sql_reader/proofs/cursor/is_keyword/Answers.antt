@@ -1,7 +1,7 @@
 -- The code's comparison of two words is the test of their kinds, and no other token has a word's kind.
 use Rattle.std.proofs.Common.{sym, ap, ◌∙◌}
 use Rattle.sql_grammar.specs.Words.{keyword}
-use Rattle.sql_grammar.proofs.Same.{keyword_test, no_keyword}
+use Rattle.sql_grammar.proofs.SameLaws.{keyword_test, no_keyword}
 use Rattle.sql_reader.proofs.cursor.is_keyword.Goals as goal
 
 pub returns-in-Keyword : goal.returns-in-Keyword

@@ -1,7 +1,7 @@
 -- The code's comparison of two signs is the test of their kinds, and no other token has a sign's kind.
 use Rattle.std.proofs.Common.{sym, ap, ◌∙◌}
 use Rattle.sql_grammar.specs.Words.{sign_is}
-use Rattle.sql_grammar.proofs.Same.{sign_test, no_sign}
+use Rattle.sql_grammar.proofs.SameLaws.{sign_test, no_sign}
 use Rattle.sql_reader.proofs.cursor.is_same_sign.Goals as goal
 
 pub returns-in-Sign : goal.returns-in-Sign

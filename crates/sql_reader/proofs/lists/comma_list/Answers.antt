@@ -8,9 +8,9 @@ use Rattle.grammar_forms.proofs.Repeat.{part_takes}
 use Rattle.grammar_forms.proofs.Loops.{with_front, loop_turn, loop_end}
 use Rattle.sql_tokens.specs.declared.kinds.Sign.TheVariants as sign
 use Rattle.sql_grammar.specs.Words.{kind, sign_is}
-use Rattle.sql_grammar.proofs.Operands.{after_sign}
+use Rattle.sql_grammar.proofs.OperandLaws.{after_sign}
 use Rattle.sql_reader.specs.Gives.{Fails}
-use Rattle.sql_reader.proofs.Steps.{after_read, after_fails, loop_fails}
+use Rattle.sql_reader.proofs.StepLemmas.{after_read, after_fails, loop_fails}
 use Rattle.sql_reader.proofs.lists.comma_list.Goals as goal
 
 pub returns-in_err-item : goal.returns-in_err-item

@@ -7,7 +7,7 @@ use Rattle.grammar_forms.proofs.Repeat.{part_takes}
 use Rattle.grammar_forms.proofs.Loops.{with_front, loop_turn, loop_end}
 use Rattle.sql_grammar.specs.Words.{kind}
 use Rattle.sql_reader.specs.Gives.{Fails}
-use Rattle.sql_reader.proofs.Steps.{loop_fails}
+use Rattle.sql_reader.proofs.StepLemmas.{loop_fails}
 use Rattle.sql_reader.proofs.lists.series.Goals as goal
 
 pub returns-in_err-item : goal.returns-in_err-item

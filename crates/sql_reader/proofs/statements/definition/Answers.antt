@@ -2,7 +2,7 @@
 use Rattle.std.proofs.lemmas.Result.{err_from_is_err_and}
 use Rattle.sql_grammar.specs.Views.{definition_in}
 use Rattle.sql_grammar.specs.Readers.{table_r, create_r}
-use Rattle.sql_reader.proofs.Whole.{closed_read, end_fails, part_fails}
+use Rattle.sql_reader.proofs.WholeLemmas.{closed_read, end_fails, part_fails}
 use Rattle.sql_reader.proofs.statements.definition.Goals as goal
 
 pub returns-in_err-found : goal.returns-in_err-found

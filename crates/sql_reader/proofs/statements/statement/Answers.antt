@@ -2,7 +2,7 @@
 use Rattle.std.proofs.lemmas.Result.{err_from_is_err_and}
 use Rattle.sql_grammar.specs.Views.{statement_in}
 use Rattle.sql_grammar.specs.Readers.{one_r, statement_r}
-use Rattle.sql_reader.proofs.Whole.{closed_read, end_fails, part_fails}
+use Rattle.sql_reader.proofs.WholeLemmas.{closed_read, end_fails, part_fails}
 use Rattle.sql_reader.proofs.statements.statement.Goals as goal
 
 pub returns-in_err-found : goal.returns-in_err-found

@@ -1,4 +1,4 @@
-use Rattle.table_read.proofs.TableLemmas.{lawful}
+use Rattle.table_read.proofs.TableLaws.{lawful}
 use Rattle.table_read.proofs.laws.tables_are_lawful.Goals as goal
 
 pub returns : goal.returns

@@ -2,7 +2,7 @@ use Rattle.std.proofs.Common.{◌≡◌, map}
 use Rattle.sql_grammar.specs.Views.{part_in, definition_in}
 use Rattle.table_read.specs.Keys.{written_keys}
 use Rattle.table_read.specs.Tables.{columns_with}
-use Rattle.table_read.proofs.TableLemmas.{said}
+use Rattle.table_read.proofs.TableLaws.{said}
 use Rattle.table_read.proofs.reading.table.Goals as goal
 
 pub returns : goal.returns

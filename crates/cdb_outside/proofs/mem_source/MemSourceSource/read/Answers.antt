@@ -1,5 +1,5 @@
 use Rattle.std.proofs.Common.{◌≡◌, ℕ, ◌-◌, List, length, take, drop, min, subst}
-use Rattle.cdb_outside.proofs.FrontParts.{split_next, ends}
+use Rattle.cdb_outside.proofs.FrontLemmas.{split_next, ends}
 use Rattle.cdb_outside.proofs.mem_source.MemSourceSource.read.Goals as goal
 
 pub returns-clause-bytes : goal.returns-clause-bytes

@@ -1,5 +1,5 @@
 use Rattle.std.proofs.Common.{refl}
-use Rattle.cdb_outside.proofs.FrontParts.{take-kept, take-own, drop-own}
+use Rattle.cdb_outside.proofs.FrontLemmas.{take-kept, take-own, drop-own}
 use Rattle.cdb_outside.proofs.mem_store.MemStoreLogStore.halt.Goals as goal
 
 pub returns : goal.returns

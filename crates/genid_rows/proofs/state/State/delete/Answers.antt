@@ -1,6 +1,6 @@
 use Rattle.std.proofs.Common.{◌∙◌, ap}
 use Rattle.std.specs.Prelude.{slice_set}
-use Rattle.genid_rows.proofs.Places.{taken_is}
+use Rattle.genid_rows.proofs.PlaceLemmas.{taken_is}
 use Rattle.genid_rows.proofs.state.State.delete.Goals as goal
 
 pub returns : goal.returns

@@ -1,7 +1,7 @@
 use Rattle.std.proofs.Common.{◌≡◌, ◌++◌, ◌∷◌, [], ◌∙◌, ap}
 use Rattle.std.specs.Prelude.{slice_set}
 use Rattle.cdb_values.specs.Rows.{version}
-use Rattle.genid_rows.proofs.Places.{added_is, unplaced, rows_of}
+use Rattle.genid_rows.proofs.PlaceLemmas.{added_is, unplaced, rows_of}
 use Rattle.genid_rows.proofs.state.State.insert.Goals as goal
 
 pub returns-clause-added : goal.returns-clause-added

@@ -1,7 +1,7 @@
 use Rattle.std.proofs.Common.{◌≡◌, ◌<◌, ◌++◌, ◌∷◌, [], ◌∙◌, ap, sym, subst, length}
 use Rattle.std.specs.Prelude.{slice_set}
 use Rattle.cdb_values.specs.Rows.{Rows, version, without}
-use Rattle.genid_rows.proofs.Places.{replaced_is, unplaced, rows_of}
+use Rattle.genid_rows.proofs.PlaceLemmas.{replaced_is, unplaced, rows_of}
 use Rattle.genid_rows.proofs.state.State.update.Goals as goal
 
 pub returns-clause-replaced : goal.returns-clause-replaced

@@ -2,7 +2,7 @@ use Rattle.std.proofs.Common.{sym, subst, ap, ◌∙◌}
 use Rattle.snapshot_rows.specs.Ages.{Ages, rows_seen, seen, IsUpTo}
 use Rattle.snapshot_rows.specs.Commits.{before}
 use Rattle.snapshot_rows.proofs.AgeLemmas.{commit_applied, commit_kept, commit_up_to}
-use Rattle.snapshot_rows.proofs.Undo.{before_old}
+use Rattle.snapshot_rows.proofs.UndoLemmas.{before_old}
 use Rattle.snapshot_rows.proofs.snapshots.Snapshots.commit.Goals as goal
 
 pub returns-in-Ok-clause-applied : goal.returns-in-Ok-clause-applied

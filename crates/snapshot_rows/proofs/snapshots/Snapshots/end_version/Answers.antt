@@ -1,7 +1,7 @@
 use Rattle.std.proofs.Common.{◌∙◌, ap}
 use Rattle.snapshot_rows.specs.Commits.{before}
-use Rattle.snapshot_rows.proofs.Placed.{death_is}
-use Rattle.snapshot_rows.proofs.Undo.{before_death}
+use Rattle.snapshot_rows.proofs.PlacedLemmas.{death_is}
+use Rattle.snapshot_rows.proofs.UndoLemmas.{before_death}
 use Rattle.snapshot_rows.proofs.snapshots.Snapshots.end_version.Goals as goal
 
 pub returns-clause-done : goal.returns-clause-done

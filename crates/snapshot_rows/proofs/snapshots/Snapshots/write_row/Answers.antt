@@ -1,8 +1,8 @@
 use Rattle.std.proofs.Common.{◌∙◌, ap}
 use Rattle.std.specs.Prelude.{slice_set}
 use Rattle.snapshot_rows.specs.Commits.{before}
-use Rattle.snapshot_rows.proofs.Placed.{ages_with, birth_is, unplaced}
-use Rattle.snapshot_rows.proofs.Undo.{before_birth}
+use Rattle.snapshot_rows.proofs.PlacedLemmas.{ages_with, birth_is, unplaced}
+use Rattle.snapshot_rows.proofs.UndoLemmas.{before_birth}
 use Rattle.snapshot_rows.proofs.snapshots.Snapshots.write_row.Goals as goal
 
 pub returns-clause-unchanged : goal.returns-clause-unchanged

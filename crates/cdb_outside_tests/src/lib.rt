@@ -1,0 +1,5 @@
+//! Only tests: each object of the outside once, and the faults that no clause can make happen.
+#![tactic(auto)]
+
+#[cfg(test)]
+mod tests;

@@ -1,0 +1,5 @@
+//! Only tests: pages at their edges, edits of every kind, heads, a source in memory.
+#![tactic(auto)]
+
+#[cfg(test)]
+mod tests;

@@ -1,0 +1,297 @@
+-- The law of one report: two reports of a script in which no transaction is cut short are the same, by induction over the script's lines.
+use Rattle.std.proofs.Common.{◌≡◌, ℕ, zero, suc, ◌+◌, ◌-◌, ◌<◌, ◌≤◌, List, [], ◌∷◌, ◌++◌, refl, sym, subst, ap, arith, ◌∙◌, Option, Some, None, append_assoc, Bool, true, false, ◌==◌, if◌then◌else◌, ◌⊎◌, inl, inr}
+use Rattle.std.proofs.lemmas.List.{append-nil}
+use Rattle.std.specs.List.{AllByRecursion, slice_get}
+use Rattle.script_form.specs.declared.scripts.BodyLine.{BodyLine}
+use Rattle.script_form.specs.declared.scripts.Act.{Act}
+use Rattle.script_form.specs.declared.scripts.Act.TheVariants as act
+use Rattle.report_laws.specs.History.{Basis, last_position}
+use Rattle.report_laws.specs.Answers.{Answers}
+use Rattle.report_laws.specs.Language.{Language}
+use Rattle.report_laws.specs.Lawful.{Lawful}
+use Rattle.report_laws.specs.One.{IsUncutLine, IsUncut}
+use Rattle.report_laws.specs.Play.{InPlayOrder, InTurns, IsTurnOf, piece, opening, number_told}
+use Rattle.report_laws.specs.Told.{told, Along, IsTold, lines_of}
+use Rattle.report_laws.specs.Work.{Transaction, Item, Does, Lone, Place, start, work, items_at, place_from, place_after, said, said_by, transaction_of, numbered_among}
+use Rattle.report_text.specs.declared.reports.Report.{Report}
+use Rattle.report_text.specs.declared.reports.EntryLine.{EntryLine}
+use Rattle.report_text.specs.declared.reports.EntryLine.TheVariants.{Setup, Commit}
+use Rattle.report_text.specs.declared.reports.Line.{Line}
+use Rattle.report_text.specs.declared.reports.ReplyLine.{ReplyLine}
+use Rattle.report_laws.proofs.EachLaws.{all_front, all_map}
+use Rattle.report_laws.proofs.PieceLaws.{under, under_append, under_own}
+use Rattle.report_laws.proofs.RestLemmas.{items_are, rest_of, rest_rises, Rising, of_its_rest, told_lones, lones, lones_append}
+use Rattle.report_laws.proofs.SoFarLemmas.{IsEnded, IsHeard, SoFar, same_name, so_far_next}
+use Rattle.report_laws.proofs.TurnedLaws.{Given, Turned, begun_at, one_turn, turned}
+use Rattle.report_laws.proofs.WorkLaws.{IsBelow, IsBegun, first_left, after_more, are_numbered, numbered_last, others_below}
+
+-- what a lawful report in which no transaction is cut short says of its lines and entries
+record Laws (basis : Basis) (lines : List Line) (entries : List EntryLine) : Type 0 where
+  replies : (name : List ℕ) → Along (IsTold basis entries name) (work basis.language name basis.script.body) (told name lines)
+  uncut : AllByRecursion IsUncutLine lines
+
+laws_on : (basis : Basis) (lines lines' : List Line) (entries entries' : List EntryLine) → lines ≡ lines' → entries ≡ entries' → Laws basis lines entries → Laws basis lines' entries'
+laws_on basis lines lines' entries entries' same_lines same_entries laws =
+    subst (λ (ls : List Line). Laws basis ls entries') same_lines (subst (λ (es : List EntryLine). Laws basis lines es) same_entries laws)
+
+-- an entry that stands is one of those of which all holds
+all_got : (P : EntryLine → Type 0) (es : List EntryLine) (k : ℕ) (e : EntryLine) → AllByRecursion P es → slice_get es k ≡ Some e → P e
+all_got P [] k e all is = absurd cc
+all_got P (x ∷ xs) zero e all is = subst P (let same : x ≡ e = cc in same) all.0
+all_got P (x ∷ xs) (suc k) e all is = all_got P xs k e all.1 is
+
+first_bound : (number : ℕ) (pending : Option (List (List ℕ))) → IsBegun number pending → 1 ≤ first_left number pending
+first_bound number None begun = omega arith
+first_bound number (Some texts) begun = begun
+
+-- a line of the script that says nothing
+abbrev IsQuiet : Act → Type 0
+IsQuiet (act.Say session text) = ⊥
+IsQuiet (act.Stop node) = Unit {0}
+IsQuiet (act.Start node) = Unit {0}
+IsQuiet (act.Arm session moment) = Unit {0}
+IsQuiet act.Barrier = Unit {0}
+IsQuiet act.Feed = Unit {0}
+
+said_or_quiet : (a : Act) → ((session : List ℕ) × (text : List ℕ) × (a ≡ act.Say session text)) ⊎ IsQuiet a
+said_or_quiet (act.Say session text) = inl (session, text, refl)
+said_or_quiet (act.Stop node) = inr tt
+said_or_quiet (act.Start node) = inr tt
+said_or_quiet (act.Arm session moment) = inr tt
+said_or_quiet act.Barrier = inr tt
+said_or_quiet act.Feed = inr tt
+
+quiet_turn : (language : Language) (now : ℕ) (done : List BodyLine) (before : List Line) (a : Act) (rs : List ReplyLine) (added : List EntryLine) → IsQuiet a → IsTurnOf language now done before a rs added → (rs ≡ []) × (added ≡ [])
+quiet_turn language now done before (act.Say session text) rs added quiet turn = absurd quiet
+quiet_turn language now done before (act.Stop node) rs added quiet turn = turn
+quiet_turn language now done before (act.Start node) rs added quiet turn = turn
+quiet_turn language now done before (act.Arm session moment) rs added quiet turn = turn
+quiet_turn language now done before act.Barrier rs added quiet turn = turn
+quiet_turn language now done before act.Feed rs added quiet turn = turn
+
+quiet_piece : (language : Language) (done : List BodyLine) (a : Act) (rs : List ReplyLine) → IsQuiet a → piece language done a rs ≡ []
+quiet_piece language done (act.Say session text) rs quiet = absurd quiet
+quiet_piece language done (act.Stop node) rs quiet = refl
+quiet_piece language done (act.Start node) rs quiet = refl
+quiet_piece language done (act.Arm session moment) rs quiet = refl
+quiet_piece language done act.Barrier rs quiet = refl
+quiet_piece language done act.Feed rs quiet = refl
+
+quiet_said : (name : List ℕ) (a : Act) → IsQuiet a → said_by name a [] ≡ []
+quiet_said name (act.Say session text) quiet = absurd quiet
+quiet_said name (act.Stop node) quiet = refl
+quiet_said name (act.Start node) quiet = refl
+quiet_said name (act.Arm session moment) quiet = refl
+quiet_said name act.Barrier quiet = refl
+quiet_said name act.Feed quiet = refl
+
+-- after such a line each session is where it was
+quiet_place : (language : Language) (name : List ℕ) (done : List BodyLine) (b : BodyLine) → IsQuiet b.act → place_after language name (done ++ b ∷ []) ≡ place_after language name done
+quiet_place language name done b quiet =
+    after_more language name done (b ∷ []) ∙ ap (λ (texts : List (List ℕ)). place_from language (place_after language name done) texts) (quiet_said name b.act quiet)
+
+quiet_ended : (language : Language) (done : List BodyLine) (b : BodyLine) (e : EntryLine) → IsQuiet b.act → IsEnded language done e → IsEnded language (done ++ b ∷ []) e
+quiet_ended language done b (Setup position) quiet is = tt
+quiet_ended language done b (Commit position session txn begin level) quiet is = subst (λ (p : Place). txn < first_left p.number p.pending) (sym (quiet_place language session done b quiet)) is
+
+quiet_so_far : (basis : Basis) (done : List BodyLine) (b : BodyLine) (before : List Line) (history : List EntryLine) → IsQuiet b.act → SoFar basis done before history → SoFar basis (done ++ b ∷ []) before history
+quiet_so_far basis done b before history quiet was = record {
+  heard = λ name. subst (λ (p : Place). IsHeard basis history p name before) (sym (quiet_place basis.language name done b quiet)) (was.heard name);
+  ended = all_map (IsEnded basis.language done) (IsEnded basis.language (done ++ b ∷ [])) (λ e is. quiet_ended basis.language done b e quiet is) history was.ended;
+}
+
+said_first : (session text : List ℕ) (b : BodyLine) (bs : List BodyLine) → b.act ≡ act.Say session text → said session (b ∷ bs) ≡ text ∷ said session bs
+said_first session text b bs is = rw is (rw (same_name session) refl)
+
+-- at one line of the script
+module _ (basis : Basis) (answers : Answers basis.language) (done : List BodyLine) (b : BodyLine) (bs : List BodyLine) (session text : List ℕ) (is_act : b.act ≡ act.Say session text) (is_body : basis.script.body ≡ done ++ b ∷ bs) where
+  abbrev p : Place
+  p = place_after basis.language session done
+
+  work_is : work basis.language session basis.script.body ≡ p.over ++ rest_of basis.language p (text ∷ said session bs)
+  work_is = ap (λ (body : List BodyLine). work basis.language session body) is_body
+      ∙ ap items_at (after_more basis.language session done (b ∷ bs))
+      ∙ ap (λ (texts : List (List ℕ)). items_at (place_from basis.language p texts)) (said_first session text b bs is_act)
+      ∙ items_are basis.language p (text ∷ said session bs)
+
+  begun : IsBegun p.number p.pending
+  begun = (are_numbered basis.language (said session done)).begun
+
+  abbrev bound : ℕ
+  bound = first_left p.number p.pending
+
+  -- what a report gives there
+  given : (before others : List Line) (history added later : List EntryLine) (replies : List ReplyLine) → SoFar basis done before history →
+      Laws basis (before ++ (lines_of session (number_told basis.language p text) replies ++ others)) (history ++ (added ++ later)) →
+      IsTurnOf basis.language (last_position basis.origin history) done before (act.Say session text) replies added →
+      Given basis history added later (before ++ (lines_of session (number_told basis.language p text) replies ++ others)) before others session p text (said session bs) replies (basis.language.kind text) p.pending
+  given before others history added later replies so_far laws turn = record {
+    turn = turn;
+    told = its;
+    lone = lone;
+    is_new = λ txn le at begin level stands. (let less : txn < first_left p.number p.pending = all_got (IsEnded basis.language done) history (at - (basis.origin.position + 1)) (Commit at session txn begin level) so_far.ended stands in omega (arith, le, less));
+    mine = under_append session (number_told basis.language p text) before (lines_of session (number_told basis.language p text) replies ++ others)
+        ∙ ap (λ (rs : List ReplyLine). under session (number_told basis.language p text) before ++ rs) (under_append session (number_told basis.language p text) (lines_of session (number_told basis.language p text) replies) others
+        ∙ ap (λ (rs : List ReplyLine). rs ++ under session (number_told basis.language p text) others) (under_own session session (number_told basis.language p text) replies (same_name session)));
+    unsaid = (so_far.heard session).unsaid;
+    outside = (so_far.heard session).outside;
+    going = (so_far.heard session).going;
+    memory = laws.uncut;
+    memory_before = all_front IsUncutLine before (lines_of session (number_told basis.language p text) replies ++ others) laws.uncut;
+    answers = answers;
+  }
+    where
+      lines : List Line
+      lines = before ++ (lines_of session (number_told basis.language p text) replies ++ others)
+
+      entries : List EntryLine
+      entries = history ++ (added ++ later)
+
+      its : (t : Transaction) (items : List Item) → first_left p.number p.pending ≤ t.number → rest_of basis.language p (text ∷ said session bs) ≡ Does t ∷ items →
+          IsTold basis entries session (Does t) (under session t.number lines) × (transaction_of basis.language session t.number basis.script.body ≡ Some t)
+      its t items le is = (
+        of_its_rest (IsTold basis entries session) bound p.over t items (told session lines) (first_bound p.number p.pending begun) le below rising (subst (λ (all : List Item). Along (IsTold basis entries session) all (told session lines)) split (laws.replies session)),
+        ap (λ (all : List Item). numbered_among t.number all) split ∙ numbered_last t.number t p.over items (others_below bound t.number p.over le below) refl,
+      )
+        where
+          split : work basis.language session basis.script.body ≡ p.over ++ Does t ∷ items
+          split = work_is ∙ ap (λ (rest : List Item). p.over ++ rest) is
+
+          below : AllByRecursion (IsBelow bound) p.over
+          below = (are_numbered basis.language (said session done)).below
+
+          rising : Rising bound (Does t ∷ items)
+          rising = subst (λ (rest : List Item). Rising bound rest) is (rest_rises basis.language p (text ∷ said session bs))
+
+      lone : (answer : ReplyLine) (items : List Item) → rest_of basis.language p (text ∷ said session bs) ≡ Lone answer ∷ items → under session 0 lines ≡ lones p.over ++ answer ∷ lones items
+      lone answer items is =
+          told_lones (IsTold basis entries session) (λ a mine told. told) (work basis.language session basis.script.body) (told session lines) 1 (omega arith)
+          (subst (λ (all : List Item). Rising 1 all) (sym (items_are basis.language start (said session basis.script.body))) (rest_rises basis.language start (said session basis.script.body)))
+          (laws.replies session)
+          ∙ ap lones (work_is ∙ ap (λ (rest : List Item). p.over ++ rest) is)
+          ∙ lones_append p.over (Lone answer ∷ items)
+
+-- at a line of a session two reports are told the same and append the same, and what is known of both goes on
+said_step : (basis : Basis) → Answers basis.language → (b : BodyLine) (session text : List ℕ) → b.act ≡ act.Say session text → (bs done : List BodyLine) (before : List Line) (history : List EntryLine) → basis.script.body ≡ done ++ b ∷ bs →
+    SoFar basis done before history →
+    (lines lines' : List Line) (entries entries' : List EntryLine) → Laws basis (before ++ lines) (history ++ entries) → Laws basis (before ++ lines') (history ++ entries') →
+    (rs rs' : List ReplyLine) (others others' : List Line) (added added' later later' : List EntryLine) →
+    lines ≡ piece basis.language done b.act rs ++ others → lines' ≡ piece basis.language done b.act rs' ++ others' → entries ≡ added ++ later → entries' ≡ added' ++ later' →
+    IsTurnOf basis.language (last_position basis.origin history) done before b.act rs added → IsTurnOf basis.language (last_position basis.origin history) done before b.act rs' added' →
+    (rs ≡ rs') × (added ≡ added') × SoFar basis (done ++ b ∷ []) (before ++ piece basis.language done b.act rs) (history ++ added)
+unfolding given
+said_step basis answers b session text is_act bs done before history is_body so_far lines lines' entries entries' laws laws' rs rs' others others' added added' later later' ls_are ls_are' es_are es_are' turn turn' = (same.0, same.1, so_far')
+  where
+    at : Place
+    at = place_after basis.language session done
+
+    pieces : (r : List ReplyLine) → piece basis.language done b.act r ≡ lines_of session (number_told basis.language at text) r
+    pieces r = ap (λ (a : Act). piece basis.language done a r) is_act
+
+    g : Given basis history added later (before ++ (lines_of session (number_told basis.language at text) rs ++ others)) before others session at text (said session bs) rs (basis.language.kind text) at.pending
+    g = given basis answers done b bs session text is_act is_body before others history added later rs so_far
+        (laws_on basis _ _ _ _ (ap (λ (ls : List Line). before ++ ls) (ls_are ∙ ap (λ (ls : List Line). ls ++ others) (pieces rs))) (ap (λ (es : List EntryLine). history ++ es) es_are) laws)
+        (subst (λ (a : Act). IsTurnOf basis.language (last_position basis.origin history) done before a rs added) is_act turn)
+
+    g' : Given basis history added' later' (before ++ (lines_of session (number_told basis.language at text) rs' ++ others')) before others' session at text (said session bs) rs' (basis.language.kind text) at.pending
+    g' = given basis answers done b bs session text is_act is_body before others' history added' later' rs' so_far
+        (laws_on basis _ _ _ _ (ap (λ (ls : List Line). before ++ ls) (ls_are' ∙ ap (λ (ls : List Line). ls ++ others') (pieces rs'))) (ap (λ (es : List EntryLine). history ++ es) es_are') laws')
+        (subst (λ (a : Act). IsTurnOf basis.language (last_position basis.origin history) done before a rs' added') is_act turn')
+
+    begin : ℕ
+    begin = begun_at basis history at.pending (under session at.number before) (so_far.heard session).going
+
+    does : Turned basis history session at text (basis.language.kind text) at.pending begin rs added
+    does = turned basis history added later (before ++ (lines_of session (number_told basis.language at text) rs ++ others)) before others session at text (said session bs) rs (basis.language.kind text) at.pending g
+
+    does' : Turned basis history session at text (basis.language.kind text) at.pending begin rs' added'
+    does' = turned basis history added' later' (before ++ (lines_of session (number_told basis.language at text) rs' ++ others')) before others' session at text (said session bs) rs' (basis.language.kind text) at.pending g'
+
+    same : (rs ≡ rs') × (added ≡ added')
+    same = one_turn basis history session at text (basis.language.kind text) at.pending begin rs rs' added added' does does'
+
+    so_far' : SoFar basis (done ++ b ∷ []) (before ++ piece basis.language done b.act rs) (history ++ added)
+    so_far' = subst (λ (ls : List Line). SoFar basis (done ++ b ∷ []) (before ++ ls) (history ++ added)) (sym (pieces rs))
+        (so_far_next basis done b session text is_act before history added rs so_far (are_numbered basis.language (said session done)).begun does)
+
+quiet_step : (basis : Basis) (b : BodyLine) → IsQuiet b.act → (done : List BodyLine) (before : List Line) (history : List EntryLine) → SoFar basis done before history →
+    (rs rs' : List ReplyLine) (added added' : List EntryLine) →
+    IsTurnOf basis.language (last_position basis.origin history) done before b.act rs added → IsTurnOf basis.language (last_position basis.origin history) done before b.act rs' added' →
+    (rs ≡ rs') × (added ≡ added') × SoFar basis (done ++ b ∷ []) (before ++ piece basis.language done b.act rs) (history ++ added)
+quiet_step basis b quiet done before history so_far rs rs' added added' turn turn' =
+    let none : (rs ≡ []) × (added ≡ []) = quiet_turn basis.language (last_position basis.origin history) done before b.act rs added quiet turn in
+    let none' : (rs' ≡ []) × (added' ≡ []) = quiet_turn basis.language (last_position basis.origin history) done before b.act rs' added' quiet turn' in (
+      none.0 ∙ sym none'.0,
+      none.1 ∙ sym none'.1,
+      subst (λ (ls : List Line). SoFar basis (done ++ b ∷ []) ls (history ++ added)) (sym (ap (λ (ls : List Line). before ++ ls) (quiet_piece basis.language done b.act rs quiet) ∙ append-nil before))
+          (subst (λ (es : List EntryLine). SoFar basis (done ++ b ∷ []) before es) (sym (ap (λ (es : List EntryLine). history ++ es) none.1 ∙ append-nil history))
+          (quiet_so_far basis done b before history quiet so_far)),
+    )
+
+-- and at each line of the script
+one_step : (basis : Basis) → Answers basis.language → (b : BodyLine) (bs done : List BodyLine) (before : List Line) (history : List EntryLine) → basis.script.body ≡ done ++ b ∷ bs →
+    SoFar basis done before history →
+    (lines lines' : List Line) (entries entries' : List EntryLine) → Laws basis (before ++ lines) (history ++ entries) → Laws basis (before ++ lines') (history ++ entries') →
+    (rs rs' : List ReplyLine) (others others' : List Line) (added added' later later' : List EntryLine) →
+    lines ≡ piece basis.language done b.act rs ++ others → lines' ≡ piece basis.language done b.act rs' ++ others' → entries ≡ added ++ later → entries' ≡ added' ++ later' →
+    IsTurnOf basis.language (last_position basis.origin history) done before b.act rs added → IsTurnOf basis.language (last_position basis.origin history) done before b.act rs' added' →
+    (rs ≡ rs') × (added ≡ added') × SoFar basis (done ++ b ∷ []) (before ++ piece basis.language done b.act rs) (history ++ added)
+one_step basis answers b bs done before history is_body so_far lines lines' entries entries' laws laws' rs rs' others others' added added' later later' ls_are ls_are' es_are es_are' turn turn' = go (said_or_quiet b.act)
+  where
+    go : ((session : List ℕ) × (text : List ℕ) × (b.act ≡ act.Say session text)) ⊎ IsQuiet b.act → (rs ≡ rs') × (added ≡ added') × SoFar basis (done ++ b ∷ []) (before ++ piece basis.language done b.act rs) (history ++ added)
+    go (inl (session, text, is_act)) =
+        said_step basis answers b session text is_act bs done before history is_body so_far lines lines' entries entries' laws laws' rs rs' others others' added added' later later' ls_are ls_are' es_are es_are' turn turn'
+    go (inr quiet) = quiet_step basis b quiet done before history so_far rs rs' added added' turn turn'
+
+-- the lines and entries that are left are the same where those before are
+one_rest : (basis : Basis) → Answers basis.language → (bs done : List BodyLine) (before : List Line) (history : List EntryLine) → basis.script.body ≡ done ++ bs →
+    SoFar basis done before history →
+    (lines lines' : List Line) (entries entries' : List EntryLine) → Laws basis (before ++ lines) (history ++ entries) → Laws basis (before ++ lines') (history ++ entries') →
+    InTurns basis done before history bs lines entries → InTurns basis done before history bs lines' entries' → (lines ≡ lines') × (entries ≡ entries')
+one_rest basis answers [] done before history is_body so_far lines lines' entries entries' laws laws' turns turns' = (turns.0 ∙ sym turns'.0, turns.1 ∙ sym turns'.1)
+one_rest basis answers (b ∷ bs) done before history is_body so_far lines lines' entries entries' laws laws' (rs, others, added, later, ls_are, es_are, turn, rest) (rs', others', added', later', ls_are', es_are', turn', rest') =
+    let step : (rs ≡ rs') × (added ≡ added') × SoFar basis (done ++ b ∷ []) (before ++ piece basis.language done b.act rs) (history ++ added) =
+    one_step basis answers b bs done before history is_body so_far lines lines' entries entries' laws laws' rs rs' others others' added added' later later' ls_are ls_are' es_are es_are' turn turn' in
+    let further : (others ≡ others') × (later ≡ later') =
+    one_rest basis answers bs (done ++ b ∷ []) (before ++ piece basis.language done b.act rs) (history ++ added) (is_body ∙ sym (append_assoc done (b ∷ []) bs)) step.2 others others' later later'
+    (laws_on basis _ _ _ _ (ap (λ (ls : List Line). before ++ ls) ls_are ∙ sym (append_assoc before (piece basis.language done b.act rs) others)) (ap (λ (es : List EntryLine). history ++ es) es_are ∙ sym (append_assoc history added later)) laws)
+    (laws_on basis _ _ _ _ (ap (λ (ls : List Line). before ++ ls) (ls_are' ∙ ap (λ (r : List ReplyLine). piece basis.language done b.act r ++ others') (sym step.0)) ∙ sym (append_assoc before (piece basis.language done b.act rs) others'))
+    (ap (λ (es : List EntryLine). history ++ es) (es_are' ∙ ap (λ (es : List EntryLine). es ++ later') (sym step.1)) ∙ sym (append_assoc history added later')) laws')
+    rest
+    (subst (λ (r : List ReplyLine). InTurns basis (done ++ b ∷ []) (before ++ piece basis.language done b.act r) (history ++ added) bs others' later') (sym step.0)
+    (subst (λ (es : List EntryLine). InTurns basis (done ++ b ∷ []) (before ++ piece basis.language done b.act rs') (history ++ es) bs others' later') (sym step.1) rest')) in (
+      ls_are ∙ ap (λ (ls : List Line). piece basis.language done b.act rs ++ ls) further.0 ∙ ap (λ (r : List ReplyLine). piece basis.language done b.act r ++ others') step.0 ∙ sym ls_are',
+      es_are ∙ ap (λ (es : List EntryLine). added ++ es) further.1 ∙ ap (λ (es : List EntryLine). es ++ later') step.1 ∙ sym es_are',
+    )
+
+-- nothing is known, and nothing wrong, before the first line
+so_far_none : (basis : Basis) → SoFar basis [] [] (opening basis.origin)
+so_far_none basis = record { heard = λ name. record { outside = refl; unsaid = λ n new. refl; going = tt }; ended = none (basis.origin.position == 0) }
+  where
+    none : (b : Bool) → AllByRecursion (IsEnded basis.language []) (if b then Setup 1 ∷ [] else [])
+    none true = (tt, tt)
+    none false = tt
+
+laws_of : (basis : Basis) (report : Report) (later : List EntryLine) → report.entries ≡ opening basis.origin ++ later → Lawful basis report → IsUncut report → Laws basis report.lines (opening basis.origin ++ later)
+laws_of basis report later is lawful uncut = laws_on basis report.lines report.lines report.entries (opening basis.origin ++ later) refl is (record { replies = lawful.replies; uncut = uncut })
+
+pub one_report : (basis : Basis) (report other : Report) → Answers basis.language →
+    Lawful basis report → InPlayOrder basis report → IsUncut report → Lawful basis other → InPlayOrder basis other → IsUncut other → report ≡ other
+one_report basis report other answers lawful order uncut lawful' order' uncut' =
+    λ j. record { lines = same.0 j; base = bases j; entries = entries j; feeds = feeds j; end = ends j }
+  where
+    same : (report.lines ≡ other.lines) × (order.later ≡ order'.later)
+    same = one_rest basis answers basis.script.body [] [] (opening basis.origin) refl (so_far_none basis) report.lines other.lines order.later order'.later
+        (laws_of basis report order.later order.opened lawful uncut) (laws_of basis other order'.later order'.opened lawful' uncut') order.order order'.order
+
+    entries : report.entries ≡ other.entries
+    entries = order.opened ∙ ap (λ (es : List EntryLine). opening basis.origin ++ es) same.1 ∙ sym order'.opened
+
+    bases : report.base ≡ other.base
+    bases = lawful.base ∙ sym lawful'.base
+
+    feeds : report.feeds ≡ other.feeds
+    feeds = lawful.feeds ∙ sym lawful'.feeds
+
+    ends : report.end ≡ other.end
+    ends = lawful.end ∙ ap (λ (es : List EntryLine). last_position basis.origin es) entries ∙ sym lawful'.end

@@ -1,0 +1,161 @@
+-- What is told at a line of the script, up to its last reply, and what is told under a number.
+use Rattle.std.proofs.Common.{◌≡◌, ℕ, ◌==◌, List, [], ◌∷◌, ◌++◌, refl, sym, subst, ap, ◌∙◌, Bool, true, false, if◌then◌else◌, map}
+use Rattle.std.proofs.lemmas.Bool.{ne_eqb}
+use Rattle.std.proofs.lemmas.List.{append-nil}
+use Rattle.std.specs.List.{AllByRecursion}
+use Rattle.std.specs.Str.{bytes_eq}
+use Rattle.cdb_values.specs.declared.values.Value.{Value}
+use Rattle.report_laws.specs.Cut.{cuts}
+use Rattle.report_laws.specs.Each.{StandsIn}
+use Rattle.report_laws.specs.One.{IsUncutLine}
+use Rattle.report_laws.specs.Play.{are_up_to, are_none, is_outcome, is_row, is_last_of}
+use Rattle.report_laws.specs.Told.{told, Numbered, numbered, lines_of}
+use Rattle.report_text.specs.declared.reports.Line.{Line}
+use Rattle.report_text.specs.declared.reports.Line.TheVariants as line
+use Rattle.report_text.specs.declared.reports.ReplyLine.{ReplyLine}
+use Rattle.report_text.specs.declared.reports.ReplyLine.TheVariants as reply
+use Rattle.report_laws.specs.Answers.{IsPlain, ArePlain}
+use Rattle.report_laws.proofs.ToldLaws.{told_append, told_own, told_other}
+use Rattle.report_laws.proofs.AlongLaws.{of_number, of_its, of_another}
+
+pub same_head : {A : Type 0} (x y : A) (xs ys : List A) → x ∷ xs ≡ y ∷ ys → x ≡ y
+same_head x y xs ys is = cc
+
+pub same_tail : {A : Type 0} (x y : A) (xs ys : List A) → x ∷ xs ≡ y ∷ ys → xs ≡ ys
+same_tail x y xs ys is = cc
+
+pub none_only : (rs : List ReplyLine) → are_none rs ≡ true → rs ≡ []
+none_only [] is = refl
+none_only (r ∷ rs) is = absurd cc
+
+-- of two lists that begin one longer list and go up to their first last reply, each is the other
+pub up_to_same : (f : ReplyLine → Bool) (xs ys more others : List ReplyLine) → are_up_to f xs ≡ true → are_up_to f ys ≡ true → xs ++ more ≡ ys ++ others → xs ≡ ys
+up_to_same f [] ys more others ends ends' is = absurd cc
+up_to_same f (x ∷ xs) [] more others ends ends' is = absurd cc
+up_to_same f (x ∷ xs) (y ∷ ys) more others ends ends' is =
+    go (f x) refl ends (subst (λ (r : ReplyLine). (if f r then are_none ys else are_up_to f ys) ≡ true) (sym head) ends')
+    (λ e e'. up_to_same f xs ys more others e e' (same_tail x y (xs ++ more) (ys ++ others) is))
+  where
+    head : x ≡ y
+    head = same_head x y (xs ++ more) (ys ++ others) is
+
+    go : (b : Bool) → f x ≡ b → (if b then are_none xs else are_up_to f xs) ≡ true → (if b then are_none ys else are_up_to f ys) ≡ true →
+        (are_up_to f xs ≡ true → are_up_to f ys ≡ true → xs ≡ ys) → x ∷ xs ≡ y ∷ ys
+    go true at e e' later = ap (λ r. r ∷ xs) head ∙ ap (λ rs. y ∷ rs) (none_only xs e ∙ sym (none_only ys e'))
+    go false at e e' later = ap (λ r. r ∷ xs) head ∙ ap (λ rs. y ∷ rs) (later e e')
+
+-- replies that are none of them last, and then a last one
+pub up_to_last : (f : ReplyLine → Bool) (rs : List ReplyLine) (r : ReplyLine) → AllByRecursion (λ x. f x ≡ false) rs → f r ≡ true → are_up_to f (rs ++ r ∷ []) ≡ true
+up_to_last f [] r all is = rw is refl
+up_to_last f (x ∷ xs) r all is = rw (all.0) (up_to_last f xs r all.1 is)
+
+-- one last reply
+pub up_to_one : (f : ReplyLine → Bool) (r : ReplyLine) → f r ≡ true → are_up_to f (r ∷ []) ≡ true
+up_to_one f r is = up_to_last f [] r tt is
+
+-- rows, and then a reply that is no row
+pub up_to_rows : (rows : List (List Value)) (r : ReplyLine) → is_row r ≡ false → are_up_to (is_last_of false) (map reply.Row rows ++ r ∷ []) ≡ true
+up_to_rows [] r is = rw is refl
+up_to_rows (row ∷ rows) r is = up_to_rows rows r is
+
+-- plain replies are no outcomes
+plain_quiet : (r : ReplyLine) → IsPlain r → is_outcome r ≡ false
+plain_quiet (reply.Begin position) is = absurd is
+plain_quiet (reply.Row row) is = refl
+plain_quiet (reply.Done rows) is = refl
+plain_quiet (reply.Changed rows) is = refl
+plain_quiet (reply.Error cause) is = refl
+plain_quiet (reply.Level level) is = refl
+plain_quiet reply.RolledBack is = absurd is
+plain_quiet (reply.Committed position) is = absurd is
+plain_quiet (reply.ConflictGenid position table genid) is = absurd is
+plain_quiet (reply.ConflictRange position table key) is = absurd is
+plain_quiet (reply.Duplicate position table key) is = absurd is
+plain_quiet (reply.Lost node down) is = absurd is
+plain_quiet (reply.NoMajority up nodes) is = absurd is
+plain_quiet reply.NoMemory is = absurd is
+
+pub plain_all_quiet : (rs : List ReplyLine) → ArePlain rs → AllByRecursion (λ r. is_outcome r ≡ false) rs
+plain_all_quiet [] all = tt
+plain_all_quiet (r ∷ rs) all = (plain_quiet r all.0, plain_all_quiet rs all.1)
+
+-- the commit that stands among replies up to an outcome is that outcome
+pub commit_is_last : (rs : List ReplyLine) (o : ReplyLine) (position : ℕ) → AllByRecursion (λ r. is_outcome r ≡ false) rs → StandsIn (rs ++ o ∷ []) (reply.Committed position) → o ≡ reply.Committed position
+commit_is_last [] o position all ([], back, is) = same_head o (reply.Committed position) [] back is
+commit_is_last [] o position all (x ∷ front, back, is) = absurd (none_left front back (same_tail o x [] (front ++ reply.Committed position ∷ back) is))
+  where
+    none_left : (front back : List ReplyLine) → [] ≡ front ++ reply.Committed position ∷ back → ⊥
+    none_left [] back is = cc
+    none_left (y ∷ front) back is = cc
+commit_is_last (r ∷ rs) o position all ([], back, is) =
+    absurd (let at : r ≡ reply.Committed position = same_head r (reply.Committed position) (rs ++ o ∷ []) back is in
+    let quiet : is_outcome r ≡ false = all.0 in
+    let loud : is_outcome r ≡ true = ap is_outcome at in cc)
+commit_is_last (r ∷ rs) o position all (x ∷ front, back, is) = commit_is_last rs o position all.1 (front, back, same_tail r x (rs ++ o ∷ []) (front ++ reply.Committed position ∷ back) is)
+
+-- no commit stands among replies of which none is an outcome
+pub no_commit : (rs : List ReplyLine) (position : ℕ) → AllByRecursion (λ r. is_outcome r ≡ false) rs → StandsIn rs (reply.Committed position) → ⊥
+no_commit [] position all ([], back, is) = cc
+no_commit [] position all (x ∷ front, back, is) = cc
+no_commit (r ∷ rs) position all ([], back, is) =
+    let at : r ≡ reply.Committed position = same_head r (reply.Committed position) rs back is in
+    let quiet : is_outcome r ≡ false = all.0 in
+    let loud : is_outcome r ≡ true = ap is_outcome at in cc
+no_commit (r ∷ rs) position all (x ∷ front, back, is) = no_commit rs position all.1 (front, back, same_tail r x rs (front ++ reply.Committed position ∷ back) is)
+
+-- the replies of a session under a number
+abbrev pub under : List ℕ → ℕ → List Line → List ReplyLine
+under name number lines = of_number number (told name lines)
+
+of_number_append : (n : ℕ) (xs ys : List Numbered) → of_number n (xs ++ ys) ≡ of_number n xs ++ of_number n ys
+of_number_append n [] ys = refl
+of_number_append n (x ∷ xs) ys = go (x.0 == n) (of_number_append n xs ys)
+  where
+    go : (b : Bool) → of_number n (xs ++ ys) ≡ of_number n xs ++ of_number n ys →
+        (if b then x.1 ∷ of_number n (xs ++ ys) else of_number n (xs ++ ys)) ≡ (if b then x.1 ∷ of_number n xs else of_number n xs) ++ of_number n ys
+    go true is = ap (λ rest. x.1 ∷ rest) is
+    go false is = is
+
+pub under_append : (name : List ℕ) (n : ℕ) (xs ys : List Line) → under name n (xs ++ ys) ≡ under name n xs ++ under name n ys
+under_append name n xs ys = ap (of_number n) (told_append name xs ys) ∙ of_number_append n (told name xs) (told name ys)
+
+pub under_own : (name session : List ℕ) (n : ℕ) (rs : List ReplyLine) → bytes_eq session name ≡ true → under name n (lines_of session n rs) ≡ rs
+under_own name session n rs same =
+    ap (of_number n) (told_own name session n rs same ∙ sym (append-nil (numbered n rs))) ∙ of_its n rs [] ∙ append-nil rs
+
+pub under_number : (name session : List ℕ) (n m : ℕ) (rs : List ReplyLine) → bytes_eq session name ≡ true → (m ≡ n → ⊥) → under name n (lines_of session m rs) ≡ []
+under_number name session n m rs same other =
+    ap (of_number n) (told_own name session m rs same ∙ sym (append-nil (numbered m rs))) ∙ of_another n m rs [] (ne_eqb m n other)
+
+pub under_other : (name session : List ℕ) (n m : ℕ) (rs : List ReplyLine) → bytes_eq session name ≡ false → under name n (lines_of session m rs) ≡ []
+under_other name session n m rs other = ap (of_number n) (told_other name session m rs other)
+
+-- where no line tells want of memory, no reply under a number is it
+pub are_uncut : (name : List ℕ) (n : ℕ) (lines : List Line) → AllByRecursion IsUncutLine lines → AllByRecursion (λ r. cuts r ≡ false) (under name n lines)
+are_uncut name n [] all = tt
+are_uncut name n (line.Session session txn answer ∷ ls) all = go (bytes_eq session name) (are_uncut name n ls all.1)
+  where
+    pick : (b : Bool) → AllByRecursion (λ r. cuts r ≡ false) (under name n ls) → AllByRecursion (λ r. cuts r ≡ false) (if b then answer ∷ under name n ls else under name n ls)
+    pick true later = (all.0, later)
+    pick false later = later
+
+    go : (b : Bool) → AllByRecursion (λ r. cuts r ≡ false) (under name n ls) → AllByRecursion (λ r. cuts r ≡ false) (of_number n ((if b then (txn, answer) ∷ [] else []) ++ told name ls))
+    go true later = pick (txn == n) later
+    go false later = later
+are_uncut name n (line.Down count node fault ∷ ls) all = are_uncut name n ls all.1
+are_uncut name n (line.Up node ∷ ls) all = are_uncut name n ls all.1
+are_uncut name n (line.Barrier ∷ ls) all = are_uncut name n ls all.1
+are_uncut name n (line.Fed position ∷ ls) all = are_uncut name n ls all.1
+
+-- what holds of each member of a list holds of one that stands in it
+pub all_at : {A : Type 0} (P : A → Type 0) (xs : List A) (x : A) → AllByRecursion P xs → StandsIn xs x → P x
+all_at P [] x all ([], back, is) = absurd cc
+all_at P [] x all (y ∷ front, back, is) = absurd cc
+all_at P (z ∷ xs) x all ([], back, is) = subst P (same_head z x xs back is) all.0
+all_at P (z ∷ xs) x all (y ∷ front, back, is) = all_at P xs x all.1 (front, back, same_tail z y xs (front ++ x ∷ back) is)
+
+-- of one reply there is one that is not none
+pub one_of_one : (f : ReplyLine → Bool) (rs more : List ReplyLine) (r : ReplyLine) → are_up_to f rs ≡ true → rs ++ more ≡ r ∷ [] → rs ≡ r ∷ []
+one_of_one f [] more r ends is = absurd cc
+one_of_one f (x ∷ []) more r ends is = ap (λ y. y ∷ []) (same_head x r more [] is)
+one_of_one f (x ∷ y ∷ xs) more r ends is = absurd (let rest : y ∷ (xs ++ more) ≡ [] = same_tail x r (y ∷ (xs ++ more)) [] is in cc)

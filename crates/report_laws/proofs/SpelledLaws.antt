@@ -1,0 +1,390 @@
+-- A lawful report in the order of play, whose numbers fit their types, is of the grammar, where what it is
+-- told of is called by names and has rows of the grammar.
+use Rattle.std.proofs.Common.{◌≡◌, ℕ, zero, suc, ◌+◌, ◌-◌, ◌==◌, List, [], ◌∷◌, ◌++◌, map, filter, refl, sym, subst, ap, ◌∙◌, Bool, true, false, not, if◌then◌else◌, Option, Some, None, unwrap_or, inl, inr}
+use Rattle.std.specs.Prelude.{slice_get, slice_set}
+use Rattle.std.specs.List.{AllByRecursion}
+use Rattle.std.specs.Str.{bytes_eq}
+use Rattle.cdb_values.specs.Good.{first_broken, broken_key, breaks, or_broken, KeyName}
+use Rattle.cdb_values.specs.Rows.{Rows, no_rows, versions_of, without, version, added, taken, apply, apply_all}
+use Rattle.cdb_values.specs.declared.rows.RowOp.{RowOp}
+use Rattle.cdb_values.specs.declared.rows.RowOp.TheVariants.{Insert, Update, Delete}
+use Rattle.cdb_values.specs.declared.rows.RowRef.TheVariants.{Base, Own}
+use Rattle.cdb_values.specs.declared.rows.Version.{Version}
+use Rattle.cdb_values.specs.declared.items.GenidItem.{GenidItem}
+use Rattle.cdb_values.specs.declared.tables.KeyDef.{KeyDef}
+use Rattle.cdb_values.specs.declared.tables.TableDef.{TableDef}
+use Rattle.cdb_values.specs.declared.values.Value.{Value}
+use Rattle.script_form.specs.declared.scripts.Act.{Act}
+use Rattle.script_form.specs.declared.scripts.Act.TheVariants as act
+use Rattle.script_form.specs.declared.scripts.BodyLine.{BodyLine}
+use Rattle.report_laws.specs.Cut.{cuts}
+use Rattle.report_laws.specs.Each.{StandsIn}
+use Rattle.report_laws.specs.History.{Origin, Basis, alone_on, ops_alone, ops_of, rows_after, rows_among, states_from, states_of, rows_at, last_position, used_by}
+use Rattle.report_laws.specs.Language.{Language, Answered, Kind, BeginText, CommitText, RollbackText, LevelText, OtherText, alone, alone_from}
+use Rattle.report_laws.specs.Lawful.{Lawful, IsAnswered}
+use Rattle.report_laws.specs.Outcome.{IsRight, Ends, IsOneDecision, IsDecided, line_by, name_or_none, conflict_line, key_name}
+use Rattle.report_laws.specs.Play.{InPlayOrder, InTurns, piece, opening}
+use Rattle.report_laws.specs.Spelled.{SpellsReply, WritesRow, HaveRows, KeepsRows, IsNamedTable, SaysAsNamed, IsSpelled}
+use Rattle.report_laws.specs.Told.{Along, Numbered, numbered, told, told_by, lines_of, IsTold, IsWhole, IsCut, alone_at}
+use Rattle.report_laws.specs.Work.{Transaction, End, ByCommit, ByRollback, WithItsLine, Nowhere, Item, Does, Lone, Place, start, next_by, next_place, place_from, place_after, said, items_at, open_item, work, number_of, transaction_of}
+use Rattle.report_text.specs.Grammar.{IsName, IsKey, IsRow, IsReply, IsLine, IsEntry, IsFeed, IsReport}
+use Rattle.report_text.specs.Types.{FitsReply, FitsLine, FitsEntry, FitsTypes}
+use Rattle.report_text.specs.declared.reports.EntryLine.{EntryLine}
+use Rattle.report_text.specs.declared.reports.EntryLine.TheVariants.{Setup, Commit}
+use Rattle.report_text.specs.declared.reports.FeedLine.{FeedLine}
+use Rattle.report_text.specs.declared.reports.Line.{Line}
+use Rattle.report_text.specs.declared.reports.Line.TheVariants as line
+use Rattle.report_text.specs.declared.reports.ReplyLine.{ReplyLine}
+use Rattle.report_text.specs.declared.reports.ReplyLine.TheVariants as reply
+use Rattle.report_text.specs.declared.reports.Report.{Report}
+use Rattle.report_laws.proofs.EachLaws.{all_append, all_front, all_map}
+use Rattle.report_laws.proofs.SoFarLemmas.{same_name}
+
+-- what holds of each item holds of one that is looked up, and of a list with one exchanged
+pub all_got : {A : Type 0} (P : A → Type 0) (xs : List A) (i : ℕ) (other : A) → AllByRecursion P xs → P other → P (unwrap_or (slice_get xs i) other)
+all_got P [] i other all is = is
+all_got P (x ∷ xs) zero other all is = all.0
+all_got P (x ∷ xs) (suc i) other all is = all_got P xs i other all.1 is
+
+pub all_exchanged : {A : Type 0} (P : A → Type 0) (xs : List A) (i : ℕ) (x : A) → AllByRecursion P xs → P x → AllByRecursion P (slice_set xs i x)
+all_exchanged P [] i x all is = tt
+all_exchanged P (y ∷ xs) zero x all is = (is, all.1)
+all_exchanged P (y ∷ xs) (suc i) x all is = (all.0, all_exchanged P xs i x all.1 is)
+
+all_or : {A : Type 0} (P : A → Type 0) (b : Bool) (x : A) (xs : List A) → P x → AllByRecursion P xs → AllByRecursion P (if b then x ∷ xs else xs)
+all_or P true x xs is all = (is, all)
+all_or P false x xs is all = all
+
+pub all_filtered : {A : Type 0} (P : A → Type 0) (test : A → Bool) (xs : List A) → AllByRecursion P xs → AllByRecursion P (filter test xs)
+all_filtered P test [] all = tt
+all_filtered P test (x ∷ xs) all = all_or P (test x) x (filter test xs) all.0 (all_filtered P test xs all.1)
+
+all_behind : {A : Type 0} (P : A → Type 0) (xs ys : List A) → AllByRecursion P (xs ++ ys) → AllByRecursion P ys
+all_behind P [] ys all = all
+all_behind P (x ∷ xs) ys all = all_behind P xs ys all.1
+
+-- what stands in a list has what each has
+all_standing : {A : Type 0} (P : A → Type 0) (front back : List A) (x : A) → AllByRecursion P (front ++ x ∷ back) → P x
+all_standing P [] back x all = all.0
+all_standing P (y ∷ front) back x all = all_standing P front back x all.1
+
+-- rows
+
+abbrev IsVersion : Version → Type 0
+IsVersion v = IsRow v.row
+
+added_rows : (rows : Rows) (table : ℕ) (row : List Value) → HaveRows rows.tables → IsRow row → HaveRows (added rows table row).tables
+added_rows rows table row have is =
+    all_exchanged (AllByRecursion IsVersion) rows.tables table (versions_of rows table ++ version rows.next row ∷ []) have
+    (all_append IsVersion (versions_of rows table) (version rows.next row ∷ []) (all_got (AllByRecursion IsVersion) rows.tables table [] have tt) (is, tt))
+
+taken_rows : (rows : Rows) (table genid : ℕ) → HaveRows rows.tables → HaveRows (taken rows table genid).tables
+taken_rows rows table genid have =
+    all_exchanged (AllByRecursion IsVersion) rows.tables table (without genid (versions_of rows table)) have
+    (all_filtered IsVersion (λ v. not (v.genid == genid)) (versions_of rows table) (all_got (AllByRecursion IsVersion) rows.tables table [] have tt))
+
+apply_rows : (rows : Rows) (o : RowOp) → HaveRows rows.tables → WritesRow o → HaveRows (apply rows o).tables
+apply_rows rows (Insert table row) have is = added_rows rows table row have is
+apply_rows rows (Update table (Base genid) old row) have is = added_rows (taken rows table genid) table row (taken_rows rows table genid have) is
+apply_rows rows (Update table (Own write) old row) have is = have
+apply_rows rows (Delete table (Base genid) old) have is = taken_rows rows table genid have
+apply_rows rows (Delete table (Own write) old) have is = have
+
+apply_all_rows : (rows : Rows) (ops : List RowOp) → HaveRows rows.tables → AllByRecursion WritesRow ops → HaveRows (apply_all rows ops).tables
+apply_all_rows rows [] have all = have
+apply_all_rows rows (o ∷ ops) have all = apply_all_rows (apply rows o) ops (apply_rows rows o have all.0) all.1
+
+no_rows_rows : (tables : List TableDef) → HaveRows (map (λ _. []) tables)
+no_rows_rows [] = tt
+no_rows_rows (table ∷ tables) = (tt, no_rows_rows tables)
+
+-- a transaction run alone
+
+alone_ops : (language : Language) → KeepsRows language → (tables : List TableDef) (versions : List (List Version)) (done : List RowOp) (texts : List (List ℕ)) →
+    HaveRows versions → AllByRecursion WritesRow done → AllByRecursion WritesRow (alone_from language tables versions done texts).ops
+alone_ops language keeps tables versions done [] have all = all
+alone_ops language keeps tables versions done (text ∷ texts) have all =
+    alone_ops language keeps tables versions (language.answer tables versions done text).ops texts have (keeps.ops tables versions done text have all)
+
+alone_replies : (language : Language) → KeepsRows language → (tables : List TableDef) (versions : List (List Version)) (done : List RowOp) (texts : List (List ℕ)) →
+    HaveRows versions → AllByRecursion WritesRow done → AllByRecursion SpellsReply (alone_from language tables versions done texts).replies
+alone_replies language keeps tables versions done [] have all = tt
+alone_replies language keeps tables versions done (text ∷ texts) have all =
+    all_append SpellsReply (language.answer tables versions done text).replies _ (keeps.replies tables versions done text have all)
+    (alone_replies language keeps tables versions (language.answer tables versions done text).ops texts have (keeps.ops tables versions done text have all))
+
+-- what a decision tells
+
+none_is : {A : Type 0} {P : Type 0} (x : A) → None ≡ Some x → P
+none_is x e = cc
+
+the_same : {A : Type 0} (x y : A) → Some x ≡ Some y → x ≡ y
+the_same x y e = ap (λ found. unwrap_or found y) e
+
+told_by_name : (tables : List TableDef) (place : ℕ) → AllByRecursion IsNamedTable tables → (position genid : ℕ) (answer : ReplyLine) → line_by position genid (name_or_none (slice_get tables place)) ≡ Some answer → SpellsReply answer
+told_by_name [] place all position genid answer is = none_is answer is
+told_by_name (table ∷ tables) zero all position genid answer is = subst SpellsReply (the_same (reply.ConflictGenid position table.name genid) answer is) all.0.0
+told_by_name (table ∷ tables) (suc place) all position genid answer is = told_by_name tables place all.1 position genid answer is
+
+broken_step : (b : Bool) (key : KeyDef) (later : Option KeyDef) (found : KeyDef) → IsKey key.name → (later ≡ Some found → IsKey found.name) → (if b then Some key else later) ≡ Some found → IsKey found.name
+broken_step true key later found is more e = subst (λ (k : KeyDef). IsKey k.name) (the_same key found e) is
+broken_step false key later found is more e = more e
+
+broken_named : (versions : List Version) (keys : List KeyDef) (found : KeyDef) → AllByRecursion (λ (key : KeyDef). IsKey key.name) keys → broken_key versions keys ≡ Some found → IsKey found.name
+broken_named versions [] found all is = none_is found is
+broken_named versions (key ∷ keys) found all is = broken_step (breaks versions key) key (broken_key versions keys) found all.0 (broken_named versions keys found all.1) is
+
+first_step : (t : TableDef) (b : Option KeyDef) (later : Option KeyName) (table key : List ℕ) → IsName t.name → ((k : KeyDef) → b ≡ Some k → IsKey k.name) →
+    (later ≡ Some (key_name table key) → IsName table × IsKey key) → or_broken t b later ≡ Some (key_name table key) → IsName table × IsKey key
+first_step t None later table key named keys more e = more e
+first_step t (Some k) later table key named keys more e =
+    let same : key_name t.name k.name ≡ key_name table key = the_same (key_name t.name k.name) (key_name table key) e in
+    (subst IsName (ap (λ (n : KeyName). n.table) same) named, subst IsKey (ap (λ (n : KeyName). n.key) same) (keys k refl))
+
+first_named : (tables : List TableDef) (versions : List (List Version)) (table key : List ℕ) → AllByRecursion IsNamedTable tables → first_broken tables versions ≡ Some (key_name table key) → IsName table × IsKey key
+first_named [] versions table key all is = none_is (key_name table key) is
+first_named (t ∷ tables) [] table key all is = none_is (key_name table key) is
+first_named (t ∷ tables) (vs ∷ rest) table key all is =
+    first_step t (broken_key vs t.keys) (first_broken tables rest) table key all.0.0 (λ k e. broken_named vs t.keys k all.0.1 e) (first_named tables rest table key all.1) is
+
+-- a session's work: a line outside a transaction is told nothing that has a name
+
+abbrev SpellsItem : Item → Type 0
+SpellsItem (Does t) = Unit {0}
+SpellsItem (Lone answer) = SpellsReply answer
+
+one_more : (over : List Item) (item : Item) → AllByRecursion SpellsItem over → SpellsItem item → AllByRecursion SpellsItem (over ++ item ∷ [])
+one_more over item all is = all_append SpellsItem over (item ∷ []) all (is, tt)
+
+next_spelled : (p : Place) (text : List ℕ) (kind : Kind) (pending : Option (List (List ℕ))) → AllByRecursion SpellsItem p.over → AllByRecursion SpellsItem (next_by p text kind pending).over
+next_spelled p text BeginText None all = all
+next_spelled p text CommitText None all = one_more p.over _ all tt
+next_spelled p text RollbackText None all = one_more p.over _ all tt
+next_spelled p text (LevelText level) None all = one_more p.over _ all tt
+next_spelled p text OtherText None all = one_more p.over _ all tt
+next_spelled p text BeginText (Some texts) all = all
+next_spelled p text CommitText (Some texts) all = one_more p.over _ all tt
+next_spelled p text RollbackText (Some texts) all = one_more p.over _ all tt
+next_spelled p text (LevelText level) (Some texts) all = all
+next_spelled p text OtherText (Some texts) all = all
+
+places_spelled : (language : Language) (p : Place) (texts : List (List ℕ)) → AllByRecursion SpellsItem p.over → AllByRecursion SpellsItem (place_from language p texts).over
+places_spelled language p [] all = all
+places_spelled language p (text ∷ texts) all = places_spelled language (next_place language p text) texts (next_spelled p text (language.kind text) p.pending all)
+
+open_spelled : (p : Place) (pending : Option (List (List ℕ))) → AllByRecursion SpellsItem (open_item p pending)
+open_spelled p None = tt
+open_spelled p (Some texts) = (tt, tt)
+
+work_spelled : (language : Language) (name : List ℕ) (body : List BodyLine) → AllByRecursion SpellsItem (work language name body)
+work_spelled language name body =
+    let p : Place = place_after language name body in
+    all_append SpellsItem p.over (open_item p p.pending) (places_spelled language start (said name body) tt) (open_spelled p p.pending)
+
+cut_spelled : (cause : ReplyLine) → cuts cause ≡ true → SpellsReply cause
+cut_spelled (reply.Begin position) e = cc
+cut_spelled (reply.Row row) e = cc
+cut_spelled (reply.Done rows) e = cc
+cut_spelled (reply.Changed rows) e = cc
+cut_spelled (reply.Error cause) e = cc
+cut_spelled (reply.Level level) e = cc
+cut_spelled reply.RolledBack e = cc
+cut_spelled (reply.Committed position) e = cc
+cut_spelled (reply.ConflictGenid position table genid) e = cc
+cut_spelled (reply.ConflictRange position table key) e = cc
+cut_spelled (reply.Duplicate position table key) e = cc
+cut_spelled (reply.Lost node down) e = cc
+cut_spelled (reply.NoMajority up nodes) e = cc
+cut_spelled reply.NoMemory e = tt
+
+module _ (basis : Basis) (spelled : IsSpelled basis) where
+  abbrev HasRows : Rows → Type 0
+  HasRows rows = HaveRows rows.tables
+
+  ops_spelled : (rows : Rows) (t : Option Transaction) → HasRows rows → AllByRecursion WritesRow (ops_alone basis rows t)
+  ops_spelled rows None have = tt
+  ops_spelled rows (Some t) have = alone_ops basis.language spelled.language basis.origin.tables rows.tables [] t.texts have tt
+
+  after_spelled : (states : List Rows) (e : EntryLine) → AllByRecursion HasRows states → HasRows (rows_after basis states e)
+  after_spelled states (Setup position) all = no_rows_rows basis.origin.tables
+  after_spelled states (Commit position session txn begin level) all =
+      apply_all_rows (rows_among basis.origin states (position - 1)) (ops_of basis states (Commit position session txn begin level))
+      (all_got HasRows states (position - 1 - basis.origin.position) basis.origin.rows all spelled.rows)
+      (ops_spelled (rows_among basis.origin states begin) (transaction_of basis.language session txn basis.script.body) (all_got HasRows states (begin - basis.origin.position) basis.origin.rows all spelled.rows))
+
+  states_spelled : (states : List Rows) (es : List EntryLine) → AllByRecursion HasRows states → AllByRecursion HasRows (states_from basis states es)
+  states_spelled states [] all = all
+  states_spelled states (e ∷ es) all =
+      states_spelled (states ++ rows_after basis states e ∷ []) es (all_append HasRows states (rows_after basis states e ∷ []) all (after_spelled states e all, tt))
+
+  rows_spelled : (es : List EntryLine) (position : ℕ) → HasRows (rows_at basis es position)
+  rows_spelled es position =
+      all_got HasRows (states_of basis es) (position - basis.origin.position) basis.origin.rows (states_spelled (basis.origin.rows ∷ []) es (spelled.rows, tt)) spelled.rows
+
+  right_spelled : (es : List EntryLine) (name : List ℕ) (t : Transaction) (begin : ℕ) (used : List GenidItem) (ops : List RowOp) (answer : ReplyLine) →
+      IsDecided answer → IsRight basis es name t begin used ops answer → SpellsReply answer
+  right_spelled es name t begin used ops (reply.Begin position) decided right = absurd decided
+  right_spelled es name t begin used ops (reply.Row row) decided right = absurd decided
+  right_spelled es name t begin used ops (reply.Done rows) decided right = absurd decided
+  right_spelled es name t begin used ops (reply.Changed rows) decided right = absurd decided
+  right_spelled es name t begin used ops (reply.Error cause) decided right = absurd decided
+  right_spelled es name t begin used ops (reply.Level level) decided right = absurd decided
+  right_spelled es name t begin used ops reply.RolledBack decided right = absurd decided
+  right_spelled es name t begin used ops (reply.Committed position) decided right = tt
+  right_spelled es name t begin used ops (reply.ConflictGenid position table genid) decided right =
+      told_by_name basis.origin.tables right.item.table spelled.tables position right.item.genid (reply.ConflictGenid position table genid) right.is_told
+  right_spelled es name t begin used ops (reply.ConflictRange position table key) decided right =
+      told_by_name basis.origin.tables right.item.table spelled.tables position right.item.genid (reply.ConflictRange position table key) right.is_told
+  right_spelled es name t begin used ops (reply.Duplicate position table key) decided right =
+      first_named basis.origin.tables (apply_all (rows_at basis es position) ops).tables table key spelled.tables right.breaks
+  right_spelled es name t begin used ops (reply.Lost node down) decided right = absurd decided
+  right_spelled es name t begin used ops (reply.NoMajority up nodes) decided right = absurd decided
+  right_spelled es name t begin used ops reply.NoMemory decided right = absurd decided
+
+  decision_spelled : (es : List EntryLine) (name : List ℕ) (t : Transaction) (begin : ℕ) (used : List GenidItem) (ops : List RowOp) (last : List ReplyLine) →
+      IsOneDecision last → AllByRecursion (IsRight basis es name t begin used ops) last → AllByRecursion SpellsReply last
+  decision_spelled es name t begin used ops [] one right = absurd one
+  decision_spelled es name t begin used ops (outcome ∷ []) one right = (right_spelled es name t begin used ops outcome one right.0, tt)
+  decision_spelled es name t begin used ops (outcome ∷ other ∷ more) one right = absurd one
+
+  end_spelled : (es : List EntryLine) (name : List ℕ) (t : Transaction) (begin : ℕ) (used : List GenidItem) (ops : List RowOp) (end : End) (last : List ReplyLine) →
+      Ends end last → AllByRecursion (IsRight basis es name t begin used ops) last → AllByRecursion SpellsReply last
+  end_spelled es name t begin used ops ByCommit last ends right = decision_spelled es name t begin used ops last ends right
+  end_spelled es name t begin used ops ByRollback last ends right = subst (AllByRecursion SpellsReply) (sym ends) (tt, tt)
+  end_spelled es name t begin used ops WithItsLine last ends right = decision_spelled es name t begin used ops last ends right
+  end_spelled es name t begin used ops Nowhere last ends right = subst (AllByRecursion SpellsReply) (sym ends) tt
+
+  ran_spelled : (es : List EntryLine) (t : Transaction) (begin : ℕ) (ran : Answered) → ran ≡ alone_at basis es t begin → AllByRecursion SpellsReply ran.replies
+  ran_spelled es t begin ran is =
+      subst (λ (a : Answered). AllByRecursion SpellsReply a.replies) (sym is)
+      (alone_replies basis.language spelled.language basis.origin.tables (rows_at basis es begin).tables [] t.texts (rows_spelled es begin) tt)
+
+  whole_spelled : (es : List EntryLine) (name : List ℕ) (t : Transaction) (mine : List ReplyLine) → IsWhole basis es name t mine → AllByRecursion SpellsReply mine
+  whole_spelled es name t mine w =
+      subst (AllByRecursion SpellsReply) (sym w.says)
+      (tt, all_append SpellsReply w.ran.replies w.last (ran_spelled es t w.begin w.ran w.is_ran) (end_spelled es name t w.begin (used_by w.ran) w.ran.ops t.end w.last w.ends w.right))
+
+  cut_short_spelled : (es : List EntryLine) (t : Transaction) (mine : List ReplyLine) → IsCut basis es t mine → AllByRecursion SpellsReply mine
+  cut_short_spelled es t mine c =
+      let all : AllByRecursion SpellsReply (c.front ++ c.rest) = subst (AllByRecursion SpellsReply) (sym c.fits) (tt, ran_spelled es t c.begin c.ran c.is_ran) in
+      subst (AllByRecursion SpellsReply) (sym c.says) (all_append SpellsReply c.front (c.cause ∷ []) (all_front SpellsReply c.front c.rest all) (cut_spelled c.cause c.is_cause, tt))
+
+  told_spelled : (es : List EntryLine) (name : List ℕ) (item : Item) (mine : List ReplyLine) → SpellsItem item → IsTold basis es name item mine → AllByRecursion SpellsReply mine
+  told_spelled es name (Does t) mine is (inl whole) = whole_spelled es name t mine whole
+  told_spelled es name (Does t) mine is (inr cut) = cut_short_spelled es t mine cut
+  told_spelled es name (Lone answer) mine is told = subst (AllByRecursion SpellsReply) (sym told) (is, tt)
+
+  abbrev SpellsTold : Numbered → Type 0
+  SpellsTold n = SpellsReply n.1
+
+  numbered_spelled : (n : ℕ) (replies : List ReplyLine) → AllByRecursion SpellsReply replies → AllByRecursion SpellsTold (numbered n replies)
+  numbered_spelled n [] all = tt
+  numbered_spelled n (r ∷ rs) all = (all.0, numbered_spelled n rs all.1)
+
+  along_spelled : (es : List EntryLine) (name : List ℕ) (items : List Item) (lines : List Numbered) → AllByRecursion SpellsItem items → Along (IsTold basis es name) items lines → AllByRecursion SpellsTold lines
+  along_spelled es name [] lines all is = subst (AllByRecursion SpellsTold) (sym is) tt
+  along_spelled es name (item ∷ items) lines all (mine, others, splits, told, rest) =
+      subst (AllByRecursion SpellsTold) (sym splits)
+      (all_append SpellsTold (numbered (number_of item) mine) others (numbered_spelled (number_of item) mine (told_spelled es name item mine all.0 told)) (along_spelled es name items others all.1 rest))
+
+-- lines
+
+abbrev SpellsLine : Line → Type 0
+SpellsLine (line.Session name txn answer) = IsName name × SpellsReply answer
+SpellsLine (line.Down count node fault) = Unit {0}
+SpellsLine (line.Up node) = Unit {0}
+SpellsLine line.Barrier = Unit {0}
+SpellsLine (line.Fed position) = Unit {0}
+
+abbrev IsNamedLine : Line → Type 0
+IsNamedLine (line.Session name txn answer) = IsName name
+IsNamedLine (line.Down count node fault) = Unit {0}
+IsNamedLine (line.Up node) = Unit {0}
+IsNamedLine line.Barrier = Unit {0}
+IsNamedLine (line.Fed position) = Unit {0}
+
+own_told : (name : List ℕ) (b : Bool) (l : Numbered) → b ≡ true → AllByRecursion (λ (n : Numbered). SpellsReply n.1) (if b then l ∷ [] else []) → SpellsReply l.1
+own_told name true l e all = all.0
+own_told name false l e all = cc
+
+-- what each session was told is spelled, and so each line is
+lines_spelled : (lines : List Line) → ((name : List ℕ) → AllByRecursion (λ (n : Numbered). SpellsReply n.1) (told name lines)) → AllByRecursion IsNamedLine lines → AllByRecursion SpellsLine lines
+lines_spelled [] each named = tt
+lines_spelled (line.Session name txn answer ∷ ls) each named = (
+  (named.0, own_told name (bytes_eq name name) (txn, answer) (same_name name) (all_front (λ (n : Numbered). SpellsReply n.1) (told_by name (line.Session name txn answer)) (told name ls) (each name))),
+  lines_spelled ls (λ other. all_behind (λ (n : Numbered). SpellsReply n.1) (told_by other (line.Session name txn answer)) (told other ls) (each other)) named.1,
+)
+lines_spelled (line.Down count node fault ∷ ls) each named = (tt, lines_spelled ls each named.1)
+lines_spelled (line.Up node ∷ ls) each named = (tt, lines_spelled ls each named.1)
+lines_spelled (line.Barrier ∷ ls) each named = (tt, lines_spelled ls each named.1)
+lines_spelled (line.Fed position ∷ ls) each named = (tt, lines_spelled ls each named.1)
+
+replies_named : (session : List ℕ) (number : ℕ) (replies : List ReplyLine) → IsName session → AllByRecursion IsNamedLine (lines_of session number replies)
+replies_named session number [] is = tt
+replies_named session number (r ∷ rs) is = (is, replies_named session number rs is)
+
+piece_named : (language : Language) (done : List BodyLine) (a : Act) (replies : List ReplyLine) → SaysAsNamed a → AllByRecursion IsNamedLine (piece language done a replies)
+piece_named language done (act.Say session text) replies is = replies_named session _ replies is
+piece_named language done (act.Stop node) replies is = tt
+piece_named language done (act.Start node) replies is = tt
+piece_named language done (act.Arm session moment) replies is = tt
+piece_named language done act.Barrier replies is = tt
+piece_named language done act.Feed replies is = tt
+
+turns_named : (basis : Basis) (done : List BodyLine) (before : List Line) (history : List EntryLine) (body : List BodyLine) (lines : List Line) (entries : List EntryLine) →
+    AllByRecursion (λ (b : BodyLine). SaysAsNamed b.act) body → InTurns basis done before history body lines entries → AllByRecursion IsNamedLine lines
+turns_named basis done before history [] lines entries all (none, same) = subst (AllByRecursion IsNamedLine) (sym none) tt
+turns_named basis done before history (b ∷ bs) lines entries all (replies, others, added, later, splits, parts, turn, rest) =
+    subst (AllByRecursion IsNamedLine) (sym splits)
+    (all_append IsNamedLine (piece basis.language done b.act replies) others (piece_named basis.language done b.act replies all.0)
+    (turns_named basis (done ++ b ∷ []) (before ++ piece basis.language done b.act replies) (history ++ added) bs others later all.1 rest))
+
+-- what is spelled and whose numbers fit is of the grammar
+
+reply_is : (r : ReplyLine) → FitsReply r → SpellsReply r → IsReply r
+reply_is (reply.Begin position) fits spells = fits
+reply_is (reply.Row row) fits spells = spells
+reply_is (reply.Done rows) fits spells = fits
+reply_is (reply.Changed rows) fits spells = fits
+reply_is (reply.Error cause) fits spells = fits
+reply_is (reply.Level level) fits spells = tt
+reply_is reply.RolledBack fits spells = tt
+reply_is (reply.Committed position) fits spells = fits
+reply_is (reply.ConflictGenid position table genid) fits spells = (fits.0, spells, fits.1)
+reply_is (reply.ConflictRange position table key) fits spells = (fits, spells.0, spells.1)
+reply_is (reply.Duplicate position table key) fits spells = (fits, spells.0, spells.1)
+reply_is (reply.Lost node down) fits spells = fits
+reply_is (reply.NoMajority up nodes) fits spells = fits
+reply_is reply.NoMemory fits spells = tt
+
+lines_are : (lines : List Line) → AllByRecursion FitsLine lines → AllByRecursion SpellsLine lines → AllByRecursion IsLine lines
+lines_are [] fits spells = tt
+lines_are (line.Session name txn answer ∷ ls) fits spells = ((spells.0.0, fits.0.0, reply_is answer fits.0.1 spells.0.1), lines_are ls fits.1 spells.1)
+lines_are (line.Down count node fault ∷ ls) fits spells = (fits.0, lines_are ls fits.1 spells.1)
+lines_are (line.Up node ∷ ls) fits spells = (fits.0, lines_are ls fits.1 spells.1)
+lines_are (line.Barrier ∷ ls) fits spells = (tt, lines_are ls fits.1 spells.1)
+lines_are (line.Fed position ∷ ls) fits spells = (fits.0, lines_are ls fits.1 spells.1)
+
+-- an entry's session was told a line, and so has a name
+entries_are : (lines : List Line) (entries : List EntryLine) → AllByRecursion IsNamedLine lines → AllByRecursion (IsAnswered lines) entries → AllByRecursion FitsEntry entries → AllByRecursion IsEntry entries
+entries_are lines [] named answered fits = tt
+entries_are lines (Setup position ∷ es) named answered fits = (fits.0, entries_are lines es named answered.1 fits.1)
+entries_are lines (Commit position session txn begin level ∷ es) named answered fits =
+    let stands : StandsIn lines (line.Session session txn (reply.Begin begin)) = answered.0.0 in
+    ((fits.0.0, session_named lines session txn begin stands named, fits.0.1, fits.0.2), entries_are lines es named answered.1 fits.1)
+  where
+    session_named : (lines : List Line) (session : List ℕ) (txn begin : ℕ) → StandsIn lines (line.Session session txn (reply.Begin begin)) → AllByRecursion IsNamedLine lines → IsName session
+    session_named lines session txn begin (front, back, is) named = all_standing IsNamedLine front back (line.Session session txn (reply.Begin begin)) (subst (AllByRecursion IsNamedLine) is named)
+
+pub of_the_grammar : (basis : Basis) (report : Report) → IsSpelled basis → Lawful basis report → InPlayOrder basis report → FitsTypes report → IsReport report
+of_the_grammar basis report spelled lawful order fits =
+    let named : AllByRecursion IsNamedLine report.lines = turns_named basis [] [] (opening basis.origin) basis.script.body report.lines order.later spelled.body order.order in
+    let each : (name : List ℕ) → AllByRecursion (λ (n : Numbered). SpellsReply n.1) (told name report.lines)
+    = λ name. along_spelled basis spelled report.entries name (work basis.language name basis.script.body) (told name report.lines) (work_spelled basis.language name basis.script.body) (lawful.replies name) in
+    record {
+      lines = lines_are report.lines fits.lines (lines_spelled report.lines each named);
+      base = fits.base;
+      entries = entries_are report.lines report.entries named lawful.answered fits.entries;
+      feeds = subst (AllByRecursion IsFeed) (sym lawful.feeds) tt;
+      end = fits.end;
+    }

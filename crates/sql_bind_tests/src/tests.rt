@@ -1,0 +1,99 @@
+//! Each statement is bound as it was worked out by hand, and as the second binder binds it.
+
+use crate::cases::{ALONE, MEANINGS, PAIRS, TABLES};
+use crate::documented::{DOCUMENTED, ORDERS};
+use crate::second;
+use crate::shown::shown;
+use cdb_values::Schema;
+use sql_bind::{BindFault, bind};
+use sql_grammar::Stmt;
+use sql_reader::{ReadStop, read};
+use std::alloc::{AllocError, Global};
+use std::test::Fail;
+use table_read::{TableStop, read_table};
+
+const LONGEST: usize = 1000;
+
+/// The schema of some tables.
+fn schema(alloc: Global, tables: &[&str]) -> Result<Schema, Fail> {
+    let mut schema = Schema::new(alloc);
+    for table in tables {
+        let text = *table;
+        if text.len() > LONGEST {
+            return Err(Fail::from(AllocError));
+        }
+        read_table(alloc, text, &mut schema)?;
+    }
+    Ok(schema)
+}
+
+/// The statement of a text.
+fn statement(alloc: Global, text: &str) -> Result<Stmt, ReadStop> {
+    if text.len() > LONGEST {
+        return Err(ReadStop::NoMemory);
+    }
+    read(alloc, text)
+}
+
+/// What a statement means, or the word of its error.
+fn answer(alloc: Global, stmt: &Stmt, schema: &Schema) -> Result<String, AllocError> {
+    let word = match bind(alloc, stmt, schema) {
+        Ok(bound) => return shown(alloc, &bound),
+        Err(BindFault::Table) => "table",
+        Err(BindFault::Column) => "column",
+        Err(BindFault::Ambiguous) => "ambiguous",
+        Err(BindFault::Type_) => "type",
+        Err(BindFault::Count) => "count",
+        Err(BindFault::NoMemory) => return Err(AllocError),
+    };
+    String::from_str(alloc, word)
+}
+
+/// What both binders make of a text; where they differ, the two answers.
+fn told(alloc: Global, schema: &Schema, text: &str) -> Result<String, Fail> {
+    let stmt = statement(alloc, text)?;
+    let mut first = answer(alloc, &stmt, schema)?;
+    let second = second::answer(alloc, &stmt, schema.tables())?;
+    if first != second {
+        first.push_str(", by the second binder ")?;
+        first.push_str(second.as_str())?;
+    }
+    Ok(first)
+}
+
+#[test]
+fn kinds_of_errors(rt: HostRuntime) -> Result<(), Fail> {
+    let schema = schema(rt.alloc(), &TABLES)?;
+    for (text, want) in &ALONE {
+        assert_eq!(rt; told(rt.alloc(), &schema, *text)?.as_str(), *want, "{text}");
+    }
+    Ok(())
+}
+
+#[test]
+fn pairs_of_errors(rt: HostRuntime) -> Result<(), Fail> {
+    let schema = schema(rt.alloc(), &TABLES)?;
+    for (text, want) in &PAIRS {
+        assert_eq!(rt; told(rt.alloc(), &schema, *text)?.as_str(), *want, "{text}");
+    }
+    Ok(())
+}
+
+#[test]
+fn meanings(rt: HostRuntime) -> Result<(), Fail> {
+    let schema = schema(rt.alloc(), &TABLES)?;
+    for (text, want) in &MEANINGS {
+        assert_eq!(rt; told(rt.alloc(), &schema, *text)?.as_str(), *want, "{text}");
+    }
+    Ok(())
+}
+
+/// The examples of the errors in the description of the language, in its schema of orders and items.
+#[test]
+fn documented_errors(rt: HostRuntime) -> Result<(), Fail> {
+    let schema = schema(rt.alloc(), &ORDERS)?;
+    for (text, want) in &DOCUMENTED {
+        assert_eq!(rt; told(rt.alloc(), &schema, *text)?.as_str(), *want, "{text}");
+    }
+    Ok(())
+}

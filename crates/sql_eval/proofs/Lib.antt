@@ -1,0 +1,8 @@
+pub mod BestLemmas
+pub mod GroupLemmas
+pub mod LevelLemmas
+pub mod OrderSteps
+pub mod ShapeLemmas
+pub mod SortLemmas
+pub mod ThereLemmas
+pub mod TotalLemmas

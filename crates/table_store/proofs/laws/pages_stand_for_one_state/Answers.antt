@@ -1,0 +1,5 @@
+use Rattle.table_store.proofs.StateLemmas.{one_state}
+use Rattle.table_store.proofs.laws.pages_stand_for_one_state.Goals as goal
+
+pub returns : goal.returns
+returns c = record { one = one_state }
