@@ -1,7 +1,7 @@
 //! A second binder, slow and with nothing of the first: one walk over a statement writes the text of what it means, and
 //! notes the least kind of error on the way. A name is looked up as the list of all columns that it may mean.
 
-use crate::shown::{put_digits, put_integer, put_letters, put_number};
+use crate::shown::{put_digits, put_integer, put_letters, put_mark, put_number};
 use cdb_values::{ColumnType, TableDef};
 use sql_grammar::{
     Assign, ColumnName, FromTable, Literal, Operand, OrderKey, SelectItem, SelectStmt, Seq, Sign,
@@ -246,20 +246,20 @@ fn put_test(
 ) -> Result<(), AllocError> {
     match test {
         Test::Or(parts) => {
-            let mut mark = "or(";
+            let mut is_first = true;
             for part in parts.as_slice() {
-                out.push_str(mark)?;
+                put_mark(out, "or(", is_first)?;
                 put_test(alloc, least, out, from, part)?;
-                mark = "; ";
+                is_first = false;
             }
             out.push_str(")")
         }
         Test::And(parts) => {
-            let mut mark = "and(";
+            let mut is_first = true;
             for part in parts.as_slice() {
-                out.push_str(mark)?;
+                put_mark(out, "and(", is_first)?;
                 put_test(alloc, least, out, from, part)?;
-                mark = "; ";
+                is_first = false;
             }
             out.push_str(")")
         }

@@ -172,23 +172,31 @@ fn comparison(op: Cmp) -> &'static str {
     }
 }
 
+/// Adds what stands before a part: the opening before the first, and a separator before each other.
+pub(crate) fn put_mark(out: &mut String, opening: &str, is_first: bool) -> Result<(), AllocError> {
+    if is_first {
+        return out.push_str(opening);
+    }
+    out.push_str("; ")
+}
+
 fn put_condition(alloc: Global, out: &mut String, condition: &Condition) -> Result<(), AllocError> {
     match condition {
         Condition::Or(parts) => {
-            let mut mark = "or(";
+            let mut is_first = true;
             for part in parts.as_slice() {
-                out.push_str(mark)?;
+                put_mark(out, "or(", is_first)?;
                 put_condition(alloc, out, part)?;
-                mark = "; ";
+                is_first = false;
             }
             out.push_str(")")
         }
         Condition::And(parts) => {
-            let mut mark = "and(";
+            let mut is_first = true;
             for part in parts.as_slice() {
-                out.push_str(mark)?;
+                put_mark(out, "and(", is_first)?;
                 put_condition(alloc, out, part)?;
-                mark = "; ";
+                is_first = false;
             }
             out.push_str(")")
         }
