@@ -10,3 +10,4 @@ mod KeptLemmas
 mod GoodLemmas
 mod OperationLemmas
 mod WorkedLemmas
+mod BeginLemmas

@@ -5,3 +5,4 @@ pub mod States
 pub mod Stored
 pub mod Operations
 pub mod Worked
+pub mod Begins

@@ -3,7 +3,7 @@ ghost use Rattle.std.specs.List.{slice_get, slice_set};
 ghost use Rattle.page_store.specs.Image.{Image};
 ghost use Rattle.btree_index.specs.Keys.{same_key};
 ghost use Rattle.btree_index.specs.Changes.{Stands as StandsAlone, Becomes};
-ghost use Rattle.cdb_values.specs.Good.{first_broken};
+ghost use Rattle.cdb_values.specs.Good.{first_broken, AllFit, IsGood};
 ghost use Rattle.cdb_values.specs.Rows.{Rows, versions_of, apply_all};
 ghost use Rattle.cdb_values.specs.declared.rows.RowOp.{RowOp};
 ghost use Rattle.cdb_values.specs.declared.tables.TableDef.{TableDef};
@@ -20,10 +20,13 @@ pub fn pages_stand_for_one_state()
         Stands pages tables rows → Stands pages tables others → rows ≡ others }
 {}
 
-/// Pages that stand for a state keep every key of the schema, and nobody has to look at the rows for it.
+/// Pages that stand for a state keep every key of the schema, and nobody has to look at the rows for it (`kept`). So
+/// where the rows fit their tables, too, the state is good (`good`).
 pub fn pages_that_stand_keep_their_keys()
     ensures kept { (pages : ℕ → Image) (tables : List TableDef) (rows : Rows) →
         Stands pages tables rows → first_broken tables rows.tables ≡ None }
+    ensures good { (pages : ℕ → Image) (tables : List TableDef) (rows : Rows) →
+        Stands pages tables rows → AllFit tables rows.tables → IsGood tables rows.tables }
 {}
 
 /// The pages alone tell, of as many trees from a root on, which pages each has and what it lists.

@@ -40,12 +40,15 @@
 //!    (`a_change_of_one_tree_keeps_the_others`), and operations can be done tree after tree: in each, all that goes is
 //!    taken out before anything is put in (`a_tree_after_operations`).
 //!
-//! The functions here run nothing: each is a law, and its clauses are what is proved.
+//! A store begins by `create_edits`: each tree as a leaf without cells, and the meta page with the next genid 1. The other
+//! functions run nothing: each is a law, and its clauses are what is proved.
 #![tactic(auto)]
 
+mod creates;
 mod laws;
 mod worked;
 
+pub use creates::create_edits;
 pub use laws::{
     a_change_of_one_tree_keeps_the_others, a_tree_after_operations, pages_hold_one_forest,
     pages_stand_for_one_state, pages_that_stand_keep_their_keys,
