@@ -1,0 +1,4 @@
+pub mod Codes
+pub mod Fronts
+pub mod Spelled
+pub mod Tells
