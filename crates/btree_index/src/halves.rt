@@ -34,7 +34,8 @@ pub(crate) fn halve<P: PageSource>(
     fresh: u64,
 ) -> Result<Cell, EditFault>
     ensures halved { IfOk result (Halves (meant P.pages space.old) (meant P.pages space.new) id fresh) }
-    ensures fit { id ≢ fresh → IsHalvable (meant P.pages space.old id) → (meant P.pages space.old fresh).cells ≡ [] → IsNotUnfit result }
+    ensures fit { id ≢ fresh → IsHalvable (meant P.pages space.old id) → (meant P.pages space.old fresh).cells ≡ [] →
+        IsNotUnfit result }
     ensures base { P.pages space.new.base ≡ P.pages space.old.base }
     ensures excused { IsExcused result (P.losses space.old.base) (P.losses space.new.base) }
 {

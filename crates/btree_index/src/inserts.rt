@@ -79,8 +79,8 @@ pub fn insert<P: PageSource>(
     }
 }
 
-/// Puts a pair where its key is not there, and tells whether it did, with the faults of an edit. `Unfit` comes only where
-/// the pages hold no tree.
+/// Puts a pair where its key is not there, and tells whether it did, with the faults of an edit. `Unfit` comes only
+/// where the pages hold no tree.
 fn put_absent<P: PageSource>(
     alloc: Global,
     space: &mut Workspace<P>,
@@ -90,9 +90,12 @@ fn put_absent<P: PageSource>(
 ) -> Result<bool, EditFault>
     requires key { length key.now ≤ 1630 }
     requires cell { 2 + length key.now + length value.now ≤ 1640 }
-    ensures put { (own free : List ℕ) (list : List (Key × List ℕ)) → Stands (meant P.pages space.old) root own free list →
-        IfOk result (IsPutAbsent (meant P.pages space.old) (meant P.pages space.new) root own free key.now value.now list) }
-    ensures fit { (own free : List ℕ) (list : List (Key × List ℕ)) → Stands (meant P.pages space.old) root own free list → IsNotUnfit result }
+    ensures put { (own free : List ℕ) (list : List (Key × List ℕ)) →
+        Stands (meant P.pages space.old) root own free list →
+        IfOk result (IsPutAbsent (meant P.pages space.old) (meant P.pages space.new) root own free
+        key.now value.now list) }
+    ensures fit { (own free : List ℕ) (list : List (Key × List ℕ)) →
+        Stands (meant P.pages space.old) root own free list → IsNotUnfit result }
     ensures there { IfOk result (λ put. put ≡ false → space.new.edits ≡ space.old.edits) }
     ensures base { P.pages space.new.base ≡ P.pages space.old.base }
     ensures excused { IsExcused result (P.losses space.old.base) (P.losses space.new.base) }
@@ -140,8 +143,8 @@ fn put_new<P: PageSource>(
     ensures put { (own free : List ℕ) (list : List (Key × List ℕ)) → Stands (meant P.pages space.old) root own free list →
         value_at key.now list ≡ None →
         OnOk result (Becomes (meant P.pages space.old) (meant P.pages space.new) root own free (with_pair key.now value.now list)) }
-    ensures fit { (own free : List ℕ) (list : List (Key × List ℕ)) → Stands (meant P.pages space.old) root own free list →
-        value_at key.now list ≡ None → IsNotUnfit result }
+    ensures fit { (own free : List ℕ) (list : List (Key × List ℕ)) →
+        Stands (meant P.pages space.old) root own free list → value_at key.now list ≡ None → IsNotUnfit result }
     ensures base { P.pages space.new.base ≡ P.pages space.old.base }
     ensures excused { IsExcused result (P.losses space.old.base) (P.losses space.new.base) }
 {
@@ -156,8 +159,8 @@ fn put_new<P: PageSource>(
     Err(EditFault::NoMemory)
 }
 
-/// Goes down to the leaf of a key that is not there once, and puts the pair there or makes room on the way. `Unfit` comes
-/// only where the pages hold no tree.
+/// Goes down to the leaf of a key that is not there once, and puts the pair there or makes room on the way. `Unfit`
+/// comes only where the pages hold no tree.
 fn pass_once<P: PageSource>(
     alloc: Global,
     space: &mut Workspace<P>,
@@ -169,7 +172,8 @@ fn pass_once<P: PageSource>(
     requires cell { 2 + length key.now + length value.now ≤ 1640 }
     ensures passed { (own free : List ℕ) (list : List (Key × List ℕ)) → Stands (meant P.pages space.old) root own free list →
         value_at key.now list ≡ None → IfOk result (IsPassed (meant P.pages space.old) (meant P.pages space.new) root own free key.now value.now list) }
-    ensures fit { (own free : List ℕ) (list : List (Key × List ℕ)) → Stands (meant P.pages space.old) root own free list → IsNotUnfit result }
+    ensures fit { (own free : List ℕ) (list : List (Key × List ℕ)) →
+        Stands (meant P.pages space.old) root own free list → IsNotUnfit result }
     ensures base { P.pages space.new.base ≡ P.pages space.old.base }
     ensures excused { IsExcused result (P.losses space.old.base) (P.losses space.new.base) }
 {
@@ -204,7 +208,8 @@ fn put_pair<P: PageSource>(
     ensures put { OnOk result (Alters (meant P.pages space.old) (meant P.pages space.new) leaf (meant P.pages space.old leaf).head
         (insert (meant P.pages space.old leaf).cells (place_in key.now (meant P.pages space.old leaf).cells) (leaf_cell key.now value.now))) }
     ensures room { OnOk result (HasRoom (meant P.pages space.new leaf).cells) }
-    ensures fit { taken (meant P.pages space.old leaf).cells + (6 + length key.now + length value.now) ≤ room → IsNotUnfit result }
+    ensures fit { taken (meant P.pages space.old leaf).cells + (6 + length key.now + length value.now) ≤ room →
+        IsNotUnfit result }
     ensures base { P.pages space.new.base ≡ P.pages space.old.base }
     ensures excused { IsExcused result (P.losses space.old.base) (P.losses space.new.base) }
 {
@@ -226,8 +231,9 @@ fn make_room<P: PageSource>(
     ensures room { LeadsOver (meant P.pages space.old) root key.now roomy → (own free : List ℕ) (list : List (Key × List ℕ)) →
         Stands (meant P.pages space.old) root own free list →
         OnOk result (Becomes (meant P.pages space.old) (meant P.pages space.new) root own free list) }
-    ensures fit { LeadsOver (meant P.pages space.old) root key.now roomy → IsFullUnder (meant P.pages space.old) key.now roomy →
-        (own free : List ℕ) (list : List (Key × List ℕ)) → Stands (meant P.pages space.old) root own free list → IsNotUnfit result }
+    ensures fit { LeadsOver (meant P.pages space.old) root key.now roomy →
+        IsFullUnder (meant P.pages space.old) key.now roomy → (own free : List ℕ) (list : List (Key × List ℕ)) →
+        Stands (meant P.pages space.old) root own free list → IsNotUnfit result }
     ensures base { P.pages space.new.base ≡ P.pages space.old.base }
     ensures excused { IsExcused result (P.losses space.old.base) (P.losses space.new.base) }
 {

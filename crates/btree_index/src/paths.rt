@@ -22,7 +22,8 @@ pub(crate) struct Way {
     pub(crate) roomy: Option<u64>,
 }
 
-/// The way from a root to a key. The leaf is the loaded page afterwards. `Unfit` comes only where the pages hold no tree.
+/// The way from a root to a key. The leaf is the loaded page afterwards. `Unfit` comes only where the pages hold no
+/// tree.
 pub(crate) fn way_for<P: PageSource>(
     space: &mut Workspace<P>,
     root: u64,

@@ -12,8 +12,8 @@ use page_workspace::{EditFault, Workspace};
 use std::alloc::Global;
 
 /// Takes the pair of a key out of the tree below a root, and tells whether it was there. A leaf that becomes empty
-/// stays. `Gone` comes only where the source lost its pages; the other error is want of memory, where a tree stands at the
-/// root. After an error, and where the key was not there, the workspace's edits are as before.
+/// stays. `Gone` comes only where the source lost its pages; the other error is want of memory, where a tree stands at
+/// the root. After an error, and where the key was not there, the workspace's edits are as before.
 pub fn remove<P: PageSource>(
     alloc: Global,
     space: &mut Workspace<P>,

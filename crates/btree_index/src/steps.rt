@@ -62,7 +62,9 @@ pub(crate) fn fill<P: PageSource>(
 ) -> Result<(), EditFault>
     ensures filled { from ≢ to → OnOk result (Alters (meant P.pages space.old) (meant P.pages space.new) to
         (meant P.pages space.old to).head ((meant P.pages space.old to).cells ++ drop start (meant P.pages space.old from).cells)) }
-    ensures fit { from ≢ to → HasRoom ((meant P.pages space.old to).cells ++ drop start (meant P.pages space.old from).cells) → IsNotUnfit result }
+    ensures fit { from ≢ to →
+        HasRoom ((meant P.pages space.old to).cells ++ drop start (meant P.pages space.old from).cells) →
+        IsNotUnfit result }
     ensures base { P.pages space.new.base ≡ P.pages space.old.base }
     ensures excused { IsExcused result (P.losses space.old.base) (P.losses space.new.base) }
 {
