@@ -1,18 +1,15 @@
 -- Entries tell themselves.
-use Rattle.std.proofs.Common.{◌≡◌, ℕ, ◌^◌, ◌<◌, List, [], ◌∷◌, ◌++◌, length, refl, sym, ap, ◌∙◌, subst, append_assoc, arith}
-use Rattle.std.specs.List.{flat_map}
+use Rattle.std.proofs.Common.{◌≡◌, ℕ, List, ◌∷◌, ◌++◌, refl, sym, ap, ◌∙◌, append_assoc, arith}
 use Rattle.cdb_values.specs.declared.rows.Change.{Change}
 use Rattle.cdb_values.specs.declared.rows.Level.{Level}
 use Rattle.cdb_values.specs.declared.rows.Level.TheVariants.{Snapshot, Serializable}
 use Rattle.cdb_values.specs.declared.tables.TableDef.{TableDef}
-use Rattle.phys_log.specs.declared.entries.CommitId.{CommitId}
-use Rattle.phys_log.specs.declared.entries.Entry.{Entry}
 use Rattle.phys_log.specs.declared.entries.Entry.TheVariants.{Setup, Commit}
 use Rattle.phys_log.specs.declared.entries.LogRecord.{LogRecord}
-use Rattle.frame_code.specs.Codes.{byte, number, many, name_code, schema_code, change_code, record_code, level_code, entry_code}
-use Rattle.frame_code.specs.Spelled.{IsByte, IsNumber, AreMany, IsNameBytes, IsSchema, IsChange, IsRecord, IsSetup, IsCommit, IsEntry}
+use Rattle.frame_code.specs.Codes.{number, many, name_code, schema_code, change_code, record_code, level_code, entry_code}
+use Rattle.frame_code.specs.Spelled.{IsNumber, AreMany, IsNameBytes, IsSchema, IsChange, IsRecord, IsEntry}
 use Rattle.frame_code.specs.Tells.{Tells}
-use Rattle.frame_code.proofs.FormLemmas.{Both, both, both_tell, bytes_tell, numbers_tell, many_tell}
+use Rattle.frame_code.proofs.FormLemmas.{Both, both, both_tell, numbers_tell, many_tell}
 use Rattle.frame_code.proofs.PartLemmas.{names_tell, schemas_tell, changes_tell, records_tell}
 
 -- what stands behind the tag of a setup

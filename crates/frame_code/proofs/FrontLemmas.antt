@@ -3,7 +3,7 @@ use Rattle.std.proofs.Common.{◌≡◌, ◌⊎◌, inl, inr, ℕ, zero, suc, �
 use Rattle.byteorder.specs.Numbers.{length-bytes_high_first}
 use Rattle.key_code.proofs.ValueLemmas.{digits_tell}
 use Rattle.frame_code.specs.declared.frames.Frame.{Frame}
-use Rattle.frame_code.specs.Codes.{number, payload, kind_of, envelope, frame_code}
+use Rattle.frame_code.specs.Codes.{number, payload, envelope, frame_code}
 use Rattle.frame_code.specs.Spelled.{IsSpelled}
 use Rattle.frame_code.specs.Fronts.{IsKind, IsUnfinished, IsFront}
 

@@ -1,30 +1,23 @@
 -- The parts of tables, changes and records tell themselves.
-use Rattle.std.proofs.Common.{◌≡◌, ℕ, ◌^◌, ◌<◌, List, [], ◌∷◌, ◌++◌, length, refl, sym, ap, ◌∙◌, subst, append_assoc, arith}
-use Rattle.std.specs.List.{flat_map, AllByRecursion}
-use Rattle.std.proofs.lemmas.List.{append-nil}
+use Rattle.std.proofs.Common.{◌≡◌, ℕ, ◌^◌, ◌<◌, List, [], ◌∷◌, ◌++◌, refl, sym, ap, ◌∙◌, arith}
+use Rattle.std.specs.List.{AllByRecursion}
 use Rattle.byteorder.specs.Endian.{big_bytes}
 use Rattle.cdb_values.specs.declared.rows.Change.{Change}
 use Rattle.cdb_values.specs.declared.rows.Change.TheVariants as change
-use Rattle.cdb_values.specs.declared.tables.ColumnDef.{ColumnDef}
-use Rattle.cdb_values.specs.declared.tables.ColumnType.{ColumnType}
 use Rattle.cdb_values.specs.declared.tables.ColumnType.TheVariants as types
-use Rattle.cdb_values.specs.declared.tables.KeyDef.{KeyDef}
-use Rattle.cdb_values.specs.declared.tables.TableDef.{TableDef}
 use Rattle.cdb_values.specs.declared.values.Value.{Value}
-use Rattle.cdb_values.specs.declared.values.Value.TheVariants.{Null, Int, Text, Blob}
-use Rattle.key_code.specs.Codes.{row_value, row_code, joined, IsRowValue}
-use Rattle.key_code.proofs.ValueLemmas.{front_tells, digits_tell}
+use Rattle.key_code.specs.Codes.{row_code, IsRowValue}
+use Rattle.key_code.proofs.ValueLemmas.{digits_tell}
 use Rattle.key_code.proofs.JoinedLemmas.{row_value_tells, row_begins}
 use Rattle.page_store.specs.declared.edits.Edit.{Edit}
 use Rattle.page_store.specs.declared.edits.Edit.TheVariants.{PutCell, TakeCell, SwapCell, SetHead}
 use Rattle.page_store.specs.declared.pages.Head.{Head}
 use Rattle.page_store.specs.declared.pages.PageKind.{PageKind}
 use Rattle.page_store.specs.declared.pages.PageKind.TheVariants.{Free, Leaf, Inner, Meta}
-use Rattle.phys_log.specs.declared.entries.LogRecord.{LogRecord}
 use Rattle.frame_code.specs.Codes.{byte, two_bytes, number, flag, few, name_code, cell_code, stored_row, type_code, column_code, index_code, table_code, schema_code, change_code, kind_code, head_code, edit_code, record_code}
 use Rattle.frame_code.specs.Spelled.{IsByte, IsTwoBytes, IsNumber, AreFew, IsNameBytes, IsCellBytes, IsStoredRow, IsColumn, IsIndex, IsTable, IsSchema, IsChange, IsHead, IsEdit, IsRecord}
 use Rattle.frame_code.specs.Tells.{Tells}
-use Rattle.frame_code.proofs.FormLemmas.{Both, both, both_tell, as_parts_tell, bytes_tell, two_bytes_tell, numbers_tell, flags_tell, Any, few_tell, parts_tell, listed_tell, counted_tell}
+use Rattle.frame_code.proofs.FormLemmas.{Both, both, both_tell, as_parts_tell, bytes_tell, two_bytes_tell, numbers_tell, flags_tell, Any, few_tell, listed_tell, counted_tell}
 
 -- names, cells and rows
 pub names_tell : Tells name_code IsNameBytes

@@ -111,7 +111,8 @@ level_code Snapshot = 1
 level_code Serializable = 2
 
 abbrev pub entry_code : Entry → List ℕ
-entry_code (Setup generation schema records) = number generation ++ (0 ∷ (schema_code schema ++ many record_code records))
+entry_code (Setup generation schema records) =
+    number generation ++ (0 ∷ (schema_code schema ++ many record_code records))
 entry_code (Commit generation id begin level changes records) =
     number generation
     ++ (level_code level

@@ -7,10 +7,10 @@ ghost use Rattle.frame_code.specs.Fronts.{IsKind, IsFront};
 /// The law that a frame's bytes tell the frame and what stands behind it: a frame has one spelling, and no spelling
 /// begins another.
 pub fn frames_tell()
-    ensures tells { (f g : Frame) (ps qs : List ℕ) → IsSpelled f → IsSpelled g → frame_code f ++ ps ≡ frame_code g ++ qs →
-        (f ≡ g) × (ps ≡ qs) }
-    ensures begins_no_other { (f g : Frame) (ps : List ℕ) → IsSpelled f → IsSpelled g → frame_code f ++ ps ≡ frame_code g →
-        (f ≡ g) × (ps ≡ []) }
+    ensures tells { (f g : Frame) (ps qs : List ℕ) → IsSpelled f → IsSpelled g →
+        frame_code f ++ ps ≡ frame_code g ++ qs → (f ≡ g) × (ps ≡ qs) }
+    ensures begins_no_other { (f g : Frame) (ps : List ℕ) → IsSpelled f → IsSpelled g →
+        frame_code f ++ ps ≡ frame_code g → (f ≡ g) × (ps ≡ []) }
 {}
 
 /// The law that bytes which are less than an envelope begin with no frame.

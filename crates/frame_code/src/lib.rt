@@ -24,7 +24,9 @@
 //! | update | `02`, table 2, old genid 8, old row, genid 8, row |
 //! | delete | `03`, table 2, old genid 8, old row |
 //! | record | LSN 8, LSN before 8, page 8, edit |
-//! | edit | `01` put, place 2, cell; `02` take, place 2, cell; `03` swap, place 2, cell before, cell after; `04` head before, head after |
+//! | edit: put, take | `01` or `02`, place 2, cell |
+//! | edit: swap | `03`, place 2, cell before, cell after |
+//! | edit: head | `04`, head before, head after |
 //! | head | kind, level, right link 8 |
 //! | name, cell, row | length in 1, 2 or 4 bytes, then its bytes; those of a row are its code |
 //!
