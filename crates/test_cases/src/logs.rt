@@ -1,5 +1,6 @@
-ghost use Rattle.std.specs.Prelude.{◌≡◌, IfOk};
-ghost use Rattle.phys_log.specs.Logs.{records_of};
+ghost use Rattle.std.specs.Prelude.{◌≡◌, IfOk, slice_get};
+ghost use Rattle.std.specs.Option.{option_copied};
+ghost use Rattle.test_cases.specs.Samples.{sample_entry, sample_edit, sample_record};
 
 use cdb_values::{Level, List, Name};
 use page_store::{Cell, Edit, Page};
@@ -9,7 +10,7 @@ use std::alloc::{AllocError, Global};
 /// A commit of session `a` with a number, that begins at 1 and changes no row, with these records. The error is want of
 /// memory.
 pub fn commit_entry(alloc: Global, txn: u64, records: List<LogRecord>) -> Result<Entry, AllocError>
-    ensures { IfOk result (λ e. records_of e ≡ records) }
+    ensures { IfOk result (λ e. e ≡ sample_entry txn records) }
 {
     let session = Name::copied(alloc, b"a")?;
     Ok(Entry::Commit {
@@ -28,35 +29,43 @@ pub fn commit_entry(alloc: Global, txn: u64, records: List<LogRecord>) -> Result
 
 /// The record with an LSN that puts that LSN, big-endian, as a first cell of a page without cells, or in place of the
 /// first cell. No page is handed in where none is kept. The error is want of memory.
+#[tactic(auto, unfolding(crate::specs::Samples::sample_record))]
 pub fn record_over(
     alloc: Global,
     kept: Option<&Page>,
     page: u64,
     lsn: u64,
 ) -> Result<LogRecord, AllocError>
-    ensures number { IfOk result (λ r. r.lsn ≡ lsn) }
-    ensures page { IfOk result (λ r. r.page ≡ page) }
+    ensures { IfOk result (λ r. r ≡ sample_record (option_copied kept.entry) page lsn) }
 {
-    let after = Cell::from_slice(alloc, &lsn.to_be_bytes())?;
-    let mut prev = 0;
-    let mut edit = Edit::PutCell {
-        at: 0,
-        cell: after.clone()?,
-    };
-    if let Some(kept) = kept {
-        prev = kept.lsn();
-        if let Some(cell) = kept.cell(0) {
-            edit = Edit::SwapCell {
-                at: 0,
-                before: Cell::from_slice(alloc, cell)?,
-                after,
-            };
-        }
+    let cell = Cell::from_slice(alloc, &lsn.to_be_bytes())?;
+    match kept {
+        None => Ok(LogRecord {
+            lsn,
+            prev: 0,
+            page,
+            edit: Edit::PutCell { at: 0, cell },
+        }),
+        Some(kept) => Ok(LogRecord {
+            lsn,
+            prev: kept.lsn(),
+            page,
+            edit: edit_over(alloc, kept, cell)?,
+        }),
     }
-    Ok(LogRecord {
-        lsn,
-        prev,
-        page,
-        edit,
-    })
+}
+
+/// Puts a cell as the first of a page without cells, or in place of the first.
+#[tactic(auto, unfolding(crate::specs::Samples::sample_edit))]
+fn edit_over(alloc: Global, kept: &Page, after: Cell) -> Result<Edit, AllocError>
+    ensures { IfOk result (λ e. e ≡ sample_edit (slice_get kept.now.cells 0) after) }
+{
+    match kept.cell(0) {
+        None => Ok(Edit::PutCell { at: 0, cell: after }),
+        Some(cell) => Ok(Edit::SwapCell {
+            at: 0,
+            before: Cell::from_slice(alloc, cell)?,
+            after,
+        }),
+    }
 }
