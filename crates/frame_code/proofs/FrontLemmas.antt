@@ -3,7 +3,8 @@ use Rattle.std.proofs.Common.{◌≡◌, ◌⊎◌, inl, inr, ℕ, zero, suc, �
 use Rattle.byteorder.specs.Numbers.{length-bytes_high_first}
 use Rattle.key_code.proofs.ValueLemmas.{digits_tell}
 use Rattle.frame_code.specs.declared.frames.Frame.{Frame}
-use Rattle.frame_code.specs.Codes.{number, payload, envelope, frame_code}
+use Rattle.frame_code.specs.declared.frames.Frame.TheVariants as frames
+use Rattle.frame_code.specs.Codes.{number, payload, kind_of, envelope, frame_code}
 use Rattle.frame_code.specs.Spelled.{IsSpelled}
 use Rattle.frame_code.specs.Fronts.{IsKind, IsUnfinished, IsFront}
 
@@ -79,3 +80,16 @@ fronts_are_short kind payload (b ∷ bytes) more k fits e some =
     either : (length bytes < 8) ⊎ (8 ≤ length bytes) → (length bytes < 8) ⊎ IsUnfinished bytes
     either (inl short) = inl short
     either (inr n) = inr (unfinished payload bytes more fits (cc) some n)
+
+-- each frame is of a kind
+kinds_are_kinds : (f : Frame) → IsKind (kind_of f)
+kinds_are_kinds (frames.Header version node cluster) = (omega arith, omega arith)
+kinds_are_kinds (frames.Promise generation) = (omega arith, omega arith)
+kinds_are_kinds (frames.Accept generation) = (omega arith, omega arith)
+kinds_are_kinds (frames.Entry entry) = (omega arith, omega arith)
+kinds_are_kinds (frames.Cut length) = (omega arith, omega arith)
+
+pub frames_have_fronts : (f : Frame) (bytes more : List ℕ) → IsSpelled f → bytes ++ more ≡ frame_code f
+    → (more ≡ [] → ⊥) → IsFront bytes
+frames_have_fronts f bytes more h e some =
+    fronts_are_short (kind_of f) (payload f) bytes more (kinds_are_kinds f) h.size e some

@@ -18,8 +18,11 @@ pub fn fronts_are_no_frames()
     ensures { (bytes rest : List ℕ) (f : Frame) → IsFront bytes → IsSpelled f → frame_code f ++ rest ≡ bytes → ⊥ }
 {}
 
-/// The law that each proper front of an envelope is less than an envelope, whatever its payload says.
+/// The law that each proper front of an envelope is less than an envelope, whatever its payload says, and so is each
+/// proper front of a frame's bytes.
 pub fn envelopes_have_fronts()
-    ensures { (kind : ℕ) (payload bytes more : List ℕ) → IsKind kind → length payload < 2 ^ 64 →
+    ensures envelopes { (kind : ℕ) (payload bytes more : List ℕ) → IsKind kind → length payload < 2 ^ 64 →
         bytes ++ more ≡ envelope kind payload → (more ≡ [] → ⊥) → IsFront bytes }
+    ensures frames { (f : Frame) (bytes more : List ℕ) → IsSpelled f →
+        bytes ++ more ≡ frame_code f → (more ≡ [] → ⊥) → IsFront bytes }
 {}
