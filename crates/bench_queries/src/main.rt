@@ -1,0 +1,103 @@
+//! Work on queries to be measured: `bench_queries WORK COUNT` does one kind of work over that many combinations, and prints
+//! how many rows it gave.
+//!
+//! | WORK | What is done |
+//! |---|---|
+//! | `groups` | a hundredth as many groups, with `count(*)` and a `sum`, ordered by the sum and then by the group |
+//! | `shape` | the same, with the time of grouping and ordering alone |
+#![tactic(auto)]
+
+use cdb_values::{List, Value, Version};
+use sql_bind::{BoundColumn, BoundItem, BoundKey, BoundSelect};
+use sql_eval::shape;
+use std::alloc::{AllocError, Global};
+use std::time::{Clock, Duration, Instant};
+use std::{env, io};
+
+const GROUP: BoundColumn = BoundColumn {
+    place: 0,
+    column: 0,
+};
+
+const NUMBER: BoundColumn = BoundColumn {
+    place: 0,
+    column: 1,
+};
+
+fn main(rt: HostRuntime) -> io::Result<()> {
+    let mut words = env::args(&rt)?.skip(1);
+    let (Some(work), Some(count)) = (words.next(), words.next()) else {
+        return println!(rt; "usage: bench_queries groups|shape COUNT");
+    };
+    let count = count.as_str().parse::<u64>().unwrap_or(0);
+    let shaped = group_and_order(&rt, rt.alloc(), count)?;
+    if work.as_str() == "shape" {
+        let took = shaped.took.as_millis();
+        print!(rt; "in {took} ms, ")?;
+    }
+    println!(rt; "{} rows", shaped.rows)
+}
+
+/// How many rows a query gave, and how long that took.
+#[derive(Drop)]
+struct Shaped {
+    rows: usize,
+    took: Duration,
+}
+
+/// Groups and orders that many combinations.
+fn group_and_order(clock: &impl Clock, alloc: Global, count: u64) -> io::Result<Shaped> {
+    let combinations = combinations(alloc, count)?;
+    let query = query(alloc)?;
+    let start = Instant::now(clock)?;
+    let rows = match shape(alloc, &query, &combinations) {
+        Ok(rows) => rows.len(),
+        Err(_) => 0,
+    };
+    let took = start.elapsed(clock)?;
+    Ok(Shaped { rows, took })
+}
+
+/// Combinations of one row of two numbers, a hundred for each group, which come in a mixed order.
+fn combinations(alloc: Global, count: u64) -> Result<List<List<Version>>, AllocError> {
+    let groups = (count / 100).max(1);
+    let mut combinations = List::new(alloc);
+    for n in 0..count {
+        let group = n.wrapping_mul(7919) % groups;
+        let mut row = List::new(alloc);
+        row.push(Value::Int(i64::try_from(group).unwrap_or(0)))?;
+        row.push(Value::Int(i64::try_from(n % 1000).unwrap_or(0)))?;
+        let mut combination = List::new(alloc);
+        combination.push(Version { genid: n, row })?;
+        combinations.push(combination)?;
+    }
+    Ok(combinations)
+}
+
+/// `select a, count(*), sum(b) from t group by a order by sum(b) desc, a`
+fn query(alloc: Global) -> Result<BoundSelect, AllocError> {
+    let items = [
+        BoundItem::Column(GROUP),
+        BoundItem::Count,
+        BoundItem::Sum(NUMBER),
+    ];
+    let order = [
+        BoundKey {
+            item: BoundItem::Sum(NUMBER),
+            descending: true,
+        },
+        BoundKey {
+            item: BoundItem::Column(GROUP),
+            descending: false,
+        },
+    ];
+    Ok(BoundSelect {
+        selectv: false,
+        items: List::from_vec(Vec::from_slice(alloc, &items)?),
+        tables: List::new(alloc),
+        filter: None,
+        group: List::from_vec(Vec::from_slice(alloc, &[GROUP])?),
+        order: List::from_vec(Vec::from_slice(alloc, &order)?),
+        limit: None,
+    })
+}
