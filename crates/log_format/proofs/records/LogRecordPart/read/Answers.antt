@@ -1,0 +1,5 @@
+use Rattle.log_format.proofs.PartReads.{no_record}
+use Rattle.log_format.proofs.records.LogRecordPart.read.Goals as goal
+
+pub returns-in_default : goal.returns-in_default
+returns-in_default c = no_record c.args.bytes.now (rw c.in_default.is at c.in_ok-parts.ensures)

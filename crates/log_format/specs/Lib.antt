@@ -1,0 +1,4 @@
+pub mod Envelopes
+pub mod Lists
+pub mod Readings
+pub mod Wholes
