@@ -1,3 +1,5 @@
+pub mod CountLemmas
 pub mod InTurnLemmas
 pub mod OwnLemmas
+pub mod SlotLemmas
 pub mod StandingLemmas

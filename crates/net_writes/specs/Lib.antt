@@ -1,2 +1,4 @@
 pub mod InTurn
 pub mod Net
+pub mod Slots
+pub mod Steps

@@ -6,7 +6,7 @@ use genid_rows::{OpFault, State, apply_op};
 use net_writes::net;
 use std::alloc::{AllocError, Global};
 
-fn row(alloc: Global, value: i64) -> Result<Row, AllocError> {
+pub(super) fn row(alloc: Global, value: i64) -> Result<Row, AllocError> {
     let mut row = List::new(alloc);
     row.push(Value::Int(value))?;
     Ok(row)
@@ -137,12 +137,12 @@ fn base(alloc: Global) -> Result<State, AllocError> {
 
 /// Numbers that follow from a seed.
 #[derive(Drop)]
-struct Numbers {
-    last: u64,
+pub(super) struct Numbers {
+    pub(super) last: u64,
 }
 
 impl Numbers {
-    fn below(&mut self, limit: u16) -> u16
+    pub(super) fn below(&mut self, limit: u16) -> u16
         requires { 0 < limit }
         ensures { result < limit }
     {
