@@ -2,7 +2,7 @@
 use Rattle.std.specs.Prelude.{ℕ, ◌++◌, ◌∷◌, [], List, codes}
 use Rattle.script_form.specs.declared.scripts.Script.{Script}
 use Rattle.report_laws.specs.Each.{EachAfter}
-use Rattle.report_laws.specs.History.{nothing_before, IsEntryAfter}
+use Rattle.report_laws.specs.History.{nothing_before, IsEntryAfter, view_of}
 use Rattle.report_laws.specs.Lawful.{Lawful, IsFreshLine}
 use Rattle.report_laws.specs.Told.{told, Along, IsTold}
 use Rattle.report_laws.specs.Work.{work}
@@ -14,7 +14,7 @@ use Rattle.transaction_answers.specs.Answer.{from_nothing, statement_language}
 
 -- the three laws of a lawful report that these break
 abbrev pub RepliesAreRight : Script → Report → Type 0
-RepliesAreRight script report = (name : List ℕ) → Along (IsTold (from_nothing script) report.entries name) (work statement_language name script.body) (told name report.lines)
+RepliesAreRight script report = (name : List ℕ) → Along (IsTold (from_nothing script) (view_of (from_nothing script) report.entries) name) (work statement_language name script.body) (told name report.lines)
 
 abbrev pub BeginsAreFresh : Report → Type 0
 BeginsAreFresh report = EachAfter (IsFreshLine (nothing_before (worked_table ∷ []))) [] report.lines
