@@ -7,7 +7,7 @@ use Rattle.report_laws.specs.Play.{InPlayOrder}
 use Rattle.report_laws.specs.Told.{told, Along, IsTold, alone_at}
 use Rattle.report_laws.specs.Work.{Item, Does, work}
 use Rattle.report_worked.specs.Worked.{insert_select, insert_select_report, worked_table, two_selects, report_with, inserted_lines, inserted_entries, row, to_a, of_a}
-use Rattle.report_worked.specs.WorkedWrong.{IsRefusedBy, RepliesAreRight, BeginsAreFresh, HistoryIsRight, wrong_value, missing_row, out_of_order, early_row, late, wrong_position, entry_twice, begin_too_old}
+use Rattle.report_worked.specs.WorkedWrong.{IsRefusedBy, RepliesAreRight, BeginsAreFresh, HistoryIsRight, LinesHavePlaces, wrong_value, missing_row, out_of_order, early_row, late, wrong_position, entry_twice, node_line, lost_line, begin_too_old}
 use Rattle.report_text.specs.declared.reports.Line.{Line}
 use Rattle.report_text.specs.declared.reports.ReplyLine.{ReplyLine}
 use Rattle.report_text.specs.declared.reports.ReplyLine.TheVariants as reply
@@ -108,6 +108,13 @@ entered_twice law = let once : true ≡ false = law.1.1.0.once 2 (of_a 2 1 1) (o
 
 pub entry_twice_is_refused : IsRefusedBy (HistoryIsRight insert_select entry_twice) insert_select entry_twice
 entry_twice_is_refused = (entered_twice, λ is. entered_twice is.history)
+
+-- a line of a node, and a loss without a cause
+pub node_line_is_refused : IsRefusedBy (LinesHavePlaces node_line) insert_select node_line
+node_line_is_refused = (λ law. law.0, λ is. is.places.0)
+
+pub lost_line_is_refused : IsRefusedBy (LinesHavePlaces lost_line) insert_select lost_line
+lost_line_is_refused = (λ law. law.1.1.1.1.0, λ is. is.places.1.1.1.1.0)
 
 -- a begin below a position that was named before a line of the session
 begun_before : BeginsAreFresh begin_too_old → ⊥

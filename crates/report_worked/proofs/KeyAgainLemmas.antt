@@ -1,5 +1,5 @@
 -- The report of a key that is taken, freed and taken again, computed.
-use Rattle.std.proofs.Common.{◌≡◌, ℕ, List, [], ◌∷◌, refl, sym, subst, arith, codes, inl, inr, take, drop}
+use Rattle.std.proofs.Common.{◌≡◌, ℕ, List, [], ◌∷◌, refl, sym, subst, arith, codes, inl, inr, take}
 use Rattle.cdb_values.specs.Good.{IsGood}
 use Rattle.cdb_values.specs.declared.rows.Level.TheVariants.{Snapshot}
 use Rattle.statement_read.specs.Statements.{insert_of, insert_head_of, equation_at, where_of, delete_of, deleted_of}
