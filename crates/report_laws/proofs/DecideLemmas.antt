@@ -5,7 +5,8 @@ use Rattle.cdb_values.specs.Good.{first_broken, KeyName}
 use Rattle.cdb_values.specs.Rows.{Rows, apply_all}
 use Rattle.cdb_values.specs.declared.rows.Level.{Level}
 use Rattle.cdb_values.specs.declared.rows.RowOp.{RowOp}
-use Rattle.report_laws.specs.History.{Basis, alone_on, rows_at, rows_after, rows_among, ops_alone, states_of, entry_at, last_position, taken_at, first_touched, IsUntouched}
+use Rattle.report_laws.specs.History.{Basis, alone_on, rows_at, rows_after, rows_among, ops_alone, states_of, entry_at, last_position, taken_at, view_of}
+use Rattle.report_laws.specs.View.{first_touched, IsUntouched}
 use Rattle.report_laws.specs.Outcome.{IsRight, IsCommitted, IsConflict, IsDuplicate, IsDecided, conflict_line, key_name}
 use Rattle.report_laws.specs.Play.{IsTimely}
 use Rattle.report_laws.specs.Work.{Transaction, transaction_of}
@@ -24,7 +25,7 @@ module _ (basis : Basis) (history : List EntryLine) (name : List ℕ) (t : Trans
   pub record IsNext (position : ℕ) (ops : List RowOp) (added : List EntryLine) : Type 0 where
     pub at : position ≡ now + 1
     pub appends : added ≡ Commit (now + 1) name t.number begin t.level ∷ []
-    pub untouched : IsUntouched basis history begin (now + 1) used
+    pub untouched : IsUntouched (view_of basis history) begin (now + 1) used
     pub kept : first_broken basis.origin.tables (apply_all (rows_at basis history now) ops).tables ≡ None
 
   abbrev pub Commits : ℕ → List RowOp → List EntryLine → Type 0
@@ -35,8 +36,8 @@ module _ (basis : Basis) (history : List EntryLine) (name : List ℕ) (t : Trans
   abbrev pub Decides : List RowOp → ReplyLine → List EntryLine → Type 0
   Decides ops outcome added =
       ((position : ℕ) × (outcome ≡ reply.Committed position) × Commits position ops added)
-      ⊎ (((position : ℕ) × (added ≡ []) × (position ≤ now) × IsConflict basis history begin position used ops outcome)
-      ⊎ ((position : ℕ) × (table : List ℕ) × (key : List ℕ) × (outcome ≡ reply.Duplicate position table key) × (added ≡ []) × (position ≡ now) × IsDuplicate basis history begin position used ops table key))
+      ⊎ (((position : ℕ) × (added ≡ []) × (position ≤ now) × IsConflict basis (view_of basis history) begin position used ops outcome)
+      ⊎ ((position : ℕ) × (table : List ℕ) × (key : List ℕ) × (outcome ≡ reply.Duplicate position table key) × (added ≡ []) × (position ≡ now) × IsDuplicate basis (view_of basis history) begin position used ops table key))
 
 -- parts of what was found
 abbrev table_or : Option KeyName → List ℕ
@@ -69,7 +70,7 @@ module _ (basis : Basis) (history : List EntryLine) (name : List ℕ) (t : Trans
   abbrev last : ℕ
   last = last_position basis.origin history
 
-  same_conflict : (p q : ℕ) (ops : List RowOp) (o o' : ReplyLine) → IsConflict basis history begin p used ops o → IsConflict basis history begin q used ops o' → o ≡ o'
+  same_conflict : (p q : ℕ) (ops : List RowOp) (o o' : ReplyLine) → IsConflict basis (view_of basis history) begin p used ops o → IsConflict basis (view_of basis history) begin q used ops o' → o ≡ o'
   same_conflict p q ops o o' is is' = go (trichotomy p q)
     where
       go : (p < q) ⊎ ((q < p) ⊎ (p ≡ q)) → o ≡ o'
@@ -83,7 +84,7 @@ module _ (basis : Basis) (history : List EntryLine) (name : List ℕ) (t : Trans
           ∙ ap (λ (i : GenidItem). conflict_line basis.origin.tables q i) (same_some is.item is'.item found)
           ∙ is'.is_told)
 
-  same_duplicate : (p q : ℕ) (ops : List RowOp) (table table' key key' : List ℕ) → p ≡ last → q ≡ last → IsDuplicate basis history begin p used ops table key → IsDuplicate basis history begin q used ops table' key' →
+  same_duplicate : (p q : ℕ) (ops : List RowOp) (table table' key key' : List ℕ) → p ≡ last → q ≡ last → IsDuplicate basis (view_of basis history) begin p used ops table key → IsDuplicate basis (view_of basis history) begin q used ops table' key' →
       reply.Duplicate p table key ≡ reply.Duplicate q table' key'
   same_duplicate p q ops table table' key key' at at' is is' =
       let same : p ≡ q = at ∙ sym at' in
@@ -92,18 +93,18 @@ module _ (basis : Basis) (history : List EntryLine) (name : List ℕ) (t : Trans
       ap (λ k. reply.Duplicate k table key) same ∙ ap (λ n. reply.Duplicate q n key) (ap table_or found) ∙ ap (λ k. reply.Duplicate q table' k) (ap key_or found)
 
   no_commit_and_conflict : (p q : ℕ) (ops : List RowOp) (added : List EntryLine) (o : ReplyLine) → Commits basis history name t begin used p ops added → q ≤ last →
-      IsConflict basis history begin q used ops o → ⊥
+      IsConflict basis (view_of basis history) begin q used ops o → ⊥
   no_commit_and_conflict p q [] added o commits within is = is.has_ops refl
   no_commit_and_conflict p q (op ∷ ops) added o commits within is = some_none is.item _ is.touched (commits.untouched q is.later (omega (arith, within)))
 
   no_commit_and_duplicate : (p q : ℕ) (ops : List RowOp) (added : List EntryLine) (table key : List ℕ) → Commits basis history name t begin used p ops added → q ≡ last →
-      IsDuplicate basis history begin q used ops table key → ⊥
+      IsDuplicate basis (view_of basis history) begin q used ops table key → ⊥
   no_commit_and_duplicate p q [] added table key commits at is = is.has_ops refl
   no_commit_and_duplicate p q (op ∷ ops) added table key commits at is =
       some_none (key_name table key) _ is.breaks (ap (λ k. first_broken basis.origin.tables (apply_all (rows_at basis history k) (op ∷ ops)).tables) at ∙ commits.kept)
 
   no_conflict_and_duplicate : (p q : ℕ) (ops : List RowOp) (table key : List ℕ) (o : ReplyLine) → p ≤ last → q ≡ last →
-      IsConflict basis history begin p used ops o → IsDuplicate basis history begin q used ops table key → ⊥
+      IsConflict basis (view_of basis history) begin p used ops o → IsDuplicate basis (view_of basis history) begin q used ops table key → ⊥
   no_conflict_and_duplicate p q ops table key o within at is is' = some_none is.item _ is.touched (is'.untouched p is.later (omega (arith, within, at)))
 
   same_commit : (p q : ℕ) (ops : List RowOp) (added added' : List EntryLine) → Commits basis history name t begin used p ops added → Commits basis history name t begin used q ops added' →
@@ -147,10 +148,10 @@ module _ (basis : Basis) (history added later : List EntryLine) (name : List ℕ
   taken_is : (k : ℕ) → begin < k → k ≤ end → taken_at basis whole k ≡ taken_at basis history k
   taken_is k after within = taken_front basis history (added ++ later) k (omega (arith, base, after)) within
 
-  untouched_is : (position : ℕ) → position ≤ end + 1 → IsUntouched basis whole begin position used → IsUntouched basis history begin position used
+  untouched_is : (position : ℕ) → position ≤ end + 1 → IsUntouched (view_of basis whole) begin position used → IsUntouched (view_of basis history) begin position used
   untouched_is position within is = untouched_front basis history (added ++ later) begin position used base within is
 
-  conflict_is : (position : ℕ) (ops : List RowOp) (o : ReplyLine) → position ≤ end → IsConflict basis whole begin position used ops o → IsConflict basis history begin position used ops o
+  conflict_is : (position : ℕ) (ops : List RowOp) (o : ReplyLine) → position ≤ end → IsConflict basis (view_of basis whole) begin position used ops o → IsConflict basis (view_of basis history) begin position used ops o
   conflict_is position ops o within is = record {
     has_ops = is.has_ops;
     later = is.later;
@@ -161,7 +162,7 @@ module _ (basis : Basis) (history added later : List EntryLine) (name : List ℕ
     is_told = is.is_told;
   }
 
-  duplicate_is : (position : ℕ) (ops : List RowOp) (table key : List ℕ) → position ≡ end → IsDuplicate basis whole begin position used ops table key → IsDuplicate basis history begin position used ops table key
+  duplicate_is : (position : ℕ) (ops : List RowOp) (table key : List ℕ) → position ≡ end → IsDuplicate basis (view_of basis whole) begin position used ops table key → IsDuplicate basis (view_of basis history) begin position used ops table key
   duplicate_is position ops table key at is = record {
     has_ops = is.has_ops;
     begun = is.begun;
@@ -178,7 +179,7 @@ module _ (basis : Basis) (history added later : List EntryLine) (name : List ℕ
       ∙ ap (λ (found : Option Transaction). apply_all (rows_at basis history end) (ops_alone basis (rows_at basis history begin) found)) its
 
   commits : (position : ℕ) (ops : List RowOp) → ops_at ≡ ops → position ≤ end + length added → IsOutcomes end name t.number (reply.Committed position) added →
-      IsCommitted basis whole name t begin position used ops → Commits basis history name t begin used position ops added
+      IsCommitted basis (view_of basis whole) name t begin position used ops → Commits basis history name t begin used position ops added
   commits position [] same within (inl none) is = (is, none)
   commits position [] same within (inr (b, level, appends, tells)) is = absurd (let at : position ≡ end + 1 = cc in let there : position ≡ begin = is in omega (arith, at, there, begun))
   commits position (op ∷ ops) same within (inl none) is =
@@ -188,7 +189,7 @@ module _ (basis : Basis) (history added later : List EntryLine) (name : List ℕ
   commits position (op ∷ ops) same within (inr (b, level, appends, tells)) is = record {
     at = at;
     appends = appends_it;
-    untouched = untouched_is (end + 1) (omega arith) (subst (λ k. IsUntouched basis whole begin k used) at is.untouched);
+    untouched = untouched_is (end + 1) (omega arith) (subst (λ k. IsUntouched (view_of basis whole) begin k used) at is.untouched);
     kept = ap (λ (rows : Rows). first_broken basis.origin.tables rows.tables) rows_same ∙ is.is_good.keys_kept;
   }
     where
@@ -216,7 +217,7 @@ module _ (basis : Basis) (history added later : List EntryLine) (name : List ℕ
   none_added outcome other (inr (b, level, appends, tells)) = absurd (other tells)
 
   pub decided : (outcome : ReplyLine) → IsDecided outcome → IsTimely end (end + length added) outcome → IsOutcomes end name t.number outcome added →
-      IsRight basis whole name t begin used ops_at outcome → Decides basis history name t begin used ops_at outcome added
+      IsRight basis (view_of basis whole) name t begin used ops_at outcome → Decides basis history name t begin used ops_at outcome added
   decided (reply.Begin position) ends timely appends right = absurd ends
   decided (reply.Row row) ends timely appends right = absurd ends
   decided (reply.Done rows) ends timely appends right = absurd ends

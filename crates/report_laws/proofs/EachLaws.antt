@@ -40,3 +40,9 @@ get_front (x ∷ xs) ys (suc k) h = get_front xs ys k (omega arith)
 pub get_next : {A : Type 0} (xs : List A) (y : A) (ys : List A) → slice_get (xs ++ y ∷ ys) (length xs) ≡ Some y
 get_next [] y ys = refl
 get_next (x ∷ xs) y ys = get_next xs y ys
+
+-- what holds of each member of a list holds of one that is found
+pub all_found : {A : Type 0} (P : A → Type 0) (xs : List A) (k : ℕ) (x : A) → AllByRecursion P xs → slice_get xs k ≡ Some x → P x
+all_found P [] k x all is = absurd cc
+all_found P (y ∷ ys) zero x all is = subst P (let same : y ≡ x = cc in same) all.0
+all_found P (y ∷ ys) (suc k) x all is = all_found P ys k x all.1 is

@@ -4,7 +4,8 @@ use Rattle.std.proofs.lemmas.List.{append-nil, take-append-le, length-append}
 use Rattle.std.specs.List.{slice_get}
 use Rattle.cdb_values.specs.Changes.{genids_taken}
 use Rattle.cdb_values.specs.Rows.{Rows}
-use Rattle.report_laws.specs.History.{Origin, Basis, rows_after, rows_among, states_from, states_of, rows_at, entry_at, entries_before, last_position, changes_by, changes_at, taken_at, first_touched, IsUntouched}
+use Rattle.report_laws.specs.History.{Origin, Basis, rows_after, rows_among, states_from, states_of, rows_at, entry_at, entries_before, last_position, changes_by, changes_at, taken_at, view_of}
+use Rattle.report_laws.specs.View.{first_touched, IsUntouched}
 use Rattle.cdb_values.specs.declared.items.GenidItem.{GenidItem}
 use Rattle.report_text.specs.declared.reports.EntryLine.{EntryLine}
 use Rattle.report_laws.proofs.EachLaws.{get_front, get_next}
@@ -49,7 +50,7 @@ module _ (basis : Basis) (es fs : List EntryLine) where
   taken_front k first within = ap genids_taken (changes_front k first within)
 
   pub untouched_front : (begin position : ℕ) (used : List GenidItem) → basis.origin.position ≤ begin → position ≤ last_position basis.origin es + 1 →
-      IsUntouched basis (es ++ fs) begin position used → IsUntouched basis es begin position used
+      IsUntouched (view_of basis (es ++ fs)) begin position used → IsUntouched (view_of basis es) begin position used
   untouched_front begin position used base within was = λ j after before.
       ap (λ (taken : List GenidItem). first_touched taken used) (sym (taken_front j (omega (arith, base, after)) (omega (arith, before, within)))) ∙ was j after before
 

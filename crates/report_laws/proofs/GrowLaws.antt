@@ -1,16 +1,12 @@
 -- What a transaction was told stays right when the history grows by an entry.
 use Rattle.std.proofs.Common.{◌≡◌, ℕ, ◌≤◌, List, [], ◌∷◌, ◌++◌, refl, sym, ap, arith, ◌∙◌, inl, inr}
 use Rattle.cdb_values.specs.Rows.{Rows}
-use Rattle.report_laws.specs.History.{Basis, alone_on, used_by, last_position}
-use Rattle.report_laws.specs.Lawful.{IsAnswered}
+use Rattle.report_laws.specs.History.{Basis, alone_on, used_by, last_position, view_of}
 use Rattle.report_laws.specs.Told.{IsTold, IsWhole, IsCut, alone_at}
 use Rattle.report_laws.specs.Work.{Transaction, Item, Does, Lone}
 use Rattle.report_text.specs.declared.reports.EntryLine.{EntryLine}
-use Rattle.report_text.specs.declared.reports.EntryLine.TheVariants.{Setup, Commit}
-use Rattle.report_text.specs.declared.reports.Line.{Line}
 use Rattle.report_text.specs.declared.reports.ReplyLine.{ReplyLine}
 use Rattle.report_text.specs.declared.reports.ReplyLine.TheVariants as reply
-use Rattle.report_laws.proofs.EachLaws.{stands_more}
 use Rattle.report_laws.proofs.HistoryLaws.{last_more, rows_stay}
 use Rattle.report_laws.proofs.OutcomeLemmas.{all_right_stay}
 
@@ -35,10 +31,10 @@ first_rest a b xs ys is = cc
 
 module _ (basis : Basis) (es : List EntryLine) (e : EntryLine) where
   -- a transaction run alone at a position gives what it gave
-  pub alone_stays : (t : Transaction) (begin : ℕ) → begin ≤ last_position basis.origin es → alone_at basis (es ++ e ∷ []) t begin ≡ alone_at basis es t begin
+  pub alone_stays : (t : Transaction) (begin : ℕ) → begin ≤ last_position basis.origin es → alone_at basis (view_of basis (es ++ e ∷ [])) t begin ≡ alone_at basis (view_of basis es) t begin
   alone_stays t begin within = ap (λ (rows : Rows). alone_on basis rows t.texts) (rows_stay basis es e begin within)
 
-  pub whole_stays : (name : List ℕ) (t : Transaction) (mine : List ReplyLine) → IsWhole basis es name t mine → IsWhole basis (es ++ e ∷ []) name t mine
+  pub whole_stays : (name : List ℕ) (t : Transaction) (mine : List ReplyLine) → IsWhole basis (view_of basis es) name t mine → IsWhole basis (view_of basis (es ++ e ∷ [])) name t mine
   whole_stays name t mine was =
       let within : was.begin ≤ last_position basis.origin es = was.within in
       record {
@@ -53,7 +49,7 @@ module _ (basis : Basis) (es : List EntryLine) (e : EntryLine) where
         says = was.says;
       }
 
-  pub cut_stays : (t : Transaction) (mine : List ReplyLine) → IsCut basis es t mine → IsCut basis (es ++ e ∷ []) t mine
+  pub cut_stays : (t : Transaction) (mine : List ReplyLine) → IsCut basis (view_of basis es) t mine → IsCut basis (view_of basis (es ++ e ∷ [])) t mine
   cut_stays t mine was =
       let within : was.begin ≤ last_position basis.origin es = was.within in
       record {
@@ -71,12 +67,7 @@ module _ (basis : Basis) (es : List EntryLine) (e : EntryLine) where
       }
 
   -- what an item was told is told of it still
-  pub told_stays : (name : List ℕ) (item : Item) (mine : List ReplyLine) → IsTold basis es name item mine → IsTold basis (es ++ e ∷ []) name item mine
+  pub told_stays : (name : List ℕ) (item : Item) (mine : List ReplyLine) → IsTold basis (view_of basis es) name item mine → IsTold basis (view_of basis (es ++ e ∷ [])) name item mine
   told_stays name (Does t) mine (inl was) = inl (whole_stays name t mine was)
   told_stays name (Does t) mine (inr was) = inr (cut_stays t mine was)
   told_stays name (Lone answer) mine was = was
-
--- an entry's transaction was answered in each longer list of lines
-pub answered_more : (lines more : List Line) (e : EntryLine) → IsAnswered lines e → IsAnswered (lines ++ more) e
-answered_more lines more (Setup position) was = tt
-answered_more lines more (Commit position session txn begin level) was = (stands_more lines more _ was.0, stands_more lines more _ was.1)

@@ -1,14 +1,17 @@
 -- How the history and what speaks of it stay when it grows by an entry.
-use Rattle.std.proofs.Common.{◌≡◌, ℕ, ◌+◌, ◌-◌, ◌<◌, ◌≤◌, List, [], ◌∷◌, ◌++◌, length, refl, ap, arith, ◌∙◌, Option, Some, take}
+use Rattle.std.proofs.Common.{◌≡◌, ℕ, ◌+◌, ◌-◌, ◌<◌, ◌≤◌, List, [], ◌∷◌, ◌++◌, length, refl, ap, arith, ◌∙◌, Option, Some, take, false}
 use Rattle.std.proofs.lemmas.List.{length-append}
 use Rattle.std.proofs.Math.Seq.{take-append_seam}
+use Rattle.std.specs.List.{AllByRecursion}
 use Rattle.cdb_values.specs.Rows.{Rows}
 use Rattle.cdb_values.specs.Changes.{genids_taken, taken_by}
 use Rattle.cdb_values.proofs.ChangeLaws.{take_the_same}
-use Rattle.report_laws.specs.History.{Origin, Basis, rows_after, rows_among, states_of, rows_at, ops_of, entry_at, changes_by, changes_at, taken_at, first_touched, last_position, IsUntouched}
+use Rattle.report_laws.specs.History.{is_entry_of, Origin, Basis, rows_after, rows_among, states_of, rows_at, ops_of, entry_at, changes_by, changes_at, taken_at, last_position, view_of}
+use Rattle.report_laws.specs.View.{first_touched, IsUntouched}
 use Rattle.cdb_values.specs.declared.items.GenidItem.{GenidItem}
 use Rattle.report_text.specs.declared.reports.EntryLine.{EntryLine}
 use Rattle.report_text.specs.declared.reports.EntryLine.TheVariants.{Setup, Commit}
+use Rattle.report_laws.proofs.EachLaws.{all_found}
 use Rattle.report_laws.proofs.FrontLemmas.{rows_front, entry_front, taken_front, entry_next, rows_next}
 
 -- the history with an entry more is one position longer
@@ -20,6 +23,11 @@ taken_by_one : (basis : Basis) (states : List Rows) (e : EntryLine) → genids_t
 taken_by_one basis states (Setup position) = refl
 taken_by_one basis states (Commit position session txn begin level) =
     take_the_same (ops_of basis states (Commit position session txn begin level)) (rows_among basis.origin states (position - 1)).next
+
+-- where no entry is a transaction's, none at any position is
+pub none_stands : (origin : Origin) (es : List EntryLine) (session : List ℕ) (txn : ℕ) → AllByRecursion (λ e. is_entry_of session txn e ≡ false) es →
+    (k : ℕ) (e : EntryLine) → origin.position < k → entry_at origin es k ≡ Some e → is_entry_of session txn e ≡ false
+none_stands origin es session txn all k e behind is = all_found (λ d. is_entry_of session txn d ≡ false) es (k - (origin.position + 1)) e all is
 
 module _ (basis : Basis) (es : List EntryLine) (e : EntryLine) where
   abbrev now : ℕ
@@ -57,6 +65,6 @@ module _ (basis : Basis) (es : List EntryLine) (e : EntryLine) where
   taken_new = ap genids_taken changes_new ∙ taken_by_one basis (states_of basis es) e
 
   -- what no entry touched stays so
-  pub untouched_stays : (begin position : ℕ) (used : List GenidItem) → basis.origin.position ≤ begin → position ≤ now + 1 → IsUntouched basis es begin position used → IsUntouched basis (es ++ e ∷ []) begin position used
+  pub untouched_stays : (begin position : ℕ) (used : List GenidItem) → basis.origin.position ≤ begin → position ≤ now + 1 → IsUntouched (view_of basis es) begin position used → IsUntouched (view_of basis (es ++ e ∷ [])) begin position used
   untouched_stays begin position used base within was = λ j after before.
       ap (λ (taken : List GenidItem). first_touched taken used) (taken_stays j (omega (arith, base, after)) (omega (arith, before, within))) ∙ was j after before

@@ -2,6 +2,7 @@ pub mod AlongLaws
 pub mod AnswerLaws
 pub mod DecideLemmas
 pub mod EachLaws
+pub mod EntryToldLaws
 pub mod FrontLemmas
 pub mod GrowLaws
 pub mod HistoryLaws

@@ -8,6 +8,7 @@ use Rattle.report_laws.specs.Each.{EachAfter}
 use Rattle.report_laws.specs.History.{Origin, Basis, last_position}
 use Rattle.report_laws.specs.Lawful.{IsFresh, IsFreshLine, NameUpTo, positions, named_by}
 use Rattle.report_laws.specs.Paced.{Paced}
+use Rattle.report_laws.specs.Places.{HasItsPlace}
 use Rattle.report_laws.specs.Play.{InTurns, IsTurnOf, IsTimely, piece}
 use Rattle.report_laws.specs.Told.{lines_of}
 use Rattle.report_text.specs.declared.reports.EntryLine.{EntryLine}
@@ -82,8 +83,8 @@ timely_paced now after ((reply.Changed rows) ∷ rs) paced = (tt, timely_paced n
 timely_paced now after ((reply.Error cause) ∷ rs) paced = (tt, timely_paced now after rs paced)
 timely_paced now after ((reply.Level level) ∷ rs) paced = (tt, timely_paced now after rs paced)
 timely_paced now after (reply.RolledBack ∷ rs) paced = (tt, timely_paced now after rs paced)
-timely_paced now after ((reply.Lost node down) ∷ rs) paced = (tt, timely_paced now after rs paced)
-timely_paced now after ((reply.NoMajority up nodes) ∷ rs) paced = (tt, timely_paced now after rs paced)
+timely_paced now after ((reply.Lost node down) ∷ rs) paced = absurd paced
+timely_paced now after ((reply.NoMajority up nodes) ∷ rs) paced = absurd paced
 timely_paced now after (reply.NoMemory ∷ rs) paced = (tt, timely_paced now after rs paced)
 timely_paced now after (reply.Committed position ∷ rs) paced = (paced.1, none_left rs paced.0)
   where
@@ -93,23 +94,26 @@ timely_paced now after (reply.ConflictGenid position table genid ∷ rs) paced =
 timely_paced now after (reply.ConflictRange position table key ∷ rs) paced = ((let within : position ≤ after = paced.1 in let same : now ≡ after = paced.2 in omega (arith, within, same)), subst (λ (r : List ReplyLine). AllByRecursion (IsTimely now after) r) (sym paced.0) tt)
 timely_paced now after (reply.Duplicate position table key ∷ rs) paced = (paced.1, subst (λ (r : List ReplyLine). AllByRecursion (IsTimely now after) r) (sym paced.0) tt)
 
--- the laws on a piece of lines behind others: its begins are fresh, and it names no position above a bound
+-- the laws on a piece of lines behind others: its begins are fresh, each line has its place, and it names no position
+-- above a bound
 pub record ArePaced (origin : Origin) (name : List ℕ) (number : ℕ) (lines : List Line) (after : ℕ) (rs : List ReplyLine) : Type 0 where
   pub fresh : EachAfter (IsFreshLine origin) lines (lines_of name number rs)
+  pub placed : EachAfter HasItsPlace lines (lines_of name number rs)
   pub named : NameUpTo after (lines_of name number rs)
 
 -- a line and then a piece behind it
 paced_head : (origin : Origin) (name : List ℕ) (number : ℕ) (lines : List Line) (after : ℕ) (r : ReplyLine) (rs : List ReplyLine) →
-    IsFreshLine origin lines (line.Session name number r) → AllByRecursion (λ p. p ≤ after) (named_by r) →
+    HasItsPlace lines (line.Session name number r) → IsFreshLine origin lines (line.Session name number r) → AllByRecursion (λ p. p ≤ after) (named_by r) →
     ArePaced origin name number (lines ++ line.Session name number r ∷ []) after rs → ArePaced origin name number lines after (r ∷ rs)
-paced_head origin name number lines after r rs fresh named rest = record {
+paced_head origin name number lines after r rs placed fresh named rest = record {
   fresh = (fresh, rest.fresh);
+  placed = (placed, rest.placed);
   named = (named, rest.named);
 }
 
 -- nothing more
 paced_none : (origin : Origin) (name : List ℕ) (number : ℕ) (lines : List Line) (after : ℕ) (rs : List ReplyLine) → rs ≡ [] → ArePaced origin name number lines after rs
-paced_none origin name number lines after [] none = record { fresh = tt; named = tt }
+paced_none origin name number lines after [] none = record { fresh = tt; placed = tt; named = tt }
 paced_none origin name number lines after (r ∷ rs) none = absurd cc
 
 pub paced_laws : (origin : Origin) (name : List ℕ) (number now after : ℕ) (lines : List Line) (rs : List ReplyLine) →
@@ -117,45 +121,41 @@ pub paced_laws : (origin : Origin) (name : List ℕ) (number now after : ℕ) (l
 paced_laws origin name number now after lines [] named first base le paced = paced_none origin name number lines after [] refl
 paced_laws origin name number now after lines (reply.Begin position ∷ rs) named first base le paced =
     let at : position ≡ now = paced.0 in
-    paced_head origin name number lines after (reply.Begin position) rs
+    paced_head origin name number lines after (reply.Begin position) rs tt
     (fresh_begin origin lines name position (omega (arith, first, at)) (omega (arith, base, at)) (subst (λ p. NameUpTo p lines) (sym at) named))
     ((omega (arith, at, le)), tt)
     (paced_laws origin name number now after (lines ++ line.Session name number (reply.Begin position) ∷ []) rs
     (all_append _ lines (line.Session name number (reply.Begin position) ∷ []) named ((omega (arith, at), tt), tt))
     first base le paced.1)
 paced_laws origin name number now after lines (reply.Row row ∷ rs) named first base le paced =
-    paced_head origin name number lines after (reply.Row row) rs tt tt
+    paced_head origin name number lines after (reply.Row row) rs tt tt tt
     (paced_laws origin name number now after (lines ++ line.Session name number (reply.Row row) ∷ []) rs (all_append _ lines (line.Session name number (reply.Row row) ∷ []) named (tt, tt)) first base le paced)
 paced_laws origin name number now after lines (reply.Done rows ∷ rs) named first base le paced =
-    paced_head origin name number lines after (reply.Done rows) rs tt tt
+    paced_head origin name number lines after (reply.Done rows) rs tt tt tt
     (paced_laws origin name number now after (lines ++ line.Session name number (reply.Done rows) ∷ []) rs (all_append _ lines (line.Session name number (reply.Done rows) ∷ []) named (tt, tt)) first base le paced)
 paced_laws origin name number now after lines (reply.Changed rows ∷ rs) named first base le paced =
-    paced_head origin name number lines after (reply.Changed rows) rs tt tt
+    paced_head origin name number lines after (reply.Changed rows) rs tt tt tt
     (paced_laws origin name number now after (lines ++ line.Session name number (reply.Changed rows) ∷ []) rs (all_append _ lines (line.Session name number (reply.Changed rows) ∷ []) named (tt, tt)) first base le paced)
 paced_laws origin name number now after lines (reply.Error cause ∷ rs) named first base le paced =
-    paced_head origin name number lines after (reply.Error cause) rs tt tt
+    paced_head origin name number lines after (reply.Error cause) rs tt tt tt
     (paced_laws origin name number now after (lines ++ line.Session name number (reply.Error cause) ∷ []) rs (all_append _ lines (line.Session name number (reply.Error cause) ∷ []) named (tt, tt)) first base le paced)
 paced_laws origin name number now after lines (reply.Level level ∷ rs) named first base le paced =
-    paced_head origin name number lines after (reply.Level level) rs tt tt
+    paced_head origin name number lines after (reply.Level level) rs tt tt tt
     (paced_laws origin name number now after (lines ++ line.Session name number (reply.Level level) ∷ []) rs (all_append _ lines (line.Session name number (reply.Level level) ∷ []) named (tt, tt)) first base le paced)
 paced_laws origin name number now after lines (reply.RolledBack ∷ rs) named first base le paced =
-    paced_head origin name number lines after reply.RolledBack rs tt tt
+    paced_head origin name number lines after reply.RolledBack rs tt tt tt
     (paced_laws origin name number now after (lines ++ line.Session name number reply.RolledBack ∷ []) rs (all_append _ lines (line.Session name number reply.RolledBack ∷ []) named (tt, tt)) first base le paced)
-paced_laws origin name number now after lines (reply.Lost node down ∷ rs) named first base le paced =
-    paced_head origin name number lines after (reply.Lost node down) rs tt tt
-    (paced_laws origin name number now after (lines ++ line.Session name number (reply.Lost node down) ∷ []) rs (all_append _ lines (line.Session name number (reply.Lost node down) ∷ []) named (tt, tt)) first base le paced)
-paced_laws origin name number now after lines (reply.NoMajority up nodes ∷ rs) named first base le paced =
-    paced_head origin name number lines after (reply.NoMajority up nodes) rs tt tt
-    (paced_laws origin name number now after (lines ++ line.Session name number (reply.NoMajority up nodes) ∷ []) rs (all_append _ lines (line.Session name number (reply.NoMajority up nodes) ∷ []) named (tt, tt)) first base le paced)
+paced_laws origin name number now after lines (reply.Lost node down ∷ rs) named first base le paced = absurd paced
+paced_laws origin name number now after lines (reply.NoMajority up nodes ∷ rs) named first base le paced = absurd paced
 paced_laws origin name number now after lines (reply.NoMemory ∷ rs) named first base le paced =
-    paced_head origin name number lines after reply.NoMemory rs tt tt
+    paced_head origin name number lines after reply.NoMemory rs tt tt tt
     (paced_laws origin name number now after (lines ++ line.Session name number reply.NoMemory ∷ []) rs (all_append _ lines (line.Session name number reply.NoMemory ∷ []) named (tt, tt)) first base le paced)
 paced_laws origin name number now after lines (reply.Committed position ∷ rs) named first base le paced =
-    paced_head origin name number lines after (reply.Committed position) rs tt (paced.1, tt)
+    paced_head origin name number lines after (reply.Committed position) rs tt tt (paced.1, tt)
     (paced_none origin name number _ after rs paced.0)
 paced_laws origin name number now after lines (reply.ConflictGenid position table genid ∷ rs) named first base le paced =
-    paced_head origin name number lines after (reply.ConflictGenid position table genid) rs tt (paced.1, tt) (paced_none origin name number _ after rs paced.0)
+    paced_head origin name number lines after (reply.ConflictGenid position table genid) rs tt tt (paced.1, tt) (paced_none origin name number _ after rs paced.0)
 paced_laws origin name number now after lines (reply.ConflictRange position table key ∷ rs) named first base le paced =
-    paced_head origin name number lines after (reply.ConflictRange position table key) rs tt (paced.1, tt) (paced_none origin name number _ after rs paced.0)
+    paced_head origin name number lines after (reply.ConflictRange position table key) rs tt tt (paced.1, tt) (paced_none origin name number _ after rs paced.0)
 paced_laws origin name number now after lines (reply.Duplicate position table key ∷ rs) named first base le paced =
-    paced_head origin name number lines after (reply.Duplicate position table key) rs tt ((let at : position ≡ now = paced.1 in omega (arith, at, le)), tt) (paced_none origin name number _ after rs paced.0)
+    paced_head origin name number lines after (reply.Duplicate position table key) rs tt tt ((let at : position ≡ now = paced.1 in omega (arith, at, le)), tt) (paced_none origin name number _ after rs paced.0)

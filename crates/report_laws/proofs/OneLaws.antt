@@ -1,11 +1,11 @@
 -- The law of one report: two reports of a script in which no transaction is cut short are the same, by induction over the script's lines.
-use Rattle.std.proofs.Common.{◌≡◌, ℕ, zero, suc, ◌+◌, ◌-◌, ◌<◌, ◌≤◌, List, [], ◌∷◌, ◌++◌, refl, sym, subst, ap, arith, ◌∙◌, Option, Some, None, append_assoc, Bool, true, false, ◌==◌, if◌then◌else◌, ◌⊎◌, inl, inr}
+use Rattle.std.proofs.Common.{◌≡◌, ℕ, ◌+◌, ◌-◌, ◌<◌, ◌≤◌, List, [], ◌∷◌, ◌++◌, refl, sym, subst, ap, arith, ◌∙◌, Option, Some, None, append_assoc, Bool, true, false, ◌==◌, if◌then◌else◌, ◌⊎◌, inl, inr}
 use Rattle.std.proofs.lemmas.List.{append-nil}
-use Rattle.std.specs.List.{AllByRecursion, slice_get}
+use Rattle.std.specs.List.{AllByRecursion}
 use Rattle.script_form.specs.declared.scripts.BodyLine.{BodyLine}
 use Rattle.script_form.specs.declared.scripts.Act.{Act}
 use Rattle.script_form.specs.declared.scripts.Act.TheVariants as act
-use Rattle.report_laws.specs.History.{Basis, last_position}
+use Rattle.report_laws.specs.History.{Basis, last_position, view_of}
 use Rattle.report_laws.specs.Answers.{Answers}
 use Rattle.report_laws.specs.Language.{Language}
 use Rattle.report_laws.specs.Lawful.{Lawful}
@@ -18,7 +18,7 @@ use Rattle.report_text.specs.declared.reports.EntryLine.{EntryLine}
 use Rattle.report_text.specs.declared.reports.EntryLine.TheVariants.{Setup, Commit}
 use Rattle.report_text.specs.declared.reports.Line.{Line}
 use Rattle.report_text.specs.declared.reports.ReplyLine.{ReplyLine}
-use Rattle.report_laws.proofs.EachLaws.{all_front, all_map}
+use Rattle.report_laws.proofs.EachLaws.{all_front, all_map, all_found}
 use Rattle.report_laws.proofs.PieceLaws.{under, under_append, under_own}
 use Rattle.report_laws.proofs.RestLemmas.{items_are, rest_of, rest_rises, Rising, of_its_rest, told_lones, lones, lones_append}
 use Rattle.report_laws.proofs.SoFarLemmas.{IsEnded, IsHeard, SoFar, same_name, so_far_next}
@@ -27,18 +27,12 @@ use Rattle.report_laws.proofs.WorkLaws.{IsBelow, IsBegun, first_left, after_more
 
 -- what a lawful report in which no transaction is cut short says of its lines and entries
 record Laws (basis : Basis) (lines : List Line) (entries : List EntryLine) : Type 0 where
-  replies : (name : List ℕ) → Along (IsTold basis entries name) (work basis.language name basis.script.body) (told name lines)
+  replies : (name : List ℕ) → Along (IsTold basis (view_of basis entries) name) (work basis.language name basis.script.body) (told name lines)
   uncut : AllByRecursion IsUncutLine lines
 
 laws_on : (basis : Basis) (lines lines' : List Line) (entries entries' : List EntryLine) → lines ≡ lines' → entries ≡ entries' → Laws basis lines entries → Laws basis lines' entries'
 laws_on basis lines lines' entries entries' same_lines same_entries laws =
     subst (λ (ls : List Line). Laws basis ls entries') same_lines (subst (λ (es : List EntryLine). Laws basis lines es) same_entries laws)
-
--- an entry that stands is one of those of which all holds
-all_got : (P : EntryLine → Type 0) (es : List EntryLine) (k : ℕ) (e : EntryLine) → AllByRecursion P es → slice_get es k ≡ Some e → P e
-all_got P [] k e all is = absurd cc
-all_got P (x ∷ xs) zero e all is = subst P (let same : x ≡ e = cc in same) all.0
-all_got P (x ∷ xs) (suc k) e all is = all_got P xs k e all.1 is
 
 first_bound : (number : ℕ) (pending : Option (List (List ℕ))) → IsBegun number pending → 1 ≤ first_left number pending
 first_bound number None begun = omega arith
@@ -129,7 +123,7 @@ module _ (basis : Basis) (answers : Answers basis.language) (done : List BodyLin
     turn = turn;
     told = its;
     lone = lone;
-    is_new = λ txn le at begin level stands. (let less : txn < first_left p.number p.pending = all_got (IsEnded basis.language done) history (at - (basis.origin.position + 1)) (Commit at session txn begin level) so_far.ended stands in omega (arith, le, less));
+    is_new = λ txn le at begin level stands. (let less : txn < first_left p.number p.pending = all_found (IsEnded basis.language done) history (at - (basis.origin.position + 1)) (Commit at session txn begin level) so_far.ended stands in omega (arith, le, less));
     mine = under_append session (number_told basis.language p text) before (lines_of session (number_told basis.language p text) replies ++ others)
         ∙ ap (λ (rs : List ReplyLine). under session (number_told basis.language p text) before ++ rs) (under_append session (number_told basis.language p text) (lines_of session (number_told basis.language p text) replies) others
         ∙ ap (λ (rs : List ReplyLine). rs ++ under session (number_told basis.language p text) others) (under_own session session (number_told basis.language p text) replies (same_name session)));
@@ -148,9 +142,9 @@ module _ (basis : Basis) (answers : Answers basis.language) (done : List BodyLin
       entries = history ++ (added ++ later)
 
       its : (t : Transaction) (items : List Item) → first_left p.number p.pending ≤ t.number → rest_of basis.language p (text ∷ said session bs) ≡ Does t ∷ items →
-          IsTold basis entries session (Does t) (under session t.number lines) × (transaction_of basis.language session t.number basis.script.body ≡ Some t)
+          IsTold basis (view_of basis entries) session (Does t) (under session t.number lines) × (transaction_of basis.language session t.number basis.script.body ≡ Some t)
       its t items le is = (
-        of_its_rest (IsTold basis entries session) bound p.over t items (told session lines) (first_bound p.number p.pending begun) le below rising (subst (λ (all : List Item). Along (IsTold basis entries session) all (told session lines)) split (laws.replies session)),
+        of_its_rest (IsTold basis (view_of basis entries) session) bound p.over t items (told session lines) (first_bound p.number p.pending begun) le below rising (subst (λ (all : List Item). Along (IsTold basis (view_of basis entries) session) all (told session lines)) split (laws.replies session)),
         ap (λ (all : List Item). numbered_among t.number all) split ∙ numbered_last t.number t p.over items (others_below bound t.number p.over le below) refl,
       )
         where
@@ -165,7 +159,7 @@ module _ (basis : Basis) (answers : Answers basis.language) (done : List BodyLin
 
       lone : (answer : ReplyLine) (items : List Item) → rest_of basis.language p (text ∷ said session bs) ≡ Lone answer ∷ items → under session 0 lines ≡ lones p.over ++ answer ∷ lones items
       lone answer items is =
-          told_lones (IsTold basis entries session) (λ a mine told. told) (work basis.language session basis.script.body) (told session lines) 1 (omega arith)
+          told_lones (IsTold basis (view_of basis entries) session) (λ a mine told. told) (work basis.language session basis.script.body) (told session lines) 1 (omega arith)
           (subst (λ (all : List Item). Rising 1 all) (sym (items_are basis.language start (said session basis.script.body))) (rest_rises basis.language start (said session basis.script.body)))
           (laws.replies session)
           ∙ ap lones (work_is ∙ ap (λ (rest : List Item). p.over ++ rest) is)

@@ -5,7 +5,8 @@ use Rattle.std.specs.List.{AllByRecursion}
 use Rattle.cdb_values.specs.Good.{IsGood, first_broken}
 use Rattle.cdb_values.specs.Rows.{Rows, apply_all}
 use Rattle.cdb_values.specs.declared.rows.RowOp.{RowOp}
-use Rattle.report_laws.specs.History.{Origin, Basis, entry_at, last_position, first_touched}
+use Rattle.report_laws.specs.History.{Origin, Basis, entry_at, last_position, view_of}
+use Rattle.report_laws.specs.View.{first_touched}
 use Rattle.cdb_values.specs.declared.items.GenidItem.{GenidItem}
 use Rattle.report_laws.specs.Outcome.{IsRight, IsCommitted, IsConflict, IsDuplicate, IsEntered}
 use Rattle.report_laws.specs.Work.{Transaction}
@@ -22,7 +23,7 @@ module _ (basis : Basis) (es : List EntryLine) (e : EntryLine) (name : List ℕ)
   abbrev more : List EntryLine
   more = es ++ e ∷ []
 
-  entered_stays : (position : ℕ) → IsEntered basis es name t begin position used → IsEntered basis more name t begin position used
+  entered_stays : (position : ℕ) → IsEntered basis (view_of basis es) name t begin position used → IsEntered basis (view_of basis more) name t begin position used
   entered_stays position was =
       let later : begin < position = was.later in
       let within : position ≤ last_position basis.origin es = entry_within basis.origin es _ position was.stands in
@@ -33,11 +34,11 @@ module _ (basis : Basis) (es : List EntryLine) (e : EntryLine) (name : List ℕ)
         is_good = subst (λ (rows : Rows). IsGood basis.origin.tables rows.tables) (sym (rows_stay basis es e position within)) was.is_good;
       }
 
-  committed_stays : (position : ℕ) (ops : List RowOp) → IsCommitted basis es name t begin position used ops → IsCommitted basis more name t begin position used ops
+  committed_stays : (position : ℕ) (ops : List RowOp) → IsCommitted basis (view_of basis es) name t begin position used ops → IsCommitted basis (view_of basis more) name t begin position used ops
   committed_stays position [] was = was
   committed_stays position (op ∷ ops) was = entered_stays position was
 
-  conflict_stays : (position : ℕ) (ops : List RowOp) (told : ReplyLine) → IsConflict basis es begin position used ops told → IsConflict basis more begin position used ops told
+  conflict_stays : (position : ℕ) (ops : List RowOp) (told : ReplyLine) → IsConflict basis (view_of basis es) begin position used ops told → IsConflict basis (view_of basis more) begin position used ops told
   conflict_stays position ops told was =
       let later : begin < position = was.later in
       let within : position ≤ last_position basis.origin es = was.within in
@@ -51,7 +52,7 @@ module _ (basis : Basis) (es : List EntryLine) (e : EntryLine) (name : List ℕ)
         is_told = was.is_told;
       }
 
-  duplicate_stays : (position : ℕ) (ops : List RowOp) (table key : List ℕ) → IsDuplicate basis es begin position used ops table key → IsDuplicate basis more begin position used ops table key
+  duplicate_stays : (position : ℕ) (ops : List RowOp) (table key : List ℕ) → IsDuplicate basis (view_of basis es) begin position used ops table key → IsDuplicate basis (view_of basis more) begin position used ops table key
   duplicate_stays position ops table key was =
       let within : position ≤ last_position basis.origin es = was.within in
       record {
@@ -63,7 +64,7 @@ module _ (basis : Basis) (es : List EntryLine) (e : EntryLine) (name : List ℕ)
       }
 
   -- an outcome that is right stays right
-  pub right_stays : (ops : List RowOp) (outcome : ReplyLine) → IsRight basis es name t begin used ops outcome → IsRight basis more name t begin used ops outcome
+  pub right_stays : (ops : List RowOp) (outcome : ReplyLine) → IsRight basis (view_of basis es) name t begin used ops outcome → IsRight basis (view_of basis more) name t begin used ops outcome
   right_stays ops (reply.Begin position) was = tt
   right_stays ops (reply.Row row) was = tt
   right_stays ops (reply.Done rows) was = tt
@@ -79,6 +80,6 @@ module _ (basis : Basis) (es : List EntryLine) (e : EntryLine) (name : List ℕ)
   right_stays ops (reply.NoMajority up nodes) was = was
   right_stays ops reply.NoMemory was = was
 
-  pub all_right_stay : (ops : List RowOp) (outcomes : List ReplyLine) → AllByRecursion (IsRight basis es name t begin used ops) outcomes → AllByRecursion (IsRight basis more name t begin used ops) outcomes
+  pub all_right_stay : (ops : List RowOp) (outcomes : List ReplyLine) → AllByRecursion (IsRight basis (view_of basis es) name t begin used ops) outcomes → AllByRecursion (IsRight basis (view_of basis more) name t begin used ops) outcomes
   all_right_stay ops [] was = tt
   all_right_stay ops (o ∷ os) was = (right_stays ops o was.0, all_right_stay ops os was.1)

@@ -1,11 +1,11 @@
 -- A lawful report in the order of play, whose numbers fit their types, is of the grammar, where what it is
 -- told of is called by names and has rows of the grammar.
-use Rattle.std.proofs.Common.{◌≡◌, ℕ, zero, suc, ◌+◌, ◌-◌, ◌==◌, List, [], ◌∷◌, ◌++◌, map, filter, refl, sym, subst, ap, ◌∙◌, Bool, true, false, not, if◌then◌else◌, Option, Some, None, unwrap_or, inl, inr}
+use Rattle.std.proofs.Common.{◌≡◌, ℕ, zero, suc, ◌-◌, ◌==◌, List, [], ◌∷◌, ◌++◌, map, filter, refl, sym, subst, ap, Bool, true, false, not, if◌then◌else◌, Option, Some, None, unwrap_or, inl, inr}
 use Rattle.std.specs.Prelude.{slice_get, slice_set}
 use Rattle.std.specs.List.{AllByRecursion}
 use Rattle.std.specs.Str.{bytes_eq}
 use Rattle.cdb_values.specs.Good.{first_broken, broken_key, breaks, or_broken, KeyName}
-use Rattle.cdb_values.specs.Rows.{Rows, no_rows, versions_of, without, version, added, taken, apply, apply_all}
+use Rattle.cdb_values.specs.Rows.{Rows, versions_of, without, version, added, taken, apply, apply_all}
 use Rattle.cdb_values.specs.declared.rows.RowOp.{RowOp}
 use Rattle.cdb_values.specs.declared.rows.RowOp.TheVariants.{Insert, Update, Delete}
 use Rattle.cdb_values.specs.declared.rows.RowRef.TheVariants.{Base, Own}
@@ -19,25 +19,26 @@ use Rattle.script_form.specs.declared.scripts.Act.TheVariants as act
 use Rattle.script_form.specs.declared.scripts.BodyLine.{BodyLine}
 use Rattle.report_laws.specs.Cut.{cuts}
 use Rattle.report_laws.specs.Each.{StandsIn}
-use Rattle.report_laws.specs.History.{Origin, Basis, alone_on, ops_alone, ops_of, rows_after, rows_among, states_from, states_of, rows_at, last_position, used_by}
-use Rattle.report_laws.specs.Language.{Language, Answered, Kind, BeginText, CommitText, RollbackText, LevelText, OtherText, alone, alone_from}
-use Rattle.report_laws.specs.Lawful.{Lawful, IsAnswered}
-use Rattle.report_laws.specs.Outcome.{IsRight, Ends, IsOneDecision, IsDecided, line_by, name_or_none, conflict_line, key_name}
+use Rattle.report_laws.specs.History.{Basis, ops_alone, ops_of, rows_after, rows_among, states_from, states_of, rows_at, used_by, view_of}
+use Rattle.report_laws.specs.Language.{Language, Answered, Kind, BeginText, CommitText, RollbackText, LevelText, OtherText, alone_from}
+use Rattle.report_laws.specs.Lawful.{Lawful}
+use Rattle.report_laws.specs.Outcome.{IsRight, Ends, IsOneDecision, IsDecided, line_by, name_or_none, key_name}
 use Rattle.report_laws.specs.Play.{InPlayOrder, InTurns, piece, opening}
 use Rattle.report_laws.specs.Spelled.{SpellsReply, WritesRow, HaveRows, KeepsRows, IsNamedTable, SaysAsNamed, IsSpelled}
-use Rattle.report_laws.specs.Told.{Along, Numbered, numbered, told, told_by, lines_of, IsTold, IsWhole, IsCut, alone_at}
-use Rattle.report_laws.specs.Work.{Transaction, End, ByCommit, ByRollback, WithItsLine, Nowhere, Item, Does, Lone, Place, start, next_by, next_place, place_from, place_after, said, items_at, open_item, work, number_of, transaction_of}
+use Rattle.report_laws.specs.Told.{Along, Numbered, numbered, told, told_by, lines_of, IsTold, IsWhole, IsCut, IsEntryTold, alone_at}
+use Rattle.report_laws.specs.View.{View}
+use Rattle.report_laws.specs.Work.{Transaction, End, ByCommit, ByRollback, WithItsLine, Nowhere, Item, Does, Lone, Place, start, next_by, next_place, place_from, place_after, said, open_item, work, number_of, transaction_of}
 use Rattle.report_text.specs.Grammar.{IsName, IsKey, IsRow, IsReply, IsLine, IsEntry, IsFeed, IsReport}
 use Rattle.report_text.specs.Types.{FitsReply, FitsLine, FitsEntry, FitsTypes}
 use Rattle.report_text.specs.declared.reports.EntryLine.{EntryLine}
 use Rattle.report_text.specs.declared.reports.EntryLine.TheVariants.{Setup, Commit}
-use Rattle.report_text.specs.declared.reports.FeedLine.{FeedLine}
 use Rattle.report_text.specs.declared.reports.Line.{Line}
 use Rattle.report_text.specs.declared.reports.Line.TheVariants as line
 use Rattle.report_text.specs.declared.reports.ReplyLine.{ReplyLine}
 use Rattle.report_text.specs.declared.reports.ReplyLine.TheVariants as reply
 use Rattle.report_text.specs.declared.reports.Report.{Report}
-use Rattle.report_laws.proofs.EachLaws.{all_append, all_front, all_map}
+use Rattle.report_laws.proofs.EntryToldLaws.{begin_stands}
+use Rattle.report_laws.proofs.EachLaws.{all_append, all_front}
 use Rattle.report_laws.proofs.SoFarLemmas.{same_name}
 
 -- what holds of each item holds of one that is looked up, and of a list with one exchanged
@@ -222,7 +223,7 @@ module _ (basis : Basis) (spelled : IsSpelled basis) where
       all_got HasRows (states_of basis es) (position - basis.origin.position) basis.origin.rows (states_spelled (basis.origin.rows ∷ []) es (spelled.rows, tt)) spelled.rows
 
   right_spelled : (es : List EntryLine) (name : List ℕ) (t : Transaction) (begin : ℕ) (used : List GenidItem) (ops : List RowOp) (answer : ReplyLine) →
-      IsDecided answer → IsRight basis es name t begin used ops answer → SpellsReply answer
+      IsDecided answer → IsRight basis (view_of basis es) name t begin used ops answer → SpellsReply answer
   right_spelled es name t begin used ops (reply.Begin position) decided right = absurd decided
   right_spelled es name t begin used ops (reply.Row row) decided right = absurd decided
   right_spelled es name t begin used ops (reply.Done rows) decided right = absurd decided
@@ -242,34 +243,34 @@ module _ (basis : Basis) (spelled : IsSpelled basis) where
   right_spelled es name t begin used ops reply.NoMemory decided right = absurd decided
 
   decision_spelled : (es : List EntryLine) (name : List ℕ) (t : Transaction) (begin : ℕ) (used : List GenidItem) (ops : List RowOp) (last : List ReplyLine) →
-      IsOneDecision last → AllByRecursion (IsRight basis es name t begin used ops) last → AllByRecursion SpellsReply last
+      IsOneDecision last → AllByRecursion (IsRight basis (view_of basis es) name t begin used ops) last → AllByRecursion SpellsReply last
   decision_spelled es name t begin used ops [] one right = absurd one
   decision_spelled es name t begin used ops (outcome ∷ []) one right = (right_spelled es name t begin used ops outcome one right.0, tt)
   decision_spelled es name t begin used ops (outcome ∷ other ∷ more) one right = absurd one
 
   end_spelled : (es : List EntryLine) (name : List ℕ) (t : Transaction) (begin : ℕ) (used : List GenidItem) (ops : List RowOp) (end : End) (last : List ReplyLine) →
-      Ends end last → AllByRecursion (IsRight basis es name t begin used ops) last → AllByRecursion SpellsReply last
+      Ends end last → AllByRecursion (IsRight basis (view_of basis es) name t begin used ops) last → AllByRecursion SpellsReply last
   end_spelled es name t begin used ops ByCommit last ends right = decision_spelled es name t begin used ops last ends right
   end_spelled es name t begin used ops ByRollback last ends right = subst (AllByRecursion SpellsReply) (sym ends) (tt, tt)
   end_spelled es name t begin used ops WithItsLine last ends right = decision_spelled es name t begin used ops last ends right
   end_spelled es name t begin used ops Nowhere last ends right = subst (AllByRecursion SpellsReply) (sym ends) tt
 
-  ran_spelled : (es : List EntryLine) (t : Transaction) (begin : ℕ) (ran : Answered) → ran ≡ alone_at basis es t begin → AllByRecursion SpellsReply ran.replies
+  ran_spelled : (es : List EntryLine) (t : Transaction) (begin : ℕ) (ran : Answered) → ran ≡ alone_at basis (view_of basis es) t begin → AllByRecursion SpellsReply ran.replies
   ran_spelled es t begin ran is =
       subst (λ (a : Answered). AllByRecursion SpellsReply a.replies) (sym is)
       (alone_replies basis.language spelled.language basis.origin.tables (rows_at basis es begin).tables [] t.texts (rows_spelled es begin) tt)
 
-  whole_spelled : (es : List EntryLine) (name : List ℕ) (t : Transaction) (mine : List ReplyLine) → IsWhole basis es name t mine → AllByRecursion SpellsReply mine
+  whole_spelled : (es : List EntryLine) (name : List ℕ) (t : Transaction) (mine : List ReplyLine) → IsWhole basis (view_of basis es) name t mine → AllByRecursion SpellsReply mine
   whole_spelled es name t mine w =
       subst (AllByRecursion SpellsReply) (sym w.says)
       (tt, all_append SpellsReply w.ran.replies w.last (ran_spelled es t w.begin w.ran w.is_ran) (end_spelled es name t w.begin (used_by w.ran) w.ran.ops t.end w.last w.ends w.right))
 
-  cut_short_spelled : (es : List EntryLine) (t : Transaction) (mine : List ReplyLine) → IsCut basis es t mine → AllByRecursion SpellsReply mine
+  cut_short_spelled : (es : List EntryLine) (t : Transaction) (mine : List ReplyLine) → IsCut basis (view_of basis es) t mine → AllByRecursion SpellsReply mine
   cut_short_spelled es t mine c =
       let all : AllByRecursion SpellsReply (c.front ++ c.rest) = subst (AllByRecursion SpellsReply) (sym c.fits) (tt, ran_spelled es t c.begin c.ran c.is_ran) in
       subst (AllByRecursion SpellsReply) (sym c.says) (all_append SpellsReply c.front (c.cause ∷ []) (all_front SpellsReply c.front c.rest all) (cut_spelled c.cause c.is_cause, tt))
 
-  told_spelled : (es : List EntryLine) (name : List ℕ) (item : Item) (mine : List ReplyLine) → SpellsItem item → IsTold basis es name item mine → AllByRecursion SpellsReply mine
+  told_spelled : (es : List EntryLine) (name : List ℕ) (item : Item) (mine : List ReplyLine) → SpellsItem item → IsTold basis (view_of basis es) name item mine → AllByRecursion SpellsReply mine
   told_spelled es name (Does t) mine is (inl whole) = whole_spelled es name t mine whole
   told_spelled es name (Does t) mine is (inr cut) = cut_short_spelled es t mine cut
   told_spelled es name (Lone answer) mine is told = subst (AllByRecursion SpellsReply) (sym told) (is, tt)
@@ -281,7 +282,7 @@ module _ (basis : Basis) (spelled : IsSpelled basis) where
   numbered_spelled n [] all = tt
   numbered_spelled n (r ∷ rs) all = (all.0, numbered_spelled n rs all.1)
 
-  along_spelled : (es : List EntryLine) (name : List ℕ) (items : List Item) (lines : List Numbered) → AllByRecursion SpellsItem items → Along (IsTold basis es name) items lines → AllByRecursion SpellsTold lines
+  along_spelled : (es : List EntryLine) (name : List ℕ) (items : List Item) (lines : List Numbered) → AllByRecursion SpellsItem items → Along (IsTold basis (view_of basis es) name) items lines → AllByRecursion SpellsTold lines
   along_spelled es name [] lines all is = subst (AllByRecursion SpellsTold) (sym is) tt
   along_spelled es name (item ∷ items) lines all (mine, others, splits, told, rest) =
       subst (AllByRecursion SpellsTold) (sym splits)
@@ -366,12 +367,12 @@ lines_are (line.Barrier ∷ ls) fits spells = (tt, lines_are ls fits.1 spells.1)
 lines_are (line.Fed position ∷ ls) fits spells = (fits.0, lines_are ls fits.1 spells.1)
 
 -- an entry's session was told a line, and so has a name
-entries_are : (lines : List Line) (entries : List EntryLine) → AllByRecursion IsNamedLine lines → AllByRecursion (IsAnswered lines) entries → AllByRecursion FitsEntry entries → AllByRecursion IsEntry entries
-entries_are lines [] named answered fits = tt
-entries_are lines (Setup position ∷ es) named answered fits = (fits.0, entries_are lines es named answered.1 fits.1)
-entries_are lines (Commit position session txn begin level ∷ es) named answered fits =
-    let stands : StandsIn lines (line.Session session txn (reply.Begin begin)) = answered.0.0 in
-    ((fits.0.0, session_named lines session txn begin stands named, fits.0.1, fits.0.2), entries_are lines es named answered.1 fits.1)
+entries_are : (basis : Basis) (view : View) (lines : List Line) (entries : List EntryLine) → AllByRecursion IsNamedLine lines → AllByRecursion (IsEntryTold basis view lines) entries → AllByRecursion FitsEntry entries → AllByRecursion IsEntry entries
+entries_are basis view lines [] named answered fits = tt
+entries_are basis view lines (Setup position ∷ es) named answered fits = (fits.0, entries_are basis view lines es named answered.1 fits.1)
+entries_are basis view lines (Commit position session txn begin level ∷ es) named answered fits =
+    let stands : StandsIn lines (line.Session session txn (reply.Begin begin)) = begin_stands basis view lines position session txn begin answered.0 in
+    ((fits.0.0, session_named lines session txn begin stands named, fits.0.1, fits.0.2), entries_are basis view lines es named answered.1 fits.1)
   where
     session_named : (lines : List Line) (session : List ℕ) (txn begin : ℕ) → StandsIn lines (line.Session session txn (reply.Begin begin)) → AllByRecursion IsNamedLine lines → IsName session
     session_named lines session txn begin (front, back, is) named = all_standing IsNamedLine front back (line.Session session txn (reply.Begin begin)) (subst (AllByRecursion IsNamedLine) is named)
@@ -384,7 +385,7 @@ of_the_grammar basis report spelled lawful order fits =
     record {
       lines = lines_are report.lines fits.lines (lines_spelled report.lines each named);
       base = fits.base;
-      entries = entries_are report.lines report.entries named lawful.answered fits.entries;
+      entries = entries_are basis (view_of basis report.entries) report.lines report.entries named lawful.answered fits.entries;
       feeds = subst (AllByRecursion IsFeed) (sym lawful.feeds) tt;
       end = fits.end;
     }

@@ -10,7 +10,7 @@ use Rattle.report_laws.specs.Language.{Answered, alone_from, Kind, BeginText, Co
 use Rattle.report_laws.specs.Answers.{Answers}
 use Rattle.report_laws.specs.Cut.{cuts}
 use Rattle.report_laws.specs.Each.{StandsIn}
-use Rattle.report_laws.specs.History.{Basis, alone_on, used_by, rows_at, entry_at, last_position}
+use Rattle.report_laws.specs.History.{Basis, alone_on, used_by, rows_at, entry_at, last_position, view_of}
 use Rattle.report_laws.specs.One.{IsUncutLine}
 use Rattle.report_laws.specs.Outcome.{IsRight, IsDecided, IsOneDecision, Ends}
 use Rattle.report_laws.specs.Play.{IsTurn, WasCut, IsTimely, IsAppended, number_by, is_own_by, is_last_of, is_outcome, are_up_to}
@@ -98,7 +98,7 @@ is_uncut : (b : Bool) → b ≡ true → b ≡ false → ⊥
 is_uncut b cut uncut = cc
 
 -- a transaction that was not cut short is told whole
-whole_told : (basis : Basis) (entries : List EntryLine) (name : List ℕ) (t : Transaction) (mine : List ReplyLine) → IsTold basis entries name (Does t) mine → AllByRecursion (λ r. cuts r ≡ false) mine → IsWhole basis entries name t mine
+whole_told : (basis : Basis) (entries : List EntryLine) (name : List ℕ) (t : Transaction) (mine : List ReplyLine) → IsTold basis (view_of basis entries) name (Does t) mine → AllByRecursion (λ r. cuts r ≡ false) mine → IsWhole basis (view_of basis entries) name t mine
 whole_told basis entries name t mine (inl is) uncut = is
 whole_told basis entries name t mine (inr is) uncut = absurd (is_uncut (cuts is.cause) is.is_cause (all_at (λ r. cuts r ≡ false) mine is.cause uncut (is.front, [], is.says)))
 
@@ -168,7 +168,7 @@ module _ (basis : Basis) (history added later : List EntryLine) (lines before ot
   pub record Given (k : Kind) (pending : Option (List (List ℕ))) : Type 0 where
     pub turn : IsTurn (moment basis history) before name (number_by p.number k pending) (is_own_by k pending) replies added
     pub told : (t : Transaction) (items : List Item) → first_left p.number pending ≤ t.number → rest_by k pending ≡ Does t ∷ items →
-        IsTold basis whole name (Does t) (under name t.number lines) × (transaction_of basis.language name t.number basis.script.body ≡ Some t)
+        IsTold basis (view_of basis whole) name (Does t) (under name t.number lines) × (transaction_of basis.language name t.number basis.script.body ≡ Some t)
     pub lone : (answer : ReplyLine) (items : List Item) → rest_by k pending ≡ Lone answer ∷ items → under name 0 lines ≡ lones p.over ++ answer ∷ lones items
     pub is_new : (txn : ℕ) → first_left p.number pending ≤ txn → (at : ℕ) (begin : ℕ) (level : Level) → entry_at basis.origin history at ≡ Some (Commit at name txn begin level) → ⊥
     pub mine : under name (number_by p.number k pending) lines ≡ under name (number_by p.number k pending) before ++ (replies ++ under name (number_by p.number k pending) others)
@@ -194,22 +194,22 @@ module _ (basis : Basis) (history added later : List EntryLine) (lines before ot
       under name (number_by p.number k pending) lines ≡ replies ++ under name (number_by p.number k pending) others
   only_mine k pending g new = g.mine ∙ ap (λ (front : List ReplyLine). front ++ (replies ++ under name (number_by p.number k pending) others)) (g.unsaid _ new)
 
-  whole_of : (k : Kind) (pending : Option (List (List ℕ))) (g : Given k pending) (t : Transaction) (items : List Item) → first_left p.number pending ≤ t.number → rest_by k pending ≡ Does t ∷ items → IsWhole basis whole name t (under name t.number lines)
+  whole_of : (k : Kind) (pending : Option (List (List ℕ))) (g : Given k pending) (t : Transaction) (items : List Item) → first_left p.number pending ≤ t.number → rest_by k pending ≡ Does t ∷ items → IsWhole basis (view_of basis whole) name t (under name t.number lines)
   whole_of k pending g t items le is = whole_told basis whole name t (under name t.number lines) (g.told t items le is).0 (are_uncut name t.number lines g.memory)
 
   -- what a transaction that is told whole is told
-  whole_says : (t : Transaction) (mine : List ReplyLine) (w : IsWhole basis whole name t mine) → mine ≡ reply.Begin w.begin ∷ ((alone_at basis whole t w.begin).replies ++ w.last)
+  whole_says : (t : Transaction) (mine : List ReplyLine) (w : IsWhole basis (view_of basis whole) name t mine) → mine ≡ reply.Begin w.begin ∷ ((alone_at basis (view_of basis whole) t w.begin).replies ++ w.last)
   whole_says t mine w = w.says ∙ ap (λ (a : Answered). reply.Begin w.begin ∷ (a.replies ++ w.last)) w.is_ran
 
   -- and its outcome is right at its begin
   abbrev IsRightAt : Transaction → ℕ → ReplyLine → Type 0
-  IsRightAt t begin o = IsRight basis whole name t begin (used_by (alone_at basis whole t begin)) (alone_at basis whole t begin).ops o
+  IsRightAt t begin o = IsRight basis (view_of basis whole) name t begin (used_by (alone_at basis (view_of basis whole) t begin)) (alone_at basis (view_of basis whole) t begin).ops o
 
-  right_at : (t : Transaction) (mine : List ReplyLine) (w : IsWhole basis whole name t mine) (begin : ℕ) (o : ReplyLine) → w.begin ≡ begin → w.last ≡ o ∷ [] → IsRightAt t begin o
+  right_at : (t : Transaction) (mine : List ReplyLine) (w : IsWhole basis (view_of basis whole) name t mine) (begin : ℕ) (o : ReplyLine) → w.begin ≡ begin → w.last ≡ o ∷ [] → IsRightAt t begin o
   right_at t mine w begin o at last =
       subst (λ b. IsRightAt t b o) at
-      (subst (λ (a : Answered). IsRight basis whole name t w.begin (used_by a) a.ops o) w.is_ran
-      (subst (λ (os : List ReplyLine). AllByRecursion (IsRight basis whole name t w.begin (used_by w.ran) w.ran.ops) os) last w.right).0)
+      (subst (λ (a : Answered). IsRight basis (view_of basis whole) name t w.begin (used_by a) a.ops o) w.is_ran
+      (subst (λ (os : List ReplyLine). AllByRecursion (IsRight basis (view_of basis whole) name t w.begin (used_by w.ran) w.ran.ops) os) last w.right).0)
 
   -- a line outside transactions is answered by its one reply
   lone_case : (k : Kind) (pending : Option (List (List ℕ))) (g : Given k pending) (answer : ReplyLine) (items : List Item) → number_by p.number k pending ≡ 0 → is_own_by k pending ≡ false →
@@ -234,7 +234,7 @@ module _ (basis : Basis) (history added later : List EntryLine) (lines before ot
       opened : IsOpened (with_open p (Some []) (p.number + 1)) [] (rest_of basis.language (with_open p (Some []) (p.number + 1)) said)
       opened = rest_opened basis.language (with_open p (Some []) (p.number + 1)) [] said refl
 
-      w : IsWhole basis whole name (transaction (p.number + 1) ([] ++ opened.0) p.level opened.1) (under name (p.number + 1) lines)
+      w : IsWhole basis (view_of basis whole) name (transaction (p.number + 1) ([] ++ opened.0) p.level opened.1) (under name (p.number + 1) lines)
       w = whole_of BeginText None g (transaction (p.number + 1) ([] ++ opened.0) p.level opened.1) opened.2 (omega arith) opened.3
 
       same : replies ≡ reply.Begin w.begin ∷ []
@@ -253,9 +253,9 @@ module _ (basis : Basis) (history added later : List EntryLine) (lines before ot
       decided basis history added later name t begin (used_by (alone_of basis history begin t.texts)) base begun (g.told t items le is).1 (λ at level. g.is_new t.number le at begin level) o ends
       (all_at (IsTimely (moment basis history) (moment basis history + length added)) replies o g.turn.timely (front, [], says))
       (appended_by (moment basis history) name t.number replies front o added says quiet (subst (λ n. IsAppended (moment basis history) name n replies added) number g.turn.appended))
-      (subst (λ (a : Answered). IsRight basis whole name t begin (used_by a) a.ops o) same right)
+      (subst (λ (a : Answered). IsRight basis (view_of basis whole) name t begin (used_by a) a.ops o) same right)
     where
-      same : alone_at basis whole t begin ≡ alone_of basis history begin t.texts
+      same : alone_at basis (view_of basis whole) t begin ≡ alone_of basis history begin t.texts
       same = ap (λ (rows : Rows). alone_on basis rows t.texts) (rows_front basis history (added ++ later) begin begun)
 
   -- a line that is a transaction of its own is told all of it
@@ -268,7 +268,7 @@ module _ (basis : Basis) (history added later : List EntryLine) (lines before ot
       t : Transaction
       t = transaction (p.number + 1) (text ∷ []) p.level WithItsLine
 
-      w : IsWhole basis whole name t (under name (p.number + 1) lines)
+      w : IsWhole basis (view_of basis whole) name t (under name (p.number + 1) lines)
       w = whole_of OtherText None g t _ (omega arith) refl
 
       one : (o : ReplyLine) × (w.last ≡ o ∷ []) × IsDecided o
@@ -277,19 +277,19 @@ module _ (basis : Basis) (history added later : List EntryLine) (lines before ot
       o : ReplyLine
       o = one.0
 
-      first : under name (p.number + 1) lines ≡ reply.Begin w.begin ∷ ((alone_at basis whole t w.begin).replies ++ o ∷ [])
-      first = whole_says t _ w ∙ ap (λ (last : List ReplyLine). reply.Begin w.begin ∷ ((alone_at basis whole t w.begin).replies ++ last)) one.1
+      first : under name (p.number + 1) lines ≡ reply.Begin w.begin ∷ ((alone_at basis (view_of basis whole) t w.begin).replies ++ o ∷ [])
+      first = whole_says t _ w ∙ ap (λ (last : List ReplyLine). reply.Begin w.begin ∷ ((alone_at basis (view_of basis whole) t w.begin).replies ++ last)) one.1
 
-      same : replies ≡ reply.Begin w.begin ∷ ((alone_at basis whole t w.begin).replies ++ o ∷ [])
-      same = up_to_same (is_last_of true) replies (reply.Begin w.begin ∷ ((alone_at basis whole t w.begin).replies ++ o ∷ [])) _ [] (up_to OtherText None g)
-          (up_to_last (is_last_of true) (reply.Begin w.begin ∷ (alone_at basis whole t w.begin).replies) o (refl, plain_all_quiet _ (plain_alone basis.language g.answers basis.origin.tables _ [] (text ∷ []))) (loud o one.2))
-          (sym (only_mine OtherText None g (omega arith)) ∙ first ∙ sym (append-nil (reply.Begin w.begin ∷ ((alone_at basis whole t w.begin).replies ++ o ∷ []))))
+      same : replies ≡ reply.Begin w.begin ∷ ((alone_at basis (view_of basis whole) t w.begin).replies ++ o ∷ [])
+      same = up_to_same (is_last_of true) replies (reply.Begin w.begin ∷ ((alone_at basis (view_of basis whole) t w.begin).replies ++ o ∷ [])) _ [] (up_to OtherText None g)
+          (up_to_last (is_last_of true) (reply.Begin w.begin ∷ (alone_at basis (view_of basis whole) t w.begin).replies) o (refl, plain_all_quiet _ (plain_alone basis.language g.answers basis.origin.tables _ [] (text ∷ []))) (loud o one.2))
+          (sym (only_mine OtherText None g (omega arith)) ∙ first ∙ sym (append-nil (reply.Begin w.begin ∷ ((alone_at basis (view_of basis whole) t w.begin).replies ++ o ∷ []))))
 
       at : w.begin ≡ now
       at = (subst (λ (rs : List ReplyLine). AllByRecursion (IsTimely now (now + length added)) rs) same g.turn.timely).0
 
-      there : reply.Begin w.begin ∷ ((alone_at basis whole t w.begin).replies ++ o ∷ []) ≡ reply.Begin now ∷ ((alone_of basis history now t.texts).replies ++ o ∷ [])
-      there = ap (λ b. reply.Begin b ∷ ((alone_at basis whole t b).replies ++ o ∷ [])) at
+      there : reply.Begin w.begin ∷ ((alone_at basis (view_of basis whole) t w.begin).replies ++ o ∷ []) ≡ reply.Begin now ∷ ((alone_of basis history now t.texts).replies ++ o ∷ [])
+      there = ap (λ b. reply.Begin b ∷ ((alone_at basis (view_of basis whole) t b).replies ++ o ∷ [])) at
           ∙ ap (λ (rows : Rows). reply.Begin now ∷ ((alone_on basis rows t.texts).replies ++ o ∷ [])) (rows_front basis history (added ++ later) now (omega arith))
 
       says : replies ≡ (reply.Begin now ∷ (alone_of basis history now t.texts).replies) ++ o ∷ []
@@ -309,7 +309,7 @@ module _ (basis : Basis) (history added later : List EntryLine) (lines before ot
       begin : ℕ
       begin = g.going.0
 
-      w : IsWhole basis whole name t (under name t.number lines)
+      w : IsWhole basis (view_of basis whole) name t (under name t.number lines)
       w = whole_of k (Some texts) g t items (omega (arith, number)) is
 
       mine : under name p.number lines ≡ (reply.Begin begin ∷ (alone_of basis history begin texts).replies) ++ (replies ++ under name p.number others)
@@ -321,7 +321,7 @@ module _ (basis : Basis) (history added later : List EntryLine) (lines before ot
 
       all : under name t.number lines ≡ reply.Begin begin ∷ ((alone_of basis history begin t.texts).replies ++ w.last)
       all = whole_says t _ w
-          ∙ ap (λ b. reply.Begin b ∷ ((alone_at basis whole t b).replies ++ w.last)) at
+          ∙ ap (λ b. reply.Begin b ∷ ((alone_at basis (view_of basis whole) t b).replies ++ w.last)) at
           ∙ ap (λ (rows : Rows). reply.Begin begin ∷ ((alone_on basis rows t.texts).replies ++ w.last)) (rows_front basis history (added ++ later) begin g.going.2)
 
   commit_case : (texts : List (List ℕ)) (g : Given CommitText (Some texts)) → Turns CommitText (Some texts) g.going.0

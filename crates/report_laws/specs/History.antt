@@ -4,8 +4,8 @@
 -- schema's entry there are its tables without rows. After a transaction's entry there are the rows
 -- before it with the transaction's operations applied, which are those of the transaction run alone
 -- on the rows at its begin position. What an entry changes are the changes of these operations.
-use Rattle.std.specs.Prelude.{◌≡◌, ℕ, ◌+◌, ◌-◌, ◌≤◌, ◌<◌, ◌++◌, ◌∷◌, ◌==◌, ◌&&◌, ◌≢◌, [], List, Bool, false, Option, Some, None, unwrap_or, slice_get, length, take, if◌then◌else◌}
-use Rattle.std.specs.List.{AllByRecursion, list_any}
+-- The laws look at none of this: they ask a view of the history, which these entries give (`view_of`).
+use Rattle.std.specs.Prelude.{◌≡◌, ℕ, ◌+◌, ◌-◌, ◌≤◌, ◌<◌, ◌++◌, ◌∷◌, ◌==◌, ◌&&◌, ◌≢◌, [], List, Bool, false, Option, Some, None, unwrap_or, slice_get, length, take}
 use Rattle.std.specs.Str.{bytes_eq}
 use Rattle.cdb_values.specs.Changes.{changes_of, genids_taken, taken_by}
 use Rattle.cdb_values.specs.Good.{IsGood}
@@ -16,6 +16,7 @@ use Rattle.cdb_values.specs.declared.rows.RowOp.{RowOp}
 use Rattle.cdb_values.specs.declared.tables.TableDef.{TableDef}
 use Rattle.script_form.specs.declared.scripts.Script.{Script}
 use Rattle.report_laws.specs.Language.{Language, Answered, alone}
+use Rattle.report_laws.specs.View.{View, IsUntouched}
 use Rattle.report_laws.specs.Work.{Transaction, transaction_of}
 use Rattle.cdb_values.specs.declared.items.GenidItem.{GenidItem}
 use Rattle.report_text.specs.declared.reports.EntryLine.{EntryLine}
@@ -107,46 +108,38 @@ changes_at basis entries position =
 abbrev pub taken_at : Basis → List EntryLine → ℕ → List GenidItem
 taken_at basis entries position = genids_taken (changes_at basis entries position)
 
-abbrev pub is_same_item : GenidItem → GenidItem → Bool
-is_same_item a b = (a.table == b.table) && (a.genid == b.genid)
-
--- whether changes that take these versions away touch a used one
-abbrev pub is_touched : List GenidItem → GenidItem → Bool
-is_touched taken item = list_any (is_same_item item) taken
-
--- the first of the used versions that they touch
-abbrev pub first_touched : List GenidItem → List GenidItem → Option GenidItem
-first_touched taken [] = None
-first_touched taken (item ∷ used) = if is_touched taken item then Some item else first_touched taken used
-
--- no entry between two positions, both left out, touches a used version
-abbrev pub IsUntouched : Basis → List EntryLine → ℕ → ℕ → List GenidItem → Type 0
-IsUntouched basis entries begin position used =
-    (j : ℕ) → begin < j → j < position → first_touched (taken_at basis entries j) used ≡ None
+-- the history as the laws see it
+abbrev pub view_of : Basis → List EntryLine → View
+view_of basis entries = record {
+  rows = rows_at basis entries;
+  entry = entry_at basis.origin entries;
+  changes = changes_at basis entries;
+  last = last_position basis.origin entries;
+}
 
 -- whether an entry is that transaction's
 abbrev pub is_entry_of : List ℕ → ℕ → EntryLine → Bool
 is_entry_of name number (Setup position) = false
 is_entry_of name number (Commit position session txn begin level) = bytes_eq session name && (txn == number)
 
--- a transaction's entry is right after those before it: it is the next position, no entry before it
--- is of that transaction, it began at a position before it, the transaction is one of the session's
+-- a transaction's entry is right after the history before it: it is the next position, no entry of this
+-- run is of that transaction, it began at a position before it, the transaction is one of the session's
 -- work at that level and has operations on the rows at its begin position, no entry after that
 -- position touches a version that it uses, and the rows at the entry are good
-pub record IsCommitAfter (basis : Basis) (before : List EntryLine) (position : ℕ) (session : List ℕ) (txn begin : ℕ) (level : Level) : Type 0 where
-  pub placed : position ≡ basis.origin.position + length before + 1
-  pub once : AllByRecursion (λ e. is_entry_of session txn e ≡ false) before
+pub record IsCommitAfter (basis : Basis) (before : View) (position : ℕ) (session : List ℕ) (txn begin : ℕ) (level : Level) : Type 0 where
+  pub placed : position ≡ before.last + 1
+  pub once : (k : ℕ) (e : EntryLine) → basis.origin.position < k → before.entry k ≡ Some e → is_entry_of session txn e ≡ false
   pub begun : (1 ≤ begin) × (basis.origin.position ≤ begin) × (begin < position)
   pub transaction : Transaction
   pub is_its : transaction_of basis.language session txn basis.script.body ≡ Some transaction
   pub is_level : level ≡ transaction.level
   pub ran : Answered
-  pub is_ran : ran ≡ alone_on basis (rows_at basis before begin) transaction.texts
+  pub is_ran : ran ≡ alone_on basis (before.rows begin) transaction.texts
   pub has_ops : ran.ops ≢ []
-  pub untouched : IsUntouched basis before begin position (used_by ran)
-  pub is_good : IsGood basis.origin.tables (rows_after basis (states_of basis before) (Commit position session txn begin level)).tables
+  pub untouched : IsUntouched before begin position (used_by ran)
+  pub is_good : IsGood basis.origin.tables (apply_all (before.rows before.last) ran.ops).tables
 
 -- an entry is right after those before it; the schema's is the first position of all
 abbrev pub IsEntryAfter : Basis → List EntryLine → EntryLine → Type 0
 IsEntryAfter basis before (Setup position) = (before ≡ []) × (basis.origin.position ≡ 0) × (position ≡ 1)
-IsEntryAfter basis before (Commit position session txn begin level) = IsCommitAfter basis before position session txn begin level
+IsEntryAfter basis before (Commit position session txn begin level) = IsCommitAfter basis (view_of basis before) position session txn begin level

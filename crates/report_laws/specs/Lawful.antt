@@ -4,13 +4,12 @@
 use Rattle.std.specs.Prelude.{◌≡◌, ℕ, ◌≤◌, ◌++◌, ◌∷◌, ◌==◌, [], List, Bool, true, false, Option, Some, None, if◌then◌else◌}
 use Rattle.std.specs.List.{AllByRecursion}
 use Rattle.std.specs.Str.{bytes_eq}
-use Rattle.report_laws.specs.Each.{EachAfter, StandsIn}
-use Rattle.report_laws.specs.History.{Origin, Basis, IsEntryAfter, last_position}
-use Rattle.report_laws.specs.Told.{told, Along, IsTold}
+use Rattle.report_laws.specs.Each.{EachAfter}
+use Rattle.report_laws.specs.History.{Origin, Basis, IsEntryAfter, view_of}
+use Rattle.report_laws.specs.Places.{HasItsPlace}
+use Rattle.report_laws.specs.Told.{told, Along, IsTold, IsEntryTold}
 use Rattle.report_laws.specs.Work.{work}
 use Rattle.report_text.specs.declared.reports.Report.{Report}
-use Rattle.report_text.specs.declared.reports.EntryLine.{EntryLine}
-use Rattle.report_text.specs.declared.reports.EntryLine.TheVariants.{Setup, Commit}
 use Rattle.report_text.specs.declared.reports.Line.{Line}
 use Rattle.report_text.specs.declared.reports.Line.TheVariants as line
 use Rattle.report_text.specs.declared.reports.ReplyLine.{ReplyLine}
@@ -70,33 +69,23 @@ abbrev pub IsFreshLine : Origin → List Line → Line → Type 0
 IsFreshLine origin before (line.Session name txn answer) = IsFreshAnswer origin before name answer
 IsFreshLine origin before _ = Unit {0}
 
--- an entry's transaction was told its begin, and answered that it is committed there
-abbrev pub IsAnswered : List Line → EntryLine → Type 0
-IsAnswered lines (Setup position) = Unit {0}
-IsAnswered lines (Commit position session txn begin level) =
-    StandsIn lines (line.Session session txn (reply.Begin begin)) × StandsIn lines (line.Session session txn (reply.Committed position))
-
--- only sessions are told anything: no node goes down or comes up, and there is no barrier and no feed
-abbrev pub IsOfSession : Line → Type 0
-IsOfSession (line.Session name txn answer) = Unit {0}
-IsOfSession _ = ⊥
-
 abbrev pub base_line : ℕ → Option ℕ
 base_line position = if position == 0 then None else Some position
 
 pub record Lawful (basis : Basis) (report : Report) : Type 0 where
   -- what each session was told are its transactions and other lines, in order, each transaction with the
   -- replies at its begin position and with a right outcome
-  pub replies : (name : List ℕ) → Along (IsTold basis report.entries name) (work basis.language name basis.script.body) (told name report.lines)
+  pub replies : (name : List ℕ) → Along (IsTold basis (view_of basis report.entries) name) (work basis.language name basis.script.body) (told name report.lines)
   -- every begin is fresh
   pub begins : EachAfter (IsFreshLine basis.origin) [] report.lines
   -- every entry is right after those before it, so each transaction stands in the history once
   pub history : EachAfter (IsEntryAfter basis) [] report.entries
-  -- every entry's transaction was answered so
-  pub answered : AllByRecursion (IsAnswered report.lines) report.entries
-  -- no node, barrier or feed has a line
-  pub sessions : AllByRecursion IsOfSession report.lines
+  -- every entry's transaction was told whole, in one segment of its session's lines
+  pub answered : AllByRecursion (IsEntryTold basis (view_of basis report.entries) report.lines) report.entries
+  -- every line has its place behind the lines before it
+  pub places : EachAfter HasItsPlace [] report.lines
+  -- no feed has a line
   pub feeds : report.feeds ≡ []
   -- the base and the length of the history are told
   pub base : report.base ≡ base_line basis.origin.position
-  pub end : report.end ≡ last_position basis.origin report.entries
+  pub end : report.end ≡ (view_of basis report.entries).last

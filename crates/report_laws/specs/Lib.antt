@@ -7,7 +7,9 @@ pub mod Lawful
 pub mod One
 pub mod Outcome
 pub mod Paced
+pub mod Places
 pub mod Play
 pub mod Spelled
 pub mod Told
+pub mod View
 pub mod Work

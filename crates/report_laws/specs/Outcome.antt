@@ -1,4 +1,4 @@
--- The right outcome of a transaction, at its begin position and over the history.
+-- The right outcome of a transaction, at its begin position and over what is seen of the history.
 --
 -- A transaction that has no operations is committed at its begin position. One that has some is
 -- committed at its entry, where no entry since its begin touched what it uses and the rows are good;
@@ -11,26 +11,26 @@ use Rattle.cdb_values.specs.Good.{IsGood, first_broken, KeyName}
 use Rattle.cdb_values.specs.Rows.{apply_all}
 use Rattle.cdb_values.specs.declared.rows.RowOp.{RowOp}
 use Rattle.cdb_values.specs.declared.tables.TableDef.{TableDef}
-use Rattle.report_laws.specs.History.{Basis, rows_at, entry_at, last_position, taken_at, first_touched, IsUntouched}
+use Rattle.report_laws.specs.History.{Basis}
+use Rattle.report_laws.specs.View.{View, taken_in, first_touched, IsUntouched}
 use Rattle.report_laws.specs.Work.{Transaction, End, ByCommit, ByRollback, WithItsLine, Nowhere}
 use Rattle.cdb_values.specs.declared.items.GenidItem.{GenidItem}
-use Rattle.report_text.specs.declared.reports.EntryLine.{EntryLine}
 use Rattle.report_text.specs.declared.reports.EntryLine.TheVariants.{Commit}
 use Rattle.report_text.specs.declared.reports.ReplyLine.{ReplyLine}
 use Rattle.report_text.specs.declared.reports.ReplyLine.TheVariants as reply
 
 -- a transaction with operations is committed at a position: its entry stands there, no entry between
 -- touches what it uses, and the rows there are good
-pub record IsEntered (basis : Basis) (entries : List EntryLine) (name : List ℕ) (t : Transaction) (begin position : ℕ) (used : List GenidItem) : Type 0 where
+pub record IsEntered (basis : Basis) (view : View) (name : List ℕ) (t : Transaction) (begin position : ℕ) (used : List GenidItem) : Type 0 where
   pub later : begin < position
-  pub stands : entry_at basis.origin entries position ≡ Some (Commit position name t.number begin t.level)
-  pub untouched : IsUntouched basis entries begin position used
-  pub is_good : IsGood basis.origin.tables (rows_at basis entries position).tables
+  pub stands : view.entry position ≡ Some (Commit position name t.number begin t.level)
+  pub untouched : IsUntouched view begin position used
+  pub is_good : IsGood basis.origin.tables (view.rows position).tables
 
 -- committed at a position, by its operations
-abbrev pub IsCommitted : Basis → List EntryLine → List ℕ → Transaction → ℕ → ℕ → List GenidItem → List RowOp → Type 0
-IsCommitted basis entries name t begin position used [] = position ≡ begin
-IsCommitted basis entries name t begin position used (op ∷ ops) = IsEntered basis entries name t begin position used
+abbrev pub IsCommitted : Basis → View → List ℕ → Transaction → ℕ → ℕ → List GenidItem → List RowOp → Type 0
+IsCommitted basis view name t begin position used [] = position ≡ begin
+IsCommitted basis view name t begin position used (op ∷ ops) = IsEntered basis view name t begin position used
 
 -- the name of a table, by its place
 abbrev pub name_or_none : Option TableDef → Option (List ℕ)
@@ -50,13 +50,13 @@ conflict_line tables position item = line_by position item.genid (name_of_table 
 
 -- the entry at a position is the first since its begin that touches an item that it uses, the item is
 -- the first of these, and the line tells it
-pub record IsConflict (basis : Basis) (entries : List EntryLine) (begin position : ℕ) (used : List GenidItem) (ops : List RowOp) (told : ReplyLine) : Type 0 where
+pub record IsConflict (basis : Basis) (view : View) (begin position : ℕ) (used : List GenidItem) (ops : List RowOp) (told : ReplyLine) : Type 0 where
   pub has_ops : ops ≢ []
   pub later : begin < position
-  pub within : position ≤ last_position basis.origin entries
+  pub within : position ≤ view.last
   pub item : GenidItem
-  pub touched : first_touched (taken_at basis entries position) used ≡ Some item
-  pub untouched : IsUntouched basis entries begin position used
+  pub touched : first_touched (taken_in view position) used ≡ Some item
+  pub untouched : IsUntouched view begin position used
   pub is_told : conflict_line basis.origin.tables position item ≡ Some told
 
 -- a key by its names
@@ -65,29 +65,29 @@ key_name table key = record { table = table; key = key }
 
 -- at a position of the history up to which no entry touches what it uses, its operations break that
 -- key, and none before it in order
-pub record IsDuplicate (basis : Basis) (entries : List EntryLine) (begin position : ℕ) (used : List GenidItem) (ops : List RowOp) (table key : List ℕ) : Type 0 where
+pub record IsDuplicate (basis : Basis) (view : View) (begin position : ℕ) (used : List GenidItem) (ops : List RowOp) (table key : List ℕ) : Type 0 where
   pub has_ops : ops ≢ []
   pub begun : begin ≤ position
-  pub within : position ≤ last_position basis.origin entries
-  pub untouched : IsUntouched basis entries begin (position + 1) used
-  pub breaks : first_broken basis.origin.tables (apply_all (rows_at basis entries position) ops).tables ≡ Some (key_name table key)
+  pub within : position ≤ view.last
+  pub untouched : IsUntouched view begin (position + 1) used
+  pub breaks : first_broken basis.origin.tables (apply_all (view.rows position) ops).tables ≡ Some (key_name table key)
 
 -- a line that is an outcome is right, for what the transaction uses and its operations; another line is none
-abbrev pub IsRight : Basis → List EntryLine → List ℕ → Transaction → ℕ → List GenidItem → List RowOp → ReplyLine → Type 0
-IsRight basis entries name t begin used ops (reply.Begin position) = Unit {0}
-IsRight basis entries name t begin used ops (reply.Row row) = Unit {0}
-IsRight basis entries name t begin used ops (reply.Done rows) = Unit {0}
-IsRight basis entries name t begin used ops (reply.Changed rows) = Unit {0}
-IsRight basis entries name t begin used ops (reply.Error cause) = Unit {0}
-IsRight basis entries name t begin used ops (reply.Level level) = Unit {0}
-IsRight basis entries name t begin used ops reply.RolledBack = t.end ≡ ByRollback
-IsRight basis entries name t begin used ops (reply.Committed position) = IsCommitted basis entries name t begin position used ops
-IsRight basis entries name t begin used ops (reply.ConflictGenid position table genid) = IsConflict basis entries begin position used ops (reply.ConflictGenid position table genid)
-IsRight basis entries name t begin used ops (reply.ConflictRange position table key) = IsConflict basis entries begin position used ops (reply.ConflictRange position table key)
-IsRight basis entries name t begin used ops (reply.Duplicate position table key) = IsDuplicate basis entries begin position used ops table key
-IsRight basis entries name t begin used ops (reply.Lost node down) = ⊥
-IsRight basis entries name t begin used ops (reply.NoMajority up nodes) = ⊥
-IsRight basis entries name t begin used ops reply.NoMemory = ⊥
+abbrev pub IsRight : Basis → View → List ℕ → Transaction → ℕ → List GenidItem → List RowOp → ReplyLine → Type 0
+IsRight basis view name t begin used ops (reply.Begin position) = Unit {0}
+IsRight basis view name t begin used ops (reply.Row row) = Unit {0}
+IsRight basis view name t begin used ops (reply.Done rows) = Unit {0}
+IsRight basis view name t begin used ops (reply.Changed rows) = Unit {0}
+IsRight basis view name t begin used ops (reply.Error cause) = Unit {0}
+IsRight basis view name t begin used ops (reply.Level level) = Unit {0}
+IsRight basis view name t begin used ops reply.RolledBack = t.end ≡ ByRollback
+IsRight basis view name t begin used ops (reply.Committed position) = IsCommitted basis view name t begin position used ops
+IsRight basis view name t begin used ops (reply.ConflictGenid position table genid) = IsConflict basis view begin position used ops (reply.ConflictGenid position table genid)
+IsRight basis view name t begin used ops (reply.ConflictRange position table key) = IsConflict basis view begin position used ops (reply.ConflictRange position table key)
+IsRight basis view name t begin used ops (reply.Duplicate position table key) = IsDuplicate basis view begin position used ops table key
+IsRight basis view name t begin used ops (reply.Lost node down) = ⊥
+IsRight basis view name t begin used ops (reply.NoMajority up nodes) = ⊥
+IsRight basis view name t begin used ops reply.NoMemory = ⊥
 
 -- whether a line tells a decision on a commit
 abbrev pub IsDecided : ReplyLine → Type 0

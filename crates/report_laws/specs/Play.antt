@@ -14,7 +14,7 @@ use Rattle.script_form.specs.declared.scripts.Act.{Act}
 use Rattle.script_form.specs.declared.scripts.Act.TheVariants as act
 use Rattle.report_laws.specs.Each.{StandsIn}
 use Rattle.report_laws.specs.Cut.{cuts}
-use Rattle.report_laws.specs.History.{Origin, Basis, last_position}
+use Rattle.report_laws.specs.History.{Origin, Basis, view_of}
 use Rattle.report_laws.specs.Told.{lines_of}
 use Rattle.report_laws.specs.Work.{Place, place_after}
 use Rattle.report_laws.specs.Language.{Language, Kind, BeginText, CommitText, RollbackText, LevelText, OtherText}
@@ -137,7 +137,7 @@ InTurns basis done before history [] lines entries = (lines ≡ []) × (entries 
 InTurns basis done before history (b ∷ bs) lines entries =
     (replies : List ReplyLine) × (others : List Line) × (added : List EntryLine) × (later : List EntryLine)
     × (lines ≡ piece basis.language done b.act replies ++ others) × (entries ≡ added ++ later)
-    × IsTurnOf basis.language (last_position basis.origin history) done before b.act replies added
+    × IsTurnOf basis.language (view_of basis history).last done before b.act replies added
     × InTurns basis (done ++ b ∷ []) (before ++ piece basis.language done b.act replies) (history ++ added) bs others later
 
 -- the entries that stand before the first line: the schema's, where the history begins with this run

@@ -4,15 +4,18 @@
 -- number, 0 for a line outside a transaction. A transaction is told whole: its begin, the replies of
 -- the transaction run alone on the rows at its begin position, and then what ends it, which is nothing
 -- where it has no end in the script; what ends it is right. Or it is cut short after some of these.
-use Rattle.std.specs.Prelude.{◌≡◌, ℕ, ◌≤◌, ◌++◌, ◌∷◌, [], List, map, true, if◌then◌else◌, ◌⊎◌}
+-- And a transaction that has an entry was told whole in one segment of its session's lines.
+use Rattle.std.specs.Prelude.{◌≡◌, ℕ, ◌≤◌, ◌++◌, ◌∷◌, [], List, Some, map, true, if◌then◌else◌, ◌⊎◌}
 use Rattle.std.specs.Str.{bytes_eq}
 use Rattle.std.specs.List.{AllByRecursion}
 use Rattle.report_laws.specs.Cut.{cuts}
-use Rattle.report_laws.specs.History.{Basis, alone_on, rows_at, used_by, last_position}
+use Rattle.report_laws.specs.History.{Basis, alone_on, used_by}
 use Rattle.report_laws.specs.Language.{Answered}
 use Rattle.report_laws.specs.Outcome.{IsRight, Ends}
-use Rattle.report_laws.specs.Work.{Transaction, Item, Does, Lone, number_of}
+use Rattle.report_laws.specs.View.{View}
+use Rattle.report_laws.specs.Work.{Transaction, Item, Does, Lone, number_of, transaction_of}
 use Rattle.report_text.specs.declared.reports.EntryLine.{EntryLine}
+use Rattle.report_text.specs.declared.reports.EntryLine.TheVariants.{Setup, Commit}
 use Rattle.report_text.specs.declared.reports.Line.{Line}
 use Rattle.report_text.specs.declared.reports.Line.TheVariants as line
 use Rattle.report_text.specs.declared.reports.ReplyLine.{ReplyLine}
@@ -48,28 +51,28 @@ Along P (item ∷ items) lines =
     (mine : List ReplyLine) × (others : List Numbered) × (lines ≡ numbered (number_of item) mine ++ others) × P item mine × Along P items others
 
 -- a transaction run alone on the rows at its begin position
-abbrev pub alone_at : Basis → List EntryLine → Transaction → ℕ → Answered
-alone_at basis entries t begin = alone_on basis (rows_at basis entries begin) t.texts
+abbrev pub alone_at : Basis → View → Transaction → ℕ → Answered
+alone_at basis view t begin = alone_on basis (view.rows begin) t.texts
 
 -- a transaction is told whole: its begin, its replies, and an end that fits the script and is right
-pub record IsWhole (basis : Basis) (entries : List EntryLine) (name : List ℕ) (t : Transaction) (mine : List ReplyLine) : Type 0 where
+pub record IsWhole (basis : Basis) (view : View) (name : List ℕ) (t : Transaction) (mine : List ReplyLine) : Type 0 where
   pub begin : ℕ
   pub base : basis.origin.position ≤ begin
-  pub within : begin ≤ last_position basis.origin entries
+  pub within : begin ≤ view.last
   pub ran : Answered
-  pub is_ran : ran ≡ alone_at basis entries t begin
+  pub is_ran : ran ≡ alone_at basis view t begin
   pub last : List ReplyLine
   pub ends : Ends t.end last
-  pub right : AllByRecursion (IsRight basis entries name t begin (used_by ran) ran.ops) last
+  pub right : AllByRecursion (IsRight basis view name t begin (used_by ran) ran.ops) last
   pub says : mine ≡ reply.Begin begin ∷ (ran.replies ++ last)
 
 -- a transaction is cut short, behind a front of its begin and its replies
-pub record IsCut (basis : Basis) (entries : List EntryLine) (t : Transaction) (mine : List ReplyLine) : Type 0 where
+pub record IsCut (basis : Basis) (view : View) (t : Transaction) (mine : List ReplyLine) : Type 0 where
   pub begin : ℕ
   pub base : basis.origin.position ≤ begin
-  pub within : begin ≤ last_position basis.origin entries
+  pub within : begin ≤ view.last
   pub ran : Answered
-  pub is_ran : ran ≡ alone_at basis entries t begin
+  pub is_ran : ran ≡ alone_at basis view t begin
   pub front : List ReplyLine
   pub rest : List ReplyLine
   pub fits : front ++ rest ≡ reply.Begin begin ∷ ran.replies
@@ -78,6 +81,43 @@ pub record IsCut (basis : Basis) (entries : List EntryLine) (t : Transaction) (m
   pub says : mine ≡ front ++ cause ∷ []
 
 -- the lines of a transaction are its replies and its end; a line outside one has its one reply
-abbrev pub IsTold : Basis → List EntryLine → List ℕ → Item → List ReplyLine → Type 0
-IsTold basis entries name (Does t) mine = IsWhole basis entries name t mine ⊎ IsCut basis entries t mine
-IsTold basis entries name (Lone answer) mine = mine ≡ answer ∷ []
+abbrev pub IsTold : Basis → View → List ℕ → Item → List ReplyLine → Type 0
+IsTold basis view name (Does t) mine = IsWhole basis view name t mine ⊎ IsCut basis view t mine
+IsTold basis view name (Lone answer) mine = mine ≡ answer ∷ []
+
+-- how the transaction of the entry at a position is told to end: that it is committed there. What is told
+-- of a transaction at its commit where its outcome is not known there has no place yet
+abbrev pub EndsAt : ℕ → ReplyLine → Type 0
+EndsAt position (reply.Begin at) = ⊥
+EndsAt position (reply.Row row) = ⊥
+EndsAt position (reply.Done rows) = ⊥
+EndsAt position (reply.Changed rows) = ⊥
+EndsAt position (reply.Error cause) = ⊥
+EndsAt position (reply.Level level) = ⊥
+EndsAt position reply.RolledBack = ⊥
+EndsAt position (reply.Committed at) = at ≡ position
+EndsAt position (reply.ConflictGenid at table genid) = ⊥
+EndsAt position (reply.ConflictRange at table key) = ⊥
+EndsAt position (reply.Duplicate at table key) = ⊥
+EndsAt position (reply.Lost node down) = ⊥
+EndsAt position (reply.NoMajority up nodes) = ⊥
+EndsAt position reply.NoMemory = ⊥
+
+-- the transaction of an entry was told whole, in one segment of its session's lines: the begin that the
+-- entry names, its replies on the rows there, and how it ends
+pub record IsCommitTold (basis : Basis) (view : View) (lines : List Line) (position : ℕ) (session : List ℕ) (txn begin : ℕ) : Type 0 where
+  pub transaction : Transaction
+  pub is_its : transaction_of basis.language session txn basis.script.body ≡ Some transaction
+  pub within : begin ≤ view.last
+  pub ran : Answered
+  pub is_ran : ran ≡ alone_at basis view transaction begin
+  pub outcome : ReplyLine
+  pub ends : EndsAt position outcome
+  pub before : List Numbered
+  pub after : List Numbered
+  pub says : told session lines ≡ before ++ (numbered txn (reply.Begin begin ∷ (ran.replies ++ outcome ∷ [])) ++ after)
+
+-- an entry is told so; the schema's is told to nobody
+abbrev pub IsEntryTold : Basis → View → List Line → EntryLine → Type 0
+IsEntryTold basis view lines (Setup position) = Unit {0}
+IsEntryTold basis view lines (Commit position session txn begin level) = IsCommitTold basis view lines position session txn begin

@@ -1,14 +1,16 @@
 //! Laws of reports, each a clause of a function that does nothing.
 
-ghost use Rattle.std.specs.Prelude.{◌≡◌, ◌++◌, ◌∷◌, ℕ, List};
+ghost use Rattle.std.specs.Prelude.{◌≡◌, ◌++◌, ◌∷◌, [], ℕ, List, Bool, Some};
 ghost use Rattle.cdb_values.specs.declared.rows.Level.{Level};
 ghost use Rattle.report_laws.specs.Answers.{Answers};
 ghost use Rattle.report_laws.specs.Each.{StandsIn};
-ghost use Rattle.report_laws.specs.History.{Basis};
+ghost use Rattle.report_laws.specs.History.{Basis, alone_on, rows_at};
 ghost use Rattle.report_laws.specs.Lawful.{Lawful, NameUpTo};
 ghost use Rattle.report_laws.specs.One.{IsUncut};
 ghost use Rattle.report_laws.specs.Play.{InPlayOrder};
 ghost use Rattle.report_laws.specs.Spelled.{IsSpelled};
+ghost use Rattle.report_laws.specs.Told.{told, numbered, Numbered};
+ghost use Rattle.report_laws.specs.Work.{Transaction, transaction_of};
 ghost use Rattle.report_text.specs.Grammar.{IsReport};
 ghost use Rattle.report_text.specs.Types.{FitsTypes};
 ghost use Rattle.report_text.specs.declared.reports.EntryLine.{EntryLine};
@@ -33,9 +35,22 @@ pub fn begins_reach_what_was_told()
 {}
 
 /// The transaction of each entry of a lawful report was told that it begins where the entry says, and that it
-/// is committed at the entry.
+/// is committed at the entry; and this in one segment of its session's lines, with its replies on the rows at
+/// its begin between.
 pub fn entries_are_told()
     ensures told { (basis : Basis) (report : Report) (position : ℕ) (session : List ℕ) (txn begin : ℕ) (level : Level) → Lawful basis report → StandsIn report.entries (entries.Commit position session txn begin level) → StandsIn report.lines (line.Session session txn (reply.Begin begin)) × StandsIn report.lines (line.Session session txn (reply.Committed position)) }
+    ensures together { (basis : Basis) (report : Report) (position : ℕ) (session : List ℕ) (txn begin : ℕ) (level : Level) → Lawful basis report → StandsIn report.entries (entries.Commit position session txn begin level) → (transaction : Transaction) × (before : List Numbered) × (after : List Numbered) × (transaction_of basis.language session txn basis.script.body ≡ Some transaction) × (told session report.lines ≡ before ++ (numbered txn (reply.Begin begin ∷ ((alone_on basis (rows_at basis report.entries begin) transaction.texts).replies ++ reply.Committed position ∷ [])) ++ after)) }
+{}
+
+/// Sessions alone are told anything in a lawful report: no node goes down or comes up, there is no barrier and no
+/// feed; and no session is told of a loss or of a missing majority.
+pub fn sessions_alone_are_told()
+    ensures down { (basis : Basis) (report : Report) (count node : ℕ) (fault : Bool) → Lawful basis report → StandsIn report.lines (line.Down count node fault) → ⊥ }
+    ensures up { (basis : Basis) (report : Report) (node : ℕ) → Lawful basis report → StandsIn report.lines (line.Up node) → ⊥ }
+    ensures barrier { (basis : Basis) (report : Report) → Lawful basis report → StandsIn report.lines line.Barrier → ⊥ }
+    ensures fed { (basis : Basis) (report : Report) (position : ℕ) → Lawful basis report → StandsIn report.lines (line.Fed position) → ⊥ }
+    ensures lost { (basis : Basis) (report : Report) (name : List ℕ) (txn node down : ℕ) → Lawful basis report → StandsIn report.lines (line.Session name txn (reply.Lost node down)) → ⊥ }
+    ensures majority { (basis : Basis) (report : Report) (name : List ℕ) (txn up nodes : ℕ) → Lawful basis report → StandsIn report.lines (line.Session name txn (reply.NoMajority up nodes)) → ⊥ }
 {}
 
 /// No transaction has two entries in a lawful report.

@@ -7,12 +7,14 @@
 //! | what the laws ask of a language where they compare two reports | `specs/Answers.antt` |
 //! | the work of a session: its transactions, and its lines outside one | `specs/Work.antt` |
 //! | the history, the rows at its positions, and what its entries take away | `specs/History.antt` |
-//! | what a session is told | `specs/Told.antt` |
+//! | what the laws see of a history: look-ups by position | `specs/View.antt` |
+//! | what a session is told, and what is told of an entry's transaction | `specs/Told.antt` |
 //! | the right outcome of a transaction | `specs/Outcome.antt` |
 //! | each member of a list and what stands before it | `specs/Each.antt` |
 //! | a lawful report | `specs/Lawful.antt` |
 //! | the order of play | `specs/Play.antt` |
 //! | the endings that cut a transaction short | `specs/Cut.antt` |
+//! | the places of lines: losses, missing majorities, nodes, barriers and feeds | `specs/Places.antt` |
 //! | a report without a transaction that is cut short | `specs/One.antt` |
 //! | the last position of the history along a piece of lines | `specs/Paced.antt` |
 //! | names and rows of the grammar, in a report and in what it is told of | `specs/Spelled.antt` |
@@ -22,5 +24,5 @@ mod facts;
 
 pub use facts::{
     begins_reach_what_was_told, entries_are_told, reports_are_of_the_grammar, reports_are_one,
-    the_schema_stands_first, transactions_stand_once,
+    sessions_alone_are_told, the_schema_stands_first, transactions_stand_once,
 };

@@ -2,6 +2,7 @@
 use Rattle.std.proofs.Common.{◌≡◌, ℕ, List, [], ◌∷◌, refl, sym, subst}
 use Rattle.script_form.specs.declared.scripts.Script.{Script}
 use Rattle.script_form.specs.declared.scripts.BodyLine.{BodyLine}
+use Rattle.report_laws.specs.History.{view_of}
 use Rattle.report_laws.specs.Lawful.{Lawful}
 use Rattle.report_laws.specs.Play.{InPlayOrder, InTurns}
 use Rattle.report_laws.specs.Told.{Along, IsTold}
@@ -17,11 +18,11 @@ along_none P name body is = subst (λ (b : List BodyLine). Along P (work stateme
 
 pub empty_is_lawful : (script : Script) → script.body ≡ [] → Lawful (from_nothing script) empty_report
 empty_is_lawful script is = record {
-  replies = λ name. along_none (IsTold (from_nothing script) (Setup 1 ∷ []) name) name script.body is;
+  replies = λ name. along_none (IsTold (from_nothing script) (view_of (from_nothing script) (Setup 1 ∷ [])) name) name script.body is;
   begins = tt;
   history = ((refl, refl, refl), tt);
   answered = (tt, tt);
-  sessions = tt;
+  places = tt;
   feeds = refl;
   base = refl;
   end = refl;

@@ -1,11 +1,11 @@
 -- The report of an insert and a select, computed.
-use Rattle.std.proofs.Common.{◌≡◌, ℕ, List, [], ◌∷◌, refl, sym, subst, arith, codes, inl, take, drop}
+use Rattle.std.proofs.Common.{◌≡◌, ℕ, List, [], ◌∷◌, refl, sym, subst, arith, codes, inl, drop}
 use Rattle.std.specs.Fmt.{digits}
 use Rattle.cdb_values.specs.Good.{IsGood}
 use Rattle.cdb_values.specs.declared.rows.Level.TheVariants.{Snapshot}
 use Rattle.statement_read.specs.Statements.{insert_of, insert_head_of, select_of, selected_of}
 use Rattle.report_text.specs.Text.{report_text}
-use Rattle.report_laws.specs.History.{nothing_before, rows_at}
+use Rattle.report_laws.specs.History.{nothing_before, rows_at, view_of}
 use Rattle.report_laws.specs.Lawful.{Lawful}
 use Rattle.report_laws.specs.Play.{InPlayOrder}
 use Rattle.report_text.specs.declared.reports.EntryLine.TheVariants.{Setup}
@@ -15,8 +15,9 @@ use Rattle.script_form.specs.CanRun.{tables_of}
 use Rattle.report_worked.specs.Worked.{worked_table, insert_select, insert_select_report, insert_select_text, insert_text, select_text, inserted_entries, row, of_a}
 use Rattle.report_text.specs.declared.reports.ReplyLine.{ReplyLine}
 use Rattle.report_text.specs.declared.reports.ReplyLine.TheVariants as reply
+use Rattle.report_laws.proofs.HistoryLaws.{none_stands}
 use Rattle.report_laws.proofs.LineLaws.{fresh_begin}
-use Rattle.report_worked.proofs.WorkedLemmas.{along_each, along_parts, EachPart, whole, in_turns, is_turn}
+use Rattle.report_worked.proofs.WorkedLemmas.{along_each, along_parts, EachPart, whole, in_turns, is_turn, entry_told}
 use Rattle.transaction_answers.specs.Answer.{from_nothing, statement_language}
 
 -- the report's text
@@ -62,7 +63,7 @@ along_its_work P is =
 pub insert_select_is_lawful : Lawful (from_nothing insert_select) insert_select_report
 unfolding insert_of insert_head_of select_of selected_of
 insert_select_is_lawful = record {
-  replies = along_its_work (IsTold (from_nothing insert_select) inserted_entries) (
+  replies = along_its_work (IsTold (from_nothing insert_select) (view_of (from_nothing insert_select) inserted_entries)) (
     whole 1 (reply.Committed 2) (omega arith) (omega arith) tt (record { later = omega arith; stands = refl; untouched = λ j after before. absurd (omega (arith, after, before)); is_good = good_insert }) refl,
     (whole 2 (reply.Committed 2) (omega arith) (omega arith) tt refl refl, tt),
   );
@@ -75,7 +76,7 @@ insert_select_is_lawful = record {
     (
       record {
         placed = refl;
-        once = (refl, tt);
+        once = none_stands (from_nothing insert_select).origin (Setup 1 ∷ []) (codes "a") 1 (refl, tt);
         begun = (omega arith, omega arith, omega arith);
         transaction = inserting;
         is_its = refl;
@@ -89,8 +90,8 @@ insert_select_is_lawful = record {
       tt,
     ),
   );
-  answered = (tt, (((take 0 insert_select_report.lines, drop 1 insert_select_report.lines, refl), (take 2 insert_select_report.lines, drop 3 insert_select_report.lines, refl)), tt));
-  sessions = (tt, (tt, (tt, (tt, (tt, (tt, (tt, tt)))))));
+  answered = (tt, (entry_told inserting [] (drop 3 (told (codes "a") insert_select_report.lines)) refl (omega arith) refl, tt));
+  places = (tt, (tt, (tt, (tt, (tt, (tt, (tt, tt)))))));
   feeds = refl;
   base = refl;
   end = refl;

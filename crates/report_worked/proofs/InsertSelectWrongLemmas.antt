@@ -7,7 +7,7 @@ use Rattle.report_laws.specs.Play.{InPlayOrder}
 use Rattle.report_laws.specs.Told.{told, Along, IsTold, alone_at}
 use Rattle.report_laws.specs.Work.{Item, Does, work}
 use Rattle.report_worked.specs.Worked.{insert_select, insert_select_report, worked_table, two_selects, report_with, inserted_lines, inserted_entries, row, to_a, of_a}
-use Rattle.report_worked.specs.WorkedWrong.{IsRefusedBy, RepliesAreRight, BeginsAreFresh, HistoryIsRight, wrong_value, missing_row, out_of_order, early_row, late, wrong_position, entry_twice, begin_too_old}
+use Rattle.report_worked.specs.WorkedWrong.{IsRefusedBy, RepliesAreRight, BeginsAreFresh, HistoryIsRight, LinesHavePlaces, wrong_value, missing_row, out_of_order, early_row, late, wrong_position, entry_twice, node_line, lost_line, begin_too_old}
 use Rattle.report_text.specs.declared.reports.Line.{Line}
 use Rattle.report_text.specs.declared.reports.ReplyLine.{ReplyLine}
 use Rattle.report_text.specs.declared.reports.ReplyLine.TheVariants as reply
@@ -15,10 +15,10 @@ use Rattle.report_worked.proofs.InsertSelectLemmas.{inserting, selecting, items_
 use Rattle.report_laws.proofs.OneLaws.{one_report}
 use Rattle.report_text.specs.declared.reports.Report.{Report}
 use Rattle.report_laws.proofs.LineLaws.{fresh_begin}
-use Rattle.report_worked.proofs.WorkedLemmas.{along_each, along_parts, EachPart, whole, ToldAt, told_at}
+use Rattle.report_worked.proofs.WorkedLemmas.{along_each, along_parts, EachPart, whole, entry_told, ToldAt, told_at}
 use Rattle.transaction_answers.specs.Answer.{from_nothing, statement_language}
 use Rattle.report_laws.specs.Cut.{cuts}
-use Rattle.report_laws.specs.History.{nothing_before, used_by}
+use Rattle.report_laws.specs.History.{nothing_before, used_by, view_of}
 use Rattle.report_laws.specs.Outcome.{IsRight}
 use Rattle.report_laws.specs.Work.{Transaction}
 use Rattle.report_laws.proofs.AlongLaws.{AllOther, along_its, of_number}
@@ -31,9 +31,9 @@ its_told : (t : Transaction) (before after : List Item) (lines : List Line) (beg
     ToldAt (from_nothing insert_select) inserted_entries (codes "a") t begin back
 its_told t before after lines begin back front outcome among none all is ends uncut law =
     told_at (from_nothing insert_select) inserted_entries (codes "a") t begin back front outcome ends uncut
-    (subst (λ (mine : List ReplyLine). IsTold (from_nothing insert_select) inserted_entries (codes "a") (Does t) mine) is
-    (along_its (IsTold (from_nothing insert_select) inserted_entries (codes "a")) before after (Does t) (told (codes "a") lines) none all
-    (subst (λ (items : List Item). Along (IsTold (from_nothing insert_select) inserted_entries (codes "a")) items (told (codes "a") lines)) (work_of_a ∙ sym among) (law (codes "a")))))
+    (subst (λ (mine : List ReplyLine). IsTold (from_nothing insert_select) (view_of (from_nothing insert_select) inserted_entries) (codes "a") (Does t) mine) is
+    (along_its (IsTold (from_nothing insert_select) (view_of (from_nothing insert_select) inserted_entries) (codes "a")) before after (Does t) (told (codes "a") lines) none all
+    (subst (λ (items : List Item). Along (IsTold (from_nothing insert_select) (view_of (from_nothing insert_select) inserted_entries) (codes "a")) items (told (codes "a") lines)) (work_of_a ∙ sym among) (law (codes "a")))))
 
 select_told : (lines : List Line) (begin : ℕ) (back front : List ReplyLine) (outcome : ReplyLine) → of_number 2 (told (codes "a") lines) ≡ reply.Begin begin ∷ back →
     reply.Begin begin ∷ back ≡ front ++ outcome ∷ [] → cuts outcome ≡ false → RepliesAreRight insert_select (report_with lines inserted_entries) →
@@ -94,8 +94,8 @@ committed_behind law =
     let at = its_told inserting [] (Does selecting ∷ []) wrong_position.lines 1 (reply.Changed 1 ∷ reply.Committed 3 ∷ []) (reply.Begin 1 ∷ reply.Changed 1 ∷ []) (reply.Committed 3) refl tt (refl, tt) refl refl refl law in
     let said : reply.Changed 1 ∷ reply.Committed 3 ∷ [] ≡ reply.Changed 1 ∷ at.last = at.says in
     let last : reply.Committed 3 ∷ [] ≡ at.last = cc in
-    let right : AllByRecursion (IsRight (from_nothing insert_select) inserted_entries (codes "a") inserting 1 (used_by (alone_at (from_nothing insert_select) inserted_entries inserting 1)) (alone_at (from_nothing insert_select) inserted_entries inserting 1).ops) (reply.Committed 3 ∷ []) =
-    subst (λ (os : List ReplyLine). AllByRecursion (IsRight (from_nothing insert_select) inserted_entries (codes "a") inserting 1 (used_by (alone_at (from_nothing insert_select) inserted_entries inserting 1)) (alone_at (from_nothing insert_select) inserted_entries inserting 1).ops) os) (sym last) at.right in
+    let right : AllByRecursion (IsRight (from_nothing insert_select) (view_of (from_nothing insert_select) inserted_entries) (codes "a") inserting 1 (used_by (alone_at (from_nothing insert_select) (view_of (from_nothing insert_select) inserted_entries) inserting 1)) (alone_at (from_nothing insert_select) (view_of (from_nothing insert_select) inserted_entries) inserting 1).ops) (reply.Committed 3 ∷ []) =
+    subst (λ (os : List ReplyLine). AllByRecursion (IsRight (from_nothing insert_select) (view_of (from_nothing insert_select) inserted_entries) (codes "a") inserting 1 (used_by (alone_at (from_nothing insert_select) (view_of (from_nothing insert_select) inserted_entries) inserting 1)) (alone_at (from_nothing insert_select) (view_of (from_nothing insert_select) inserted_entries) inserting 1).ops) os) (sym last) at.right in
     let stands : None ≡ Some (of_a 3 1 1) = right.0.stands in
     cc
 
@@ -104,10 +104,17 @@ wrong_position_is_refused = (committed_behind, λ is. committed_behind is.replie
 
 -- an entry of a transaction that has one
 entered_twice : HistoryIsRight insert_select entry_twice → ⊥
-entered_twice law = let once : true ≡ false = law.1.1.0.once.1.0 in cc
+entered_twice law = let once : true ≡ false = law.1.1.0.once 2 (of_a 2 1 1) (omega arith) refl in cc
 
 pub entry_twice_is_refused : IsRefusedBy (HistoryIsRight insert_select entry_twice) insert_select entry_twice
 entry_twice_is_refused = (entered_twice, λ is. entered_twice is.history)
+
+-- a line of a node, and a loss without a cause
+pub node_line_is_refused : IsRefusedBy (LinesHavePlaces node_line) insert_select node_line
+node_line_is_refused = (λ law. law.0, λ is. is.places.0)
+
+pub lost_line_is_refused : IsRefusedBy (LinesHavePlaces lost_line) insert_select lost_line
+lost_line_is_refused = (λ law. law.1.1.1.1.0, λ is. is.places.1.1.1.1.0)
 
 -- a begin below a position that was named before a line of the session
 begun_before : BeginsAreFresh begin_too_old → ⊥
@@ -145,7 +152,7 @@ along_late P is =
 pub late_is_lawful : Lawful (from_nothing insert_select) late
 unfolding insert_of insert_head_of select_of selected_of
 late_is_lawful = record {
-  replies = along_late (IsTold (from_nothing insert_select) inserted_entries) (
+  replies = along_late (IsTold (from_nothing insert_select) (view_of (from_nothing insert_select) inserted_entries)) (
     whole 1 (reply.Committed 2) (omega arith) (omega arith) tt (record { later = omega arith; stands = refl; untouched = λ j after before. absurd (omega (arith, after, before)); is_good = good_insert }) refl,
     (whole 1 (reply.Committed 1) (omega arith) (omega arith) tt refl refl, tt),
   );
@@ -167,8 +174,8 @@ late_is_lawful = record {
     ),
   );
   history = insert_select_is_lawful.history;
-  answered = (tt, (((take 0 late.lines, drop 1 late.lines, refl), (take 2 late.lines, drop 3 late.lines, refl)), tt));
-  sessions = (tt, (tt, (tt, (tt, (tt, (tt, tt))))));
+  answered = (tt, (entry_told inserting [] (drop 3 (told (codes "a") late.lines)) refl (omega arith) refl, tt));
+  places = (tt, (tt, (tt, (tt, (tt, (tt, tt))))));
   feeds = refl;
   base = refl;
   end = refl;

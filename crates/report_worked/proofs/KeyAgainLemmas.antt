@@ -1,9 +1,9 @@
 -- The report of a key that is taken, freed and taken again, computed.
-use Rattle.std.proofs.Common.{◌≡◌, ℕ, List, [], ◌∷◌, refl, sym, subst, arith, codes, inl, inr, take, drop}
+use Rattle.std.proofs.Common.{◌≡◌, ℕ, List, [], ◌∷◌, refl, sym, subst, arith, codes, inl, inr, take}
 use Rattle.cdb_values.specs.Good.{IsGood}
 use Rattle.cdb_values.specs.declared.rows.Level.TheVariants.{Snapshot}
 use Rattle.statement_read.specs.Statements.{insert_of, insert_head_of, equation_at, where_of, delete_of, deleted_of}
-use Rattle.report_laws.specs.History.{nothing_before, rows_at}
+use Rattle.report_laws.specs.History.{nothing_before, rows_at, view_of}
 use Rattle.report_laws.specs.Lawful.{Lawful}
 use Rattle.report_laws.specs.Play.{InPlayOrder}
 use Rattle.report_text.specs.declared.reports.EntryLine.TheVariants.{Setup}
@@ -13,8 +13,9 @@ use Rattle.script_form.specs.CanRun.{tables_of}
 use Rattle.report_worked.specs.Worked.{worked_table, key_again, key_again_report, of_a, of_b}
 use Rattle.report_text.specs.declared.reports.ReplyLine.{ReplyLine}
 use Rattle.report_text.specs.declared.reports.ReplyLine.TheVariants as reply
+use Rattle.report_laws.proofs.HistoryLaws.{none_stands}
 use Rattle.report_laws.proofs.LineLaws.{fresh_begin}
-use Rattle.report_worked.proofs.WorkedLemmas.{along_each, along_parts, EachPart, whole, in_turns, is_turn}
+use Rattle.report_worked.proofs.WorkedLemmas.{along_each, along_parts, EachPart, whole, in_turns, is_turn, entry_told}
 use Rattle.transaction_answers.specs.Answer.{from_nothing, statement_language}
 
 -- the transactions of the sessions
@@ -77,7 +78,7 @@ good_at_3 = record {
 pub key_again_is_lawful : Lawful (from_nothing key_again) key_again_report
 unfolding insert_of insert_head_of equation_at where_of delete_of deleted_of
 key_again_is_lawful = record {
-  replies = along_their_work (IsTold (from_nothing key_again) key_again_report.entries) (
+  replies = along_their_work (IsTold (from_nothing key_again) (view_of (from_nothing key_again) key_again_report.entries)) (
     whole 1 (reply.Duplicate 2 (codes "t") (codes "pk")) (omega arith) (omega arith) tt (record { has_ops = λ is. cc; begun = omega arith; within = omega arith; untouched = λ j after before. refl; breaks = refl }) refl,
     (whole 2 (reply.Committed 3) (omega arith) (omega arith) tt (record { later = omega arith; stands = refl; untouched = λ j after before. absurd (omega (arith, after, before)); is_good = good_at_3 }) refl, tt),
   ) (whole 1 (reply.Committed 2) (omega arith) (omega arith) tt (record { later = omega arith; stands = refl; untouched = λ j after before. absurd (omega (arith, after, before)); is_good = good_at_2 }) refl, tt);
@@ -87,7 +88,7 @@ key_again_is_lawful = record {
     (
       record {
         placed = refl;
-        once = (refl, tt);
+        once = none_stands (from_nothing key_again).origin (Setup 1 ∷ []) (codes "b") 1 (refl, tt);
         begun = (omega arith, omega arith, omega arith);
         transaction = second_insert;
         is_its = refl;
@@ -101,7 +102,7 @@ key_again_is_lawful = record {
       (
         record {
           placed = refl;
-          once = (refl, (refl, tt));
+          once = none_stands (from_nothing key_again).origin (Setup 1 ∷ of_b 2 1 1 ∷ []) (codes "a") 2 (refl, (refl, tt));
           begun = (omega arith, omega arith, omega arith);
           transaction = taking_again;
           is_its = refl;
@@ -116,8 +117,8 @@ key_again_is_lawful = record {
       ),
     ),
   );
-  answered = (tt, (((take 2 key_again_report.lines, drop 3 key_again_report.lines, refl), (take 4 key_again_report.lines, drop 5 key_again_report.lines, refl)), (((take 6 key_again_report.lines, drop 7 key_again_report.lines, refl), (take 9 key_again_report.lines, drop 10 key_again_report.lines, refl)), tt)));
-  sessions = (tt, (tt, (tt, (tt, (tt, (tt, (tt, (tt, (tt, (tt, tt))))))))));
+  answered = (tt, (entry_told second_insert [] [] refl (omega arith) refl, (entry_told taking_again (take 3 (told (codes "a") key_again_report.lines)) [] refl (omega arith) refl, tt)));
+  places = (tt, (tt, (tt, (tt, (tt, (tt, (tt, (tt, (tt, (tt, tt))))))))));
   feeds = refl;
   base = refl;
   end = refl;

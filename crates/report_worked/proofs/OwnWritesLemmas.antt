@@ -1,9 +1,9 @@
 -- The report of a transaction that reads its own writes, computed.
-use Rattle.std.proofs.Common.{◌≡◌, ℕ, List, [], ◌∷◌, refl, sym, subst, arith, codes, inl, take, drop}
+use Rattle.std.proofs.Common.{◌≡◌, ℕ, List, [], ◌∷◌, refl, sym, subst, arith, codes, inl, drop}
 use Rattle.cdb_values.specs.Good.{IsGood}
 use Rattle.cdb_values.specs.declared.rows.Level.TheVariants.{Snapshot}
 use Rattle.statement_read.specs.Statements.{insert_of, insert_head_of, select_of, selected_of, equation_at, where_of, update_of, updated_of, delete_of, deleted_of}
-use Rattle.report_laws.specs.History.{nothing_before, rows_at}
+use Rattle.report_laws.specs.History.{nothing_before, rows_at, view_of}
 use Rattle.report_laws.specs.Lawful.{Lawful}
 use Rattle.report_laws.specs.Play.{InPlayOrder}
 use Rattle.report_text.specs.declared.reports.EntryLine.TheVariants.{Setup}
@@ -13,8 +13,9 @@ use Rattle.script_form.specs.CanRun.{tables_of}
 use Rattle.report_worked.specs.Worked.{worked_table, own_writes, own_writes_report, inserted_entries, insert_text, select_text, row, of_a}
 use Rattle.report_text.specs.declared.reports.ReplyLine.{ReplyLine}
 use Rattle.report_text.specs.declared.reports.ReplyLine.TheVariants as reply
+use Rattle.report_laws.proofs.HistoryLaws.{none_stands}
 use Rattle.report_laws.proofs.LineLaws.{fresh_begin}
-use Rattle.report_worked.proofs.WorkedLemmas.{along_each, along_parts, EachPart, whole, in_turns, is_turn}
+use Rattle.report_worked.proofs.WorkedLemmas.{along_each, along_parts, EachPart, whole, in_turns, is_turn, entry_told}
 use Rattle.transaction_answers.specs.Answer.{from_nothing, statement_language}
 
 -- the transactions of the sessions
@@ -56,7 +57,7 @@ good_at_2 = record {
 pub own_writes_is_lawful : Lawful (from_nothing own_writes) own_writes_report
 unfolding insert_of insert_head_of select_of selected_of equation_at where_of update_of updated_of delete_of deleted_of
 own_writes_is_lawful = record {
-  replies = along_their_work (IsTold (from_nothing own_writes) inserted_entries) (
+  replies = along_their_work (IsTold (from_nothing own_writes) (view_of (from_nothing own_writes) inserted_entries)) (
     whole 1 (reply.Committed 2) (omega arith) (omega arith) tt (record { later = omega arith; stands = refl; untouched = λ j after before. absurd (omega (arith, after, before)); is_good = good_at_2 }) refl,
     (whole 2 (reply.Committed 2) (omega arith) (omega arith) tt refl refl, tt),
   );
@@ -66,7 +67,7 @@ own_writes_is_lawful = record {
     (
       record {
         placed = refl;
-        once = (refl, tt);
+        once = none_stands (from_nothing own_writes).origin (Setup 1 ∷ []) (codes "a") 1 (refl, tt);
         begun = (omega arith, omega arith, omega arith);
         transaction = inserting;
         is_its = refl;
@@ -80,8 +81,8 @@ own_writes_is_lawful = record {
       tt,
     ),
   );
-  answered = (tt, (((take 0 own_writes_report.lines, drop 1 own_writes_report.lines, refl), (take 2 own_writes_report.lines, drop 3 own_writes_report.lines, refl)), tt));
-  sessions = (tt, (tt, (tt, (tt, (tt, (tt, (tt, (tt, (tt, (tt, (tt, (tt, (tt, tt)))))))))))));
+  answered = (tt, (entry_told inserting [] (drop 3 (told (codes "a") own_writes_report.lines)) refl (omega arith) refl, tt));
+  places = (tt, (tt, (tt, (tt, (tt, (tt, (tt, (tt, (tt, (tt, (tt, (tt, (tt, tt)))))))))))));
   feeds = refl;
   base = refl;
   end = refl;

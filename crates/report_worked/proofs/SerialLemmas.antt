@@ -3,7 +3,7 @@
 use Rattle.std.proofs.Common.{◌≡◌, ℕ, List, [], ◌∷◌, refl, sym, subst, arith, codes, inl, inr, take, drop, ap, length}
 use Rattle.cdb_values.specs.Good.{IsGood}
 use Rattle.statement_read.specs.Statements.{insert_of, insert_head_of, equation_at, where_of, update_of, updated_of}
-use Rattle.report_laws.specs.History.{nothing_before, rows_at}
+use Rattle.report_laws.specs.History.{nothing_before, rows_at, view_of}
 use Rattle.report_laws.specs.Lawful.{Lawful}
 use Rattle.report_laws.specs.One.{IsUncut}
 use Rattle.report_laws.specs.Play.{InPlayOrder}
@@ -12,13 +12,14 @@ use Rattle.report_worked.specs.WorkedWrong.{serial}
 use Rattle.report_laws.specs.Told.{told, Along, IsTold}
 use Rattle.report_laws.specs.Work.{Item, work}
 use Rattle.script_form.specs.CanRun.{tables_of}
-use Rattle.report_worked.specs.Worked.{two_updates, two_updates_report, worked_table, of_b}
+use Rattle.report_worked.specs.Worked.{two_updates, two_updates_report, two_updates_entries, worked_table, of_b}
 use Rattle.report_text.specs.declared.reports.Report.{Report}
 use Rattle.report_text.specs.declared.reports.ReplyLine.{ReplyLine}
 use Rattle.report_text.specs.declared.reports.ReplyLine.TheVariants as reply
+use Rattle.report_laws.proofs.HistoryLaws.{none_stands}
 use Rattle.report_laws.proofs.LineLaws.{fresh_begin}
-use Rattle.report_worked.proofs.TwoUpdatesLemmas.{second_update, items_of_a, work_of_a, items_of_b, work_of_b, two_updates_is_lawful, two_updates_is_in_order}
-use Rattle.report_worked.proofs.WorkedLemmas.{along_each, along_parts, EachPart, whole}
+use Rattle.report_worked.proofs.TwoUpdatesLemmas.{inserting, first_update, second_update, items_of_a, work_of_a, items_of_b, work_of_b, two_updates_is_lawful, two_updates_is_in_order}
+use Rattle.report_worked.proofs.WorkedLemmas.{along_each, along_parts, EachPart, whole, entry_told}
 use Rattle.transaction_answers.specs.Answer.{from_nothing, statement_language}
 use Rattle.transaction_answers.proofs.LanguageLaws.{statements_answer}
 
@@ -61,7 +62,7 @@ serial_at_4 = record {
 pub serial_is_lawful : Lawful (from_nothing two_updates) serial
 unfolding insert_of insert_head_of equation_at where_of update_of updated_of
 serial_is_lawful = record {
-  replies = along_serial (IsTold (from_nothing two_updates) serial.entries) (
+  replies = along_serial (IsTold (from_nothing two_updates) (view_of (from_nothing two_updates) serial.entries)) (
     whole 1 (reply.Committed 2) (omega arith) (omega arith) tt (record { later = omega arith; stands = refl; untouched = λ j after before. absurd (omega (arith, after, before)); is_good = serial_at_2 }) refl,
     (whole 2 (reply.Committed 3) (omega arith) (omega arith) tt (record { later = omega arith; stands = refl; untouched = λ j after before. absurd (omega (arith, after, before)); is_good = serial_at_3 }) refl, tt),
   ) (whole 3 (reply.Committed 4) (omega arith) (omega arith) tt (record { later = omega arith; stands = refl; untouched = λ j after before. absurd (omega (arith, after, before)); is_good = serial_at_4 }) refl, tt);
@@ -75,7 +76,7 @@ serial_is_lawful = record {
         (
           record {
             placed = refl;
-            once = (refl, (refl, (refl, tt)));
+            once = none_stands (from_nothing two_updates).origin (two_updates_entries) (codes "b") 1 (refl, (refl, (refl, tt)));
             begun = (omega arith, omega arith, omega arith);
             transaction = second_update;
             is_its = refl;
@@ -91,8 +92,8 @@ serial_is_lawful = record {
       ),
     ),
   );
-  answered = (tt, (((take 0 serial.lines, drop 1 serial.lines, refl), (take 2 serial.lines, drop 3 serial.lines, refl)), (((take 3 serial.lines, drop 4 serial.lines, refl), (take 5 serial.lines, drop 6 serial.lines, refl)), (((take 6 serial.lines, drop 7 serial.lines, refl), (take 8 serial.lines, drop 9 serial.lines, refl)), tt))));
-  sessions = (tt, (tt, (tt, (tt, (tt, (tt, (tt, (tt, (tt, tt)))))))));
+  answered = (tt, (entry_told inserting [] (drop 3 (told (codes "a") serial.lines)) refl (omega arith) refl, (entry_told first_update (take 3 (told (codes "a") serial.lines)) [] refl (omega arith) refl, (entry_told second_update [] [] refl (omega arith) refl, tt))));
+  places = (tt, (tt, (tt, (tt, (tt, (tt, (tt, (tt, (tt, tt)))))))));
   feeds = refl;
   base = refl;
   end = refl;

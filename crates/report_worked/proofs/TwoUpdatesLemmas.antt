@@ -3,18 +3,19 @@ use Rattle.std.proofs.Common.{◌≡◌, ℕ, List, [], ◌∷◌, refl, sym, su
 use Rattle.cdb_values.specs.Good.{IsGood}
 use Rattle.cdb_values.specs.declared.rows.Level.TheVariants.{Snapshot}
 use Rattle.statement_read.specs.Statements.{insert_of, insert_head_of, equation_at, where_of, update_of, updated_of}
-use Rattle.report_laws.specs.History.{nothing_before, rows_at}
+use Rattle.report_laws.specs.History.{nothing_before, rows_at, view_of}
 use Rattle.report_laws.specs.Lawful.{Lawful}
 use Rattle.report_laws.specs.Play.{InPlayOrder}
 use Rattle.report_text.specs.declared.reports.EntryLine.TheVariants.{Setup}
 use Rattle.report_laws.specs.Told.{told, Along, IsTold}
 use Rattle.report_laws.specs.Work.{Transaction, Item, Does, transaction, ByCommit, WithItsLine, work}
 use Rattle.script_form.specs.CanRun.{tables_of}
-use Rattle.report_worked.specs.Worked.{worked_table, two_updates, two_updates_report, two_updates_entries, insert_text, conflict, of_a, of_b}
+use Rattle.report_worked.specs.Worked.{worked_table, two_updates, two_updates_report, two_updates_entries, inserted_entries, insert_text, conflict, of_a, of_b}
 use Rattle.report_text.specs.declared.reports.ReplyLine.{ReplyLine}
 use Rattle.report_text.specs.declared.reports.ReplyLine.TheVariants as reply
+use Rattle.report_laws.proofs.HistoryLaws.{none_stands}
 use Rattle.report_laws.proofs.LineLaws.{fresh_begin}
-use Rattle.report_worked.proofs.WorkedLemmas.{along_each, along_parts, EachPart, whole, in_turns, is_turn}
+use Rattle.report_worked.proofs.WorkedLemmas.{along_each, along_parts, EachPart, whole, in_turns, is_turn, entry_told}
 use Rattle.transaction_answers.specs.Answer.{from_nothing, statement_language}
 use Rattle.cdb_values.specs.Changes.{genid_item}
 
@@ -78,7 +79,7 @@ good_at_3 = record {
 pub two_updates_is_lawful : Lawful (from_nothing two_updates) two_updates_report
 unfolding insert_of insert_head_of equation_at where_of update_of updated_of
 two_updates_is_lawful = record {
-  replies = along_their_work (IsTold (from_nothing two_updates) two_updates_entries) (
+  replies = along_their_work (IsTold (from_nothing two_updates) (view_of (from_nothing two_updates) two_updates_entries)) (
     whole 1 (reply.Committed 2) (omega arith) (omega arith) tt (record { later = omega arith; stands = refl; untouched = λ j after before. absurd (omega (arith, after, before)); is_good = good_at_2 }) refl,
     (whole 2 (reply.Committed 3) (omega arith) (omega arith) tt (record { later = omega arith; stands = refl; untouched = λ j after before. absurd (omega (arith, after, before)); is_good = good_at_3 }) refl, tt),
   ) (whole 2 conflict (omega arith) (omega arith) tt (record { has_ops = λ is. cc; later = omega arith; within = omega arith; item = genid_item 0 1; touched = refl; untouched = λ j after before. absurd (omega (arith, after, before)); is_told = refl }) refl, tt);
@@ -88,7 +89,7 @@ two_updates_is_lawful = record {
     (
       record {
         placed = refl;
-        once = (refl, tt);
+        once = none_stands (from_nothing two_updates).origin (Setup 1 ∷ []) (codes "a") 1 (refl, tt);
         begun = (omega arith, omega arith, omega arith);
         transaction = inserting;
         is_its = refl;
@@ -102,7 +103,7 @@ two_updates_is_lawful = record {
       (
         record {
           placed = refl;
-          once = (refl, (refl, tt));
+          once = none_stands (from_nothing two_updates).origin (inserted_entries) (codes "a") 2 (refl, (refl, tt));
           begun = (omega arith, omega arith, omega arith);
           transaction = first_update;
           is_its = refl;
@@ -117,8 +118,8 @@ two_updates_is_lawful = record {
       ),
     ),
   );
-  answered = (tt, (((take 0 two_updates_report.lines, drop 1 two_updates_report.lines, refl), (take 2 two_updates_report.lines, drop 3 two_updates_report.lines, refl)), (((take 3 two_updates_report.lines, drop 4 two_updates_report.lines, refl), (take 7 two_updates_report.lines, drop 8 two_updates_report.lines, refl)), tt)));
-  sessions = (tt, (tt, (tt, (tt, (tt, (tt, (tt, (tt, (tt, tt)))))))));
+  answered = (tt, (entry_told inserting [] (drop 3 (told (codes "a") two_updates_report.lines)) refl (omega arith) refl, (entry_told first_update (take 3 (told (codes "a") two_updates_report.lines)) [] refl (omega arith) refl, tt)));
+  places = (tt, (tt, (tt, (tt, (tt, (tt, (tt, (tt, (tt, tt)))))))));
   feeds = refl;
   base = refl;
   end = refl;

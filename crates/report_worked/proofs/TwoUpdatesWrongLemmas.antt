@@ -3,7 +3,8 @@ use Rattle.std.proofs.Common.{◌≡◌, ℕ, List, [], ◌∷◌, refl, sym, su
 use Rattle.cdb_values.specs.declared.rows.Level.TheVariants.{Snapshot}
 use Rattle.statement_read.specs.Statements.{insert_of, insert_head_of, equation_at, where_of, update_of, updated_of}
 use Rattle.cdb_values.specs.Changes.{genid_item}
-use Rattle.report_laws.specs.History.{rows_at, taken_at, first_touched, IsCommitAfter, used_by, alone_on}
+use Rattle.report_laws.specs.History.{rows_at, taken_at, IsCommitAfter, used_by, alone_on, view_of}
+use Rattle.report_laws.specs.View.{first_touched}
 use Rattle.report_laws.specs.Outcome.{IsConflict, IsRight, conflict_line}
 use Rattle.report_laws.specs.Told.{told, Along, IsTold, alone_at}
 use Rattle.report_laws.specs.Work.{Transaction, Item, Does}
@@ -32,12 +33,12 @@ unfolding insert_of insert_head_of equation_at where_of update_of updated_of
 touches_another law =
     let at : ToldAt (from_nothing two_updates) two_updates_entries (codes "b") second_update 2 (reply.Changed 1 ∷ reply.ConflictGenid 3 (codes "t") 2 ∷ []) =
     told_at (from_nothing two_updates) two_updates_entries (codes "b") second_update 2 (reply.Changed 1 ∷ reply.ConflictGenid 3 (codes "t") 2 ∷ []) (reply.Begin 2 ∷ reply.Changed 1 ∷ []) (reply.ConflictGenid 3 (codes "t") 2) refl refl
-    (along_its (IsTold (from_nothing two_updates) two_updates_entries (codes "b")) [] [] (Does second_update) (told (codes "b") untouched_row.lines) tt tt
-    (subst (λ (items : List Item). Along (IsTold (from_nothing two_updates) two_updates_entries (codes "b")) items (told (codes "b") untouched_row.lines)) work_of_b (law (codes "b")))) in
+    (along_its (IsTold (from_nothing two_updates) (view_of (from_nothing two_updates) two_updates_entries) (codes "b")) [] [] (Does second_update) (told (codes "b") untouched_row.lines) tt tt
+    (subst (λ (items : List Item). Along (IsTold (from_nothing two_updates) (view_of (from_nothing two_updates) two_updates_entries) (codes "b")) items (told (codes "b") untouched_row.lines)) work_of_b (law (codes "b")))) in
     let said : reply.Changed 1 ∷ reply.ConflictGenid 3 (codes "t") 2 ∷ [] ≡ reply.Changed 1 ∷ at.last = at.says in
     let last : reply.ConflictGenid 3 (codes "t") 2 ∷ [] ≡ at.last = cc in
-    let right : IsConflict (from_nothing two_updates) two_updates_entries 2 3 (used_by (alone_at (from_nothing two_updates) two_updates_entries second_update 2)) (alone_at (from_nothing two_updates) two_updates_entries second_update 2).ops (reply.ConflictGenid 3 (codes "t") 2) =
-    (subst (λ (os : List ReplyLine). AllByRecursion (IsRight (from_nothing two_updates) two_updates_entries (codes "b") second_update 2 (used_by (alone_at (from_nothing two_updates) two_updates_entries second_update 2)) (alone_at (from_nothing two_updates) two_updates_entries second_update 2).ops) os) (sym last) at.right).0 in
+    let right : IsConflict (from_nothing two_updates) (view_of (from_nothing two_updates) two_updates_entries) 2 3 (used_by (alone_at (from_nothing two_updates) (view_of (from_nothing two_updates) two_updates_entries) second_update 2)) (alone_at (from_nothing two_updates) (view_of (from_nothing two_updates) two_updates_entries) second_update 2).ops (reply.ConflictGenid 3 (codes "t") 2) =
+    (subst (λ (os : List ReplyLine). AllByRecursion (IsRight (from_nothing two_updates) (view_of (from_nothing two_updates) two_updates_entries) (codes "b") second_update 2 (used_by (alone_at (from_nothing two_updates) (view_of (from_nothing two_updates) two_updates_entries) second_update 2)) (alone_at (from_nothing two_updates) (view_of (from_nothing two_updates) two_updates_entries) second_update 2).ops) os) (sym last) at.right).0 in
     let item : genid_item 0 1 ≡ right.item = same_item (genid_item 0 1) right.item right.touched in
     let genid : 1 ≡ 2 = same_genid 1 (ap (λ (i : GenidItem). conflict_line (tables_of two_updates) 3 i) item ∙ right.is_told) in
     omega (arith, genid)
@@ -52,7 +53,7 @@ same_transaction t s is = cc
 some_or_none : (item : GenidItem) → Some item ≡ None → ⊥
 some_or_none item is = cc
 
-entered_after : (before : IsCommitAfter (from_nothing two_updates) two_updates_entries 4 (codes "b") 1 2 Snapshot) → ⊥
+entered_after : (before : IsCommitAfter (from_nothing two_updates) (view_of (from_nothing two_updates) two_updates_entries) 4 (codes "b") 1 2 Snapshot) → ⊥
 unfolding insert_of insert_head_of equation_at where_of update_of updated_of
 entered_after is =
     let its : Some second_update ≡ Some is.transaction = is.is_its in

@@ -1,15 +1,16 @@
 -- How laws along the work of each session are shown of the worked examples, and refuted.
-use Rattle.std.proofs.Common.{◌≡◌, ◌≤◌, ◌+◌, ℕ, List, length, [], ◌∷◌, ◌++◌, refl, sym, subst, ap, Bool, true, false, ◌∙◌, codes, inl, inr, ◌⊎◌}
+use Rattle.std.proofs.Common.{◌≡◌, ◌≤◌, ◌+◌, ℕ, List, length, [], ◌∷◌, ◌++◌, refl, sym, subst, ap, Bool, true, false, ◌∙◌, codes, inl, inr, ◌⊎◌, Some}
 use Rattle.std.specs.List.{AllByRecursion}
 use Rattle.std.specs.Str.{bytes_eq}
 use Rattle.std.proofs.lemmas.Slice.Eq.{bytes_eq-Decides}
 use Rattle.script_form.specs.declared.scripts.BodyLine.{BodyLine}
 use Rattle.script_form.specs.declared.scripts.Act.{Act}
 use Rattle.script_form.specs.declared.scripts.Act.TheVariants as act
-use Rattle.report_laws.specs.History.{Basis, last_position, used_by}
+use Rattle.report_laws.specs.History.{Basis, last_position, used_by, view_of}
 use Rattle.report_laws.specs.Play.{InTurns, IsTurn, IsTurnOf, IsTimely, IsAppended, are_up_to, is_last_of, piece}
-use Rattle.report_laws.specs.Told.{Along, IsTold, told, numbered, Numbered, alone_at}
-use Rattle.report_laws.specs.Work.{Transaction, Item, Does, work, said, said_by, start, place_from, items_at, number_of}
+use Rattle.report_laws.specs.Told.{Along, IsTold, IsCommitTold, told, numbered, Numbered, alone_at}
+use Rattle.report_laws.specs.View.{View}
+use Rattle.report_laws.specs.Work.{Transaction, Item, Does, work, said, said_by, start, place_from, items_at, number_of, transaction_of}
 use Rattle.report_text.specs.declared.reports.EntryLine.{EntryLine}
 use Rattle.report_text.specs.declared.reports.Line.{Line}
 use Rattle.report_text.specs.declared.reports.Line.TheVariants as line
@@ -80,28 +81,34 @@ along_each P body lines theirs to_them of_a of_b name = go (bytes_eq (codes "a")
         (told_none name lines is_a is_b to_them)
 
 -- a transaction is told whole, by its begin and its outcome
-pub whole : {basis : Basis} {entries : List EntryLine} {name : List ℕ} {t : Transaction} {mine : List ReplyLine} (begin : ℕ) (o : ReplyLine) → basis.origin.position ≤ begin → begin ≤ last_position basis.origin entries → Ends t.end (o ∷ []) →
-    IsRight basis entries name t begin (used_by (alone_at basis entries t begin)) (alone_at basis entries t begin).ops o → mine ≡ reply.Begin begin ∷ ((alone_at basis entries t begin).replies ++ o ∷ []) → IsTold basis entries name (Does t) mine
-whole {basis} {entries} {name} {t} {mine} begin o base within ends right says = inl (record { begin = begin; base = base; within = within; ran = alone_at basis entries t begin; is_ran = refl; last = o ∷ []; ends = ends; right = (right, tt); says = says })
+pub whole : {basis : Basis} {view : View} {name : List ℕ} {t : Transaction} {mine : List ReplyLine} (begin : ℕ) (o : ReplyLine) → basis.origin.position ≤ begin → begin ≤ view.last → Ends t.end (o ∷ []) →
+    IsRight basis view name t begin (used_by (alone_at basis view t begin)) (alone_at basis view t begin).ops o → mine ≡ reply.Begin begin ∷ ((alone_at basis view t begin).replies ++ o ∷ []) → IsTold basis view name (Does t) mine
+whole {basis} {view} {name} {t} {mine} begin o base within ends right says = inl (record { begin = begin; base = base; within = within; ran = alone_at basis view t begin; is_ran = refl; last = o ∷ []; ends = ends; right = (right, tt); says = says })
+
+-- an entry's transaction is told whole, between these lines of its session
+pub entry_told : {basis : Basis} {view : View} {lines : List Line} {position : ℕ} {session : List ℕ} {txn begin : ℕ} (t : Transaction) (before after : List Numbered) → transaction_of basis.language session txn basis.script.body ≡ Some t → begin ≤ view.last →
+    told session lines ≡ before ++ (numbered txn (reply.Begin begin ∷ ((alone_at basis view t begin).replies ++ reply.Committed position ∷ [])) ++ after) → IsCommitTold basis view lines position session txn begin
+entry_told {basis} {view} {lines} {position} {session} {txn} {begin} t before after its within says =
+    record { transaction = t; is_its = its; within = within; ran = alone_at basis view t begin; is_ran = refl; outcome = reply.Committed position; ends = refl; before = before; after = after; says = says }
 
 -- a transaction that is told a begin and an outcome is told the replies at that begin, and its outcome is right
 pub record ToldAt (basis : Basis) (entries : List EntryLine) (name : List ℕ) (t : Transaction) (begin : ℕ) (back : List ReplyLine) : Type 0 where
   pub last : List ReplyLine
-  pub says : back ≡ (alone_at basis entries t begin).replies ++ last
-  pub right : AllByRecursion (IsRight basis entries name t begin (used_by (alone_at basis entries t begin)) (alone_at basis entries t begin).ops) last
+  pub says : back ≡ (alone_at basis (view_of basis entries) t begin).replies ++ last
+  pub right : AllByRecursion (IsRight basis (view_of basis entries) name t begin (used_by (alone_at basis (view_of basis entries) t begin)) (alone_at basis (view_of basis entries) t begin).ops) last
 
 no_cut : (b : Bool) → b ≡ true → b ≡ false → ⊥
 no_cut b cut uncut = cc
 
 pub told_at : (basis : Basis) (entries : List EntryLine) (name : List ℕ) (t : Transaction) (begin : ℕ) (back front : List ReplyLine) (outcome : ReplyLine) → reply.Begin begin ∷ back ≡ front ++ outcome ∷ [] → cuts outcome ≡ false →
-    IsTold basis entries name (Does t) (reply.Begin begin ∷ back) → ToldAt basis entries name t begin back
+    IsTold basis (view_of basis entries) name (Does t) (reply.Begin begin ∷ back) → ToldAt basis entries name t begin back
 told_at basis entries name t begin back front outcome ends uncut (inl was) = record {
   last = was.last;
   says = first_rest begin was.begin _ _ was.says
       ∙ ap (λ (a : Answered). a.replies ++ was.last) was.is_ran
-      ∙ ap (λ (b : ℕ). (alone_at basis entries t b).replies ++ was.last) (sym (first_begin begin was.begin _ _ was.says));
-  right = subst (λ (b : ℕ). AllByRecursion (IsRight basis entries name t b (used_by (alone_at basis entries t b)) (alone_at basis entries t b).ops) was.last) (sym (first_begin begin was.begin _ _ was.says))
-      (subst (λ (a : Answered). AllByRecursion (IsRight basis entries name t was.begin (used_by a) a.ops) was.last) was.is_ran was.right);
+      ∙ ap (λ (b : ℕ). (alone_at basis (view_of basis entries) t b).replies ++ was.last) (sym (first_begin begin was.begin _ _ was.says));
+  right = subst (λ (b : ℕ). AllByRecursion (IsRight basis (view_of basis entries) name t b (used_by (alone_at basis (view_of basis entries) t b)) (alone_at basis (view_of basis entries) t b).ops) was.last) (sym (first_begin begin was.begin _ _ was.says))
+      (subst (λ (a : Answered). AllByRecursion (IsRight basis (view_of basis entries) name t was.begin (used_by a) a.ops) was.last) was.is_ran was.right);
 }
 told_at basis entries name t begin back front outcome ends uncut (inr was) =
     absurd (no_cut (cuts was.cause) was.is_cause (ap cuts (sym (same_last front was.front outcome was.cause (sym ends ∙ was.says))) ∙ uncut))

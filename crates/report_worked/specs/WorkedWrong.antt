@@ -2,25 +2,30 @@
 use Rattle.std.specs.Prelude.{ℕ, ◌++◌, ◌∷◌, [], List, codes}
 use Rattle.script_form.specs.declared.scripts.Script.{Script}
 use Rattle.report_laws.specs.Each.{EachAfter}
-use Rattle.report_laws.specs.History.{nothing_before, IsEntryAfter}
+use Rattle.report_laws.specs.History.{nothing_before, IsEntryAfter, view_of}
 use Rattle.report_laws.specs.Lawful.{Lawful, IsFreshLine}
+use Rattle.report_laws.specs.Places.{HasItsPlace}
 use Rattle.report_laws.specs.Told.{told, Along, IsTold}
 use Rattle.report_laws.specs.Work.{work}
 use Rattle.report_worked.specs.Worked.{worked_table, report_with, to_a, to_b, of_a, of_b, row, inserted_lines, inserted_entries, two_updates_lines, two_updates_entries, conflict}
 use Rattle.report_text.specs.declared.reports.Report.{Report}
 use Rattle.report_text.specs.declared.reports.Line.{Line}
+use Rattle.report_text.specs.declared.reports.Line.TheVariants as line
 use Rattle.report_text.specs.declared.reports.ReplyLine.TheVariants as reply
 use Rattle.transaction_answers.specs.Answer.{from_nothing, statement_language}
 
--- the three laws of a lawful report that these break
+-- the four laws of a lawful report that these break
 abbrev pub RepliesAreRight : Script → Report → Type 0
-RepliesAreRight script report = (name : List ℕ) → Along (IsTold (from_nothing script) report.entries name) (work statement_language name script.body) (told name report.lines)
+RepliesAreRight script report = (name : List ℕ) → Along (IsTold (from_nothing script) (view_of (from_nothing script) report.entries) name) (work statement_language name script.body) (told name report.lines)
 
 abbrev pub BeginsAreFresh : Report → Type 0
 BeginsAreFresh report = EachAfter (IsFreshLine (nothing_before (worked_table ∷ []))) [] report.lines
 
 abbrev pub HistoryIsRight : Script → Report → Type 0
 HistoryIsRight script report = EachAfter (IsEntryAfter (from_nothing script)) [] report.entries
+
+abbrev pub LinesHavePlaces : Report → Type 0
+LinesHavePlaces report = EachAfter HasItsPlace [] report.lines
 
 -- a report breaks a law, and so is not lawful
 abbrev pub IsRefusedBy : Type 0 → Script → Report → Type 0
@@ -49,6 +54,14 @@ early_row = selected (to_a 2 (reply.Begin 1) ∷ to_a 2 (row 1 10) ∷ to_a 2 (r
 -- no row, where the select begins before the insert: lawful, but not in the order of play
 abbrev pub late : Report
 late = selected (to_a 2 (reply.Begin 1) ∷ to_a 2 (reply.Done 0) ∷ to_a 2 (reply.Committed 1) ∷ [])
+
+-- a node comes up before the lines of the sessions
+abbrev pub node_line : Report
+node_line = report_with (line.Up 1 ∷ (inserted_lines ++ to_a 2 (reply.Begin 2) ∷ to_a 2 (row 1 10) ∷ to_a 2 (reply.Done 1) ∷ to_a 2 (reply.Committed 2) ∷ [])) inserted_entries
+
+-- the select is lost by a node that did not go down
+abbrev pub lost_line : Report
+lost_line = selected (to_a 2 (reply.Begin 2) ∷ to_a 2 (reply.Lost 1 1) ∷ [])
 
 -- the insert is committed at a position behind its entry
 abbrev pub wrong_position : Report

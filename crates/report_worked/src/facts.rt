@@ -5,7 +5,7 @@ ghost use Rattle.transaction_answers.specs.Answer.{from_nothing};
 ghost use Rattle.report_laws.specs.Lawful.{Lawful};
 ghost use Rattle.report_laws.specs.Play.{InPlayOrder};
 ghost use Rattle.report_worked.specs.Worked.{empty_report, report_with, insert_select, insert_select_report, insert_select_text, two_updates, two_updates_report, key_again, key_again_report, own_writes, own_writes_report, two_selects};
-ghost use Rattle.report_worked.specs.WorkedWrong.{IsRefusedBy, RepliesAreRight, BeginsAreFresh, HistoryIsRight, wrong_value, missing_row, out_of_order, early_row, late, wrong_position, entry_twice, begin_too_old, untouched_row, refused_entry, serial};
+ghost use Rattle.report_worked.specs.WorkedWrong.{IsRefusedBy, RepliesAreRight, BeginsAreFresh, HistoryIsRight, LinesHavePlaces, wrong_value, missing_row, out_of_order, early_row, late, wrong_position, entry_twice, node_line, lost_line, begin_too_old, untouched_row, refused_entry, serial};
 ghost use Rattle.report_text.specs.Text.{report_text};
 ghost use Rattle.script_form.specs.declared.scripts.Script.{Script};
 
@@ -26,7 +26,7 @@ pub fn insert_select_is_lawful()
 
 /// What makes the report of an insert and a select wrong, and by which law: another value in the row,
 /// no row, the number of rows before the row, the row where the select begins before the insert; the
-/// insert committed at another position; the insert in the history twice.
+/// insert committed at another position; the insert in the history twice; a node that comes up, and a loss.
 pub fn wrong_insert_selects_are_refused()
     ensures wrong_value { IsRefusedBy (RepliesAreRight insert_select wrong_value) insert_select wrong_value }
     ensures missing_row { IsRefusedBy (RepliesAreRight insert_select missing_row) insert_select missing_row }
@@ -34,6 +34,8 @@ pub fn wrong_insert_selects_are_refused()
     ensures early_row { IsRefusedBy (RepliesAreRight insert_select early_row) insert_select early_row }
     ensures wrong_position { IsRefusedBy (RepliesAreRight insert_select wrong_position) insert_select wrong_position }
     ensures entry_twice { IsRefusedBy (HistoryIsRight insert_select entry_twice) insert_select entry_twice }
+    ensures node_line { IsRefusedBy (LinesHavePlaces node_line) insert_select node_line }
+    ensures lost_line { IsRefusedBy (LinesHavePlaces lost_line) insert_select lost_line }
 {}
 
 /// Where the select begins before the insert and is told no row, the report is lawful, since what a

@@ -9,7 +9,7 @@ use Rattle.script_form.specs.declared.scripts.Script.{Script}
 use Rattle.report_text.specs.declared.reports.EntryLine.{EntryLine}
 use Rattle.report_text.specs.declared.reports.ReplyLine.TheVariants as reply
 use Rattle.script_form.specs.CanRun.{tables_of}
-use Rattle.report_laws.specs.History.{rows_at}
+use Rattle.report_laws.specs.History.{rows_at, view_of}
 use Rattle.report_laws.specs.Language.{alone}
 use Rattle.transaction_answers.specs.Answer.{answer, kind_by, from_nothing, statement_language}
 use Rattle.report_laws.specs.Play.{number_by}
@@ -37,16 +37,16 @@ module _ (script : Script) (entries : List EntryLine) (taken : List (List GenidI
   this : (after : Place) (told : ℕ) (x c : Cut) → Some x ≡ Some c → CutStands script entries ages name after lines told x → CutStands script entries ages name after lines told c
   this after told x c is stands = let same : x ≡ c = cc in subst (λ (y : Cut). CutStands script entries ages name after lines told y) same stands
 
-  empty_cut : (t_texts : List (List ℕ)) (number : ℕ) (end : End) → IsCut (from_nothing script) entries (transaction number t_texts p.level end) (reply.NoMemory ∷ [])
-  empty_cut t_texts number end = record { begin = 0; base = omega arith; within = omega arith; ran = alone_at (from_nothing script) entries (transaction number t_texts p.level end) 0; is_ran = refl; front = []; rest = _; fits = refl; cause = reply.NoMemory; is_cause = refl; says = refl }
+  empty_cut : (t_texts : List (List ℕ)) (number : ℕ) (end : End) → IsCut (from_nothing script) (view_of (from_nothing script) entries) (transaction number t_texts p.level end) (reply.NoMemory ∷ [])
+  empty_cut t_texts number end = record { begin = 0; base = omega arith; within = omega arith; ran = alone_at (from_nothing script) (view_of (from_nothing script) entries) (transaction number t_texts p.level end) 0; is_ran = refl; front = []; rest = _; fits = refl; cause = reply.NoMemory; is_cause = refl; says = refl }
 
   module _ (texts : List (List ℕ)) (begin : ℕ) (ops : List RowOp) (k : TextKind) (c : Comes script entries taken ages name p (Some texts) (doing.Open begin ops) text k lines) where
-    cut_more : IsCut (from_nothing script) entries (transaction p.number (texts ++ text ∷ []) p.level Nowhere) (c.mine ++ reply.NoMemory ∷ [])
+    cut_more : IsCut (from_nothing script) (view_of (from_nothing script) entries) (transaction p.number (texts ++ text ∷ []) p.level Nowhere) (c.mine ++ reply.NoMemory ∷ [])
     cut_more = record {
       begin = begin;
       base = omega arith;
       within = let w = c.doing.within in omega (arith, w);
-      ran = alone_at (from_nothing script) entries (transaction p.number (texts ++ text ∷ []) p.level Nowhere) begin;
+      ran = alone_at (from_nothing script) (view_of (from_nothing script) entries) (transaction p.number (texts ++ text ∷ []) p.level Nowhere) begin;
       is_ran = refl;
       cause = reply.NoMemory;
       is_cause = refl;
@@ -67,7 +67,7 @@ module _ (script : Script) (entries : List EntryLine) (taken : List (List GenidI
     ends_cut : (end : End) → CutStands script entries ages name (closed p texts end) lines p.number (record { number = p.number; after = state p.number p.level doing.No })
     ends_cut end = record {
       stands = idle_after script entries entries (inl refl) name p c.before c.past (Does (transaction p.number texts p.level end)) (c.mine ++ reply.NoMemory ∷ []) (lines ++ numbered p.number (reply.NoMemory ∷ [])) ages.next p.number p.level
-          (inr (record { begin = begin; base = omega arith; within = (let w = c.doing.within in omega (arith, w)); ran = alone_at (from_nothing script) entries (transaction p.number texts p.level end) begin; is_ran = refl; front = c.mine; rest = []; fits = append-nil c.mine ∙ c.doing.says; cause = reply.NoMemory; is_cause = refl; says = refl }))
+          (inr (record { begin = begin; base = omega arith; within = (let w = c.doing.within in omega (arith, w)); ran = alone_at (from_nothing script) (view_of (from_nothing script) entries) (transaction p.number texts p.level end) begin; is_ran = refl; front = c.mine; rest = []; fits = append-nil c.mine ∙ c.doing.says; cause = reply.NoMemory; is_cause = refl; says = refl }))
           (piece lines c.before p.number c.mine (reply.NoMemory ∷ []) c.is);
       number = refl;
     }

@@ -13,7 +13,8 @@ use Rattle.report_text.specs.declared.reports.EntryLine.{EntryLine}
 use Rattle.report_text.specs.declared.reports.ReplyLine.{ReplyLine}
 use Rattle.report_text.specs.declared.reports.ReplyLine.TheVariants as reply
 use Rattle.cdb_values.specs.Changes.{taken_by}
-use Rattle.report_laws.specs.History.{first_touched}
+use Rattle.report_laws.specs.History.{view_of}
+use Rattle.report_laws.specs.View.{first_touched}
 use Rattle.report_laws.specs.Outcome.{IsRight, IsDecided, IsConflict, IsDuplicate, line_by, name_of_table}
 use Rattle.report_laws.specs.Paced.{Paced}
 use Rattle.script_form.specs.CanRun.{tables_of}
@@ -36,7 +37,7 @@ taken_after taken added = taken ++ map taken_by added
 
 -- a decision is right
 pub record Decided (script : Script) (entries : List EntryLine) (taken : List (List GenidItem)) (ages ages' : Ages) (name : List ℕ) (t : Transaction) (begin : ℕ) (ops : List RowOp) (outcome : ReplyLine) (added : List (List RowOp)) : Type 0 where
-  pub right : IsRight (from_nothing script) (entries_after entries name t.number begin t.level added) name t begin (taken_by ops) ops outcome
+  pub right : IsRight (from_nothing script) (view_of (from_nothing script) (entries_after entries name t.number begin t.level added)) name t begin (taken_by ops) ops outcome
   pub decided : IsDecided outcome
   pub stored : Stored script (entries_after entries name t.number begin t.level added) (taken_after taken added) ages'
   pub paced : Paced (length entries) (length (entries_after entries name t.number begin t.level added)) (outcome ∷ [])
@@ -46,10 +47,10 @@ pub record Decided (script : Script) (entries : List EntryLine) (taken : List (L
 module _ (script : Script) (entries : List EntryLine) (taken : List (List GenidItem)) (ages ages' : Ages) (name : List ℕ) (t : Transaction) (begin : ℕ) where
   -- a decision that adds nothing
   nothing_added : (ops : List RowOp) (outcome : ReplyLine) → Stored script entries taken ages → ages' ≡ ages → IsDecided outcome →
-      IsRight (from_nothing script) entries name t begin (taken_by ops) ops outcome → Paced (length entries) (length entries) (outcome ∷ []) →
+      IsRight (from_nothing script) (view_of (from_nothing script) entries) name t begin (taken_by ops) ops outcome → Paced (length entries) (length entries) (outcome ∷ []) →
       Decided script entries taken ages ages' name t begin ops outcome []
   nothing_added ops outcome stored same decided right paced = record {
-    right = subst (λ es. IsRight (from_nothing script) es name t begin (taken_by ops) ops outcome) (sym (append-nil entries)) right;
+    right = subst (λ es. IsRight (from_nothing script) (view_of (from_nothing script) es) name t begin (taken_by ops) ops outcome) (sym (append-nil entries)) right;
     decided = decided;
     stored = subst (λ (a : Ages). Stored script (entries ++ []) (taken ++ []) a) (sym same)
         (subst (λ es. Stored script es (taken ++ []) ages) (sym (append-nil entries)) (subst (λ ts. Stored script entries ts ages) (sym (append-nil taken)) stored));
@@ -70,7 +71,7 @@ module _ (script : Script) (entries : List EntryLine) (taken : List (List GenidI
     Follows outcome = IsKept (length entries) ages ages' (added_by outcome ops) → Decided script entries taken ages ages' name t begin ops outcome (added_by outcome ops)
 
     conflict : (touched : Touched) (table : List ℕ) → name_of_table (tables_of script) touched.item.table ≡ Some table → first_conflict begin (drop begin taken) (taken_by ops) ≡ Some touched →
-        IsConflict (from_nothing script) entries begin touched.position (taken_by ops) ops (reply.ConflictGenid touched.position table touched.item.genid)
+        IsConflict (from_nothing script) (view_of (from_nothing script) entries) begin touched.position (taken_by ops) ops (reply.ConflictGenid touched.position table touched.item.genid)
     conflict touched table has is = record {
       has_ops = some;
       later = since.0;
@@ -88,7 +89,7 @@ module _ (script : Script) (entries : List EntryLine) (taken : List (List GenidI
         within = let w = since.1 in let same = c.stored.taken_length in omega (arith, w, same)
 
     duplicate : (key : KeyName) → first_conflict begin (drop begin taken) (taken_by ops) ≡ None → first_broken (tables_of script) (apply_all (rows_seen ages (length entries)) ops).tables ≡ Some key →
-        IsDuplicate (from_nothing script) entries begin (length entries) (taken_by ops) ops key.table key.key
+        IsDuplicate (from_nothing script) (view_of (from_nothing script) entries) begin (length entries) (taken_by ops) ops key.table key.key
     duplicate key clear broken = record {
       has_ops = some;
       begun = c.within;

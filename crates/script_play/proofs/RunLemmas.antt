@@ -1,5 +1,5 @@
 -- A line of the script more keeps the run so far.
-use Rattle.std.proofs.Common.{◌≡◌, ℕ, suc, ◌+◌, ◌≤◌, List, [], ◌∷◌, ◌++◌, length, map, refl, sym, subst, ap, arith, Option, Some, None, ◌∙◌, Bool, true, false, append_assoc, ◌⊎◌, inl, inr, eq-eqb, if◌then◌else◌}
+use Rattle.std.proofs.Common.{◌≡◌, ℕ, suc, ◌+◌, ◌≤◌, List, [], ◌∷◌, ◌++◌, length, map, refl, sym, subst, ap, arith, Option, Some, None, ◌∙◌, Bool, true, false, append_assoc, ◌⊎◌, inl, inr, eq-eqb}
 use Rattle.std.proofs.lemmas.List.{append-nil, length-append}
 use Rattle.std.specs.List.{AllByRecursion}
 use Rattle.std.specs.Str.{bytes_eq}
@@ -21,21 +21,20 @@ use Rattle.script_form.specs.declared.scripts.Act.TheVariants.{Say}
 use Rattle.report_text.specs.declared.reports.EntryLine.{EntryLine}
 use Rattle.report_text.specs.declared.reports.EntryLine.TheVariants.{Setup, Commit}
 use Rattle.report_text.specs.declared.reports.Line.{Line}
-use Rattle.report_text.specs.declared.reports.Line.TheVariants as line
 use Rattle.report_text.specs.declared.reports.ReplyLine.{ReplyLine}
 use Rattle.report_text.specs.declared.reports.ReplyLine.TheVariants as reply
-use Rattle.report_laws.specs.Each.{StandsIn}
 use Rattle.cdb_values.specs.Changes.{taken_by}
-use Rattle.report_laws.specs.History.{last_position}
-use Rattle.report_laws.specs.Lawful.{IsFreshLine, IsAnswered, IsOfSession}
+use Rattle.report_laws.specs.History.{last_position, view_of}
+use Rattle.report_laws.specs.Lawful.{IsFreshLine}
 use Rattle.report_laws.specs.Paced.{Paced}
+use Rattle.report_laws.specs.Places.{HasItsPlace}
 use Rattle.report_laws.specs.Play.{InTurns, IsTurn, IsTurnOf, WasCut, IsTimely, IsAppended, piece, number_told, is_own, are_up_to, is_last_of}
-use Rattle.report_laws.specs.Told.{Numbered, told, lines_of, numbered}
+use Rattle.report_laws.specs.Told.{Numbered, IsEntryTold, alone_at, told, lines_of, numbered}
 use Rattle.report_laws.specs.Work.{Place, next_by, next_place, place_after}
 use Rattle.cdb_values.specs.declared.items.GenidItem.{GenidItem}
-use Rattle.report_laws.proofs.EachLaws.{each_append, all_append, all_map, stands_more, stands_added}
+use Rattle.report_laws.proofs.EachLaws.{each_append, all_append, all_map}
+use Rattle.report_laws.proofs.EntryToldLaws.{entry_told_more, entry_told_stays, told_stands}
 use Rattle.report_laws.proofs.LineLaws.{ArePaced, paced_laws, named_more, in_turns_more, timely_paced}
-use Rattle.report_laws.proofs.PieceLaws.{same_head, same_tail}
 use Rattle.report_laws.proofs.ToldLaws.{told_append, told_own, told_other}
 use Rattle.report_laws.proofs.WorkLaws.{after_own, after_other, its_transaction}
 use Rattle.transaction_answers.specs.Answer.{kind_by, from_nothing, statement_language}
@@ -68,47 +67,6 @@ past_next p text kind.Rollback (Some texts) txn is = omega (arith, is)
 past_next p text kind.SetSnapshot (Some texts) txn is = is
 past_next p text kind.Other (Some texts) txn is = is
 
--- a reply that stands among a session's replies stands among its lines
-stands_lines : (name : List ℕ) (number : ℕ) (rs : List ReplyLine) (r : ReplyLine) → StandsIn rs r → StandsIn (lines_of name number rs) (line.Session name number r)
-stands_lines name number rs r (front, back, is) = (lines_of name number front, lines_of name number back, ap (λ l. lines_of name number l) is ∙ append_lines front (r ∷ back))
-  where
-    append_lines : (xs ys : List ReplyLine) → lines_of name number (xs ++ ys) ≡ lines_of name number xs ++ lines_of name number ys
-    append_lines [] ys = refl
-    append_lines (x ∷ xs) ys = ap (λ rest. line.Session name number x ∷ rest) (append_lines xs ys)
-
--- what a session was told stands among the lines
-told_stands : (name : List ℕ) (n : ℕ) (r : ReplyLine) (lines : List Line) → StandsIn (told name lines) (n, r) → StandsIn lines (line.Session name n r)
-told_stands name n r [] ([], back, is) = absurd cc
-told_stands name n r [] (x ∷ front, back, is) = absurd cc
-told_stands name n r (line.Session session txn answer ∷ ls) (front, back, is) = go (bytes_eq session name) refl front is (λ f (b : List Numbered) e. told_stands name n r ls (f, b, e))
-  where
-    more : StandsIn ls (line.Session name n r) → StandsIn (line.Session session txn answer ∷ ls) (line.Session name n r)
-    more (f, b, e) = (line.Session session txn answer ∷ f, b, ap (λ rest. line.Session session txn answer ∷ rest) e)
-
-    go : (b : Bool) → bytes_eq session name ≡ b → (f : List Numbered) → (if b then (txn, answer) ∷ [] else []) ++ told name ls ≡ f ++ (n, r) ∷ back →
-        ((g c : List Numbered) → told name ls ≡ g ++ (n, r) ∷ c → StandsIn ls (line.Session name n r)) → StandsIn (line.Session session txn answer ∷ ls) (line.Session name n r)
-    go true same [] e later =
-        let head : (txn, answer) ≡ (n, r) = same_head (txn, answer) (n, r) (told name ls) back e in
-        ([], ls, ap (λ s. line.Session s txn answer ∷ ls) (same_name session name same) ∙ ap (λ (x : Numbered). line.Session name x.0 x.1 ∷ ls) head)
-    go true same (x ∷ f) e later = more (later f back (same_tail (txn, answer) x (told name ls) (f ++ (n, r) ∷ back) e))
-    go false other f e later = more (later f back e)
-told_stands name n r (line.Down count node fault ∷ ls) (front, back, is) = others (told_stands name n r ls (front, back, is))
-  where
-    others : StandsIn ls (line.Session name n r) → StandsIn (line.Down count node fault ∷ ls) (line.Session name n r)
-    others (f, b, e) = (line.Down count node fault ∷ f, b, ap (λ rest. line.Down count node fault ∷ rest) e)
-told_stands name n r (line.Up node ∷ ls) (front, back, is) = others (told_stands name n r ls (front, back, is))
-  where
-    others : StandsIn ls (line.Session name n r) → StandsIn (line.Up node ∷ ls) (line.Session name n r)
-    others (f, b, e) = (line.Up node ∷ f, b, ap (λ rest. line.Up node ∷ rest) e)
-told_stands name n r (line.Barrier ∷ ls) (front, back, is) = others (told_stands name n r ls (front, back, is))
-  where
-    others : StandsIn ls (line.Session name n r) → StandsIn (line.Barrier ∷ ls) (line.Session name n r)
-    others (f, b, e) = (line.Barrier ∷ f, b, ap (λ rest. line.Barrier ∷ rest) e)
-told_stands name n r (line.Fed position ∷ ls) (front, back, is) = others (told_stands name n r ls (front, back, is))
-  where
-    others : StandsIn ls (line.Session name n r) → StandsIn (line.Fed position ∷ ls) (line.Session name n r)
-    others (f, b, e) = (line.Fed position ∷ f, b, ap (λ rest. line.Fed position ∷ rest) e)
-
 -- what a line of the script leaves, so that the run so far is kept
 pub record Keeps (script : Script) (done : List BodyLine) (l : BodyLine) (lines : List Line) (entries entries' : List EntryLine) (taken' : List (List GenidItem)) (ages ages' : Ages) (name text : List ℕ) (number : ℕ) (rs : List ReplyLine) (after : SessionState) : Type 0 where
   pub stored : Stored script entries' taken' ages'
@@ -120,7 +78,7 @@ pub record Keeps (script : Script) (done : List BodyLine) (l : BodyLine) (lines 
   pub added : List EntryLine
   pub grown : entries' ≡ entries ++ added
   pub turn : IsTurn (length entries) lines name (number_told statement_language (place_after statement_language name done) text) (is_own statement_language (place_after statement_language name done) text) rs added
-  pub answered : AllByRecursion (IsAnswered (lines ++ lines_of name number rs)) entries'
+  pub answered : AllByRecursion (IsEntryTold (from_nothing script) (view_of (from_nothing script) entries') (lines ++ lines_of name number rs)) entries'
   pub ended : AllByRecursion (IsEnded (done ++ l ∷ [])) entries'
 
 module _ (script : Script) (done left : List BodyLine) (l : BodyLine) (lines : List Line) (entries : List EntryLine) (taken : List (List GenidItem)) (ages : Ages) (states sites' : List SessionState) (name text : List ℕ)
@@ -156,7 +114,7 @@ module _ (script : Script) (done left : List BodyLine) (l : BodyLine) (lines : L
     named = all_append _ lines mine (named_more (length entries) (length entries') lines longer was.named) laws.named;
     answered = keeps.answered;
     ended = keeps.ended;
-    of_sessions = all_append IsOfSession lines mine was.of_sessions (sessions_only rs);
+    placed = each_append HasItsPlace [] lines mine was.placed laws.placed;
   }
     where
       mine : List Line
@@ -167,10 +125,6 @@ module _ (script : Script) (done left : List BodyLine) (l : BodyLine) (lines : L
 
       laws : ArePaced (from_nothing script).origin name number lines (length entries') rs
       laws = paced_laws (from_nothing script).origin name number (length entries) (length entries') lines rs was.named was.stored.opened (omega arith) longer keeps.paced
-
-      sessions_only : (xs : List ReplyLine) → AllByRecursion IsOfSession (lines_of name number xs)
-      sessions_only [] = tt
-      sessions_only (x ∷ xs) = (tt, sessions_only xs)
 
       its_piece : piece statement_language done l.act rs ≡ lines_of name number rs
       its_piece = ap (λ (a : Act). piece statement_language done a rs) is_act ∙ ap (λ n. lines_of name n rs) (sym keeps.belongs)
@@ -261,7 +215,7 @@ module _ (script : Script) (done left : List BodyLine) (l : BodyLine) (lines : L
       }
 
       -- the entry that the line appends, if it appends one
-      appends : IsNews name (told name lines) entries entries' (next_place statement_language place text) t →
+      appends : IsNews script name (told name lines) entries entries' (next_place statement_language place text) t →
           (added : List EntryLine) × (entries' ≡ entries ++ added) × IsTurn (length entries) lines name (number_told statement_language place text) (is_own statement_language place text) t.replies added
       appends (inl same) = ([], same ∙ sym (append-nil entries), turn_with [] (same ∙ sym (append-nil entries)) tt)
       appends (inr (more, stands, past, begins)) = (
@@ -273,22 +227,37 @@ module _ (script : Script) (done left : List BodyLine) (l : BodyLine) (lines : L
       news : (added : List EntryLine) × (entries' ≡ entries ++ added) × IsTurn (length entries) lines name (number_told statement_language place text) (is_own statement_language place text) t.replies added
       news = appends turn.news
 
-      answered_later : (e : EntryLine) → IsAnswered lines e → IsAnswered (lines ++ lines_of name t.number t.replies) e
-      answered_later (Setup position) is = tt
-      answered_later (Commit position session txn begin level) is = (stands_more lines (lines_of name t.number t.replies) _ is.0, stands_more lines (lines_of name t.number t.replies) _ is.1)
+      answered_later : (e : EntryLine) → IsEntryTold (from_nothing script) (view_of (from_nothing script) entries) lines e → IsEntryTold (from_nothing script) (view_of (from_nothing script) entries) all_lines e
+      answered_later e is = entry_told_more (from_nothing script) (view_of (from_nothing script) entries) lines (lines_of name t.number t.replies) e is
 
-      answered : IsNews name (told name lines) entries entries' (next_place statement_language place text) t → AllByRecursion (IsAnswered (lines ++ lines_of name t.number t.replies)) entries'
-      answered (inl same) = subst (λ es. AllByRecursion (IsAnswered (lines ++ lines_of name t.number t.replies)) es) (sym same) (all_map (IsAnswered lines) _ answered_later entries was.answered)
-      answered (inr (more, stands, past, begins)) = subst (λ es. AllByRecursion (IsAnswered (lines ++ lines_of name t.number t.replies)) es) (sym more)
-          (all_append _ entries (entry_of name t.number t.begin t.after.level (length entries) ∷ []) (all_map (IsAnswered lines) _ answered_later entries was.answered) (
-            (
-              told_stands name t.number (reply.Begin t.begin) all_lines (subst (λ ls. StandsIn ls (t.number, reply.Begin t.begin)) (sym told_all) begins),
-              stands_added lines (lines_of name t.number t.replies) _ (stands_lines name t.number t.replies (reply.Committed (length entries + 1)) stands),
-            ),
-            tt,
-          ))
+      answered : IsNews script name (told name lines) entries entries' (next_place statement_language place text) t → AllByRecursion (IsEntryTold (from_nothing script) (view_of (from_nothing script) entries') all_lines) entries'
+      answered (inl same) = subst (λ es. AllByRecursion (IsEntryTold (from_nothing script) (view_of (from_nothing script) es) all_lines) es) (sym same) (all_map (IsEntryTold (from_nothing script) (view_of (from_nothing script) entries) lines) _ answered_later entries was.answered)
+      answered (inr (more, stands, past, its)) = subst (λ es. AllByRecursion (IsEntryTold (from_nothing script) (view_of (from_nothing script) es) all_lines) es) (sym more)
+          (all_append _ entries (e ∷ [])
+          (all_map (IsEntryTold (from_nothing script) (view_of (from_nothing script) entries) lines) (IsEntryTold (from_nothing script) (view_of (from_nothing script) (entries ++ e ∷ [])) all_lines)
+          (λ d is. entry_told_stays (from_nothing script) entries e all_lines d (answered_later d is)) entries was.answered)
+          (entry_told_stays (from_nothing script) entries e all_lines e its_told, tt))
+        where
+          e : EntryLine
+          e = entry_of name t.number t.begin t.after.level (length entries)
 
-      ended : IsNews name (told name lines) entries entries' (next_place statement_language place text) t → AllByRecursion (IsEnded (done ++ l ∷ [])) entries'
+          its_told : IsEntryTold (from_nothing script) (view_of (from_nothing script) entries) all_lines (entry_of name t.number t.begin t.after.level (length entries))
+          its_told =
+              let within : t.begin ≤ length entries = its.within in
+              record {
+                transaction = its.transaction;
+                is_its = its.is_its;
+                within = omega (arith, within);
+                ran = alone_at (from_nothing script) (view_of (from_nothing script) entries) its.transaction t.begin;
+                is_ran = refl;
+                outcome = reply.Committed (length entries + 1);
+                ends = refl;
+                before = its.before;
+                after = [];
+                says = told_all ∙ its.says ∙ ap (λ (ls : List Numbered). its.before ++ ls) (sym (append-nil _));
+              }
+
+      ended : IsNews script name (told name lines) entries entries' (next_place statement_language place text) t → AllByRecursion (IsEnded (done ++ l ∷ [])) entries'
       ended (inl same) = subst (λ es. AllByRecursion (IsEnded (done ++ l ∷ [])) es) (sym same) (all_map (IsEnded done) _ ended_later entries was.ended)
       ended (inr (more, stands, past, begins)) = subst (λ es. AllByRecursion (IsEnded (done ++ l ∷ [])) es) (sym more)
           (all_append _ entries (entry_of name t.number t.begin t.after.level (length entries) ∷ []) (all_map (IsEnded done) _ ended_later entries was.ended)
@@ -354,7 +323,7 @@ module _ (script : Script) (done left : List BodyLine) (l : BodyLine) (lines : L
         added = [];
         grown = sym (append-nil entries);
         turn = record { told = inl (cut_up_to (is_own statement_language place text)); timely = (tt, tt); appended = tt };
-        answered = all_map (IsAnswered lines) _ later entries was.answered;
+        answered = all_map (IsEntryTold (from_nothing script) (view_of (from_nothing script) entries) lines) _ later entries was.answered;
         ended = all_map (IsEnded done) _ ended_later entries was.ended;
       }) own others))))
     where
@@ -363,9 +332,8 @@ module _ (script : Script) (done left : List BodyLine) (l : BodyLine) (lines : L
           (ap (λ n. cut_by n place.level (kind_of (statement_of text)) (state_of name script.sessions states).doing) (sym (was.standing name).number)
           ∙ ap (λ (v : Level). cut_by (state_of name script.sessions states).number v (kind_of (statement_of text)) (state_of name script.sessions states).doing) (sym (was.standing name).level) ∙ is)
 
-      later : (e : EntryLine) → IsAnswered lines e → IsAnswered (lines ++ lines_of name c.number (reply.NoMemory ∷ [])) e
-      later (Setup position) is = tt
-      later (Commit position session txn begin level) is = (stands_more lines (lines_of name c.number (reply.NoMemory ∷ [])) _ is.0, stands_more lines (lines_of name c.number (reply.NoMemory ∷ [])) _ is.1)
+      later : (e : EntryLine) → IsEntryTold (from_nothing script) (view_of (from_nothing script) entries) lines e → IsEntryTold (from_nothing script) (view_of (from_nothing script) entries) (lines ++ lines_of name c.number (reply.NoMemory ∷ [])) e
+      later e is = entry_told_more (from_nothing script) (view_of (from_nothing script) entries) lines (lines_of name c.number (reply.NoMemory ∷ [])) e is
 
       cut_up_to : (own : Bool) → are_up_to (is_last_of own) (reply.NoMemory ∷ []) ≡ true
       cut_up_to true = refl

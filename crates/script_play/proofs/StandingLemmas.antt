@@ -9,7 +9,7 @@ use Rattle.report_text.specs.declared.reports.EntryLine.{EntryLine}
 use Rattle.report_text.specs.declared.reports.ReplyLine.{ReplyLine}
 use Rattle.report_text.specs.declared.reports.ReplyLine.TheVariants as reply
 use Rattle.script_form.specs.CanRun.{tables_of}
-use Rattle.report_laws.specs.History.{rows_at}
+use Rattle.report_laws.specs.History.{rows_at, view_of}
 use Rattle.report_laws.specs.Language.{Answered, alone}
 use Rattle.report_laws.specs.Told.{Along, Numbered, IsTold, numbered}
 use Rattle.report_laws.specs.Work.{Item, Place, Nowhere, transaction, with_open, number_of}
@@ -61,7 +61,7 @@ module _ (script : Script) (entries : List EntryLine) (e : EntryLine) where
     before = was.before;
     mine = was.mine;
     is = was.is;
-    past = along_map (IsTold (from_nothing script) entries name) (IsTold (from_nothing script) grown name) (told_stays (from_nothing script) entries e name) p.over was.before was.past;
+    past = along_map (IsTold (from_nothing script) (view_of (from_nothing script) entries) name) (IsTold (from_nothing script) (view_of (from_nothing script) grown) name) (told_stays (from_nothing script) entries e name) p.over was.before was.past;
     number = was.number;
     level = was.level;
     doing = doing_stays next next' p p.pending at.doing was.mine le was.doing;
@@ -97,9 +97,9 @@ stands_on script entries entries' next next' name p lines at (inl same) le was =
 stands_on script entries entries' next next' name p lines at (inr (e, grows)) le was = subst (λ es. Standing script es next' name p lines at) (sym grows) (grown_stands script entries e next next' name p lines at le was)
 
 -- what is over stays so, and so does what a transaction run alone gives
-pub overs_on : (script : Script) (entries entries' : List EntryLine) (name : List ℕ) (items : List Item) (lines : List Numbered) → Grows entries entries' → Along (IsTold (from_nothing script) entries name) items lines → Along (IsTold (from_nothing script) entries' name) items lines
-overs_on script entries entries' name items lines (inl same) was = subst (λ es. Along (IsTold (from_nothing script) es name) items lines) (sym same) was
-overs_on script entries entries' name items lines (inr (e, grows)) was = subst (λ es. Along (IsTold (from_nothing script) es name) items lines) (sym grows) (along_map (IsTold (from_nothing script) entries name) (IsTold (from_nothing script) (entries ++ e ∷ []) name) (told_stays (from_nothing script) entries e name) items lines was)
+pub overs_on : (script : Script) (entries entries' : List EntryLine) (name : List ℕ) (items : List Item) (lines : List Numbered) → Grows entries entries' → Along (IsTold (from_nothing script) (view_of (from_nothing script) entries) name) items lines → Along (IsTold (from_nothing script) (view_of (from_nothing script) entries') name) items lines
+overs_on script entries entries' name items lines (inl same) was = subst (λ es. Along (IsTold (from_nothing script) (view_of (from_nothing script) es) name) items lines) (sym same) was
+overs_on script entries entries' name items lines (inr (e, grows)) was = subst (λ es. Along (IsTold (from_nothing script) (view_of (from_nothing script) es) name) items lines) (sym grows) (along_map (IsTold (from_nothing script) (view_of (from_nothing script) entries) name) (IsTold (from_nothing script) (view_of (from_nothing script) (entries ++ e ∷ [])) name) (told_stays (from_nothing script) entries e name) items lines was)
 
 pub alone_on : (script : Script) (entries entries' : List EntryLine) (texts : List (List ℕ)) (begin : ℕ) → Grows entries entries' → begin ≤ length entries →
     alone statement_language (tables_of script) (rows_at (from_nothing script) entries' begin) texts ≡ alone statement_language (tables_of script) (rows_at (from_nothing script) entries begin) texts
@@ -110,13 +110,13 @@ pub grows_length : (entries entries' : List EntryLine) → Grows entries entries
 grows_length entries entries' (inl same) = let n = ap (λ es. length es) same in omega (arith, n)
 grows_length entries entries' (inr (e, grows)) = let n = ap (λ es. length es) grows in omega (arith, n, length-append entries (e ∷ []))
 
-module _ (script : Script) (entries entries' : List EntryLine) (grows : Grows entries entries') (name : List ℕ) (p : Place) (before : List Numbered) (past : Along (IsTold (from_nothing script) entries name) p.over before) where
+module _ (script : Script) (entries entries' : List EntryLine) (grows : Grows entries entries') (name : List ℕ) (p : Place) (before : List Numbered) (past : Along (IsTold (from_nothing script) (view_of (from_nothing script) entries) name) p.over before) where
   -- one thing more is over
-  over_more : (item : Item) (mine : List ReplyLine) → IsTold (from_nothing script) entries' name item mine → Along (IsTold (from_nothing script) entries' name) (p.over ++ item ∷ []) (before ++ numbered (number_of item) mine)
-  over_more item mine is = along_append (IsTold (from_nothing script) entries' name) p.over (item ∷ []) before _ (overs_on script entries entries' name p.over before grows past) (along_one (IsTold (from_nothing script) entries' name) item mine is)
+  over_more : (item : Item) (mine : List ReplyLine) → IsTold (from_nothing script) (view_of (from_nothing script) entries') name item mine → Along (IsTold (from_nothing script) (view_of (from_nothing script) entries') name) (p.over ++ item ∷ []) (before ++ numbered (number_of item) mine)
+  over_more item mine is = along_append (IsTold (from_nothing script) (view_of (from_nothing script) entries') name) p.over (item ∷ []) before _ (overs_on script entries entries' name p.over before grows past) (along_one (IsTold (from_nothing script) (view_of (from_nothing script) entries') name) item mine is)
 
   -- a session that did something is idle behind it
-  pub idle_after : (item : Item) (mine : List ReplyLine) (lines : List Numbered) (next number : ℕ) (level : Level) → IsTold (from_nothing script) entries' name item mine → lines ≡ before ++ numbered (number_of item) mine →
+  pub idle_after : (item : Item) (mine : List ReplyLine) (lines : List Numbered) (next number : ℕ) (level : Level) → IsTold (from_nothing script) (view_of (from_nothing script) entries') name item mine → lines ≡ before ++ numbered (number_of item) mine →
       Standing script entries' next name (record { over = p.over ++ item ∷ []; number = number; level = level; pending = None }) lines (state number level doing.No)
   idle_after item mine lines next number level is all = record {
     before = before ++ numbered (number_of item) mine;

@@ -15,7 +15,8 @@ use Rattle.report_text.specs.declared.reports.EntryLine.{EntryLine}
 use Rattle.report_text.specs.declared.reports.EntryLine.TheVariants.{Commit}
 use Rattle.report_text.specs.declared.reports.ReplyLine.TheVariants as reply
 use Rattle.cdb_values.specs.Changes.{taken_by}
-use Rattle.report_laws.specs.History.{last_position, entry_at, rows_at, rows_after, states_of, ops_of, ops_alone, taken_at, used_by, first_touched, IsEntryAfter, IsCommitAfter, IsUntouched, is_entry_of}
+use Rattle.report_laws.specs.History.{last_position, entry_at, rows_at, rows_after, states_of, ops_of, ops_alone, taken_at, used_by, IsEntryAfter, IsCommitAfter, is_entry_of, view_of}
+use Rattle.report_laws.specs.View.{first_touched, IsUntouched}
 use Rattle.report_laws.specs.Outcome.{IsRight, IsEntered}
 use Rattle.report_laws.specs.Told.{alone_at}
 use Rattle.script_form.specs.CanRun.{tables_of}
@@ -24,7 +25,7 @@ use Rattle.transaction_answers.specs.Answer.{from_nothing, statement_language}
 use Rattle.transaction_answers.proofs.LanguageLaws.{used_alone}
 use Rattle.cdb_values.specs.declared.items.GenidItem.{GenidItem}
 use Rattle.report_laws.proofs.EachLaws.{each_append, get_front, get_next}
-use Rattle.report_laws.proofs.HistoryLaws.{rows_stay, rows_new, entry_new, taken_stays, taken_new, untouched_stays}
+use Rattle.report_laws.proofs.HistoryLaws.{none_stands, rows_stay, rows_new, entry_new, taken_stays, taken_new, untouched_stays}
 use Rattle.transaction_answers.specs.Decisions.{first_conflict}
 use Rattle.transaction_answers.specs.Sound.{AreSound, IsSoundOp}
 use Rattle.transaction_answers.proofs.ConflictLaws.{none_since}
@@ -45,7 +46,7 @@ pub record Commits (script : Script) (entries : List EntryLine) (taken : List (L
   pub first : 1 ≤ begin
   pub within : begin ≤ length entries
   pub is_its : transaction_of statement_language name t.number script.body ≡ Some t
-  pub ops_are : ops ≡ (alone_at (from_nothing script) entries t begin).ops
+  pub ops_are : ops ≡ (alone_at (from_nothing script) (view_of (from_nothing script) entries) t begin).ops
   pub sound : AllByRecursion (IsSoundOp (tables_of script) ages.next) ops
   pub once : AllByRecursion (λ e. is_entry_of name t.number e ≡ false) entries
   -- applied now, the operations leave sound rows, which fit
@@ -58,13 +59,13 @@ module _ (script : Script) (entries : List EntryLine) (taken : List (List GenidI
   now = length entries
 
   -- what no entry since the begin touches, by the versions that were kept for each entry
-  pub untouched_now : first_conflict begin (drop begin taken) (taken_by ops) ≡ None → IsUntouched (from_nothing script) entries begin (now + 1) (taken_by ops)
+  pub untouched_now : first_conflict begin (drop begin taken) (taken_by ops) ≡ None → IsUntouched (view_of (from_nothing script) entries) begin (now + 1) (taken_by ops)
   untouched_now none j after before =
       ap (λ (items : List GenidItem). first_touched items (taken_by ops)) (sym (c.stored.taken_are j (omega (arith, after)) (omega (arith, before))))
       ∙ none_since begin taken (taken_by ops) none j after (let same = c.stored.taken_length in omega (arith, before, same))
 
   -- what it uses is what its operations take away
-  used_is : used_by (alone_at (from_nothing script) entries t begin) ≡ taken_by ops
+  used_is : used_by (alone_at (from_nothing script) (view_of (from_nothing script) entries) t begin) ≡ taken_by ops
   used_is = used_alone (tables_of script) (rows_at (from_nothing script) entries begin) t.texts ∙ ap (λ (o : List RowOp). taken_by o) (sym c.ops_are)
 
   abbrev pub e : EntryLine
@@ -97,19 +98,26 @@ module _ (script : Script) (entries : List EntryLine) (taken : List (List GenidI
     good : IsGood (tables_of script) (apply_all (rows_seen ages now) ops).tables
     good = record { rows_fit = c.fits; keys_kept = unbroken }
 
-    its_entry : IsCommitAfter (from_nothing script) entries (now + 1) name t.number begin t.level
+    rows_applied : apply_all (rows_at (from_nothing script) entries (last_position (from_nothing script).origin entries)) (alone_at (from_nothing script) (view_of (from_nothing script) entries) t begin).ops ≡ apply_all (rows_seen ages now) ops
+    rows_applied =
+        let last : last_position (from_nothing script).origin entries ≡ now = omega arith in
+        ap (λ k. apply_all (rows_at (from_nothing script) entries k) (alone_at (from_nothing script) (view_of (from_nothing script) entries) t begin).ops) last
+        ∙ ap (λ (r : Rows). apply_all r (alone_at (from_nothing script) (view_of (from_nothing script) entries) t begin).ops) (sym c.stored.now_are)
+        ∙ ap (λ (o : List RowOp). apply_all (rows_seen ages now) o) (sym c.ops_are)
+
+    its_entry : IsCommitAfter (from_nothing script) (view_of (from_nothing script) entries) (now + 1) name t.number begin t.level
     its_entry = record {
       placed = omega arith;
-      once = c.once;
+      once = none_stands (from_nothing script).origin entries name t.number c.once;
       begun = (c.first, omega arith, (let w = c.within in omega (arith, w)));
       transaction = t;
       is_its = c.is_its;
       is_level = refl;
-      ran = alone_at (from_nothing script) entries t begin;
+      ran = alone_at (from_nothing script) (view_of (from_nothing script) entries) t begin;
       is_ran = refl;
       has_ops = subst (λ (o : List RowOp). o ≢ []) c.ops_are some;
-      untouched = subst (λ (items : List GenidItem). IsUntouched (from_nothing script) entries begin (now + 1) items) (sym used_is) (untouched_now clear);
-      is_good = subst (λ (r : Rows). IsGood (tables_of script) r.tables) (sym rows_there) good;
+      untouched = subst (λ (items : List GenidItem). IsUntouched (view_of (from_nothing script) entries) begin (now + 1) items) (sym used_is) (untouched_now clear);
+      is_good = subst (λ (r : Rows). IsGood (tables_of script) r.tables) (sym rows_applied) good;
     }
 
     pub next_is : ages'.next ≡ (apply_all (rows_seen ages now) ops).next
@@ -164,10 +172,10 @@ module _ (script : Script) (entries : List EntryLine) (taken : List (List GenidI
     }
 
     -- and the outcome is right
-    pub committed_right : (o : RowOp) (os : List RowOp) → ops ≡ o ∷ os → IsRight (from_nothing script) more name t begin (taken_by ops) ops (reply.Committed (now + 1))
-    committed_right o os is = subst (λ (all : List RowOp). IsRight (from_nothing script) more name t begin (taken_by ops) all (reply.Committed (now + 1))) (sym is) entered
+    pub committed_right : (o : RowOp) (os : List RowOp) → ops ≡ o ∷ os → IsRight (from_nothing script) (view_of (from_nothing script) more) name t begin (taken_by ops) ops (reply.Committed (now + 1))
+    committed_right o os is = subst (λ (all : List RowOp). IsRight (from_nothing script) (view_of (from_nothing script) more) name t begin (taken_by ops) all (reply.Committed (now + 1))) (sym is) entered
       where
-        entered : IsEntered (from_nothing script) more name t begin (now + 1) (taken_by ops)
+        entered : IsEntered (from_nothing script) (view_of (from_nothing script) more) name t begin (now + 1) (taken_by ops)
         entered = record {
           later = let w = c.within in omega (arith, w);
           stands = ap (λ k. entry_at (from_nothing script).origin more k) next_at ∙ entry_new (from_nothing script) entries e;

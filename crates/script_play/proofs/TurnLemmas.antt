@@ -28,7 +28,7 @@ use Rattle.report_laws.specs.Language.{Answered, alone}
 use Rattle.transaction_answers.specs.Answer.{answer, kind_by, from_nothing, statement_language}
 use Rattle.report_laws.specs.Each.{StandsIn}
 use Rattle.cdb_values.specs.Changes.{taken_by}
-use Rattle.report_laws.specs.History.{rows_at, is_entry_of}
+use Rattle.report_laws.specs.History.{rows_at, is_entry_of, view_of}
 use Rattle.report_laws.specs.Cut.{cuts}
 use Rattle.report_laws.specs.Outcome.{IsRight, IsDecided, Ends}
 use Rattle.report_laws.specs.Paced.{Paced}
@@ -62,12 +62,20 @@ abbrev pub IsPastOf : List ℕ → ℕ → Option (List (List ℕ)) → EntryLin
 IsPastOf name number pending (Setup position) = Unit {0}
 IsPastOf name number pending (Commit position session txn begin level) = bytes_eq session name ≡ true → IsPast number pending txn
 
+-- the session's transaction of that number, begun there, was told whole by the last of these lines, up to this reply
+pub record WasTold (script : Script) (entries : List EntryLine) (name : List ℕ) (number begin : ℕ) (outcome : ReplyLine) (lines : List Numbered) : Type 0 where
+  pub transaction : Transaction
+  pub is_its : transaction_of statement_language name number script.body ≡ Some transaction
+  pub within : begin ≤ length entries
+  pub before : List Numbered
+  pub says : lines ≡ before ++ numbered number (reply.Begin begin ∷ ((alone_at (from_nothing script) (view_of (from_nothing script) entries) transaction begin).replies ++ outcome ∷ []))
+
 -- what a line adds to the history: nothing, or the entry of a transaction that it tells as committed
--- there, was told its begin, and is over behind it
-abbrev pub IsNews : List ℕ → List Numbered → List EntryLine → List EntryLine → Place → Turned → Type 0
-IsNews name lines entries entries' after t = (entries' ≡ entries) ⊎
+-- there, that was told whole, and that is over behind it
+abbrev pub IsNews : Script → List ℕ → List Numbered → List EntryLine → List EntryLine → Place → Turned → Type 0
+IsNews script name lines entries entries' after t = (entries' ≡ entries) ⊎
     ((entries' ≡ entries ++ entry_of name t.number t.begin t.after.level (length entries) ∷ []) × StandsIn t.replies (reply.Committed (length entries + 1)) × IsPast after.number after.pending t.number
-    × StandsIn (lines ++ numbered t.number t.replies) (t.number, reply.Begin t.begin))
+    × WasTold script entries name t.number t.begin (reply.Committed (length entries + 1)) (lines ++ numbered t.number t.replies))
 
 -- the transaction of that number was cut short
 abbrev pub WasCutUnder : List Numbered → ℕ → Type 0
@@ -82,7 +90,7 @@ pub record Turns (script : Script) (entries entries' : List EntryLine) (taken' :
   pub paced : Paced (length entries) (length entries') t.replies
   pub number : t.number ≡ told
   pub up_to : (are_up_to (is_last_of own) t.replies ≡ true) ⊎ ((t.replies ≡ []) × WasCutUnder lines told)
-  pub news : IsNews name lines entries entries' after t
+  pub news : IsNews script name lines entries entries' after t
 
 -- a session before a line of its own
 pub record Comes (script : Script) (entries : List EntryLine) (taken : List (List GenidItem)) (ages : Ages) (name : List ℕ) (p : Place) (pending : Option (List (List ℕ))) (what : InTransaction) (text : List ℕ) (k : TextKind) (lines : List Numbered) : Type 0 where
@@ -93,7 +101,7 @@ pub record Comes (script : Script) (entries : List EntryLine) (taken : List (Lis
   pub before : List Numbered
   pub mine : List ReplyLine
   pub is : lines ≡ before ++ numbered p.number mine
-  pub past : Along (IsTold (from_nothing script) entries name) p.over before
+  pub past : Along (IsTold (from_nothing script) (view_of (from_nothing script) entries) name) p.over before
   pub doing : IsDoing script entries ages.next p pending what mine
   pub entered : AllByRecursion (IsPastOf name p.number pending) entries
   -- a transaction that this line ends is the session's of its number
@@ -148,7 +156,7 @@ module _ (script : Script) (entries : List EntryLine) (taken : List (List GenidI
 
   -- a transaction that a line ends comes to its commit
   comes_to : (k : TextKind) (pending : Option (List (List ℕ))) (what : InTransaction) → Comes script entries taken ages name p pending what text k lines → (t : Transaction) (begin : ℕ) (ops : List RowOp) → 1 ≤ begin → begin ≤ length entries →
-      transaction_of statement_language name t.number script.body ≡ Some t → ops ≡ (alone_at (from_nothing script) entries t begin).ops → AllByRecursion (IsSoundOp (tables_of script) ages.next) ops →
+      transaction_of statement_language name t.number script.body ≡ Some t → ops ≡ (alone_at (from_nothing script) (view_of (from_nothing script) entries) t begin).ops → AllByRecursion (IsSoundOp (tables_of script) ages.next) ops →
       AllByRecursion (λ e. is_entry_of name t.number e ≡ false) entries → Commits script entries taken ages name t begin ops
   comes_to k pending what c t begin ops first within its are sound once = record {
     stored = c.stored;
@@ -175,11 +183,11 @@ module _ (script : Script) (entries : List EntryLine) (taken : List (List GenidI
       go (inl none) = inl (ap (λ (l : List (List RowOp)). entries_after entries name t.number begin t.level l) none ∙ append-nil entries)
       go (inr (x, one, is)) = inr (entry_of name t.number begin t.level (length entries), ap (λ (l : List (List RowOp)). entries_after entries name t.number begin t.level l) one)
 
-  news_of : (t : Transaction) (begin : ℕ) (ops : List RowOp) (o : ReplyLine) (added : List (List RowOp)) (after : Place) (turn : Turned) → turn.number ≡ t.number → turn.begin ≡ begin → turn.after.level ≡ t.level → StandsIn turn.replies o → IsPast after.number after.pending t.number → StandsIn (lines ++ numbered turn.number turn.replies) (turn.number, reply.Begin turn.begin) →
-      Decided script entries taken ages ages' name t begin ops o added → IsNews name lines entries (entries_after entries name t.number begin t.level added) after turn
+  news_of : (t : Transaction) (begin : ℕ) (ops : List RowOp) (o : ReplyLine) (added : List (List RowOp)) (after : Place) (turn : Turned) → turn.number ≡ t.number → turn.begin ≡ begin → turn.after.level ≡ t.level → StandsIn turn.replies o → IsPast after.number after.pending t.number → WasTold script entries name turn.number turn.begin o (lines ++ numbered turn.number turn.replies) →
+      Decided script entries taken ages ages' name t begin ops o added → IsNews script name lines entries (entries_after entries name t.number begin t.level added) after turn
   news_of t begin ops o added after turn number at level stands past begins d = go d.told
     where
-      go : (added ≡ []) ⊎ ((x : List RowOp) × (added ≡ x ∷ []) × (o ≡ reply.Committed (length entries + 1))) → IsNews name lines entries (entries_after entries name t.number begin t.level added) after turn
+      go : (added ≡ []) ⊎ ((x : List RowOp) × (added ≡ x ∷ []) × (o ≡ reply.Committed (length entries + 1))) → IsNews script name lines entries (entries_after entries name t.number begin t.level added) after turn
       go (inl none) = inl (ap (λ (l : List (List RowOp)). entries_after entries name t.number begin t.level l) none ∙ append-nil entries)
       go (inr (x, one, is)) = inr (
         ap (λ (l : List (List RowOp)). entries_after entries name t.number begin t.level l) one
@@ -187,7 +195,7 @@ module _ (script : Script) (entries : List EntryLine) (taken : List (List GenidI
             ∙ ap (λ (l : Level). entries ++ entry_of name turn.number turn.begin l (length entries) ∷ []) (sym level),
         subst (λ x. StandsIn turn.replies x) is stands,
         subst (λ n. IsPast after.number after.pending n) (sym number) past,
-        begins,
+        subst (λ (x : ReplyLine). WasTold script entries name turn.number turn.begin x (lines ++ numbered turn.number turn.replies)) is begins,
       )
 
   -- what is kept for a line
@@ -218,19 +226,19 @@ module _ (script : Script) (entries : List EntryLine) (taken : List (List GenidI
 
   -- a transaction was told up to its decision
   ends_with : (t : Transaction) (begin : ℕ) (ops : List RowOp) (front : List ReplyLine) (o : ReplyLine) (added : List (List RowOp)) → 1 ≤ begin → begin ≤ length entries → (IsDecided o → Ends t.end (o ∷ [])) →
-      front ≡ reply.Begin begin ∷ (alone_at (from_nothing script) entries t begin).replies → ops ≡ (alone_at (from_nothing script) entries t begin).ops → Decided script entries taken ages ages' name t begin ops o added →
-      IsWhole (from_nothing script) (entries_after entries name t.number begin t.level added) name t (front ++ o ∷ [])
+      front ≡ reply.Begin begin ∷ (alone_at (from_nothing script) (view_of (from_nothing script) entries) t begin).replies → ops ≡ (alone_at (from_nothing script) (view_of (from_nothing script) entries) t begin).ops → Decided script entries taken ages ages' name t begin ops o added →
+      IsWhole (from_nothing script) (view_of (from_nothing script) (entries_after entries name t.number begin t.level added)) name t (front ++ o ∷ [])
   ends_with t begin ops front o added first within ends says are d = record {
     begin = begin;
     base = omega arith;
     within = let le = grows_length entries longer grows in omega (arith, le, within);
-    ran = alone_at (from_nothing script) longer t begin;
+    ran = alone_at (from_nothing script) (view_of (from_nothing script) longer) t begin;
     is_ran = refl;
     last = o ∷ [];
     ends = ends d.decided;
     right = (
-      subst (λ (items : List GenidItem). IsRight (from_nothing script) longer name t begin items (alone_at (from_nothing script) longer t begin).ops o) (sym (used_alone (tables_of script) (rows_at (from_nothing script) longer begin) t.texts))
-          (subst (λ (x : List RowOp). IsRight (from_nothing script) longer name t begin (taken_by x) x o) (are ∙ ap (λ (a : Answered). a.ops) (sym same)) d.right),
+      subst (λ (items : List GenidItem). IsRight (from_nothing script) (view_of (from_nothing script) longer) name t begin items (alone_at (from_nothing script) (view_of (from_nothing script) longer) t begin).ops o) (sym (used_alone (tables_of script) (rows_at (from_nothing script) longer begin) t.texts))
+          (subst (λ (x : List RowOp). IsRight (from_nothing script) (view_of (from_nothing script) longer) name t begin (taken_by x) x o) (are ∙ ap (λ (a : Answered). a.ops) (sym same)) d.right),
       tt,
     );
     says = ap (λ rs. rs ++ o ∷ []) says ∙ ap (λ (a : Answered). reply.Begin begin ∷ (a.replies ++ o ∷ [])) (sym same);
@@ -242,7 +250,7 @@ module _ (script : Script) (entries : List EntryLine) (taken : List (List GenidI
       grows : Grows entries longer
       grows = decided_turn t begin ops o added within first d
 
-      same : alone_at (from_nothing script) longer t begin ≡ alone_at (from_nothing script) entries t begin
+      same : alone_at (from_nothing script) (view_of (from_nothing script) longer) t begin ≡ alone_at (from_nothing script) (view_of (from_nothing script) entries) t begin
       same = alone_on script entries longer t.texts begin grows within
 
   -- a transaction of one line, by its answer
@@ -262,7 +270,7 @@ module _ (script : Script) (entries : List EntryLine) (taken : List (List GenidI
   own_entries a = entries_after entries name (p.number + 1) (length entries) p.level (own_added a)
 
   own_by : (c : Comes script entries taken ages name p None doing.No text kind.Other lines) (a : Answered) → ArePlain a.replies →
-      own_front a ≡ reply.Begin (length entries) ∷ (alone_at (from_nothing script) entries own_txn (length entries)).replies → a.ops ≡ (alone_at (from_nothing script) entries own_txn (length entries)).ops →
+      own_front a ≡ reply.Begin (length entries) ∷ (alone_at (from_nothing script) (view_of (from_nothing script) entries) own_txn (length entries)).replies → a.ops ≡ (alone_at (from_nothing script) (view_of (from_nothing script) entries) own_txn (length entries)).ops →
       Decided script entries taken ages ages' name own_txn (length entries) a.ops (own_outcome a) (own_added a) →
       Turns script entries (own_entries a) (taken_after taken (own_added a)) ages ages' name (with_own_line p text) lines (p.number + 1) true (own_line w (p.number + 1) p.level a)
   own_by c a plain says are d = record {
@@ -275,8 +283,17 @@ module _ (script : Script) (entries : List EntryLine) (taken : List (List GenidI
     paced = (refl, plain_then (length entries) (length (own_entries a)) a.replies (own_outcome a ∷ []) plain d.paced);
     number = refl;
     up_to = inl (up_to_last (is_last_of true) (own_front a) (own_outcome a) (refl, plain_all_quiet a.replies plain) (loud (own_outcome a) d.decided));
-    news = news_of own_txn (length entries) a.ops (own_outcome a) (own_added a) (with_own_line p text) (own_line w (p.number + 1) p.level a) refl refl refl (own_front a, [], refl) (omega arith) (lines, numbered (p.number + 1) (a.replies ++ own_outcome a ∷ []), refl) d;
+    news = news_of own_txn (length entries) a.ops (own_outcome a) (own_added a) (with_own_line p text) (own_line w (p.number + 1) p.level a) refl refl refl (own_front a, [], refl) (omega arith) was_told d;
   }
+    where
+      was_told : WasTold script entries name (p.number + 1) (length entries) (own_outcome a) (lines ++ numbered (p.number + 1) (own_front a ++ own_outcome a ∷ []))
+      was_told = record {
+        transaction = own_txn;
+        is_its = c.its own_txn refl refl;
+        within = omega arith;
+        before = lines;
+        says = ap (λ (rs : List ReplyLine). lines ++ numbered (p.number + 1) (rs ++ own_outcome a ∷ [])) says;
+      }
 
   own : (c : Comes script entries taken ages name p None doing.No text kind.Other lines) → Goal (next_by p text (kind_by kind.Other) None) (number_by p.number (kind_by kind.Other) None) true (turn_by w p.number p.level text kind.Other doing.No)
   own c kept = own_by c (answer_at w (length entries) [] text) (statements_answer.plain (tables_of script) (seen (length entries) ages.tables) [] text) says are
@@ -285,10 +302,10 @@ module _ (script : Script) (entries : List EntryLine) (taken : List (List GenidI
       its : answer_at w (length entries) [] text ≡ answer (tables_of script) (rows_at (from_nothing script) entries (length entries)).tables [] text
       its = answer_is kind.Other None doing.No c (length entries) c.stored.opened (omega arith) []
 
-      says : own_front (answer_at w (length entries) [] text) ≡ reply.Begin (length entries) ∷ (alone_at (from_nothing script) entries own_txn (length entries)).replies
+      says : own_front (answer_at w (length entries) [] text) ≡ reply.Begin (length entries) ∷ (alone_at (from_nothing script) (view_of (from_nothing script) entries) own_txn (length entries)).replies
       says = ap (λ (x : Answered). reply.Begin (length entries) ∷ x.replies) its ∙ ap (λ rs. reply.Begin (length entries) ∷ rs) (sym (append-nil (answer (tables_of script) (rows_at (from_nothing script) entries (length entries)).tables [] text).replies))
 
-      are : (answer_at w (length entries) [] text).ops ≡ (alone_at (from_nothing script) entries own_txn (length entries)).ops
+      are : (answer_at w (length entries) [] text).ops ≡ (alone_at (from_nothing script) (view_of (from_nothing script) entries) own_txn (length entries)).ops
       are = ap (λ (x : Answered). x.ops) its
 
       commits : Commits script entries taken ages name own_txn (length entries) (answer_at w (length entries) [] text).ops
@@ -322,7 +339,7 @@ module _ (script : Script) (entries : List EntryLine) (taken : List (List GenidI
     rolled : Goal (closed p texts ByRollback) p.number false (turned p.number (reply.RolledBack ∷ []) (state p.number p.level doing.No))
     rolled kept = quiet k (Some texts) (doing.Open begin ops) c (closed p texts ByRollback) p.number p.number false (reply.RolledBack ∷ []) (state p.number p.level doing.No) kept
         (idle_after script entries entries (inl refl) name p c.before c.past (Does (transaction p.number texts p.level ByRollback)) (c.mine ++ reply.RolledBack ∷ []) (lines ++ numbered p.number (reply.RolledBack ∷ [])) ages.next p.number p.level
-        (inl (record { begin = begin; base = omega arith; within = (let w = c.doing.within in omega (arith, w)); ran = alone_at (from_nothing script) entries (transaction p.number texts p.level ByRollback) begin; is_ran = refl; last = reply.RolledBack ∷ []; ends = refl; right = (refl, tt); says = ap (λ rs. rs ++ reply.RolledBack ∷ []) c.doing.says }))
+        (inl (record { begin = begin; base = omega arith; within = (let w = c.doing.within in omega (arith, w)); ran = alone_at (from_nothing script) (view_of (from_nothing script) entries) (transaction p.number texts p.level ByRollback) begin; is_ran = refl; last = reply.RolledBack ∷ []; ends = refl; right = (refl, tt); says = ap (λ rs. rs ++ reply.RolledBack ∷ []) c.doing.says }))
         (piece lines c.before p.number c.mine (reply.RolledBack ∷ []) c.is))
         refl refl (inl refl)
 
@@ -332,9 +349,9 @@ module _ (script : Script) (entries : List EntryLine) (taken : List (List GenidI
     abbrev pub last : ReplyLine
     last = outcome w begin ops
 
-    commits_by : Decided script entries taken ages ages' name ending begin ops last (added_by last ops) →
+    commits_by : transaction_of statement_language name p.number script.body ≡ Some ending → Decided script entries taken ages ages' name ending begin ops last (added_by last ops) →
         Turns script entries (entries_after entries name p.number begin p.level (added_by last ops)) (taken_after taken (added_by last ops)) ages ages' name (closed p texts ByCommit) lines p.number false (committed w p.number p.level begin ops)
-    commits_by d = record {
+    commits_by its d = record {
       stored = d.stored;
       grows = decided_turn ending begin ops last (added_by last ops) c.doing.within c.doing.first d;
       next = d.grows;
@@ -344,19 +361,20 @@ module _ (script : Script) (entries : List EntryLine) (taken : List (List GenidI
       paced = d.paced;
       number = refl;
       up_to = inl (up_to_one (is_last_of false) last (no_row last d.decided));
-      news = news_of ending begin ops last (added_by last ops) (closed p texts ByCommit) (committed w p.number p.level begin ops) refl refl refl ([], [], refl) (omega arith) its_begin d;
+      news = news_of ending begin ops last (added_by last ops) (closed p texts ByCommit) (committed w p.number p.level begin ops) refl refl refl ([], [], refl) (omega arith) was_told d;
     }
       where
-        its_begin : StandsIn (lines ++ numbered p.number (last ∷ [])) (p.number, reply.Begin begin)
-        its_begin = (
-          c.before,
-          numbered p.number (alone_at (from_nothing script) entries ending begin).replies ++ numbered p.number (last ∷ []),
-          ap (λ (ls : List Numbered). ls ++ numbered p.number (last ∷ [])) (c.is ∙ ap (λ (rs : List ReplyLine). c.before ++ numbered p.number rs) c.doing.says)
-              ∙ append_assoc c.before (numbered p.number (reply.Begin begin ∷ (alone_at (from_nothing script) entries ending begin).replies)) (numbered p.number (last ∷ [])),
-        )
+        was_told : WasTold script entries name p.number begin last (lines ++ numbered p.number (last ∷ []))
+        was_told = record {
+          transaction = ending;
+          is_its = its;
+          within = c.doing.within;
+          before = c.before;
+          says = piece lines c.before p.number c.mine (last ∷ []) c.is ∙ ap (λ (rs : List ReplyLine). c.before ++ numbered p.number (rs ++ last ∷ [])) c.doing.says;
+        }
 
   comes_to_commit : (texts : List (List ℕ)) (begin : ℕ) (ops : List RowOp) (c : Comes script entries taken ages name p (Some texts) (doing.Open begin ops) text kind.Commit lines) → Goal (closed p texts ByCommit) p.number false (committed w p.number p.level begin ops)
-  comes_to_commit texts begin ops c kept = commits_by texts begin ops kind.Commit c
+  comes_to_commit texts begin ops c kept = commits_by texts begin ops kind.Commit c (c.its (transaction p.number texts p.level ByCommit) refl refl)
       (decides script entries taken ages ages' name (transaction p.number texts p.level ByCommit) begin ops
       (comes_to kind.Commit (Some texts) (doing.Open begin ops) c (transaction p.number texts p.level ByCommit) begin ops c.doing.first c.doing.within (c.its (transaction p.number texts p.level ByCommit) refl refl) c.doing.ops_are c.doing.sound
       (none_past name p.number p.number (Some texts) (λ txn less. less) entries c.entered)) kept)
@@ -366,12 +384,12 @@ module _ (script : Script) (entries : List EntryLine) (taken : List (List GenidI
     skipped_lines : lines ++ numbered p.number [] ≡ c.before ++ numbered p.number c.mine
     skipped_lines = append-nil lines ∙ c.is
 
-    more_cut : IsCut (from_nothing script) entries (transaction p.number (texts ++ text ∷ []) p.level Nowhere) c.mine
+    more_cut : IsCut (from_nothing script) (view_of (from_nothing script) entries) (transaction p.number (texts ++ text ∷ []) p.level Nowhere) c.mine
     more_cut = record {
       begin = c.doing.begin;
       base = c.doing.base;
       within = c.doing.within;
-      ran = alone_at (from_nothing script) entries (transaction p.number (texts ++ text ∷ []) p.level Nowhere) c.doing.begin;
+      ran = alone_at (from_nothing script) (view_of (from_nothing script) entries) (transaction p.number (texts ++ text ∷ []) p.level Nowhere) c.doing.begin;
       is_ran = refl;
       front = c.doing.front;
       rest = c.doing.rest ++ more;

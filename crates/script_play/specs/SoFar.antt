@@ -20,10 +20,11 @@ use Rattle.report_text.specs.declared.reports.ReplyLine.TheVariants as reply
 use Rattle.report_laws.specs.Language.{alone}
 use Rattle.transaction_answers.specs.Answer.{from_nothing, statement_language}
 use Rattle.report_laws.specs.Each.{EachAfter}
-use Rattle.report_laws.specs.History.{rows_at, taken_at, IsEntryAfter}
-use Rattle.report_laws.specs.Lawful.{IsFreshLine, IsAnswered, IsOfSession, NameUpTo}
+use Rattle.report_laws.specs.History.{rows_at, taken_at, IsEntryAfter, view_of}
+use Rattle.report_laws.specs.Lawful.{IsFreshLine, NameUpTo}
+use Rattle.report_laws.specs.Places.{HasItsPlace}
 use Rattle.report_laws.specs.Play.{InTurns}
-use Rattle.report_laws.specs.Told.{Along, Numbered, IsCut, IsTold, told, numbered}
+use Rattle.report_laws.specs.Told.{Along, Numbered, IsCut, IsTold, IsEntryTold, told, numbered}
 use Rattle.report_laws.specs.Work.{Place, Nowhere, transaction, place_after}
 use Rattle.cdb_values.specs.declared.items.GenidItem.{GenidItem}
 use Rattle.transaction_answers.specs.Sound.{AreSound, IsSoundOp}
@@ -57,14 +58,14 @@ IsDoing script entries next p None (doing.Open begin ops) mine = ⊥
 IsDoing script entries next p None doing.Aborted mine = ⊥
 IsDoing script entries next p (Some texts) doing.No mine = ⊥
 IsDoing script entries next p (Some texts) (doing.Open begin ops) mine = IsOpen script entries next texts begin ops mine
-IsDoing script entries next p (Some texts) doing.Aborted mine = IsCut (from_nothing script) entries (transaction p.number texts p.level Nowhere) mine
+IsDoing script entries next p (Some texts) doing.Aborted mine = IsCut (from_nothing script) (view_of (from_nothing script) entries) (transaction p.number texts p.level Nowhere) mine
 
 -- a session's lines are those of its work so far, and it is where its work is
 pub record Standing (script : Script) (entries : List EntryLine) (next : ℕ) (name : List ℕ) (p : Place) (lines : List Numbered) (at : SessionState) : Type 0 where
   pub before : List Numbered
   pub mine : List ReplyLine
   pub is : lines ≡ before ++ numbered p.number mine
-  pub past : Along (IsTold (from_nothing script) entries name) p.over before
+  pub past : Along (IsTold (from_nothing script) (view_of (from_nothing script) entries) name) p.over before
   pub number : at.number ≡ p.number
   pub level : at.level ≡ p.level
   pub doing : IsDoing script entries next p p.pending at.doing mine
@@ -101,9 +102,9 @@ pub record SoFar (script : Script) (done left : List BodyLine) (lines : List Lin
   pub begins : entries ≡ Setup 1 ∷ later
   pub order : InTurns (from_nothing script) [] [] (Setup 1 ∷ []) done lines later
   pub named : NameUpTo (length entries) lines
-  pub answered : AllByRecursion (IsAnswered lines) entries
+  pub answered : AllByRecursion (IsEntryTold (from_nothing script) (view_of (from_nothing script) entries) lines) entries
   pub ended : AllByRecursion (IsEnded done) entries
-  pub of_sessions : AllByRecursion IsOfSession lines
+  pub placed : EachAfter HasItsPlace [] lines
 
 -- the run before a line, with the lines `left` still to do: every line of the script can be run
 pub record IsBefore (script : Script) (left : List BodyLine) (lines : List Line) (entries : List EntryLine) (taken : List (List GenidItem)) (ages : Ages) (states : List SessionState) : Type 0 where

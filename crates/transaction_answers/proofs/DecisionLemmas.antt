@@ -10,7 +10,7 @@ use Rattle.cdb_values.specs.declared.rows.RowRef.TheVariants.{Base, Own}
 use Rattle.cdb_values.specs.declared.tables.TableDef.{TableDef}
 use Rattle.cdb_values.specs.Views.{IsOnBase}
 use Rattle.cdb_values.specs.Changes.{taken_by}
-use Rattle.report_laws.specs.History.{first_touched}
+use Rattle.report_laws.specs.View.{first_touched}
 use Rattle.cdb_values.specs.declared.items.GenidItem.{GenidItem}
 use Rattle.report_text.specs.declared.reports.ReplyLine.TheVariants as reply
 use Rattle.transaction_answers.proofs.SoundLaws.{sound_on_base}

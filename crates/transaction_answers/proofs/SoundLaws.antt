@@ -12,7 +12,7 @@ use Rattle.cdb_values.specs.declared.rows.Version.{Version}
 use Rattle.cdb_values.specs.declared.tables.TableDef.{TableDef}
 use Rattle.cdb_values.specs.Views.{IsOnBase}
 use Rattle.cdb_values.specs.Changes.{taken_by}
-use Rattle.report_laws.specs.History.{first_touched, is_touched}
+use Rattle.report_laws.specs.View.{first_touched, is_touched}
 use Rattle.report_laws.specs.Outcome.{name_of_table}
 use Rattle.cdb_values.specs.declared.items.GenidItem.{GenidItem}
 use Rattle.cdb_values.specs.Views.{IsBased}

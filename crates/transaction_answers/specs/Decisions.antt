@@ -11,7 +11,7 @@ use Rattle.cdb_values.specs.declared.rows.RowOp.{RowOp}
 use Rattle.cdb_values.specs.declared.tables.TableDef.{TableDef}
 use Rattle.cdb_values.specs.declared.items.GenidItem.{GenidItem}
 use Rattle.cdb_values.specs.Changes.{taken_by}
-use Rattle.report_laws.specs.History.{first_touched}
+use Rattle.report_laws.specs.View.{first_touched}
 use Rattle.report_laws.specs.Outcome.{name_of_table}
 use Rattle.report_text.specs.declared.reports.ReplyLine.{ReplyLine}
 use Rattle.report_text.specs.declared.reports.ReplyLine.TheVariants as reply

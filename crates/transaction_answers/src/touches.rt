@@ -1,7 +1,7 @@
 //! The versions that operations take away, and whether others took them away.
 ghost use Rattle.std.specs.Prelude.{◌≡◌, ◌++◌, ◌∷◌, [], option_to_list, IfOk, OnOk};
 ghost use Rattle.cdb_values.specs.Changes.{taken_by};
-ghost use Rattle.report_laws.specs.History.{is_same_item, is_touched as is_touched_of, first_touched as first_touched_of};
+ghost use Rattle.report_laws.specs.View.{is_same_item, is_touched as is_touched_of, first_touched as first_touched_of};
 
 use cdb_values::{GenidItem, List, RowOp, RowRef};
 use std::alloc::{AllocError, Global};

@@ -1,5 +1,5 @@
-use Rattle.report_laws.proofs.LawLemmas.{entries_told}
+use Rattle.report_laws.proofs.LawLemmas.{entries_told, told_together}
 use Rattle.report_laws.proofs.facts.entries_are_told.Goals as goal
 
 pub returns : goal.returns
-returns c = record { told = entries_told }
+returns c = record { told = entries_told; together = told_together }

@@ -1,5 +1,5 @@
 use Rattle.std.proofs.Common.{◌≡◌, length}
-use Rattle.report_laws.specs.History.{first_touched}
+use Rattle.report_laws.specs.View.{first_touched}
 use Rattle.transaction_answers.proofs.touches.first_touched.Given as goal
 
 abbrev pub invariant-used : goal.invariant-used
