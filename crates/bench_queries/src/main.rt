@@ -1,13 +1,15 @@
-//! Work on queries to be measured: `bench_queries WORK COUNT` does one kind of work over that many combinations, and prints
-//! how many rows it gave.
+//! Work on queries to be measured: `bench_queries WORK COUNT` does one kind of work over that many combinations or updates,
+//! and prints how many rows or net operations it gave.
 //!
 //! | WORK | What is done |
 //! |---|---|
 //! | `groups` | a hundredth as many groups, with `count(*)` and a `sum`, ordered by the sum and then by the group |
 //! | `shape` | the same, with the time of grouping and ordering alone |
+//! | `updates` | updates of one row each by one transaction, each second one of the row just updated, kept up one at a time |
 #![tactic(auto)]
 
-use cdb_values::{List, Value, Version};
+use cdb_values::{List, Row, RowOp, RowRef, Value, Version};
+use net_writes::Overlay;
 use sql_bind::{BoundColumn, BoundItem, BoundKey, BoundSelect};
 use sql_eval::shape;
 use std::alloc::{AllocError, Global};
@@ -27,9 +29,14 @@ const NUMBER: BoundColumn = BoundColumn {
 fn main(rt: HostRuntime) -> io::Result<()> {
     let mut words = env::args(&rt)?.skip(1);
     let (Some(work), Some(count)) = (words.next(), words.next()) else {
-        return println!(rt; "usage: bench_queries groups|shape COUNT");
+        return println!(rt; "usage: bench_queries groups|shape|updates COUNT");
     };
     let count = count.as_str().parse::<u64>().unwrap_or(0);
+    if work.as_str() == "updates" {
+        let kept = keep_up(&rt, rt.alloc(), count)?;
+        let took = kept.took.as_micros();
+        return println!(rt; "in {took} us, {} net operations", kept.rows);
+    }
     let shaped = group_and_order(&rt, rt.alloc(), count)?;
     if work.as_str() == "shape" {
         let took = shaped.took.as_millis();
@@ -56,6 +63,41 @@ fn group_and_order(clock: &impl Clock, alloc: Global, count: u64) -> io::Result<
     };
     let took = start.elapsed(clock)?;
     Ok(Shaped { rows, took })
+}
+
+/// Keeps up the net operations of a transaction over that many updates of one row each.
+fn keep_up(clock: &impl Clock, alloc: Global, count: u64) -> io::Result<Shaped> {
+    let start = Instant::now(clock)?;
+    let mut overlay = Overlay::new(alloc);
+    for n in 0..count {
+        overlay.write(update(alloc, n)?)?;
+    }
+    let took = start.elapsed(clock)?;
+    Ok(Shaped {
+        rows: overlay.count(),
+        took,
+    })
+}
+
+/// An update of a row of the base, or of the row that the update before wrote.
+fn update(alloc: Global, n: u64) -> Result<RowOp, AllocError> {
+    let target = if n % 2 == 0 {
+        RowRef::Base(n)
+    } else {
+        RowRef::Own(n)
+    };
+    Ok(RowOp::Update {
+        table: 0,
+        target,
+        old: one_number(alloc, 0)?,
+        row: one_number(alloc, n)?,
+    })
+}
+
+fn one_number(alloc: Global, n: u64) -> Result<Row, AllocError> {
+    let mut row = List::new(alloc);
+    row.push(Value::Int(i64::try_from(n).unwrap_or(0)))?;
+    Ok(row)
 }
 
 /// Combinations of one row of two numbers, a hundred for each group, which come in a mixed order.
