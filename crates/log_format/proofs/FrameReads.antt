@@ -1,8 +1,8 @@
 -- What stands at the front of bytes, as an envelope and as a frame.
-use Rattle.std.proofs.Common.{◌≡◌, ℕ, ◌+◌, List, [], ◌∷◌, ◌++◌, length, eqb, false, refl, sym, ap, ◌∙◌, subst, arith}
+use Rattle.std.proofs.Common.{◌≡◌, ℕ, List, [], ◌∷◌, ◌++◌, length, eqb, false, refl, sym, ap, ◌∙◌, subst, arith}
 use Rattle.std.proofs.lemmas.List.{append-nil}
 use Rattle.frame_code.specs.declared.frames.Frame.TheVariants as frames
-use Rattle.frame_code.specs.Codes.{number, payload, kind_of, envelope, frame_code}
+use Rattle.frame_code.specs.Codes.{number, payload, kind_of, frame_code}
 use Rattle.frame_code.specs.Fronts.{IsFront}
 use Rattle.frame_code.specs.Tells.{Tells, Lacks, Begins}
 use Rattle.frame_code.proofs.FrameLemmas.{envelopes_tell, header_parts, AreHeaderParts, frames_are_told}

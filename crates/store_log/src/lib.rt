@@ -1,0 +1,26 @@
+//! What a store stands for: a fold over its frames.
+//!
+//! A store is a list of frames, one behind the other. Its first frame is the header, and no other is. The others are
+//! folded in order, and each has a rule:
+//!
+//! | Frame | May stand there | What it does |
+//! |---|---|---|
+//! | promise | above the promised generation | is the promised generation; an open adoption is dropped |
+//! | cut | at most the log's length | opens an adoption with that many entries of the log; an open one is dropped |
+//! | entry | where its records fit, and outside an adoption in the accepted generation | is added to the open adoption, or to the log |
+//! | accept | the promised generation, above the accepted one | is the accepted generation; the open adoption is the log |
+//!
+//! What is left behind the last whole frame is less than an envelope, and stands for nothing; and so does an adoption
+//! that is still open at the end. A frame that has no spelling or breaks its rule is bad, and is told by the offset of
+//! its first byte. A store whose header names another version, node or cluster is foreign.
+//!
+//! No byte, and fewer bytes than a header that are a front of one, stand for an empty log.
+#![tactic(auto)]
+
+mod facts;
+mod laws;
+mod standings;
+
+pub use facts::stores_by_hand;
+pub use laws::standings_are_apart;
+pub use standings::Standing;
