@@ -1,0 +1,4 @@
+pub mod CombinationLemmas
+pub mod SeenLemmas
+pub mod SizeLemmas
+pub mod StepLemmas

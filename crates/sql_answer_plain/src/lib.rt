@@ -1,0 +1,27 @@
+//! The answer of a statement, computed plainly: all combinations of the rows of its tables, those of them for which
+//! WHERE is true, and what the statement makes of these. Its contract is the definition itself, `answer` of
+//! `sql_answer`.
+//!
+//! Nothing is looked up by a key, and rows are copied freely. So it is slow, and short enough to be read beside the
+//! definition; what answers faster is measured by it.
+//!
+//! | Step | Code | Definition, in `sql_answer` |
+//! |---|---|---|
+//! | the rows of a table that the transaction sees | `seen` | `Combinations` |
+//! | the combinations for which WHERE is true | `combinations` | `Combinations` |
+//! | the rows that INSERT and UPDATE write, and their errors | `writes` | `Writes` |
+//! | the answer | `answers` | `Answers` |
+#![tactic(auto)]
+
+mod answers;
+mod combinations;
+mod copies;
+mod outcomes;
+mod queries;
+mod seen;
+mod sizes;
+mod steps;
+mod writes;
+
+pub use answers::answer;
+pub use outcomes::Outcome;
