@@ -122,7 +122,8 @@ fn read_commit(
     rest: &[u8],
 ) -> Result<Option<(Entry, &[u8])>, AllocError>
     requires { IsNumber generation }
-    ensures { IfOk result (λ found. MatchOption found (Lacks entry_code IsEntry (number generation ++ (level_code level ∷ rest.now)))
+    ensures { IfOk result (λ found. MatchOption found
+        (Lacks entry_code IsEntry (number generation ++ (level_code level ∷ rest.now)))
         (λ p. Begins entry_code IsEntry p.0 p.1.now (number generation ++ (level_code level ∷ rest.now)))) }
 {
     let Some((parts, behind)) = CommitParts::read(alloc, rest)? else {

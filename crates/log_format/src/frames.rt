@@ -134,7 +134,8 @@ fn envelope_of(bytes: &[u8]) -> Envelope<'_>
 
 /// What all of these bytes stand for; `None` exactly where they stand for nothing.
 fn read_all<T: Part>(alloc: Global, bytes: &[u8]) -> Result<Option<T>, AllocError>
-    ensures { IfOk result (λ found. MatchOption found (IsNone T.code T.Has bytes.now) (λ v. IsAll T.code T.Has v bytes.now)) }
+    ensures { IfOk result (λ found. MatchOption found (IsNone T.code T.Has bytes.now)
+        (λ v. IsAll T.code T.Has v bytes.now)) }
 {
     let Some((found, rest)) = T::read(alloc, bytes)? else {
         return Ok(None);

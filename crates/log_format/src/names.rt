@@ -11,7 +11,8 @@ use std::alloc::{AllocError, Global};
 
 /// So many bytes from the front, and the bytes behind them; `None` exactly where there are fewer.
 fn take_bytes(size: u64, bytes: &[u8]) -> Option<(&[u8], &[u8])>
-    ensures { MatchOption result (length bytes.now < size) (λ p. (length p.0.now ≡ size) × (p.0.now ++ p.1.now ≡ bytes.now)) }
+    ensures { MatchOption result (length bytes.now < size)
+        (λ p. (length p.0.now ≡ size) × (p.0.now ++ p.1.now ≡ bytes.now)) }
 {
     if (bytes.len() as u64) < size {
         return None;

@@ -25,7 +25,8 @@ pub(crate) fn take_number(bytes: &[u8]) -> Option<(u64, &[u8])>
 /// The number in the first 2 bytes, and the bytes behind it; `None` exactly where there are fewer.
 #[tactic(auto, using(crate::proofs::CountLemmas::no_two_bytes))]
 pub(crate) fn take_u16(bytes: &[u8]) -> Option<(u16, &[u8])>
-    ensures { MatchOption result (Lacks two_bytes IsTwoBytes bytes.now) (λ p. Begins two_bytes IsTwoBytes p.0 p.1.now bytes.now) }
+    ensures { MatchOption result (Lacks two_bytes IsTwoBytes bytes.now)
+        (λ p. Begins two_bytes IsTwoBytes p.0 p.1.now bytes.now) }
 {
     if bytes.len() < 2 {
         return None;

@@ -24,7 +24,8 @@ pub(crate) trait Part: Drop + Sized {
 
     /// The value whose bytes stand at the front, and the bytes behind them; `None` exactly where none stands there.
     fn read(alloc: Global, bytes: &[u8]) -> Result<Option<(Self, &[u8])>, AllocError>
-        ensures { IfOk result (λ found. MatchOption found (Lacks code Has bytes.now) (λ p. Begins code Has p.0 p.1.now bytes.now)) };
+        ensures { IfOk result (λ found. MatchOption found (Lacks code Has bytes.now)
+            (λ p. Begins code Has p.0 p.1.now bytes.now)) };
 
     ghost tells: { Tells code Has };
 }

@@ -1,2 +1,4 @@
+pub mod AdoptionLaws
+pub mod CutLaws
 pub mod HeldLaws
 pub mod WorkedStores

@@ -10,6 +10,7 @@ pub fn stores_by_hand()
     ensures empty { StandsFor 2 7 [] (Log 0 0 []) }
     ensures begun { StandsFor 2 7 (frame_code (Header 1 2 7)) (Log 0 0 []) }
     ensures promised { StandsFor 2 7 (frame_code (Header 1 2 7) ++ frame_code (Promise 1)) (Log 1 0 []) }
-    ensures twice { StandsFor 2 7 (frame_code (Header 1 2 7) ++ (frame_code (Promise 1) ++ frame_code (Promise 1))) (Bad 44) }
+    ensures twice { StandsFor 2 7
+        (frame_code (Header 1 2 7) ++ (frame_code (Promise 1) ++ frame_code (Promise 1))) (Bad 44) }
     ensures foreign { StandsFor 2 7 (frame_code (Header 1 3 7)) Foreign }
 {}
