@@ -2,11 +2,12 @@ ghost use Rattle.std.specs.Prelude.{◌≡◌, IfOk, Err};
 ghost use Rattle.sql_answer.specs.Answers.{answer as answer_of, finished, refused as refused_of, tables_of, filter_of};
 ghost use Rattle.sql_answer.specs.Combinations.{seen as seen_of, met};
 ghost use Rattle.sql_bind.specs.Views.{bound_in};
-ghost use Rattle.sql_answer_plain.specs.Views.{meaning_in, outcome_in};
+ghost use Rattle.sql_answer_plain.specs.Views.{combinations_in, meaning_in, outcome_in};
 
 use crate::combinations::{found, rows_met};
 use crate::outcomes::Outcome;
 use crate::queries::selected;
+use crate::seen::Seen;
 use crate::writes::{add_ops, deleted, inserted, one, updated};
 use cdb_values::{List, RowOp, StatementError, TableDef, Version};
 use report_text::ReplyLine;
@@ -32,35 +33,37 @@ pub fn answer(
         ≡ answer_of tables.now versions.now ops.now (meaning_in meaning.now)) }
 {
     match meaning {
-        Ok(statement) => bound_answer(alloc, tables, versions, ops, statement),
+        Ok(statement) => {
+            let all = all_found(alloc, versions, ops, statement)?;
+            finish(alloc, tables, statement, ops, all.as_slice())
+        }
         Err(cause) => refused(alloc, *cause, ops),
     }
 }
 
-/// The answer of a statement that means something in the schema.
-fn bound_answer(
+/// What a statement makes of the operations so far and of the combinations that it finds, however they were found.
+///
+/// `combinations` are those of the rows of its tables for which its WHERE is true. A statement without tables makes
+/// nothing of them.
+///
+/// `Err` is want of memory.
+pub fn finish(
     alloc: Global,
     tables: &[TableDef],
-    versions: &[List<Version>],
-    ops: &[RowOp],
     statement: &Bound,
+    ops: &[RowOp],
+    combinations: &[List<Seen>],
 ) -> Result<Outcome, AllocError>
-    ensures { IfOk result (λ outcome. outcome_in outcome ≡ finished tables.now (bound_in statement.now) ops.now
-        (met (seen_of versions.now ops.now) (tables_of (bound_in statement.now))
-        (filter_of (bound_in statement.now)))) }
+    ensures { IfOk result (λ outcome. outcome_in outcome
+        ≡ finished tables.now (bound_in statement.now) ops.now (combinations_in combinations.now)) }
 {
     match statement {
         Bound::Begin | Bound::Commit | Bound::Rollback | Bound::SetLevel(_) => {
             refused(alloc, StatementError::State, ops)
         }
         Bound::Insert { table, rows } => inserted(alloc, tables, *table, rows.as_slice(), ops),
-        Bound::Update {
-            table,
-            assigns,
-            filter,
-        } => {
-            let all = found(alloc, versions, ops, &[*table], filter)?;
-            let rows = rows_met(alloc, all.as_slice())?;
+        Bound::Update { table, assigns, .. } => {
+            let rows = rows_met(alloc, combinations)?;
             updated(
                 alloc,
                 tables,
@@ -70,15 +73,33 @@ fn bound_answer(
                 rows.as_slice(),
             )
         }
-        Bound::Delete { table, filter } => {
-            let all = found(alloc, versions, ops, &[*table], filter)?;
-            let rows = rows_met(alloc, all.as_slice())?;
+        Bound::Delete { table, .. } => {
+            let rows = rows_met(alloc, combinations)?;
             deleted(alloc, *table, ops, rows.as_slice())
         }
-        Bound::Select(query) => {
-            let all = found(alloc, versions, ops, query.tables.as_slice(), &query.filter)?;
-            selected(alloc, query, ops, all.as_slice())
+        Bound::Select(query) => selected(alloc, query, ops, combinations),
+    }
+}
+
+/// The combinations that a statement finds.
+fn all_found(
+    alloc: Global,
+    versions: &[List<Version>],
+    ops: &[RowOp],
+    statement: &Bound,
+) -> Result<List<List<Seen>>, AllocError>
+    ensures { IfOk result (λ all. combinations_in all ≡ met (seen_of versions.now ops.now)
+        (tables_of (bound_in statement.now)) (filter_of (bound_in statement.now))) }
+{
+    let nothing = None;
+    match statement {
+        Bound::Update { table, filter, .. } | Bound::Delete { table, filter } => {
+            found(alloc, versions, ops, &[*table], filter)
         }
+        Bound::Select(query) => {
+            found(alloc, versions, ops, query.tables.as_slice(), &query.filter)
+        }
+        _ => found(alloc, versions, ops, &[], &nothing),
     }
 }
 

@@ -23,5 +23,7 @@ mod sizes;
 mod steps;
 mod writes;
 
-pub use answers::answer;
+pub use answers::{answer, finish};
+pub use combinations::{add_extended, copied_combination, kept, versions_of};
 pub use outcomes::Outcome;
+pub use seen::{Seen, add_left, add_own, copied};

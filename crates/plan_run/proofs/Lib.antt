@@ -1,0 +1,3 @@
+pub mod PlanWalkLemmas
+pub mod ReachLemmas
+pub mod LyingLemmas

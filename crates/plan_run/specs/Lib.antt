@@ -1,0 +1,2 @@
+pub mod PlanWalks
+pub mod Sources
