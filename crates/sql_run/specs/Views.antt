@@ -8,6 +8,8 @@ use Rattle.sql_run.specs.declared.kinds.TextKind.{TextKind}
 use Rattle.sql_run.specs.declared.kinds.TextKind.TheVariants as kinds
 use Rattle.sql_run.specs.declared.prepares.Meaning.{Meaning}
 use Rattle.sql_run.specs.declared.prepares.Meaning.TheVariants.{Runs, Fails}
+use Rattle.sql_run.specs.declared.prepares.Prepared.{Prepared}
+use Rattle.sql_run.specs.Texts.{PreparedText}
 
 -- what a text is to transactions
 abbrev pub kind_in : TextKind → Kind
@@ -26,3 +28,7 @@ meaning_in (Fails cause) = Err cause
 abbrev pub plan_in : Meaning → List Planned
 plan_in (Runs statement plan) = plan
 plan_in (Fails cause) = []
+
+-- a text that was read and bound
+abbrev pub text_in : Prepared → PreparedText
+text_in p = record { kind = kind_in p.kind; meaning = meaning_in p.meaning; plan = plan_in p.meaning }

@@ -7,6 +7,7 @@ ghost use Rattle.sql_answer.specs.Language.{answered};
 ghost use Rattle.sql_answer_plain.specs.Views.{outcome_in};
 ghost use Rattle.sql_bind.specs.Views.{bound_in};
 ghost use Rattle.sql_run.specs.Texts.{plan_by, answer_to};
+ghost use Rattle.sql_run.specs.Views.{text_in};
 
 use crate::prepares::{Meaning, Prepared};
 use crate::sources::RowsAt;
@@ -36,7 +37,7 @@ pub struct Answer {
 /// A text with an error gives `done` back as it was. Nothing is asked of the rows: a table that is not there has none.
 ///
 /// `Err` is want of memory alone.
-pub fn answer(
+pub fn answer_prepared(
     alloc: Global,
     schema: &Schema,
     rows: &Snapshots,
@@ -44,13 +45,13 @@ pub fn answer(
     done: List<RowOp>,
     prepared: &Prepared,
 ) -> Result<Answer, AllocError>
-    requires { prepared.now.plan ≡ plan_by schema.now prepared.now.meaning }
+    requires { (text_in prepared.now).plan ≡ plan_by schema.now (text_in prepared.now).meaning }
     ensures replies { IfOk result (λ a. a.replies
-        ≡ (answer_to schema.now (seen begin rows.now.tables) done prepared.now.meaning).replies) }
+        ≡ (answer_to schema.now (seen begin rows.now.tables) done (text_in prepared.now).meaning).replies) }
     ensures ops { IfOk result (λ a. a.ops
-        ≡ (answer_to schema.now (seen begin rows.now.tables) done prepared.now.meaning).ops) }
+        ≡ (answer_to schema.now (seen begin rows.now.tables) done (text_in prepared.now).meaning).ops) }
     ensures uses { IfOk result (λ a. a.uses
-        ≡ (answer_to schema.now (seen begin rows.now.tables) done prepared.now.meaning).uses) }
+        ≡ (answer_to schema.now (seen begin rows.now.tables) done (text_in prepared.now).meaning).uses) }
 {
     match prepared.meaning() {
         Meaning::Runs { statement, plan } => {

@@ -1,8 +1,8 @@
 //! The running of SQL: a text is read and bound once, and answered over the rows of its transaction's begin position.
 //!
 //! ```text
-//! text     -- prepare -->  Prepared: what it is to transactions, what it means in the schema, its plan
-//! Prepared -- answer -->   replies, the transaction's operations after it, the versions that it uses besides
+//! text     -- prepare -->          Prepared: what it is to transactions, what it means in the schema, its plan
+//! Prepared -- answer_prepared -->  replies, the transaction's operations after it, the versions that it uses besides
 //! ```
 //!
 //! A text that begins, ends or sets up a transaction is told by its kind (`Prepared::kind`), and every other one is
@@ -29,7 +29,7 @@ mod lying;
 mod prepares;
 mod sources;
 
-pub use answers::{Answer, answer};
+pub use answers::{Answer, answer_prepared};
 pub use kinds::TextKind;
 pub use prepares::{Prepared, prepare};
 pub use sources::RowsAt;

@@ -8,7 +8,7 @@ ghost use Rattle.sql_answer.specs.Reading.{kind_of, kind_of_text};
 ghost use Rattle.sql_bind.specs.Views.{bound_in};
 ghost use Rattle.sql_grammar.specs.Views.{statement_in};
 ghost use Rattle.sql_run.specs.Texts.{plan_by};
-ghost use Rattle.sql_run.specs.Views.{kind_in, meaning_in, plan_in};
+ghost use Rattle.sql_run.specs.Views.{kind_in, meaning_in, plan_in, text_in};
 
 use crate::kinds::{TextKind, kind_of_statement};
 use cdb_values::{Schema, StatementError};
@@ -17,7 +17,6 @@ use sql_bind::{BindFault, Bound, bind};
 use sql_grammar::Stmt;
 use sql_reader::{ReadStop, read};
 use std::alloc::{AllocError, Global};
-use std::marker::Model;
 
 /// What a text means in a schema.
 #[derive(Drop)]
@@ -29,34 +28,25 @@ pub(crate) enum Meaning {
 }
 
 /// A text that was read once, and bound once in a schema: what it is to transactions, what it means in the schema or its
-/// error there, and the plan by which it reads. Contracts see the record of `specs/Texts`.
+/// error there, and the plan by which it reads. Contracts see it as `text_in` of `specs/Views`.
 #[derive(Drop)]
 pub struct Prepared {
     kind: TextKind,
     meaning: Meaning,
 }
 
-impl Model for Prepared {
-    ghost use Rattle.sql_run.specs.Texts.{PreparedText};
-    ghost use Rattle.sql_run.specs.Views.{kind_in, meaning_in, plan_in};
-
-    ghost Value = { PreparedText };
-
-    ghost view = { λ p. record { kind = kind_in p.kind; meaning = meaning_in p.meaning; plan = plan_in p.meaning } };
-}
-
 impl Prepared {
     /// What the text is to transactions. Takes no memory.
     pub fn kind(&self) -> TextKind
-        ensures { kind_in result ≡ self.now.kind }
+        ensures { kind_in result ≡ (text_in self.now).kind }
     {
         self.kind
     }
 
     /// What the text means. Takes no memory.
     pub(crate) fn meaning(&self) -> &Meaning
-        ensures meaning { meaning_in result.now ≡ self.now.meaning }
-        ensures plan { plan_in result.now ≡ self.now.plan }
+        ensures meaning { meaning_in result.now ≡ (text_in self.now).meaning }
+        ensures plan { plan_in result.now ≡ (text_in self.now).plan }
     {
         &self.meaning
     }
@@ -69,9 +59,9 @@ impl Prepared {
 pub fn prepare(alloc: Global, schema: &Schema, text: &[u8]) -> Result<Prepared, AllocError>
     requires utf8 { is_utf8 text.now ≡ true }
     requires short { length text.now < 2 ^ 32 }
-    ensures kind { IfOk result (λ p. p.kind ≡ kind_of_text text.now) }
-    ensures meaning { IfOk result (λ p. p.meaning ≡ meaning_of bound_as schema.now text.now) }
-    ensures plan { IfOk result (λ p. p.plan ≡ plan_by schema.now p.meaning) }
+    ensures kind { IfOk result (λ p. (text_in p).kind ≡ kind_of_text text.now) }
+    ensures meaning { IfOk result (λ p. (text_in p).meaning ≡ meaning_of bound_as schema.now text.now) }
+    ensures plan { IfOk result (λ p. (text_in p).plan ≡ plan_by schema.now (text_in p).meaning) }
 {
     // The text is UTF-8, so the last case does not come.
     match std::str::from_utf8(text) {
@@ -81,11 +71,17 @@ pub fn prepare(alloc: Global, schema: &Schema, text: &[u8]) -> Result<Prepared, 
 }
 
 /// The same of a text that is known to be UTF-8.
+#[tactic(auto, using(
+    crate::proofs::ReadLemmas::kind_read,
+    crate::proofs::ReadLemmas::meaning_read,
+    crate::proofs::ReadLemmas::kind_refused,
+    crate::proofs::ReadLemmas::meaning_refused
+))]
 fn prepare_text(alloc: Global, schema: &Schema, text: &str) -> Result<Prepared, AllocError>
     requires { length text.now < 2 ^ 32 }
-    ensures kind { IfOk result (λ p. p.kind ≡ kind_of_text text.now) }
-    ensures meaning { IfOk result (λ p. p.meaning ≡ meaning_of bound_as schema.now text.now) }
-    ensures plan { IfOk result (λ p. p.plan ≡ plan_by schema.now p.meaning) }
+    ensures kind { IfOk result (λ p. (text_in p).kind ≡ kind_of_text text.now) }
+    ensures meaning { IfOk result (λ p. (text_in p).meaning ≡ meaning_of bound_as schema.now text.now) }
+    ensures plan { IfOk result (λ p. (text_in p).plan ≡ plan_by schema.now (text_in p).meaning) }
 {
     match read(alloc, text) {
         Ok(statement) => prepare_statement(alloc, schema, &statement),
@@ -100,9 +96,9 @@ fn prepare_statement(
     schema: &Schema,
     statement: &Stmt,
 ) -> Result<Prepared, AllocError>
-    ensures kind { IfOk result (λ p. p.kind ≡ kind_of (statement_in statement.now)) }
-    ensures meaning { IfOk result (λ p. p.meaning ≡ bound_as schema.now (statement_in statement.now)) }
-    ensures plan { IfOk result (λ p. p.plan ≡ plan_by schema.now p.meaning) }
+    ensures kind { IfOk result (λ p. (text_in p).kind ≡ kind_of (statement_in statement.now)) }
+    ensures meaning { IfOk result (λ p. (text_in p).meaning ≡ bound_as schema.now (statement_in statement.now)) }
+    ensures plan { IfOk result (λ p. (text_in p).plan ≡ plan_by schema.now (text_in p).meaning) }
 {
     let meaning = meaning_in_schema(alloc, schema, statement)?;
     Ok(Prepared {
@@ -113,9 +109,9 @@ fn prepare_statement(
 
 /// What a text comes to that is refused at an offset. Takes no memory.
 fn refused(at: u32) -> Prepared
-    ensures kind { result.kind ≡ OtherText }
-    ensures meaning { result.meaning ≡ Err (StatementError.Syntax at) }
-    ensures plan { result.plan ≡ [] }
+    ensures kind { (text_in result).kind ≡ OtherText }
+    ensures meaning { (text_in result).meaning ≡ Err (StatementError.Syntax at) }
+    ensures plan { (text_in result).plan ≡ [] }
 {
     Prepared {
         kind: TextKind::Other,
@@ -124,6 +120,7 @@ fn refused(at: u32) -> Prepared
 }
 
 /// What a statement means in a schema, with its plan.
+#[tactic(auto, using(crate::proofs::ReadLemmas::bound_means, crate::proofs::ReadLemmas::fault_means))]
 fn meaning_in_schema(
     alloc: Global,
     schema: &Schema,

@@ -14,6 +14,7 @@ use snapshot_rows::{Age, Snapshots};
 use std::alloc::{AllocError, Global};
 
 /// The rows of all tables as they were at a position. Only versions that are asked for are copied.
+#[derive(Drop)]
 pub struct RowsAt<'a> {
     pub schema: &'a Schema,
     pub rows: &'a Snapshots,
