@@ -58,7 +58,10 @@ pub record IsFaultless (tables : List TableDef) (s : Statement) (b : BoundStatem
   pub count : has_wrong_count tables s ≡ false
   pub is : bound_as tables s ≡ b
 
-ok_same : (x y : BoundStatement) → Ok x ≡ Ok y → x ≡ y
+abbrev bound_ok : BoundStatement → Result BoundStatement Kind
+bound_ok b = Ok b
+
+ok_same : (x y : BoundStatement) → bound_ok x ≡ bound_ok y → x ≡ y
 ok_same x y same = cc
 
 pub faultless : (tables : List TableDef) (s : Statement) (b : BoundStatement) → binding tables s ≡ Ok b → IsFaultless tables s b

@@ -198,10 +198,10 @@ finished_leaves tables RollbackIt ops combos well all are = all
 finished_leaves tables (SetIt level) ops combos well all are = all
 finished_leaves tables (InsertInto table rows) ops combos well all are =
     unless_leaves (rows_error (slice_get tables table) (map (λ row. Some row) rows)) ops (map (op.Insert table) rows) all (inserts_are table rows well)
-finished_leaves tables (UpdateOf table assigns filter) ops combos well all are =
+finished_leaves tables (UpdateOf table assigns condition) ops combos well all are =
     unless_leaves (rows_error (slice_get tables table) (map (λ s. set_row assigns s.row) (rows_met combos))) ops (filter_map (updating table assigns) (rows_met combos))
     all (updates_are table assigns (rows_met combos) well (all_met IsSeen combos are))
-finished_leaves tables (DeleteFrom table filter) ops combos well all are = net_leaves ops (map (deleting table) (rows_met combos)) all (deletes_are table (rows_met combos))
+finished_leaves tables (DeleteFrom table condition) ops combos well all are = net_leaves ops (map (deleting table) (rows_met combos)) all (deletes_are table (rows_met combos))
 finished_leaves tables (SelectOf query) ops combos well all are = rows_leave (items_used query combos) ops (shape query (map rows_of combos)) all
 
 abbrev pub IsWell : Meaning → Type 0
@@ -243,11 +243,11 @@ finished_tells tables CommitIt ops combos well few are = (tt, tt)
 finished_tells tables RollbackIt ops combos well few are = (tt, tt)
 finished_tells tables (SetIt level) ops combos well few are = (tt, tt)
 finished_tells tables (InsertInto table rows) ops combos well few are = unless_tells (rows_error (slice_get tables table) (map (λ row. Some row) rows)) ops (map (op.Insert table) rows)
-finished_tells tables (UpdateOf table assigns filter) ops combos well few are =
+finished_tells tables (UpdateOf table assigns condition) ops combos well few are =
     unless_tells (rows_error (slice_get tables table) (map (λ s. set_row assigns s.row) (rows_met combos))) ops (filter_map (updating table assigns) (rows_met combos))
-finished_tells tables (DeleteFrom table filter) ops combos well few are = net_tells ops (map (deleting table) (rows_met combos))
+finished_tells tables (DeleteFrom table condition) ops combos well few are = net_tells ops (map (deleting table) (rows_met combos))
 finished_tells tables (SelectOf query) ops combos well few are =
-    let same : length (map rows_of combos) ≡ length combos = length-map rows_of combos in
+    let same : length (map rows_of combos) ≡ length combos = length-map combos rows_of in
     let small : length (map rows_of combos) < 2 ^ 63 = subst (λ (n : ℕ). n < 2 ^ 63) (sym same) few in
     rows_tell (items_used query combos) ops (shape query (map rows_of combos)) (λ rows given. shaped query (map rows_of combos) rows well small (all_rows_are combos are) given)
 

@@ -128,7 +128,7 @@ module _ (tables : List TableDef) (next : ℕ) (done : List RowOp) (place : ℕ)
   written_at : (front : List RowOp) (op : RowOp) (ops : List RowOp) → done ≡ front ++ op ∷ ops → (table_of op == place) ≡ true → IsOnTable (map (λ o. Some o) done) (suc (length front)) place
   written_at front op ops splits here =
       let on : table_of op ≡ place = eqb-true (table_of op) place here in
-      let long : length (map (λ (o : RowOp). Some o) done) ≡ length done = length-map (λ (o : RowOp). Some o) done in
+      let long : length (map (λ (o : RowOp). Some o) done) ≡ length done = length-map done (λ (o : RowOp). Some o) in
       let whole : length done ≡ length (front ++ op ∷ ops) = ap length splits in
       let parts : length (front ++ op ∷ ops) ≡ length front + length (op ∷ ops) = length-append front (op ∷ ops) in
       let there : slice_get (map (λ (o : RowOp). Some o) done) (length front) ≡ Some (Some op) = ap (λ (l : List RowOp). slice_get (map (λ (o : RowOp). Some o) l) (length front)) splits ∙ at_front front in
@@ -176,10 +176,7 @@ module _ (tables : List TableDef) (next : ℕ) (done : List RowOp) (place : ℕ)
       all_append IsSoundSeen (map seen_version (filter (is_left done place) (of_table versions place))) (own_from 1 place done)
       (versions_seen (filter (is_left done place) (of_table versions place))
       (all_filtered (IsSoundVersion table next) (is_left done place) (of_table versions place) (versions_at tables next versions place table sound at)))
-      (own_seen [] done 1 refl one_is all)
-    where
-      one_is : 1 ≡ suc (length [])
-      one_is = omega arith
+      (own_seen [] done 1 refl (omega arith) all)
 
   -- the rows that a write of this table meets
   rows_met_are : (versions : List (List Version)) (s : BoundStatement) → AreSound tables next versions → AllByRecursion (IsSoundOp tables next) done → tables_read (Ok s) ≡ place ∷ []
@@ -244,8 +241,8 @@ IsTyped tables CommitIt = Unit {0}
 IsTyped tables RollbackIt = Unit {0}
 IsTyped tables (SetIt level) = Unit {0}
 IsTyped tables (InsertInto place rows) = (table : TableDef) × (slice_get tables place ≡ Some table) × AllByRecursion (FitKinds table.columns) rows
-IsTyped tables (UpdateOf place assigns filter) = (table : TableDef) × (slice_get tables place ≡ Some table) × AllByRecursion (IsTypedAssign table.columns) assigns
-IsTyped tables (DeleteFrom place filter) = (table : TableDef) × (slice_get tables place ≡ Some table)
+IsTyped tables (UpdateOf place assigns condition) = (table : TableDef) × (slice_get tables place ≡ Some table) × AllByRecursion (IsTypedAssign table.columns) assigns
+IsTyped tables (DeleteFrom place condition) = (table : TableDef) × (slice_get tables place ≡ Some table)
 IsTyped tables (SelectOf query) = Unit {0}
 
 statement_leaves : (tables : List TableDef) (versions : List (List Version)) (done : List RowOp) (next : ℕ) (s : BoundStatement) → AreSound tables next versions → AllByRecursion (IsSoundOp tables next) done
@@ -257,14 +254,14 @@ statement_leaves tables versions done next (SetIt level) sound all typed = all
 statement_leaves tables versions done next (InsertInto place rows) sound all (table, at, kinds) =
     unless_leaves tables next (rows_error (slice_get tables place) (map (λ row. Some row) rows)) done (map (Insert place) rows) all
     (λ free. inserts_are tables next done place table at rows kinds (subst (λ (o : Option TableDef). rows_error o (map (λ (row : List Value). Some row) rows) ≡ None) at free))
-statement_leaves tables versions done next (UpdateOf place assigns filter) sound all (table, at, typed) =
-    let rows : List Seen = rows_met (found versions done (Ok (UpdateOf place assigns filter))) in
+statement_leaves tables versions done next (UpdateOf place assigns condition) sound all (table, at, typed) =
+    let rows : List Seen = rows_met (found versions done (Ok (UpdateOf place assigns condition))) in
     unless_leaves tables next (rows_error (slice_get tables place) (map (λ s. set_row assigns s.row) rows)) done (filter_map (updating place assigns) rows) all
-    (λ free. updates_are tables next done place table at assigns rows typed (rows_met_are tables next done place table at versions (UpdateOf place assigns filter) sound all refl)
+    (λ free. updates_are tables next done place table at assigns rows typed (rows_met_are tables next done place table at versions (UpdateOf place assigns condition) sound all refl)
     (subst (λ (o : Option TableDef). rows_error o (map (λ (s : Seen). set_row assigns s.row) rows) ≡ None) at free))
-statement_leaves tables versions done next (DeleteFrom place filter) sound all (table, at) =
-    let rows : List Seen = rows_met (found versions done (Ok (DeleteFrom place filter))) in
-    net_leaves tables next done (map (deleting place) rows) all (deletes_are tables next done place table at rows (rows_met_are tables next done place table at versions (DeleteFrom place filter) sound all refl))
+statement_leaves tables versions done next (DeleteFrom place condition) sound all (table, at) =
+    let rows : List Seen = rows_met (found versions done (Ok (DeleteFrom place condition))) in
+    net_leaves tables next done (map (deleting place) rows) all (deletes_are tables next done place table at rows (rows_met_are tables next done place table at versions (DeleteFrom place condition) sound all refl))
 statement_leaves tables versions done next (SelectOf query) sound all typed =
     rows_leave tables next (items_used query (found versions done (Ok (SelectOf query)))) done (shape query (map rows_of (found versions done (Ok (SelectOf query))))) all
 
