@@ -35,7 +35,9 @@
 mod adapters;
 mod consumer;
 mod faults;
+mod file_store;
 mod fronts;
+mod kept;
 mod mem_sink;
 mod mem_source;
 mod mem_store;
@@ -46,6 +48,7 @@ mod store;
 pub use adapters::{ReadSource, WriteSink};
 pub use consumer::{Consumer, RowEvent, Taken};
 pub use faults::Failed;
+pub use file_store::{FileState, FileStore};
 pub use mem_sink::MemSink;
 pub use mem_source::MemSource;
 pub use mem_store::MemStore;
