@@ -28,8 +28,9 @@
 //! | `cut(1)` | `a` | |
 //!
 //! The objects in memory fail as they are told: `fails` lists the numbers of the calls that fail, from
-//! 1 over the calls of the trait that can fail. Otherwise they fail only where they find no memory for
-//! their own bytes. `ReadSource` and `WriteSink` stand over a reader and a writer of std.
+//! 1 over the calls of the trait that can fail, and a store may be told to stop after so many appended
+//! bytes, until it is halted. Otherwise they fail only where they find no memory for their own bytes.
+//! `ReadSource` and `WriteSink` stand over a reader and a writer of std, `FileStore` over a file of std.
 #![tactic(auto)]
 
 mod adapters;
