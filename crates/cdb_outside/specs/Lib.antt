@@ -4,3 +4,4 @@ pub mod Plans
 pub mod Stores
 pub mod Objects
 pub mod Consumers
+pub mod Stops

@@ -1,6 +1,7 @@
 -- What contracts see of the objects in memory and of the adapters over std's readers and writers.
-use Rattle.std.specs.Prelude.{ℕ, List}
+use Rattle.std.specs.Prelude.{ℕ, List, Option}
 use Rattle.cdb_outside.specs.Plans.{Planned}
+use Rattle.cdb_outside.specs.declared.file_store.FileState.{FileState}
 
 -- a source in memory: the bytes that it has left to give
 pub record HeldSource : Type 0 where
@@ -12,11 +13,25 @@ pub record HeldSink : Type 0 where
   pub written : List ℕ
   pub plan : Planned
 
--- a store in memory: its bytes, and how many pending bytes a stop keeps
+-- the bytes of a store: the synced ones, and the pending ones behind them
+pub record Kept : Type 0 where
+  pub durable : List ℕ
+  pub waiting : List ℕ
+
+-- a store in memory: its synced and its pending bytes, how many pending bytes a halt keeps, how many more
+-- bytes are appended before it stops, if it is to stop, and which calls fail
 pub record HeldStore : Type 0 where
   pub durable : List ℕ
   pub waiting : List ℕ
   pub keeps : ℕ
+  pub left : Option ℕ
+  pub plan : Planned
+
+-- a store in a file: its synced and its pending bytes, how the file stands to the synced ones, and how many calls failed
+pub record HeldFile : Type 0 where
+  pub durable : List ℕ
+  pub waiting : List ℕ
+  pub state : FileState
   pub failures : ℕ
 
 -- a reader or a writer of std, and how many of its calls failed

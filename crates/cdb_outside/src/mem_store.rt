@@ -1,53 +1,53 @@
-//! A store of a log in memory.
-ghost use Rattle.std.specs.Prelude.{◌≡◌, ◌-◌, ◌<◌, ◌≤◌, None, [], ◌++◌, min, length, take, drop, IsOk, IfOk, OnOk, OnErr};
-ghost use Rattle.std.specs.Io.{ReadsAtMost};
-ghost use Rattle.cdb_outside.specs.Faults.{HasCause, count_after};
-ghost use Rattle.cdb_outside.specs.Parts.{IsFront};
+//! A store of a log in memory, which fails as planned, and stops inside a write where it is told to.
+ghost use Rattle.std.specs.Prelude.{◌≡◌, ◌-◌, ◌<◌, ◌≤◌, ◌↔◌, ◌⊎◌, IsTrue, [], ◌++◌, min, length, take, drop, IfOk, OnOk, OnErr};
+ghost use Rattle.std.specs.Io.{ReadsAtMost, StartsWith};
+ghost use Rattle.cdb_outside.specs.Faults.{HasCause};
+ghost use Rattle.cdb_outside.specs.Parts.{IsFront, IsFrontFrom};
+ghost use Rattle.cdb_outside.specs.Plans.{fresh};
 ghost use Rattle.cdb_outside.specs.Stores.{GivesFrom};
 ghost use Rattle.cdb_outside.specs.Objects.{HeldStore};
+ghost use Rattle.cdb_outside.specs.Stops.{IsRefused, StopsIn, room_in, left_behind, passed, refused, appended, halted};
 
-use crate::fronts::copy_front;
+use crate::faults::FaultPlan;
+use crate::kept::KeptBytes;
 use crate::{Failed, LogStore};
 use std::marker::Model;
 
-/// A store that keeps its bytes in memory. It fails only where an append finds no memory.
+/// A store that keeps its bytes in memory. Its calls but `halt` are numbered from 1, and those of the plan fail. Where it
+/// is to stop, it takes that many appended bytes and fails from then on, until it is halted. Besides, an append fails
+/// that finds no memory.
 #[derive(Drop)]
 pub struct MemStore {
-    bytes: Vec<u8>,
-    synced: usize,
+    kept: KeptBytes,
     keeps: u64,
-    faults: u64,
+    left: Option<u64>,
+    plan: FaultPlan,
 }
 
 impl Model for MemStore {
     ghost Value = { HeldStore };
 
     ghost view = { λ s. record {
-      durable = take s.synced s.bytes.items;
-      waiting = drop s.synced s.bytes.items;
+      durable = s.kept.durable;
+      waiting = s.kept.waiting;
       keeps = s.keeps;
-      failures = s.faults;
+      left = s.left;
+      plan = s.plan;
     } };
-
-    ghost invariant = { λ s. s.synced ≤ length s.bytes.items };
 }
 
 impl MemStore {
-    /// A store with these synced bytes and none pending. `keeps` is how many pending bytes a halt
-    /// keeps; it keeps all of them where they are fewer. No planned fault and no stop inside a write is
-    /// built so far.
+    /// A store with these synced bytes and none pending. The calls with the numbers of `fails` fail. `stop_after` is how
+    /// many bytes are appended before it stops; none where it does not. `keeps` is how many pending bytes a halt keeps;
+    /// it keeps all of them where they are fewer.
     pub fn new(bytes: Vec<u8>, fails: Vec<u64>, stop_after: Option<u64>, keeps: u64) -> MemStore
-        requires fails { fails.items ≡ [] }
-        requires stop_after { stop_after ≡ None }
-        ensures { result ≡ record { durable = bytes.items; waiting = []; keeps = keeps; failures = 0 } }
+        ensures { result ≡ record { durable = bytes.items; waiting = []; keeps = keeps; left = stop_after; plan = fresh fails.items } }
     {
-        let _ = (fails, stop_after);
-        let synced = bytes.len();
         MemStore {
-            bytes,
-            synced,
+            kept: KeptBytes::new(bytes),
             keeps,
-            faults: 0,
+            left: stop_after,
+            plan: FaultPlan::new(fails),
         }
     }
 
@@ -55,7 +55,34 @@ impl MemStore {
     pub fn synced(&self) -> &[u8]
         ensures { result.now ≡ self.now.durable }
     {
-        &self.bytes[..self.synced]
+        self.kept.synced()
+    }
+
+    /// Whether the next call fails, whatever it is.
+    fn refuses(&self) -> bool
+        ensures { IsTrue result ↔ IsRefused self.now }
+    {
+        self.left == Some(0) || self.plan.fails_next()
+    }
+
+    /// How many of so many bytes are taken before the store stops.
+    fn room(&self, count: usize) -> usize
+        ensures { result ≡ room_in self.now.left count }
+    {
+        match self.left {
+            Some(left) => (left as usize).min(count),
+            None => count,
+        }
+    }
+
+    /// Counts the bytes that were taken, in a call that succeeds.
+    fn count_taken(&mut self, count: usize)
+        ensures { self.new ≡ record (passed self.old) { left = left_behind self.old.left count } }
+    {
+        if let Some(left) = self.left {
+            self.left = Some(left.saturating_sub(count as u64));
+        }
+        self.plan.count_success();
     }
 }
 
@@ -64,66 +91,98 @@ impl LogStore for MemStore {
 
     ghost pending = { λ s. s.waiting };
 
-    ghost faults = { λ s. s.failures };
+    ghost faults = { λ s. s.plan.failures };
 
-    /// Gives as many bytes as the buffer has room for and stand there. It never fails.
+    /// Gives as many bytes as the buffer has room for and stand there.
     fn read(&mut self, at: u64, buf: &mut [u8]) -> Result<usize, Failed>
         ensures bound { ReadsAtMost result buf.new }
         ensures given { GivesFrom self.old.durable at result buf.new }
         ensures some { at < length self.old.durable → 0 < length buf.old → IfOk result (λ n. 0 < n) }
+        ensures cause { HasCause self.old.plan.failures self.new.plan.failures result }
 
-        ensures succeeds { IsOk result }
         ensures count { IfOk result (λ n. n ≡ min (length buf.old) (length self.old.durable - at)) }
-        ensures same { self.new ≡ self.old }
+        ensures passes { OnOk result ((IsRefused self.old → ⊥) × (self.new ≡ passed self.old)) }
+        ensures fails { OnErr result (IsRefused self.old × (self.new ≡ refused self.old)) }
     {
-        let start = (at as usize).min(self.synced);
-        Ok(copy_front(&self.bytes[start..self.synced], buf))
-    }
-
-    /// `Failed` only where no memory is found for the bytes; then nothing but the count is changed.
-    fn append(&mut self, bytes: &[u8]) -> Result<(), Failed>
-        ensures part { OnErr result (IsFront self.new.waiting (self.old.waiting ++ bytes.now)) }
-        ensures cause { HasCause self.old.failures self.new.failures result }
-
-        ensures success { OnOk result (self.new ≡ record self.old { waiting = self.old.waiting ++ bytes.now }) }
-        ensures failure { OnErr result (self.new ≡ record self.old { failures = count_after self.old.failures }) }
-    {
-        if self.bytes.extend_from_slice(bytes).is_err() {
-            self.faults = self.faults.saturating_add(1);
+        if self.refuses() {
+            self.plan.count_failure();
             return Err(Failed);
         }
-        Ok(())
+        self.plan.count_success();
+        Ok(self.kept.give(at, buf))
     }
 
-    /// It never fails.
-    fn sync(&mut self) -> Result<(), Failed>
-        ensures succeeds { IsOk result }
-        ensures joined { self.new ≡ record self.old { durable = self.old.durable ++ self.old.waiting; waiting = [] } }
+    /// Takes all of the bytes, or fails: as planned; or where the store stops inside of them; or where no memory is found
+    /// for them, when nothing but the counts is changed.
+    fn append(&mut self, bytes: &[u8]) -> Result<(), Failed>
+        ensures part { OnErr result (IsFront self.new.waiting (self.old.waiting ++ bytes.now)) }
+        ensures cause { HasCause self.old.plan.failures self.new.plan.failures result }
+
+        ensures passes { OnOk result ((IsRefused self.old → ⊥) × (room_in self.old.left (length bytes.now) ≡ length bytes.now)) }
+        ensures success { OnOk result (self.new ≡ appended self.old bytes.now) }
+        ensures failure { OnErr result ((self.new ≡ refused self.old) ⊎ StopsIn self.old bytes.now self.new) }
     {
-        self.synced = self.bytes.len();
+        if self.refuses() {
+            self.plan.count_failure();
+            return Err(Failed);
+        }
+        let (front, over) = bytes.split_at(self.room(bytes.len()));
+        if !self.kept.add(front) {
+            self.plan.count_failure();
+            return Err(Failed);
+        }
+        if !over.is_empty() {
+            self.left = Some(0);
+            self.plan.count_failure();
+            return Err(Failed);
+        }
+        self.count_taken(front.len());
         Ok(())
     }
 
-    /// It never fails.
+    fn sync(&mut self) -> Result<(), Failed>
+        ensures part { OnErr result (IsFront self.new.waiting self.old.waiting) }
+        ensures cause { HasCause self.old.plan.failures self.new.plan.failures result }
+
+        ensures passes { OnOk result ((IsRefused self.old → ⊥)
+            × (self.new ≡ record (passed self.old) { durable = self.old.durable ++ self.old.waiting; waiting = [] })) }
+        ensures fails { OnErr result (IsRefused self.old × (self.new ≡ refused self.old)) }
+    {
+        if self.refuses() {
+            self.plan.count_failure();
+            return Err(Failed);
+        }
+        self.kept.join();
+        self.plan.count_success();
+        Ok(())
+    }
+
     fn cut(&mut self, at: u64) -> Result<(), Failed>
         requires settled { self.old.waiting ≡ [] }
         requires within { at ≤ length self.old.durable }
-        ensures succeeds { IsOk result }
-        ensures cut { self.new ≡ record self.old { durable = take at self.old.durable } }
+        ensures part { OnErr result (IsFrontFrom at self.new.durable self.old.durable) }
+        ensures cause { HasCause self.old.plan.failures self.new.plan.failures result }
+
+        ensures passes { OnOk result ((IsRefused self.old → ⊥)
+            × (self.new ≡ record (passed self.old) { durable = take at self.old.durable })) }
+        ensures fails { OnErr result (IsRefused self.old × (self.new ≡ refused self.old)) }
     {
-        let end = at as usize;
-        self.bytes.truncate(end);
-        self.synced = end;
+        if self.refuses() {
+            self.plan.count_failure();
+            return Err(Failed);
+        }
+        self.kept.cut(at);
+        self.plan.count_success();
         Ok(())
     }
 
-    /// Keeps as many pending bytes as the store was made to keep.
+    /// Keeps as many pending bytes as the store was made to keep. A store that stopped goes on.
     fn halt(&mut self)
-        ensures { self.new ≡ record self.old { durable = self.old.durable ++ take self.old.keeps self.old.waiting; waiting = [] } }
+        ensures { self.new ≡ halted self.old }
     {
-        let pending = self.bytes.len() - self.synced;
-        let kept = (self.keeps as usize).min(pending);
-        self.synced += kept;
-        self.bytes.truncate(self.synced);
+        self.kept.settle(self.keeps);
+        if self.left == Some(0) {
+            self.left = None;
+        }
     }
 }

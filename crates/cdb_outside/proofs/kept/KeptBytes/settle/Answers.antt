@@ -1,6 +1,6 @@
 use Rattle.std.proofs.Common.{refl}
 use Rattle.cdb_outside.proofs.FrontLemmas.{take-kept, take-own, drop-own}
-use Rattle.cdb_outside.proofs.mem_store.MemStoreLogStore.halt.Goals as goal
+use Rattle.cdb_outside.proofs.kept.KeptBytes.settle.Goals as goal
 
 pub returns : goal.returns
 returns c =

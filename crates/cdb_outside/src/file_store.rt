@@ -1,0 +1,284 @@
+//! A store of a log in a file.
+ghost use Rattle.std.specs.Prelude.{◌≡◌, ◌≢◌, ◌-◌, ◌<◌, ◌≤◌, false, IsTrue, [], ◌++◌, min, length, take, drop, IsErr, IfOk, OnOk, OnErr};
+ghost use Rattle.std.specs.Io.{ReadsAtMost};
+ghost use Rattle.cdb_outside.specs.Faults.{HasCause, count_after};
+ghost use Rattle.cdb_outside.specs.Parts.{IsFront, IsFrontFrom};
+ghost use Rattle.cdb_outside.specs.Stores.{GivesFrom, JoinsFront};
+ghost use Rattle.cdb_outside.specs.Objects.{HeldFile};
+
+use crate::kept::KeptBytes;
+use crate::{Failed, LogStore};
+use std::fs::{OpenFile, OpenOptions};
+use std::io::{ErrorKind, Seek, SeekFrom, Write};
+use std::marker::Model;
+use std::rt::Files;
+use std::{fs, io};
+
+/// How the bytes of a file stand to the synced bytes of its store, as far as the store knows.
+#[derive(Clone, Copy, PartialEq, Eq, Debug)]
+pub enum FileState {
+    /// They are the same.
+    Equal,
+    /// A call failed that was to change the file, and the next one makes it equal first.
+    Behind,
+    /// The file could not be read when the store was made, and each call fails.
+    Unread,
+}
+
+/// A store that keeps its bytes in a file, and in memory those that it read when it was made and those that it synced
+/// since. These are its synced bytes. A halt keeps no pending byte.
+#[derive(Drop)]
+pub struct FileStore<'a, R: Files> {
+    files: &'a R,
+    path: String,
+    file: Option<R::File>,
+    kept: KeptBytes,
+    state: FileState,
+    faults: u64,
+}
+
+impl<'a, R: Files> Model for FileStore<'a, R> {
+    ghost Value = { HeldFile };
+
+    ghost view = { λ s. record {
+      durable = s.kept.durable;
+      waiting = s.kept.waiting;
+      state = s.state;
+      failures = s.faults;
+    } };
+}
+
+impl<'a, R: Files + AllocGlobal> FileStore<'a, R> {
+    /// A store over the file with this path. A file that is not there counts as an empty one, and the first sync makes
+    /// it. Where the file cannot be read for another reason, the store has no bytes and each of its calls fails.
+    pub fn new(files: &'a R, path: String) -> FileStore<'a, R>
+        ensures settled { result.waiting ≡ [] }
+        ensures begun { result.state ≢ FileState.Behind }
+        ensures unread { result.state ≡ FileState.Unread → result.durable ≡ [] }
+        ensures count { result.failures ≡ 0 }
+    {
+        let (bytes, state) = match fs::read(files, path.as_str()) {
+            Ok(bytes) => (bytes, FileState::Equal),
+            Err(error) if error.kind() == ErrorKind::NotFound => {
+                (Vec::new(files.alloc()), FileState::Equal)
+            }
+            Err(_) => (Vec::new(files.alloc()), FileState::Unread),
+        };
+        FileStore {
+            files,
+            path,
+            file: None,
+            kept: KeptBytes::new(bytes),
+            state,
+            faults: 0,
+        }
+    }
+}
+
+impl<'a, R: Files> FileStore<'a, R> {
+    /// The synced bytes.
+    pub fn synced(&self) -> &[u8]
+        ensures { result.now ≡ self.now.durable }
+    {
+        self.kept.synced()
+    }
+
+    /// The file, open to be written; it is made where it is not there.
+    fn opened(&mut self) -> io::Result<R::File>
+        ensures { self.new ≡ self.old }
+    {
+        match self.file.take() {
+            Some(file) => Ok(file),
+            None => OpenOptions::new()
+                .write(true)
+                .create(true)
+                .open(self.files, self.path.as_str()),
+        }
+    }
+
+    /// Writes the pending bytes behind the synced ones, and syncs the file. A file that failed is closed.
+    fn write_pending(&mut self) -> io::Result<()>
+        ensures { self.new ≡ self.old }
+    {
+        let mut file = self.opened()?;
+        let at = self.kept.synced().len() as u64;
+        write_at(&mut file, at, self.kept.pending())?;
+        self.file = Some(file);
+        Ok(())
+    }
+
+    /// Leaves the file so many bytes, and syncs it. A file that failed is closed.
+    fn shorten(&mut self, size: u64) -> io::Result<()>
+        ensures { self.new ≡ self.old }
+    {
+        let file = self.opened()?;
+        file.set_len(size)?;
+        file.sync_all()?;
+        self.file = Some(file);
+        Ok(())
+    }
+
+    /// Makes the file equal to the synced bytes. A file that failed is closed.
+    fn rewrite(&mut self) -> io::Result<()>
+        ensures { self.new ≡ self.old }
+    {
+        let mut file = self.opened()?;
+        let bytes = self.kept.synced();
+        write_at(&mut file, 0, bytes)?;
+        file.set_len(bytes.len() as u64)?;
+        file.sync_all()?;
+        self.file = Some(file);
+        Ok(())
+    }
+
+    /// Makes the file equal to the synced bytes, where a call before left it behind.
+    fn catch_up(&mut self) -> Result<(), Failed>
+        ensures unread { self.old.state ≡ FileState.Unread → IsErr result }
+        ensures success { OnOk result (self.new ≡ record self.old { state = FileState.Equal }) }
+        ensures failure { OnErr result (self.new ≡ record self.old { failures = count_after self.old.failures }) }
+        ensures behind { OnErr result (self.old.state ≢ FileState.Equal) }
+        ensures cause { HasCause self.old.failures self.new.failures result }
+    {
+        let is_equal = match self.state {
+            FileState::Equal => true,
+            FileState::Behind => self.rewrite().is_ok(),
+            FileState::Unread => false,
+        };
+        if !is_equal {
+            self.faults = self.faults.saturating_add(1);
+            return Err(Failed);
+        }
+        self.state = FileState::Equal;
+        Ok(())
+    }
+}
+
+/// Writes bytes to a place in a file, and syncs it.
+fn write_at<F: Write + Seek + OpenFile>(file: &mut F, at: u64, bytes: &[u8]) -> io::Result<()> {
+    file.seek(SeekFrom::Start(at))?;
+    file.write_all(bytes)?;
+    file.sync_all()
+}
+
+impl<'a, R: Files> LogStore for FileStore<'a, R> {
+    ghost synced = { λ s. s.durable };
+
+    ghost pending = { λ s. s.waiting };
+
+    ghost faults = { λ s. s.failures };
+
+    /// Gives as many bytes as the buffer has room for and stand there, of those in memory.
+    fn read(&mut self, at: u64, buf: &mut [u8]) -> Result<usize, Failed>
+        ensures bound { ReadsAtMost result buf.new }
+        ensures given { GivesFrom self.old.durable at result buf.new }
+        ensures some { at < length self.old.durable → 0 < length buf.old → IfOk result (λ n. 0 < n) }
+        ensures synced { self.new.durable ≡ self.old.durable }
+        ensures pending { self.new.waiting ≡ self.old.waiting }
+        ensures cause { HasCause self.old.failures self.new.failures result }
+
+        ensures count { IfOk result (λ n. n ≡ min (length buf.old) (length self.old.durable - at)) }
+        ensures unread { self.old.state ≡ FileState.Unread → IsErr result }
+        ensures success { OnOk result (self.new ≡ record self.old { state = FileState.Equal }) }
+        ensures failure { OnErr result (self.new ≡ record self.old { failures = count_after self.old.failures }) }
+    {
+        self.catch_up()?;
+        Ok(self.kept.give(at, buf))
+    }
+
+    /// Keeps the bytes in memory.
+    fn append(&mut self, bytes: &[u8]) -> Result<(), Failed>
+        ensures appended { OnOk result (self.new.waiting ≡ self.old.waiting ++ bytes.now) }
+        ensures part { OnErr result (IsFront self.new.waiting (self.old.waiting ++ bytes.now)) }
+        ensures synced { self.new.durable ≡ self.old.durable }
+        ensures cause { HasCause self.old.failures self.new.failures result }
+
+        ensures unread { self.old.state ≡ FileState.Unread → IsErr result }
+        ensures success { OnOk result (self.new ≡ record self.old {
+          waiting = self.old.waiting ++ bytes.now;
+          state = FileState.Equal;
+        }) }
+        ensures failure { OnErr result (self.new ≡ record self.old {
+          state = self.new.state;
+          failures = count_after self.old.failures;
+        }) }
+    {
+        self.catch_up()?;
+        if !self.kept.add(bytes) {
+            self.faults = self.faults.saturating_add(1);
+            return Err(Failed);
+        }
+        Ok(())
+    }
+
+    /// Writes the pending bytes behind the synced ones in the file, by one write where the system takes them at once, and
+    /// syncs it.
+    fn sync(&mut self) -> Result<(), Failed>
+        ensures joined { OnOk result (self.new.durable ≡ self.old.durable ++ self.old.waiting) }
+        ensures settled { OnOk result (self.new.waiting ≡ []) }
+        ensures synced { OnErr result (self.new.durable ≡ self.old.durable) }
+        ensures part { OnErr result (IsFront self.new.waiting self.old.waiting) }
+        ensures cause { HasCause self.old.failures self.new.failures result }
+
+        ensures unread { self.old.state ≡ FileState.Unread → IsErr result }
+        ensures success { OnOk result (self.new ≡ record self.old {
+          durable = self.old.durable ++ self.old.waiting;
+          waiting = [];
+          state = FileState.Equal;
+        }) }
+        ensures failure { OnErr result (self.new ≡ record self.old {
+          state = self.new.state;
+          failures = count_after self.old.failures;
+        }) }
+        ensures behind { OnErr result (self.new.state ≢ FileState.Equal) }
+    {
+        self.catch_up()?;
+        if self.write_pending().is_err() {
+            self.state = FileState::Behind;
+            self.faults = self.faults.saturating_add(1);
+            return Err(Failed);
+        }
+        self.kept.join();
+        Ok(())
+    }
+
+    /// Shortens the file and syncs it. After `Failed` all synced bytes are left.
+    fn cut(&mut self, at: u64) -> Result<(), Failed>
+        requires settled { self.old.waiting ≡ [] }
+        requires within { at ≤ length self.old.durable }
+        ensures cut { OnOk result (self.new.durable ≡ take at self.old.durable) }
+        ensures part { OnErr result (IsFrontFrom at self.new.durable self.old.durable) }
+        ensures emptied { self.new.waiting ≡ [] }
+        ensures cause { HasCause self.old.failures self.new.failures result }
+
+        ensures unread { self.old.state ≡ FileState.Unread → IsErr result }
+        ensures success { OnOk result (self.new ≡ record self.old {
+          durable = take at self.old.durable;
+          state = FileState.Equal;
+        }) }
+        ensures failure { OnErr result (self.new ≡ record self.old {
+          state = self.new.state;
+          failures = count_after self.old.failures;
+        }) }
+        ensures behind { OnErr result (self.new.state ≢ FileState.Equal) }
+    {
+        self.catch_up()?;
+        if self.shorten(at).is_err() {
+            self.state = FileState::Behind;
+            self.faults = self.faults.saturating_add(1);
+            return Err(Failed);
+        }
+        self.kept.cut(at);
+        Ok(())
+    }
+
+    /// Lets the pending bytes go.
+    fn halt(&mut self)
+        ensures joined { JoinsFront self.old.durable self.old.waiting self.new.durable }
+        ensures settled { self.new.waiting ≡ [] }
+        ensures later { self.old.failures ≤ self.new.failures }
+
+        ensures dropped { self.new ≡ record self.old { waiting = [] } }
+    {
+        self.kept.settle(0);
+    }
+}
