@@ -33,4 +33,5 @@ mod sources;
 mod walks;
 
 pub use executes::{Executed, execute};
+pub use lying::lies;
 pub use sources::{MemRows, RowFault, RowSource};

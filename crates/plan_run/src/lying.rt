@@ -14,7 +14,7 @@ use sql_bind::Cmp;
 use sql_eval::{Truth, compare};
 
 /// Whether a row of its table lies in an interval; none does in one whose key the table lacks.
-pub(crate) fn lies(tables: &[TableDef], interval: &Interval, row: &[Value]) -> bool
+pub fn lies(tables: &[TableDef], interval: &Interval, row: &[Value]) -> bool
     ensures { result ≡ lies_of tables.now (interval_in interval.now) row.now }
 {
     !interval.empty && lies_at(tables.get(interval.table as usize), interval, row)

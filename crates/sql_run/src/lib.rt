@@ -26,7 +26,6 @@
 mod answers;
 mod kinds;
 mod laws;
-mod lying;
 mod prepares;
 mod sources;
 
