@@ -70,27 +70,35 @@ cut_off (g ∷ gs) cut more s e = elim (cases_lt (length cut) (length (frame_cod
 ]
 
 -- frames behind frames
-after_join : (h : Held) (xs ys : List Frame) → after_all h (xs ++ ys) ≡ after_all (after_all h xs) ys
+pub after_join : (h : Held) (xs ys : List Frame) → after_all h (xs ++ ys) ≡ after_all (after_all h xs) ys
 after_join h [] ys = refl
 after_join h (x ∷ xs) ys = after_join (after h x) xs ys
 
-may_join : (h : Held) (xs ys : List Frame) → AllMay h xs → AllMay (after_all h xs) ys → AllMay h (xs ++ ys)
+pub may_join : (h : Held) (xs ys : List Frame) → AllMay h xs → AllMay (after_all h xs) ys → AllMay h (xs ++ ys)
 may_join h [] ys mx my = my
 may_join h (x ∷ xs) ys mx my = (mx.0, may_join (after h x) xs ys mx.1 my)
 
-may_front : (h : Held) (xs ys : List Frame) → AllMay h (xs ++ ys) → AllMay h xs
+pub may_front : (h : Held) (xs ys : List Frame) → AllMay h (xs ++ ys) → AllMay h xs
 may_front h [] ys m = tt
 may_front h (x ∷ xs) ys m = (m.0, may_front (after h x) xs ys m.1)
 
-spelled_join : (xs ys : List Frame) → AllByRecursion IsSpelled xs → AllByRecursion IsSpelled ys → AllByRecursion IsSpelled (xs ++ ys)
+pub spelled_join : (xs ys : List Frame) → AllByRecursion IsSpelled xs → AllByRecursion IsSpelled ys → AllByRecursion IsSpelled (xs ++ ys)
 spelled_join [] ys sx sy = sy
 spelled_join (x ∷ xs) ys sx sy = (sx.0, spelled_join xs ys sx.1 sy)
 
-spelled_front : (xs ys : List Frame) → AllByRecursion IsSpelled (xs ++ ys) → AllByRecursion IsSpelled xs
+pub spelled_front : (xs ys : List Frame) → AllByRecursion IsSpelled (xs ++ ys) → AllByRecursion IsSpelled xs
 spelled_front [] ys s = tt
 spelled_front (x ∷ xs) ys s = (s.0, spelled_front xs ys s.1)
 
-codes_join : (xs ys : List Frame) → flat_map frame_code (xs ++ ys) ≡ flat_map frame_code xs ++ flat_map frame_code ys
+pub may_back : (h : Held) (xs ys : List Frame) → AllMay h (xs ++ ys) → AllMay (after_all h xs) ys
+may_back h [] ys m = m
+may_back h (x ∷ xs) ys m = may_back (after h x) xs ys m.1
+
+pub spelled_back : (xs ys : List Frame) → AllByRecursion IsSpelled (xs ++ ys) → AllByRecursion IsSpelled ys
+spelled_back [] ys s = s
+spelled_back (x ∷ xs) ys s = spelled_back xs ys s.1
+
+pub codes_join : (xs ys : List Frame) → flat_map frame_code (xs ++ ys) ≡ flat_map frame_code xs ++ flat_map frame_code ys
 codes_join [] ys = refl
 codes_join (x ∷ xs) ys =
     ap (λ (bs : List ℕ). frame_code x ++ bs) (codes_join xs ys) ∙ sym (append_assoc (frame_code x) (flat_map frame_code xs) (flat_map frame_code ys))
@@ -135,3 +143,15 @@ cut_frames_stand node cluster bytes cut more fs gs x s m e =
         entries = ap (λ (h : Held). h.entries) joined;
       };
     }
+
+-- frames whose bytes stand behind a store
+pub kept_frames_stand : (node cluster : ℕ) (bytes : List ℕ) (fs gs : List Frame) → HasFrames node cluster bytes fs []
+    → AllByRecursion IsSpelled gs → AllMay (after_all at_first fs) gs
+    → HasFrames node cluster (bytes ++ flat_map frame_code gs) (fs ++ gs) []
+kept_frames_stand node cluster bytes fs gs x s m = record {
+  spelled = spelled_join fs gs x.spelled s;
+  rules = may_join at_first fs gs x.rules m;
+  whole = ap (λ (bs : List ℕ). frame_code (header node cluster) ++ (bs ++ [])) (codes_join fs gs)
+      ∙ frames_and_cut (frame_code (header node cluster)) (flat_map frame_code fs) (flat_map frame_code gs) [] bytes (flat_map frame_code gs)
+      x.whole (append-nil (flat_map frame_code gs));
+}

@@ -113,7 +113,7 @@ bad_or_foreign : (node cluster : ℕ) (bytes : List ℕ) (at : ℕ) → IsSpelle
 bad_or_foreign node cluster bytes at s (inl x) f = x.0.no_header f.version f.other_node f.other_cluster f.rest f.spelled f.whole
 bad_or_foreign node cluster bytes at s (inr x) f = not_ours node cluster bytes x.frames x.rest s x.held f
 
-header_is_spelled : (node cluster : ℕ) → node < 256 → cluster < 2 ^ 128 → IsSpelled (header node cluster)
+pub header_is_spelled : (node cluster : ℕ) → node < 256 → cluster < 2 ^ 128 → IsSpelled (header node cluster)
 header_is_spelled node cluster n c = record { parts = (omega arith, n, c); size = omega arith }
 
 stand_for_one : (node cluster : ℕ) (bytes : List ℕ) (r s : Standing) → IsSpelled (header node cluster)

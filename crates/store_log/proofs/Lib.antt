@@ -1,4 +1,11 @@
 pub mod AdoptionLaws
 pub mod CutLaws
+pub mod FirstLemmas
 pub mod HeldLaws
+pub mod KeepLemmas
+pub mod KeptLaws
+pub mod OpenLemmas
+pub mod PieceLemmas
+pub mod StepLemmas
+pub mod WindowLemmas
 pub mod WorkedStores

@@ -1,2 +1,7 @@
+pub mod Asides
 pub mod Cuts
+pub mod Firsts
 pub mod Held
+pub mod Holds
+pub mod Keeps
+pub mod Steps

@@ -20,10 +20,21 @@
 //! Where an adoption is open at the end, the frames before it hold the same log (`open_adoptions_can_go`).
 #![tactic(auto)]
 
+mod asides;
 mod facts;
+mod held_logs;
 mod laws;
+mod readings;
 mod standings;
+mod steps;
+mod stores;
 
 pub use facts::stores_by_hand;
-pub use laws::{cut_frames_stand, open_adoptions_can_go, standings_are_apart};
+pub use held_logs::{HeldLog, TakeFault};
+pub use laws::{
+    cut_frames_stand, held_bytes_stand, kept_frames_stand, left_frames_stand,
+    open_adoptions_can_go, standings_are_apart,
+};
+pub use readings::standing_of;
 pub use standings::Standing;
+pub use stores::{Held, KeepFault};

@@ -1,5 +1,4 @@
-use cdb_values::List;
-use phys_log::Entry;
+use log_replay::PagedLog;
 
 /// What the bytes of a store stand for.
 #[derive(Drop)]
@@ -10,8 +9,8 @@ pub enum Standing {
         promised: u64,
         /// The accepted generation.
         accepted: u64,
-        /// The entries of the log.
-        entries: List<Entry>,
+        /// The log: its entries, with the pages that they make.
+        entries: PagedLog,
     },
     /// A frame is bad.
     Bad {

@@ -1,0 +1,104 @@
+//! A node's store: frames are kept in it.
+ghost use Rattle.std.specs.Prelude.{◌≡◌, ◌≤◌, [], ◌++◌, IfOk, OnOk, OnErr};
+ghost use Rattle.std.specs.List.{flat_map, AllByRecursion};
+ghost use Rattle.cdb_outside.specs.Faults.{HasCause};
+ghost use Rattle.cdb_outside.specs.Parts.{IsFront};
+ghost use Rattle.cdb_outside.specs.Stores.{JoinsFront};
+ghost use Rattle.frame_code.specs.Codes.{frame_code};
+ghost use Rattle.frame_code.specs.Spelled.{IsSpelled};
+ghost use Rattle.store_log.specs.Keeps.{IsKept};
+
+use cdb_outside::{Failed, LogStore};
+use frame_code::Frame;
+use log_format::write_frame;
+use std::alloc::{AllocError, Global};
+use std::marker::Model;
+
+/// Why frames were not kept.
+#[derive(Drop)]
+pub enum KeepFault {
+    /// A call of the store failed: some front of the frames' bytes may be synced by a stop.
+    StoreFault,
+    /// Want of memory: the store is as before.
+    NoMemory,
+}
+
+/// A store of frames. Contracts see its synced bytes, those that wait for a sync, and its count of faults.
+#[derive(Drop)]
+pub struct Held<D: LogStore> {
+    store: D,
+}
+
+impl<D: LogStore> Model for Held<D> {
+    ghost use Rattle.store_log.specs.Keeps.{Stored};
+
+    ghost Value = { Stored };
+
+    ghost view = { λ h. record { synced = D.synced h.store; pending = D.pending h.store; faults = D.faults h.store } };
+}
+
+impl<D: LogStore> Held<D> {
+    /// A store that has frames.
+    pub(crate) fn of(store: D) -> Held<D>
+        ensures { result ≡ record { synced = D.synced store; pending = D.pending store; faults = D.faults store } }
+    {
+        Held { store }
+    }
+
+    /// Keeps frames behind those that stand in the store, synced, in order. All memory is taken before the store is
+    /// called. After `StoreFault` the store can only be given back.
+    pub fn keep(&mut self, alloc: Global, frames: &[Frame]) -> Result<(), KeepFault>
+        requires settled { self.old.pending ≡ [] }
+        requires spelled { AllByRecursion IsSpelled frames.now }
+        ensures { IsKept result self.old self.new (flat_map frame_code frames.now) }
+    {
+        let bytes = match bytes_of(alloc, frames) {
+            Ok(bytes) => bytes,
+            Err(_) => return Err(KeepFault::NoMemory),
+        };
+        match write_synced(&mut self.store, bytes.as_slice()) {
+            Ok(()) => Ok(()),
+            Err(_) => Err(KeepFault::StoreFault),
+        }
+    }
+
+    /// Stops the store and gives it back. Takes no memory.
+    pub fn give_back(self) -> D
+        ensures joined { JoinsFront self.synced self.pending (D.synced result) }
+        ensures settled { D.pending result ≡ [] }
+        ensures later { self.faults ≤ D.faults result }
+    {
+        let mut store = self.store;
+        store.halt();
+        store
+    }
+}
+
+/// Appends bytes to a store in which none is pending, and syncs them.
+#[tactic(auto, using(crate::proofs::KeepLemmas::causes_join, crate::proofs::KeepLemmas::rose_from))]
+pub(crate) fn write_synced<D: LogStore>(store: &mut D, bytes: &[u8]) -> Result<(), Failed>
+    requires { D.pending store.old ≡ [] }
+    ensures synced { OnOk result (D.synced store.new ≡ D.synced store.old ++ bytes.now) }
+    ensures settled { OnOk result (D.pending store.new ≡ []) }
+    ensures same { OnErr result (D.synced store.new ≡ D.synced store.old) }
+    ensures part { OnErr result (IsFront (D.pending store.new) bytes.now) }
+    ensures cause { HasCause (D.faults store.old) (D.faults store.new) result }
+{
+    store.append(bytes)?;
+    store.sync()
+}
+
+/// The bytes of frames, one behind the other.
+fn bytes_of(alloc: Global, frames: &[Frame]) -> Result<Vec<u8>, AllocError>
+    requires { AllByRecursion IsSpelled frames.now }
+    ensures { IfOk result (λ v. v.items ≡ flat_map frame_code frames.now) }
+{
+    let mut out = Vec::new(alloc);
+    let mut rest = frames;
+    'frames: while let Some((frame, behind)) = rest.split_first() {
+        let bytes = write_frame(alloc, frame)?;
+        out.extend_from_slice(bytes.as_bytes())?;
+        rest = behind;
+    }
+    Ok(out)
+}
