@@ -8,6 +8,7 @@ use Rattle.std.specs.List.{list_any, AllByRecursion}
 use Rattle.std.specs.Ordering.{is_eq}
 use Rattle.std.specs.Cmp.Lexicographic.{slice_cmp}
 use Rattle.cdb_values.specs.Order.{value_order}
+use Rattle.cdb_values.specs.declared.limits.TheConstants.{MOST_ROW_BYTES, MOST_KEY_BYTES}
 use Rattle.cdb_values.specs.declared.rows.Version.{Version}
 use Rattle.cdb_values.specs.declared.tables.TableDef.{TableDef}
 use Rattle.cdb_values.specs.declared.tables.KeyDef.{KeyDef}
@@ -59,8 +60,8 @@ key_of key row = map (λ column. unwrap_or (slice_get row column) Null) key.colu
 -- a row may stand in a table
 pub record FitsTable (table : TableDef) (row : List Value) : Type 0 where
   pub columns : FitsColumns table.columns row
-  pub size : bytes_of_row row ≤ 1600
-  pub keys : AllByRecursion (λ key. bytes_of_key (key_of key row) ≤ 512) table.keys
+  pub size : bytes_of_row row ≤ MOST_ROW_BYTES
+  pub keys : AllByRecursion (λ key. bytes_of_key (key_of key row) ≤ MOST_KEY_BYTES) table.keys
 
 -- two lists of values that the order does not tell apart
 abbrev pub same_values : List Value → List Value → Bool

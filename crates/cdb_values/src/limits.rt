@@ -10,6 +10,12 @@ pub const MOST_KEYS: usize = 8;
 pub const MOST_KEY_COLUMNS: usize = 8;
 /// The most bytes of a name.
 pub const MOST_NAME_BYTES: usize = 32;
+/// The most bytes of a row's code.
+pub const MOST_ROW_BYTES: u64 = 1600;
+/// The most bytes of a key's code.
+pub const MOST_KEY_BYTES: u64 = 512;
+/// The most net operations of a transaction.
+pub const MOST_NET_OPERATIONS: usize = 16_384;
 /// Every genid is below this number, 2^62, and so is the next one.
 pub const GENID_LIMIT: u64 = 0x4000_0000_0000_0000;
 /// Every position of the history is below this number, 2^62.

@@ -3,6 +3,7 @@ use Rattle.std.proofs.Common.{ℕ, zero, suc, ◌+◌, ◌-◌, List, [], ◌∷
 use Rattle.std.proofs.lemmas.Bool.{cond_both}
 use Rattle.std.specs.List.{AllByRecursion, filter, flat_map, filter_map, cons_option, slice_get, slice_set}
 use Rattle.cdb_values.specs.Rows.{Rows, versions_of}
+use Rattle.cdb_values.specs.declared.limits.TheConstants.{MOST_NET_OPERATIONS}
 use Rattle.cdb_values.specs.declared.items.GenidItem.{GenidItem}
 use Rattle.cdb_values.specs.declared.rows.RowOp.{RowOp}
 use Rattle.cdb_values.specs.declared.rows.RowOp.TheVariants as op
@@ -15,7 +16,7 @@ use Rattle.net_writes.specs.Net.{held_of, held_at, taken_out, rewritten, undone,
 use Rattle.report_text.specs.declared.reports.ReplyLine.TheVariants as reply
 use Rattle.sql_bind.specs.Bound.{Cond, BeginIt, CommitIt, RollbackIt, SetIt, InsertInto, UpdateOf, DeleteFrom, SelectOf}
 use Rattle.sql_bind.specs.declared.types.BoundAssign.{BoundAssign}
-use Rattle.sql_answer.specs.Answers.{Meaning, Fails, Gives, told_only, most_net_ops, net_given, given_unless, rows_met, updating, deleting, items_used, rows_given, finish, answer, ops_after}
+use Rattle.sql_answer.specs.Answers.{Meaning, Fails, Gives, told_only, net_given, given_unless, rows_met, updating, deleting, items_used, rows_given, finish, answer, ops_after}
 use Rattle.sql_answer.specs.Combinations.{Seen, seen_version, seen_own, own_from, is_left, seen, rows_of, extended, met}
 use Rattle.sql_answer.specs.Shapes.{shape}
 use Rattle.sql_answer.specs.Writes.{set_row, rows_error}
@@ -80,7 +81,7 @@ net_true rows ops writes a b = standing_true rows (held_after [] (ops ++ writes)
 
 net_given_true : (rows : Rows) (ops writes : List RowOp) → AllByRecursion (IsTrueOp rows) ops → AllByRecursion (IsTrueOp rows) writes → AllByRecursion (IsTrueOp rows) (ops_after ops (net_given ops writes))
 net_given_true rows ops writes a b =
-    cond_both (ltb most_net_ops (length (net_of (ops ++ writes)))) (Fails error.TooLong) (Gives (told_only (reply.Changed (length writes))) (net_of (ops ++ writes)))
+    cond_both (ltb MOST_NET_OPERATIONS (length (net_of (ops ++ writes)))) (Fails error.TooLong) (Gives (told_only (reply.Changed (length writes))) (net_of (ops ++ writes)))
     (λ o. AllByRecursion (IsTrueOp rows) (ops_after ops o)) (λ _. a) (λ _. net_true rows ops writes a b)
 
 given_true : (rows : Rows) (cause : Option StatementError) (ops writes : List RowOp) → AllByRecursion (IsTrueOp rows) ops → AllByRecursion (IsTrueOp rows) writes →

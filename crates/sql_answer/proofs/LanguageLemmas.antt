@@ -3,6 +3,7 @@
 use Rattle.std.proofs.Common.{◌≡◌, ℕ, List, [], ◌∷◌, ◌++◌, length, map, refl, ltb, true, false, Option, Some, None, Ok, Err}
 use Rattle.std.specs.List.{filter_map, slice_get}
 use Rattle.std.proofs.lemmas.Bool.{cond_both}
+use Rattle.cdb_values.specs.declared.limits.TheConstants.{MOST_NET_OPERATIONS}
 use Rattle.cdb_values.specs.declared.items.GenidItem.{GenidItem}
 use Rattle.cdb_values.specs.declared.rows.RowOp.{RowOp}
 use Rattle.cdb_values.specs.declared.rows.RowOp.TheVariants as op
@@ -18,7 +19,7 @@ use Rattle.report_laws.proofs.PieceLaws.{up_to_rows}
 use Rattle.report_text.specs.declared.reports.ReplyLine.{ReplyLine}
 use Rattle.report_text.specs.declared.reports.ReplyLine.TheVariants as reply
 use Rattle.sql_bind.specs.Bound.{BoundStatement, BeginIt, CommitIt, RollbackIt, SetIt, InsertInto, UpdateOf, DeleteFrom, SelectOf}
-use Rattle.sql_answer.specs.Answers.{Meaning, Outcome, Fails, Gives, told_only, most_net_ops, net_given, given_unless, rows_met, updating, deleting, items_used, rows_given, finished, finish, found}
+use Rattle.sql_answer.specs.Answers.{Meaning, Outcome, Fails, Gives, told_only, net_given, given_unless, rows_met, updating, deleting, items_used, rows_given, finished, finish, found}
 use Rattle.sql_answer.specs.Combinations.{Seen, rows_of}
 use Rattle.sql_answer.specs.Language.{Binder, answered, language_of, meaning}
 use Rattle.sql_answer.specs.Shapes.{shape}
@@ -37,7 +38,7 @@ plain_rows (row ∷ rows) last is = (tt, plain_rows rows last is)
 
 net_told : (ops writes : List RowOp) → IsAnswer ops (net_given ops writes)
 net_told ops writes =
-    cond_both (ltb most_net_ops (length (net_of (ops ++ writes)))) (Fails error.TooLong) (Gives (told_only (reply.Changed (length writes))) (net_of (ops ++ writes)))
+    cond_both (ltb MOST_NET_OPERATIONS (length (net_of (ops ++ writes)))) (Fails error.TooLong) (Gives (told_only (reply.Changed (length writes))) (net_of (ops ++ writes)))
     (IsAnswer ops) (λ past. ((tt, tt), refl)) (λ fits. ((tt, tt), refl))
 
 writes_told : (cause : Option StatementError) (ops writes : List RowOp) → IsAnswer ops (given_unless cause ops writes)

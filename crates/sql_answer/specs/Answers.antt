@@ -13,6 +13,7 @@ use Rattle.std.specs.Prelude.{ℕ, ◌++◌, ◌∷◌, [], List, if◌then◌el
 use Rattle.std.specs.List.{flat_map, filter_map}
 use Rattle.cdb_values.specs.Changes.{genid_item}
 use Rattle.cdb_values.specs.declared.items.GenidItem.{GenidItem}
+use Rattle.cdb_values.specs.declared.limits.TheConstants.{MOST_NET_OPERATIONS}
 use Rattle.cdb_values.specs.declared.rows.RowOp.{RowOp}
 use Rattle.cdb_values.specs.declared.rows.RowOp.TheVariants as op
 use Rattle.cdb_values.specs.declared.rows.RowRef.{RowRef}
@@ -84,14 +85,10 @@ told_only line = record { replies = line ∷ []; uses = [] }
 abbrev pub refused : StatementError → List RowOp → Outcome
 refused cause ops = Gives (told_only (reply.Error cause)) ops
 
--- the most net operations of a transaction
-abbrev pub most_net_ops : ℕ
-most_net_ops = 16384
-
 -- the answer of writes, where no row has an error: how many there are, with the net operations after them
 abbrev pub net_given : List RowOp → List RowOp → Outcome
 net_given ops writes =
-    if nat_lt most_net_ops (length (net_of (ops ++ writes))) then Fails error.TooLong
+    if nat_lt MOST_NET_OPERATIONS (length (net_of (ops ++ writes))) then Fails error.TooLong
     else Gives (told_only (reply.Changed (length writes))) (net_of (ops ++ writes))
 
 -- the answer of writes: the first error of a row comes before the limit of operations

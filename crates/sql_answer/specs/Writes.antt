@@ -6,6 +6,7 @@ use Rattle.std.specs.Prelude.{ℕ, ◌+ℤ◌, ◌-ℤ◌, ◌∷◌, [], List, 
 use Rattle.std.specs.Option.{option_and_then}
 use Rattle.std.specs.List.{list_any}
 use Rattle.cdb_values.specs.Good.{bytes_of_row, bytes_of_key, key_of}
+use Rattle.cdb_values.specs.declared.limits.TheConstants.{MOST_ROW_BYTES, MOST_KEY_BYTES}
 use Rattle.cdb_values.specs.declared.rows.StatementError.{StatementError}
 use Rattle.cdb_values.specs.declared.rows.StatementError.TheVariants as error
 use Rattle.cdb_values.specs.declared.tables.ColumnDef.{ColumnDef}
@@ -18,13 +19,6 @@ use Rattle.sql_bind.specs.declared.types.BoundStep.{BoundStep}
 use Rattle.sql_answer.specs.Aggregates.{int_value}
 use Rattle.sql_answer.specs.Conditions.{operand_value}
 use Rattle.sql_answer.specs.Truth.{is_null}
-
--- the most bytes of a row's code, and of a key's
-abbrev pub most_row_bytes : ℕ
-most_row_bytes = 1600
-
-abbrev pub most_key_bytes : ℕ
-most_key_bytes = 512
 
 -- a value with another added to it or taken away: nothing where that leaves 64 bits
 abbrev pub changed : Bool → Value → Value → Option Value
@@ -58,7 +52,7 @@ has_null (column ∷ columns) (value ∷ row) = (not column.nullable && is_null 
 
 -- whether the code of a row, or of one of its keys, is too long
 abbrev pub is_too_long : List KeyDef → List Value → Bool
-is_too_long keys row = nat_lt most_row_bytes (bytes_of_row row) || list_any (λ key. nat_lt most_key_bytes (bytes_of_key (key_of key row))) keys
+is_too_long keys row = nat_lt MOST_ROW_BYTES (bytes_of_row row) || list_any (λ key. nat_lt MOST_KEY_BYTES (bytes_of_key (key_of key row))) keys
 
 abbrev pub columns_of : Option TableDef → List ColumnDef
 columns_of None = []

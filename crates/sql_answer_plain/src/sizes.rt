@@ -3,19 +3,15 @@ ghost use Rattle.std.specs.Prelude.{◌≡◌, ◌&&◌, not, nat_lt, Some, IfOk
 ghost use Rattle.std.specs.List.{list_any};
 ghost use Rattle.std.specs.Option.{option_copied};
 ghost use Rattle.cdb_values.specs.Good.{bytes_of_key, bytes_of_row, key_of as key_of_def};
+ghost use Rattle.cdb_values.specs.declared.limits.TheConstants.{MOST_ROW_BYTES, MOST_KEY_BYTES};
 ghost use Rattle.sql_answer.specs.Truth.{is_null};
-ghost use Rattle.sql_answer.specs.Writes.{has_null as has_null_of, is_too_long as is_too_long_of, row_error as row_error_of, rows_error as rows_error_of, most_key_bytes, most_row_bytes, columns_of as columns_of_def, keys_of as keys_of_def};
+ghost use Rattle.sql_answer.specs.Writes.{has_null as has_null_of, is_too_long as is_too_long_of, row_error as row_error_of, rows_error as rows_error_of, columns_of as columns_of_def, keys_of as keys_of_def};
 
 use crate::steps::cell;
+use cdb_values::limits::{MOST_KEY_BYTES, MOST_ROW_BYTES};
 use cdb_values::{ColumnDef, KeyDef, List, Row, StatementError, TableDef, Value};
 use key_code::{key_size, row_size};
 use std::alloc::{AllocError, Global};
-
-/// The most bytes of a row's code.
-const MOST_ROW_BYTES: u64 = 1600;
-
-/// The most bytes of a key's code.
-const MOST_KEY_BYTES: u64 = 512;
 
 /// The first error of rows that are written to a table, in their order; `None` as a row stands for one with a value
 /// outside 64 bits.
@@ -128,7 +124,7 @@ fn is_too_long(alloc: Global, keys: &[KeyDef], row: &Row) -> Result<bool, AllocE
 
 /// Whether the code of a row is too long.
 fn is_row_too_long(row: &Row) -> bool
-    ensures { result ≡ nat_lt most_row_bytes (bytes_of_row row.now) }
+    ensures { result ≡ nat_lt MOST_ROW_BYTES (bytes_of_row row.now) }
 {
     row_size(row) > MOST_ROW_BYTES
 }
@@ -136,7 +132,7 @@ fn is_row_too_long(row: &Row) -> bool
 /// Whether the code of one of these keys of a row is too long.
 fn has_long_key(alloc: Global, keys: &[KeyDef], row: &Row) -> Result<bool, AllocError>
     ensures { IfOk result (λ long. long
-        ≡ list_any (λ key. nat_lt most_key_bytes (bytes_of_key (key_of_def key row.now))) keys.now) }
+        ≡ list_any (λ key. nat_lt MOST_KEY_BYTES (bytes_of_key (key_of_def key row.now))) keys.now) }
 {
     let mut rest = keys;
     'keys: while let Some((key, others)) = rest.split_first() {
@@ -150,7 +146,7 @@ fn has_long_key(alloc: Global, keys: &[KeyDef], row: &Row) -> Result<bool, Alloc
 
 /// Whether the code of a key is too long.
 fn is_key_too_long(alloc: Global, key: &KeyDef, row: &Row) -> Result<bool, AllocError>
-    ensures { IfOk result (λ long. long ≡ nat_lt most_key_bytes (bytes_of_key (key_of_def key.now row.now))) }
+    ensures { IfOk result (λ long. long ≡ nat_lt MOST_KEY_BYTES (bytes_of_key (key_of_def key.now row.now))) }
 {
     let values = key_of(alloc, key, row)?;
     Ok(are_too_long(values.as_slice()))
@@ -158,7 +154,7 @@ fn is_key_too_long(alloc: Global, key: &KeyDef, row: &Row) -> Result<bool, Alloc
 
 /// Whether the code of these values in a key is too long.
 fn are_too_long(values: &[Value]) -> bool
-    ensures { result ≡ nat_lt most_key_bytes (bytes_of_key values.now) }
+    ensures { result ≡ nat_lt MOST_KEY_BYTES (bytes_of_key values.now) }
 {
     key_size(values) > MOST_KEY_BYTES
 }

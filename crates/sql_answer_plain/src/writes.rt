@@ -11,14 +11,12 @@ use crate::outcomes::Outcome;
 use crate::seen::Seen;
 use crate::sizes::rows_error;
 use crate::steps::set_row;
+use cdb_values::limits::MOST_NET_OPERATIONS;
 use cdb_values::{List, Row, RowOp, StatementError, TableDef};
 use net_writes::net;
 use report_text::ReplyLine;
 use sql_bind::BoundAssign;
 use std::alloc::{AllocError, Global};
-
-/// The most net operations of a transaction.
-const MOST_NET_OPS: usize = 16384;
 
 /// The answer of an INSERT of these rows.
 pub(crate) fn inserted(
@@ -188,7 +186,7 @@ fn net_given(alloc: Global, ops: &[RowOp], writes: List<RowOp>) -> Result<Outcom
 {
     let all = joined(alloc, ops, writes.as_slice())?;
     let ops = net(alloc, all.as_slice())?;
-    if ops.len() > MOST_NET_OPS {
+    if ops.len() > MOST_NET_OPERATIONS {
         return Ok(Outcome::Fails(StatementError::TooLong));
     }
     let replies = one(alloc, ReplyLine::Changed(writes.len() as u64))?;
