@@ -26,7 +26,7 @@ mod schemas;
 mod tables;
 mod values;
 
-pub use items::GenidItem;
+pub use items::{Edge, GenidItem, Interval, Item};
 pub use laws::{genids_rise, the_changes_take_what_the_operations_take, views_are_applied};
 pub use lists::{Bytes, List, Name, Text};
 pub use rows::{Change, Level, Row, RowOp, RowRef, StatementError, Version};

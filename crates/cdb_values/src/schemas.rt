@@ -1,4 +1,4 @@
-ghost use Rattle.std.specs.Prelude.{◌≡◌, ◌≤◌, ◌||◌, ◌++◌, ◌∷◌, [], ◌==◌, ◌<◌, map, length, Some, None, nat_lt, IfOk, OnOk, OnErr, option_map, IsErrOf, ◌↔◌, slice_get, IfSome};
+ghost use Rattle.std.specs.Prelude.{◌≡◌, ◌≤◌, ◌||◌, ◌++◌, ◌∷◌, [], ◌==◌, ◌<◌, map, length, Some, None, nat_lt, IfOk, OnOk, OnErr, option_map, IsErrOf, ◌↔◌, slice_get, IfSome, MatchOption};
 ghost use Rattle.std.specs.Option.{option_copied};
 ghost use Rattle.std.specs.List.{list_any};
 ghost use Rattle.std.specs.Str.{bytes_eq};
@@ -45,6 +45,7 @@ pub struct Schema {
 
 impl Model for Schema {
     ghost use Rattle.std.specs.Prelude.{length, ◌≤◌};
+    ghost use Rattle.std.specs.List.{AllByRecursion};
     ghost use Rattle.std.specs.Prelude as std;
     ghost use Rattle.cdb_values.specs.declared.tables.TableDef.{TableDef};
 
@@ -52,7 +53,7 @@ impl Model for Schema {
 
     ghost view = { λ s. s.tables };
 
-    ghost invariant = { λ s. length s.tables ≤ 64 };
+    ghost invariant = { λ s. (length s.tables ≤ 64) × AllByRecursion (λ t. length t.keys ≤ 8) s.tables };
 }
 
 impl Schema {
@@ -128,6 +129,19 @@ impl Schema {
         ensures { option_copied result ≡ slice_get self.now table }
     {
         self.tables.as_slice().get(table as usize)
+    }
+
+    /// The keys of the table at a place, in the order of their declaration: at most 8, and none where there is no
+    /// table.
+    #[tactic(auto, using(crate::proofs::NameLemmas::few_at))]
+    pub fn keys(&self, table: u16) -> &[KeyDef]
+        ensures keys { MatchOption (slice_get self.now table) (result.now ≡ []) (λ t. result.now ≡ t.keys) }
+        ensures few { length result.now ≤ 8 }
+    {
+        match self.tables.as_slice().get(table as usize) {
+            Some(table) => table.keys.as_slice(),
+            None => &[],
+        }
     }
 
     /// The tables in order.

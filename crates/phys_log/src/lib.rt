@@ -31,13 +31,11 @@
 #![tactic(auto)]
 
 mod entries;
-mod items;
 mod laws;
 mod requests;
 
-pub use cdb_values::GenidItem;
+pub use cdb_values::{Edge, GenidItem, Interval, Item};
 pub use entries::{CommitId, Entry, LogRecord, copy_entry, copy_record, last_lsn};
-pub use items::{Edge, Interval, Item};
 pub use laws::{
     chains_are_linked, first_entries_decide, first_lsns_tell, logs_grow, undoing_gives_the_page_at,
 };

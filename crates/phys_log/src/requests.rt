@@ -1,6 +1,5 @@
 use crate::entries::{CommitId, Entry};
-use crate::items::{Interval, Item};
-use cdb_values::{GenidItem, Level, List, RowOp};
+use cdb_values::{GenidItem, Interval, Item, Level, List, RowOp};
 
 /// What a transaction asks at its commit.
 #[derive(Clone, Drop)]
