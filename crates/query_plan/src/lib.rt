@@ -23,11 +23,9 @@
 #![tactic(auto)]
 
 mod fits;
-mod intervals;
 mod laws;
 mod plans;
 mod uses;
 
-pub use intervals::{Edge, Interval};
 pub use laws::plans_give_the_intervals;
 pub use plans::Plan;

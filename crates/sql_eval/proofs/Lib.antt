@@ -1,6 +1,6 @@
 pub mod BestLemmas
 pub mod GroupLemmas
-pub mod LevelLemmas
+pub mod LevelLaws
 pub mod OrderSteps
 pub mod ShapeLemmas
 pub mod SortLemmas

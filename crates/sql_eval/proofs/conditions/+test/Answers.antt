@@ -7,7 +7,7 @@ use Rattle.sql_bind.specs.declared.types.Condition.{Condition}
 use Rattle.sql_answer.specs.Truth.{No, Yes, not3, truth_of, compared}
 use Rattle.sql_answer.specs.Conditions.{truth, any_from, all_from, tests_null}
 use Rattle.sql_eval.specs.Views.{truth_in, rows_in}
-use Rattle.sql_eval.proofs.LevelLemmas.{seen_or, seen_and, seen_not, seen_group, seen_compare, seen_null}
+use Rattle.sql_eval.proofs.LevelLaws.{seen_or, seen_and, seen_not, seen_group, seen_compare, seen_null}
 use Rattle.sql_eval.proofs.conditions.+test.Goals as goal
 
 pub returns-after-alternatives : goal.returns-after-alternatives
