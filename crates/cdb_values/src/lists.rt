@@ -2,7 +2,7 @@ ghost use Rattle.std.specs.Prelude.{◌≡◌, ◌==◌, ℕ, ◌<◌, List, [],
 ghost use Rattle.std.specs.Str.{bytes_eq};
 
 use std::alloc::{AllocError, Global};
-use std::marker::Model;
+use std::marker::{Model, PhantomData};
 use std::mem;
 
 /// A list of items in order. Contracts see the list itself.
@@ -93,114 +93,57 @@ impl<T> List<T> {
     }
 }
 
-/// A name: of a session, a table, a column or a key. Contracts see its bytes.
+/// Bytes, and what they are: `Name`, `Text` and `Bytes` are these, and none of them passes for another. Contracts see the
+/// bytes.
 #[derive(Clone, Drop)]
-pub struct Name {
+pub struct BytesOf<Kind> {
     bytes: Vec<u8>,
+    kind: PhantomData<Kind>,
 }
 
-impl Model for Name {
-    ghost Value = { List ℕ };
+/// That bytes are a name.
+#[derive(Clone, Copy)]
+pub enum NameKind {}
 
-    ghost view = { λ n. n.bytes.items };
-}
+/// That bytes are a text.
+#[derive(Clone, Copy)]
+pub enum TextKind {}
 
-impl Name {
-    /// The name with these bytes. Takes no memory.
-    pub fn from_vec(bytes: Vec<u8>) -> Name
-        ensures { result ≡ bytes.items }
-    {
-        Name { bytes }
-    }
+/// That bytes are any bytes.
+#[derive(Clone, Copy)]
+pub enum AnyKind {}
 
-    /// A name with a copy of these bytes.
-    pub fn copied(alloc: Global, bytes: &[u8]) -> Result<Name, AllocError>
-        ensures { IfOk result (λ n. n ≡ bytes.now) }
-    {
-        Ok(Name {
-            bytes: Vec::from_slice(alloc, bytes)?,
-        })
-    }
+/// A name: of a session, a table, a column or a key.
+pub type Name = BytesOf<NameKind>;
 
-    /// The bytes of the name.
-    pub fn as_bytes(&self) -> &[u8]
-        ensures { result.now ≡ self.now }
-    {
-        self.bytes.as_slice()
-    }
+/// A text: the value of a text column, or a statement.
+pub type Text = BytesOf<TextKind>;
 
-    /// Whether these are the bytes of the name.
-    pub fn is(&self, bytes: &[u8]) -> bool
-        ensures { result ≡ bytes_eq self.now bytes.now }
-    {
-        self.as_bytes() == bytes
-    }
-}
+/// The bytes of a blob, or of a printed report.
+pub type Bytes = BytesOf<AnyKind>;
 
-/// A text: the value of a text column, or a statement. Contracts see its bytes.
-#[derive(Clone, Drop)]
-pub struct Text {
-    bytes: Vec<u8>,
-}
-
-impl Model for Text {
-    ghost Value = { List ℕ };
-
-    ghost view = { λ t. t.bytes.items };
-}
-
-impl Text {
-    /// The text with these bytes. Takes no memory.
-    pub fn from_vec(bytes: Vec<u8>) -> Text
-        ensures { result ≡ bytes.items }
-    {
-        Text { bytes }
-    }
-
-    /// A text with a copy of these bytes.
-    pub fn copied(alloc: Global, bytes: &[u8]) -> Result<Text, AllocError>
-        ensures { IfOk result (λ t. t ≡ bytes.now) }
-    {
-        Ok(Text {
-            bytes: Vec::from_slice(alloc, bytes)?,
-        })
-    }
-
-    /// The bytes of the text.
-    pub fn as_bytes(&self) -> &[u8]
-        ensures { result.now ≡ self.now }
-    {
-        self.bytes.as_slice()
-    }
-}
-
-/// The bytes of a blob, or of a printed report. Contracts see the bytes.
-#[derive(Clone, Drop)]
-pub struct Bytes {
-    bytes: Vec<u8>,
-}
-
-impl Model for Bytes {
+impl<Kind> Model for BytesOf<Kind> {
     ghost Value = { List ℕ };
 
     ghost view = { λ b. b.bytes.items };
 }
 
-impl Bytes {
+impl<Kind> BytesOf<Kind> {
     /// These bytes. Takes no memory.
-    pub fn from_vec(bytes: Vec<u8>) -> Bytes
+    pub fn from_vec(bytes: Vec<u8>) -> BytesOf<Kind>
         ensures { result ≡ bytes.items }
     {
-        Bytes { bytes }
+        BytesOf {
+            bytes,
+            kind: PhantomData,
+        }
     }
 
     /// A copy of these bytes.
-    pub fn copied(alloc: Global, bytes: &[u8]) -> Result<Bytes, AllocError>
+    pub fn copied(alloc: Global, bytes: &[u8]) -> Result<BytesOf<Kind>, AllocError>
         ensures { IfOk result (λ b. b ≡ bytes.now) }
     {
-        Ok(Bytes {
-            bytes: Vec::from_slice(alloc, bytes)?,
-        })
+        Ok(BytesOf::from_vec(Vec::from_slice(alloc, bytes)?))
     }
 
     /// The bytes.
@@ -208,5 +151,12 @@ impl Bytes {
         ensures { result.now ≡ self.now }
     {
         self.bytes.as_slice()
+    }
+
+    /// Whether they are these bytes.
+    pub fn is(&self, bytes: &[u8]) -> bool
+        ensures { result ≡ bytes_eq self.now bytes.now }
+    {
+        self.as_bytes() == bytes
     }
 }
