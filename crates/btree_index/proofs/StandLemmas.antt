@@ -11,7 +11,7 @@ use Rattle.page_store.specs.declared.pages.PageKind.TheVariants.{Leaf}
 use Rattle.page_store.specs.Edits.{after_edit}
 use Rattle.page_store.specs.declared.edits.Edit.TheVariants.{PutCell, TakeCell}
 use Rattle.page_workspace.specs.Drafts.{edited}
-use Rattle.page_workspace.proofs.DraftLemmas.{edited_here, edited_other}
+use Rattle.page_workspace.proofs.DraftLaws.{edited_here, edited_other}
 use Rattle.page_workspace.specs.Spare.{IsIn, IsChain, IsMeta, IsFreePage, next_genid, count_of, first_free, first_cell}
 use Rattle.btree_index.specs.Keys.{Key, same_key}
 use Rattle.btree_index.specs.Cells.{key_of, value_of, leaf_cell, IsLeafCell}

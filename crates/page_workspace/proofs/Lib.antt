@@ -1,3 +1,3 @@
-pub mod DraftLemmas
-pub mod OwnLemmas
+pub mod DraftLaws
+pub mod OwnLaws
 pub mod TakeLemmas

@@ -12,7 +12,7 @@ use Rattle.page_workspace.specs.declared.takes.Counted.{Counted}
 use Rattle.page_workspace.specs.Drafts.{edited}
 use Rattle.page_workspace.specs.Spare.{first_cell, count_of}
 use Rattle.page_workspace.specs.Takes.{with_count, IsCounted, TakesPage}
-use Rattle.page_workspace.proofs.DraftLemmas.{edited_here, edited_other}
+use Rattle.page_workspace.proofs.DraftLaws.{edited_here, edited_other}
 
 front_length : (cell : List ℕ) → length cell ≡ 24 → length (take 8 cell) ≡ 8
 front_length cell h = let e = length-take 8 cell in omega (arith, e)

@@ -12,7 +12,7 @@ use Rattle.page_store.specs.declared.edits.Edit.TheVariants.{PutCell, SetHead}
 use Rattle.page_store.specs.declared.pages.PageKind.TheVariants.{Free, Leaf, Meta}
 use Rattle.page_workspace.specs.Drafts.{edited, edited_by, AreFit}
 use Rattle.page_workspace.specs.Spare.{IsIn, AreApart, AreFree, IsMeta, first_cell, next_genid, count_of, first_free}
-use Rattle.page_workspace.proofs.DraftLemmas.{edited_by-more, fit_more, edited_here, edited_other}
+use Rattle.page_workspace.proofs.DraftLaws.{edited_by-more, fit_more, edited_here, edited_other}
 use Rattle.btree_index.specs.Trees.{Holds, IsLeafPage, IsFenced, top}
 use Rattle.cdb_values.specs.Rows.{Rows, no_rows, versions_of}
 use Rattle.cdb_values.specs.declared.rows.Version.{Version}

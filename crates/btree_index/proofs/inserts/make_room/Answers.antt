@@ -1,7 +1,7 @@
 -- A page halved, or the root raised, leaves the list.
 use Rattle.std.proofs.Common.{ℕ, Option, subst}
 use Rattle.page_workspace.specs.Drafts.{meant}
-use Rattle.page_workspace.proofs.OwnLemmas.{ok_all}
+use Rattle.page_workspace.proofs.OwnLaws.{ok_all}
 use Rattle.btree_index.specs.Fits.{IsFullUnder}
 use Rattle.btree_index.specs.Changes.{LeadsOver}
 use Rattle.btree_index.proofs.DepthLemmas.{splittable, raisable}

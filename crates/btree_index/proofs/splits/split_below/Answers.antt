@@ -7,7 +7,7 @@ use Rattle.page_store.specs.Image.{Image, HasRoom}
 use Rattle.page_store.specs.Edits.{IsFit}
 use Rattle.page_store.specs.declared.edits.Edit.TheVariants.{PutCell}
 use Rattle.page_workspace.specs.Drafts.{meant, IsExcused}
-use Rattle.page_workspace.proofs.DraftLemmas.{excused_after}
+use Rattle.page_workspace.proofs.DraftLaws.{excused_after}
 use Rattle.btree_index.specs.Cells.{inner_cell}
 use Rattle.btree_index.specs.Pairs.{choice}
 use Rattle.btree_index.specs.Trees.{IsInnerPage}

@@ -1,7 +1,7 @@
 -- A page that was not edited, written back, changes nothing.
 use Rattle.std.proofs.Common.{◌≡◌, nat_eq, ap, sym, ◌∙◌}
 use Rattle.std.proofs.lemmas.Map.Steps.{set_value_same}
-use Rattle.page_workspace.proofs.OwnLemmas.{err_all}
+use Rattle.page_workspace.proofs.OwnLaws.{err_all}
 use Rattle.page_workspace.proofs.owns.apply_own.Goals as goal
 
 pub returns-clause-unchanged : goal.returns-clause-unchanged

@@ -4,8 +4,8 @@ use Rattle.page_store.specs.declared.edits.Edit.{Edit}
 use Rattle.page_workspace.specs.Owned.{IsKept}
 use Rattle.page_workspace.specs.Drafts.{IsExcused, IsNotUnfit}
 use Rattle.std.specs.Result.{IsErr}
-use Rattle.page_workspace.proofs.DraftLemmas.{reading_tells, excused_after}
-use Rattle.page_workspace.proofs.OwnLemmas.{kept_same, kept_edit}
+use Rattle.page_workspace.proofs.DraftLaws.{reading_tells, excused_after}
+use Rattle.page_workspace.proofs.OwnLaws.{kept_same, kept_edit}
 use Rattle.page_workspace.proofs.workspaces.edit_parts.Goals as goal
 
 pub returns-in_err-hold-clause-fits : goal.returns-in_err-hold-clause-fits

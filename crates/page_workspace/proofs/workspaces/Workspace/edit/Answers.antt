@@ -2,8 +2,8 @@ use Rattle.std.proofs.Common.{ap, ◌≡◌, ℕ, List, ◌++◌, ◌∷◌, [],
 use Rattle.page_store.specs.Image.{Image}
 use Rattle.page_store.specs.declared.edits.Edit.{Edit}
 use Rattle.page_workspace.specs.Drafts.{edited_by, edited, meant, Draft}
-use Rattle.page_workspace.proofs.DraftLemmas.{edited_by-more}
-use Rattle.page_workspace.proofs.OwnLemmas.{ok_all}
+use Rattle.page_workspace.proofs.DraftLaws.{edited_by-more}
+use Rattle.page_workspace.proofs.OwnLaws.{ok_all}
 use Rattle.page_workspace.proofs.workspaces.Workspace.edit.Goals as goal
 
 pub returns-clause-pages : goal.returns-clause-pages

@@ -1,6 +1,6 @@
 use Rattle.std.proofs.Common.{subst, ◌≡◌, rules}
 use Rattle.page_workspace.specs.Drafts.{AreFit}
-use Rattle.page_workspace.proofs.DraftLemmas.{fit_out}
+use Rattle.page_workspace.proofs.DraftLaws.{fit_out}
 use Rattle.page_workspace.proofs.workspaces.Workspace.finish.Goals as goal
 
 pub returns-clause-fit : goal.returns-clause-fit

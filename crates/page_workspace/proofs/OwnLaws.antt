@@ -7,7 +7,7 @@ use Rattle.page_store.specs.Edits.{IsFit}
 use Rattle.page_store.specs.declared.edits.Edit.{Edit}
 use Rattle.page_workspace.specs.Drafts.{edited, edited_by}
 use Rattle.page_workspace.specs.Owned.{overlay, IsKept}
-use Rattle.page_workspace.proofs.DraftLemmas.{edited_by-more, edited_same, fit_more}
+use Rattle.page_workspace.proofs.DraftLaws.{edited_by-more, edited_same, fit_more}
 
 -- holding a page keeps what is kept
 pub kept_same : (owns more : List (ℕ × Image)) (edits : List (ℕ × Edit)) (pages now : ℕ → Image) → now ≡ pages
