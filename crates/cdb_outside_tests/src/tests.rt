@@ -1,5 +1,5 @@
 //! Each object once with ample memory, and the faults that no clause can make happen.
-ghost use Rattle.std.specs.Prelude.{Some, None};
+ghost use Rattle.std.specs.Prelude.{None};
 
 use cdb_outside::{
     Consumer, Failed, LogStore, MemSink, MemSource, MemStore, ReadSource, ReadStop, RowEvent, Sink,
@@ -8,6 +8,7 @@ use cdb_outside::{
 use cdb_values::{Change, Row};
 use std::io;
 use std::test::Fail;
+use test_samples::TenBytes;
 
 #[test]
 fn a_source_is_read_to_its_end_or_past_the_limit(rt: HostRuntime) -> Result<(), Fail> {
@@ -57,36 +58,9 @@ fn a_sink_fails_at_the_writes_of_its_plan(rt: HostRuntime) -> Result<(), Fail> {
     Ok(())
 }
 
-/// A sink that takes ten bytes, four at a time, and then fails.
-#[derive(Drop)]
-struct TenBytes {
-    bytes: Vec<u8>,
-    faults: u64,
-}
-
-impl Sink for TenBytes {
-    ghost taken = { λ s. Some s.bytes.items };
-
-    ghost faults = { λ s. s.faults };
-
-    fn write(&mut self, bytes: &[u8]) -> Result<usize, Failed> {
-        let room = 10usize.saturating_sub(self.bytes.len()).min(4);
-        let count = room.min(bytes.len());
-        let refused = count == 0 && !bytes.is_empty();
-        if refused || self.bytes.extend_from_slice(&bytes[..count]).is_err() {
-            self.faults = self.faults.saturating_add(1);
-            return Err(Failed);
-        }
-        Ok(count)
-    }
-}
-
 #[test]
 fn a_sink_that_fails_has_taken_a_front(rt: HostRuntime) -> Result<(), Fail> {
-    let mut sink = TenBytes {
-        bytes: Vec::new(rt.alloc()),
-        faults: 0,
-    };
+    let mut sink = TenBytes::new(rt.alloc());
     assert_eq!(rt; write_whole(&mut sink, b"a 1 begin 1\n"), Err(Failed));
     assert_eq!(rt; sink.bytes.as_slice(), b"a 1 begin ".as_slice());
     assert_eq!(rt; sink.faults, 1);

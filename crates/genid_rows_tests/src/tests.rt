@@ -1,32 +1,10 @@
 ghost use Rattle.std.specs.Prelude.{◌≡◌};
 ghost use Rattle.genid_rows.specs.Targets.{table_of};
 
-use cdb_values::{ColumnDef, ColumnType, KeyDef, List, Name, Row, RowOp, RowRef, TableDef, Value};
+use cdb_values::{List, Row, RowOp, RowRef, Value};
 use genid_rows::{OpFault, State, apply_op};
 use std::alloc::{AllocError, Global};
-
-/// A table of one integer column that is its unique key.
-fn numbers(alloc: Global) -> Result<TableDef, AllocError> {
-    let mut columns = List::new(alloc);
-    columns.push(ColumnDef {
-        name: Name::copied(alloc, b"id")?,
-        kind: ColumnType::Integer,
-        nullable: false,
-    })?;
-    let mut places = List::new(alloc);
-    places.push(0)?;
-    let mut keys = List::new(alloc);
-    keys.push(KeyDef {
-        name: Name::copied(alloc, b"pk")?,
-        columns: places,
-        unique: true,
-    })?;
-    Ok(TableDef {
-        name: Name::copied(alloc, b"t")?,
-        columns,
-        keys,
-    })
-}
+use test_samples::table_of_ids;
 
 fn row(alloc: Global, value: i64) -> Result<Row, AllocError> {
     let mut row = List::new(alloc);
@@ -92,7 +70,7 @@ fn delete(alloc: Global, target: RowRef) -> Result<RowOp, AllocError> {
 #[test]
 fn own_writes_are_updated_and_deleted(rt: HostRuntime) {
     let alloc = rt.alloc();
-    let tables = vec![in alloc; numbers(alloc).expect(&rt, "memory")].expect(&rt, "memory");
+    let tables = vec![in alloc; table_of_ids(alloc).expect(&rt, "memory")].expect(&rt, "memory");
     let mut state = State::new(alloc, tables.as_slice()).expect(&rt, "memory");
     let mut made = List::new(alloc);
     let seven = insert(alloc, 7).expect(&rt, "memory");

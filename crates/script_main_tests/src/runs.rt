@@ -1,12 +1,11 @@
 //! The whole run over the objects in memory: the worked runs, refusals by their lines, and faults.
 
-ghost use Rattle.std.specs.Prelude.{Some};
-
-use cdb_outside::{Failed, MemSink, MemSource, MemStore, Sink, Source};
+use cdb_outside::{MemSink, MemSource, MemStore, Sink, Source};
 use report_read::read_report;
 use script_main::{Outside, Status, run};
 use std::alloc::{AllocError, Global};
 use std::test::Fail;
+use test_samples::TenBytes;
 
 /// Two sessions and a table.
 const HEAD: &str =
@@ -411,40 +410,12 @@ fn a_source_that_fails_leaves_nothing_written(rt: HostRuntime) -> Result<(), Fai
     Ok(())
 }
 
-/// A sink that takes at most 4 bytes a call and 10 in all, and then fails.
-#[derive(Drop)]
-struct TenBytes {
-    bytes: Vec<u8>,
-    faults: u64,
-}
-
-impl Sink for TenBytes {
-    ghost taken = { λ s. Some s.bytes.items };
-
-    ghost faults = { λ s. s.faults };
-
-    fn write(&mut self, bytes: &[u8]) -> Result<usize, Failed> {
-        let room = 10usize.saturating_sub(self.bytes.len()).min(4);
-        let count = room.min(bytes.len());
-        let refused = count == 0 && !bytes.is_empty();
-        if refused || self.bytes.extend_from_slice(&bytes[..count]).is_err() {
-            self.faults = self.faults.saturating_add(1);
-            return Err(Failed);
-        }
-        Ok(count)
-    }
-}
-
 #[test]
 fn a_sink_that_fails_has_taken_a_front(rt: HostRuntime) -> Result<(), Fail> {
     let alloc = rt.alloc();
     let script = format!(in alloc; "{HEAD}a: select * from t\n")?;
     let source = MemSource::new(Vec::from_slice(alloc, script.as_bytes())?, Vec::new(alloc));
-    let ten = TenBytes {
-        bytes: Vec::new(alloc),
-        faults: 0,
-    };
-    let (status, sink) = status_of(alloc, &["play"], source, ten)?;
+    let (status, sink) = status_of(alloc, &["play"], source, TenBytes::new(alloc))?;
     assert_eq!(rt; status, Status::WriteFault);
     assert_eq!(rt; sink.bytes.as_slice(), b"a 1 begin ".as_slice());
     Ok(())

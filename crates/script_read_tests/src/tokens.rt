@@ -1,55 +1,7 @@
 //! Texts written anew as tokens with one blank between every two, which makes them easy to compare.
 
 use std::alloc::{AllocError, Global};
-
-static RESERVED: [&str; 46] = [
-    "all",
-    "and",
-    "as",
-    "asc",
-    "begin",
-    "blob",
-    "by",
-    "commit",
-    "count",
-    "create",
-    "delete",
-    "desc",
-    "from",
-    "group",
-    "insert",
-    "int",
-    "integer",
-    "into",
-    "is",
-    "key",
-    "limit",
-    "lost",
-    "max",
-    "min",
-    "nomajority",
-    "not",
-    "null",
-    "or",
-    "order",
-    "pk",
-    "primary",
-    "rollback",
-    "select",
-    "selectv",
-    "serializable",
-    "set",
-    "snapshot",
-    "sum",
-    "table",
-    "text",
-    "tooold",
-    "transaction",
-    "unique",
-    "update",
-    "values",
-    "where",
-];
+use test_samples::RESERVED_WORDS;
 
 fn is_word_byte(byte: u8) -> bool {
     byte == b'_' || byte.is_ascii_alphanumeric()
@@ -73,7 +25,7 @@ pub(crate) fn is_well_formed(name: &str) -> bool {
 }
 
 fn is_reserved(word: &str) -> bool {
-    for reserved in &RESERVED {
+    for reserved in &RESERVED_WORDS {
         if *reserved == word {
             return true;
         }

@@ -4,32 +4,10 @@ ghost use Rattle.cdb_values.specs.Good.{first_broken};
 ghost use Rattle.cdb_values.specs.Views.{IsOnBase};
 ghost use Rattle.snapshot_rows.specs.Ages.{IsUpTo, seen};
 
-use cdb_values::{ColumnDef, ColumnType, KeyDef, List, Name, Row, RowOp, RowRef, TableDef, Value};
+use cdb_values::{List, Row, RowOp, RowRef, TableDef, Value};
 use snapshot_rows::{Age, BrokenKey, Snapshots};
 use std::alloc::{AllocError, Global};
-
-/// A table of one integer column that is its unique key.
-fn numbers(alloc: Global) -> Result<TableDef, AllocError> {
-    let mut columns = List::new(alloc);
-    columns.push(ColumnDef {
-        name: Name::copied(alloc, b"id")?,
-        kind: ColumnType::Integer,
-        nullable: false,
-    })?;
-    let mut places = List::new(alloc);
-    places.push(0)?;
-    let mut keys = List::new(alloc);
-    keys.push(KeyDef {
-        name: Name::copied(alloc, b"pk")?,
-        columns: places,
-        unique: true,
-    })?;
-    Ok(TableDef {
-        name: Name::copied(alloc, b"t")?,
-        columns,
-        keys,
-    })
-}
+use test_samples::table_of_ids;
 
 fn row(alloc: Global, value: i64) -> Result<Row, AllocError> {
     let mut row = List::new(alloc);
@@ -138,7 +116,7 @@ fn has(snapshots: &Snapshots, at: u64, values: &[i64]) -> bool {
 #[test]
 fn each_position_keeps_its_rows(rt: HostRuntime) -> Result<(), AllocError> {
     let alloc = rt.alloc();
-    let tables = vec![in alloc; numbers(alloc)?]?;
+    let tables = vec![in alloc; table_of_ids(alloc)?]?;
     let tables = tables.as_slice();
     let mut rows = Snapshots::new(alloc, tables)?;
     assert_eq!(rt; rows.tables(), 1);

@@ -1,6 +1,7 @@
 //! A second reader for the tests, slow and with nothing of the first: it keeps each way in which the tokens so far may
 //! go on, and a text is refused at the first token with which none does.
 use std::alloc::{AllocError, Global};
+use test_samples::RESERVED_WORDS;
 
 /// The grammar: each rule with its ways. In a way a word in capitals is a rule, one in angle brackets a kind of token,
 /// and any other the token that it spells. Levels of parentheses and `not` are not counted.
@@ -96,56 +97,6 @@ static RULES: [(&str, &[&str]); 37] = [
         "MARKS",
         &["", "not null MARKS", "primary key MARKS", "unique MARKS"],
     ),
-];
-
-/// The reserved words.
-static RESERVED: [&str; 46] = [
-    "all",
-    "and",
-    "as",
-    "asc",
-    "begin",
-    "blob",
-    "by",
-    "commit",
-    "count",
-    "create",
-    "delete",
-    "desc",
-    "from",
-    "group",
-    "insert",
-    "int",
-    "integer",
-    "into",
-    "is",
-    "key",
-    "limit",
-    "lost",
-    "max",
-    "min",
-    "nomajority",
-    "not",
-    "null",
-    "or",
-    "order",
-    "pk",
-    "primary",
-    "rollback",
-    "select",
-    "selectv",
-    "serializable",
-    "set",
-    "snapshot",
-    "sum",
-    "table",
-    "text",
-    "tooold",
-    "transaction",
-    "unique",
-    "update",
-    "values",
-    "where",
 ];
 
 /// The most ways and rules that are looked at for one token.
@@ -344,7 +295,7 @@ fn is_word(piece: &[u8], next: u8) -> bool {
 }
 
 fn word(piece: &[u8]) -> Head<'_> {
-    if RESERVED
+    if RESERVED_WORDS
         .iter()
         .any(|word| word.as_bytes().eq_ignore_ascii_case(piece))
     {
