@@ -26,9 +26,10 @@ mod schemas;
 mod tables;
 mod values;
 
+pub use byte_lists::{Bytes, Name, Text};
 pub use items::{Edge, GenidItem, Interval, Item};
 pub use laws::{genids_rise, the_changes_take_what_the_operations_take, views_are_applied};
-pub use lists::{Bytes, List, Name, Text};
+pub use lists::List;
 pub use rows::{Change, Level, Row, RowOp, RowRef, StatementError, Version};
 pub use schemas::{AddFault, Found, Schema};
 pub use tables::{ColumnDef, ColumnType, KeyDef, TableDef};

@@ -1,8 +1,7 @@
-ghost use Rattle.std.specs.Prelude.{◌≡◌, ◌==◌, ℕ, ◌<◌, List, [], ◌∷◌, ◌++◌, length, IfOk, OnOk, OnErr, slice_get, slice_set, Some, option_to_list, IsSome, ◌↔◌};
-ghost use Rattle.std.specs.Str.{bytes_eq};
+ghost use Rattle.std.specs.Prelude.{◌≡◌, ◌==◌, ◌<◌, [], ◌∷◌, ◌++◌, length, OnOk, OnErr, slice_get, slice_set, Some, option_to_list, IsSome, ◌↔◌};
 
 use std::alloc::{AllocError, Global};
-use std::marker::{Model, PhantomData};
+use std::marker::Model;
 use std::mem;
 
 /// A list of items in order. Contracts see the list itself.
@@ -90,73 +89,5 @@ impl<T> List<T> {
         ensures before { slice_get self.old at ≡ Some result }
     {
         mem::replace(&mut self.items[at], item)
-    }
-}
-
-/// Bytes, and what they are: `Name`, `Text` and `Bytes` are these, and none of them passes for another. Contracts see the
-/// bytes.
-#[derive(Clone, Drop)]
-pub struct BytesOf<Kind> {
-    bytes: Vec<u8>,
-    kind: PhantomData<Kind>,
-}
-
-/// That bytes are a name.
-#[derive(Clone, Copy)]
-pub enum NameKind {}
-
-/// That bytes are a text.
-#[derive(Clone, Copy)]
-pub enum TextKind {}
-
-/// That bytes are any bytes.
-#[derive(Clone, Copy)]
-pub enum AnyKind {}
-
-/// A name: of a session, a table, a column or a key.
-pub type Name = BytesOf<NameKind>;
-
-/// A text: the value of a text column, or a statement.
-pub type Text = BytesOf<TextKind>;
-
-/// The bytes of a blob, or of a printed report.
-pub type Bytes = BytesOf<AnyKind>;
-
-impl<Kind> Model for BytesOf<Kind> {
-    ghost Value = { List ℕ };
-
-    ghost view = { λ b. b.bytes.items };
-}
-
-impl<Kind> BytesOf<Kind> {
-    /// These bytes. Takes no memory.
-    pub fn from_vec(bytes: Vec<u8>) -> BytesOf<Kind>
-        ensures { result ≡ bytes.items }
-    {
-        BytesOf {
-            bytes,
-            kind: PhantomData,
-        }
-    }
-
-    /// A copy of these bytes.
-    pub fn copied(alloc: Global, bytes: &[u8]) -> Result<BytesOf<Kind>, AllocError>
-        ensures { IfOk result (λ b. b ≡ bytes.now) }
-    {
-        Ok(BytesOf::from_vec(Vec::from_slice(alloc, bytes)?))
-    }
-
-    /// The bytes.
-    pub fn as_bytes(&self) -> &[u8]
-        ensures { result.now ≡ self.now }
-    {
-        self.bytes.as_slice()
-    }
-
-    /// Whether they are these bytes.
-    pub fn is(&self, bytes: &[u8]) -> bool
-        ensures { result ≡ bytes_eq self.now bytes.now }
-    {
-        self.as_bytes() == bytes
     }
 }

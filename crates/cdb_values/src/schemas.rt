@@ -6,8 +6,9 @@ ghost use Rattle.cdb_values.specs.Named.{table_named, place_in};
 ghost use Rattle.cdb_values.specs.Tables.{add_fault, place_of, is_named, has_twice, is_bad_column, are_bad_columns, are_bad_keys, is_unlawful, is_long_name, are_long_names, are_long_keys, is_past_limits};
 
 use super::limits::{MOST_COLUMNS, MOST_KEY_COLUMNS, MOST_KEYS, MOST_NAME_BYTES, MOST_TABLES};
-use super::lists::{List, Name};
+use super::lists::List;
 use super::tables::{ColumnDef, KeyDef, TableDef};
+use byte_lists::Name;
 use std::alloc::{AllocError, Global};
 use std::marker::Model;
 use thiserror::Error;

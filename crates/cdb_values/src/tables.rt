@@ -4,8 +4,9 @@ ghost use Rattle.cdb_values.specs.Columns.{column_at};
 ghost use Rattle.cdb_values.specs.Good.{key_of, same_values};
 ghost use Rattle.cdb_values.specs.Order.{value_order};
 
-use super::lists::{List, Name};
+use super::lists::List;
 use super::values::{Value, order};
+use byte_lists::Name;
 use std::cmp::Ordering;
 
 /// The type of a column.

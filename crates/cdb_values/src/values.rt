@@ -1,7 +1,7 @@
 ghost use Rattle.std.specs.Prelude.{◌≡◌};
 ghost use Rattle.cdb_values.specs.Order.{value_order, rank};
 
-use super::lists::{Bytes, Text};
+use byte_lists::{Bytes, Text};
 use std::cmp::Ordering;
 
 /// One value of a row: NULL, an integer of 64 bits, a text or a blob.

@@ -104,7 +104,7 @@ pub(crate) fn name(alloc: Global, tokens: &[Token]) -> Result<(Seq<u8>, &[Token]
 {
     match tokens.split_first() {
         Some((Token::Name(bytes), rest)) if bytes.len() <= 32 => Ok((
-            Seq::from_vec(bytes.copy_to_vec(alloc)?),
+            Seq::from_vec(bytes.as_bytes().to_vec(alloc)?),
             rest,
         )),
         _ => Err(ReadError::Refused(tokens)),

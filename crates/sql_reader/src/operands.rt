@@ -36,7 +36,7 @@ fn negative(tokens: &[Token]) -> Result<(Literal, &[Token]), ReadError<'_>>
 fn copied(alloc: Global, bytes: &Bytes) -> Result<Seq<u8>, AllocError>
     ensures { IfOk result (λ s. s.items.items ≡ bytes.now) }
 {
-    Ok(Seq::from_vec(bytes.copy_to_vec(alloc)?))
+    Ok(Seq::from_vec(bytes.as_bytes().to_vec(alloc)?))
 }
 
 /// A number, a text or a blob.

@@ -1,5 +1,6 @@
 //! What one step of the tokenizer finds.
-use crate::kinds::{Bytes, Token};
+use crate::kinds::Token;
+use byte_lists::Bytes;
 
 /// A token, and how many bytes spell it.
 #[derive(Drop)]

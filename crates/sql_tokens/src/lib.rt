@@ -48,7 +48,8 @@ mod signs;
 mod values;
 mod words;
 
-pub use kinds::{Bytes, Keyword, Sign, Token};
+pub use byte_lists::Bytes;
+pub use kinds::{Keyword, Sign, Token};
 use next::{is_blank, next};
 pub use placed::Spots;
 use std::alloc::{AllocError, Global};

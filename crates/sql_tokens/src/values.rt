@@ -6,7 +6,8 @@ ghost use Rattle.sql_tokens.specs.Letters.{hex_digit, hex_byte, is_quote, next_i
 ghost use Rattle.sql_tokens.specs.Reading.{number_value, number_found, text_from, text_found, blob_from, blob_found};
 
 use crate::found::{Copied, Found};
-use crate::kinds::{Bytes, Token};
+use crate::kinds::Token;
+use byte_lists::Bytes;
 use std::alloc::{AllocError, Global};
 
 const LARGEST: u64 = 9223372036854775808;

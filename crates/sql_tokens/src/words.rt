@@ -6,7 +6,8 @@ ghost use Rattle.sql_tokens.specs.Words.{folded, spelling};
 ghost use Rattle.sql_tokens.specs.Reading.{keyword_of, word_found};
 
 use crate::found::Found;
-use crate::kinds::{Bytes, Keyword, Token};
+use crate::kinds::{Keyword, Token};
+use byte_lists::Bytes;
 use std::alloc::{AllocError, Global};
 
 const KEYWORDS: [Keyword; 46] = [
