@@ -15,7 +15,7 @@ use Rattle.sql_bind.specs.Faults.{cond_columns}
 abbrev pub visible_in : VisibleTable → Visible
 visible_in v = record { table = v.place; name = v.name.now; columns = v.table.now.columns }
 
-abbrev pub qualifier_in : Option (Seq ℕ) → Option Name
+abbrev pub qualifier_in : Option (List ℕ) → Option Name
 qualifier_in q = option_map name_in q
 
 -- what the tests of columns ask for
@@ -28,7 +28,7 @@ abbrev pub doubts_cond : List Visible → Doubt → Cond → Bool
 doubts_cond scope doubt cond = list_any (doubted scope doubt) (cond_columns cond)
 
 -- the columns that an INSERT lists
-abbrev pub names_in_list : Option (Seq (Seq ℕ)) → Option (List Name)
+abbrev pub names_in_list : Option (Seq (List ℕ)) → Option (List Name)
 names_in_list columns = option_map names_in columns
 
 -- an item that is borrowed

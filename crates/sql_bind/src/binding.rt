@@ -22,7 +22,7 @@ use crate::scope::named;
 use crate::sources::{names_of, sources, target};
 use crate::types::Bound;
 use crate::updates::{assigns as bound_assigns, columns_written, has_wrong_assign, names_unknown};
-use cdb_values::{Level, Schema};
+use cdb_values::{Level, Name, Schema};
 use sql_grammar::{Assign, Literal, SelectStmt, Seq, Stmt, Test};
 use std::alloc::Global;
 
@@ -56,8 +56,8 @@ pub fn bind(alloc: Global, stmt: &Stmt, schema: &Schema) -> Result<Bound, BindFa
 fn insert(
     alloc: Global,
     schema: &Schema,
-    table: &Seq<u8>,
-    columns: &Option<Seq<Seq<u8>>>,
+    table: &Name,
+    columns: &Option<Seq<Name>>,
     tuples: &[Seq<Literal>],
 ) -> Result<Bound, BindFault>
     ensures bound { IfOk result (λ b. binding schema.now (InsertInto (name_in table.now) (names_in_list columns.now) (map tuple_in tuples.now)) ≡ Ok (bound_in b)) }
@@ -89,7 +89,7 @@ fn insert(
 fn update(
     alloc: Global,
     schema: &Schema,
-    table: &Seq<u8>,
+    table: &Name,
     assigns: &[Assign],
     filter: &Option<Test>,
 ) -> Result<Bound, BindFault>
@@ -121,7 +121,7 @@ fn update(
 fn delete(
     alloc: Global,
     schema: &Schema,
-    table: &Seq<u8>,
+    table: &Name,
     filter: &Option<Test>,
 ) -> Result<Bound, BindFault>
     ensures bound { IfOk result (λ b. binding schema.now (DeleteFrom (name_in table.now) (filter_in filter.now)) ≡ Ok (bound_in b)) }

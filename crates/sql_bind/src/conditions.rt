@@ -18,8 +18,8 @@ pub(crate) fn value(alloc: Global, literal: &Literal) -> Result<Value, AllocErro
     match literal {
         Literal::Null => Ok(Value::Null),
         Literal::Int(number) => Ok(Value::Int(*number)),
-        Literal::Text(text) => Ok(Value::Text(Text::copied(alloc, text.as_slice())?)),
-        Literal::Blob(blob) => Ok(Value::Blob(Bytes::copied(alloc, blob.as_slice())?)),
+        Literal::Text(text) => Ok(Value::Text(Text::copied(alloc, text.as_bytes())?)),
+        Literal::Blob(blob) => Ok(Value::Blob(Bytes::copied(alloc, blob.as_bytes())?)),
     }
 }
 

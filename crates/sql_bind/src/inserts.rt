@@ -12,13 +12,13 @@ use crate::conditions::value;
 use crate::kinds::tuple_is_wrong;
 use crate::names::is_twice;
 use crate::scope::VisibleTable;
-use cdb_values::{ColumnDef, ColumnType, List, Row, Value};
+use cdb_values::{ColumnDef, ColumnType, List, Name, Row, Value};
 use sql_grammar::{Literal, Seq};
 use std::alloc::{AllocError, Global};
 
 /// Whether INSERT lists a column that the table has not.
 #[tactic(auto, using(crate::proofs::ListLemmas::any_listed))]
-pub(crate) fn lists_unknown(table: &VisibleTable, columns: &Option<Seq<Seq<u8>>>) -> bool
+pub(crate) fn lists_unknown(table: &VisibleTable, columns: &Option<Seq<Name>>) -> bool
     ensures { result ≡ list_any (unknown (visible_in table.now ∷ [])) (own_columns (names_in_list columns.now)) }
 {
     match columns {
@@ -28,14 +28,14 @@ pub(crate) fn lists_unknown(table: &VisibleTable, columns: &Option<Seq<Seq<u8>>>
 }
 
 /// Whether the table lacks one of these columns.
-fn lacks_one(table: &VisibleTable, names: &[Seq<u8>]) -> bool
+fn lacks_one(table: &VisibleTable, names: &[Name]) -> bool
     ensures { result ≡ list_any (λ name. unknown (visible_in table.now ∷ []) (own_column (name_in name))) names.now }
 {
-    names.iter().any(|name| table.lacks(name.as_slice()))
+    names.iter().any(|name| table.lacks(name.as_bytes()))
 }
 
 /// Whether INSERT lists a column twice.
-pub(crate) fn lists_twice(alloc: Global, columns: &Option<Seq<Seq<u8>>>) -> Result<bool, AllocError>
+pub(crate) fn lists_twice(alloc: Global, columns: &Option<Seq<Name>>) -> Result<bool, AllocError>
     ensures { IfOk result (λ twice. twice ≡ has_twice (names_listed (names_in_list columns.now))) }
 {
     match columns {
@@ -48,12 +48,12 @@ pub(crate) fn lists_twice(alloc: Global, columns: &Option<Seq<Seq<u8>>>) -> Resu
 }
 
 /// The bytes of these names.
-fn names_of<'a>(alloc: Global, names: &'a [Seq<u8>]) -> Result<Vec<&'a [u8]>, AllocError>
+fn names_of<'a>(alloc: Global, names: &'a [Name]) -> Result<Vec<&'a [u8]>, AllocError>
     ensures { IfOk result (λ found. map (λ n. n.now) found.items ≡ map name_in names.now) }
 {
     let mut found = Vec::new(alloc);
     'names: for name in names {
-        found.push(name.as_slice())?;
+        found.push(name.as_bytes())?;
     }
     Ok(found)
 }
@@ -62,7 +62,7 @@ fn names_of<'a>(alloc: Global, names: &'a [Seq<u8>]) -> Result<Vec<&'a [u8]>, Al
 pub(crate) fn kinds(
     alloc: Global,
     table: &VisibleTable,
-    columns: &Option<Seq<Seq<u8>>>,
+    columns: &Option<Seq<Name>>,
 ) -> Result<Vec<Option<ColumnType>>, AllocError>
     ensures { IfOk result (λ kinds. kinds.items ≡ kinds_of_tuple (visible_in table.now) (names_in_list columns.now)) }
 {
@@ -90,13 +90,13 @@ fn kinds_of_columns(
 fn kinds_of_names(
     alloc: Global,
     table: &VisibleTable,
-    names: &[Seq<u8>],
+    names: &[Name],
 ) -> Result<Vec<Option<ColumnType>>, AllocError>
     ensures { IfOk result (λ kinds. kinds.items ≡ map (λ name. kind_meant (visible_in table.now ∷ []) (own_column name)) (map name_in names.now)) }
 {
     let mut kinds = Vec::new(alloc);
     'names: for name in names {
-        kinds.push(table.kind_of(name.as_slice()))?;
+        kinds.push(table.kind_of(name.as_bytes()))?;
     }
     Ok(kinds)
 }
@@ -119,7 +119,7 @@ fn any_wrong(kinds: &[Option<ColumnType>], tuples: &[Seq<Literal>]) -> bool
 }
 
 /// How many values a tuple has to have.
-pub(crate) fn width(table: &VisibleTable, columns: &Option<Seq<Seq<u8>>>) -> usize
+pub(crate) fn width(table: &VisibleTable, columns: &Option<Seq<Name>>) -> usize
     ensures { result ≡ width_of (visible_in table.now) (names_in_list columns.now) }
 {
     match columns {
@@ -154,7 +154,7 @@ fn is_miscounted(width: usize, tuple: &Seq<Literal>) -> bool
 pub(crate) fn rows(
     alloc: Global,
     table: &VisibleTable,
-    columns: &Option<Seq<Seq<u8>>>,
+    columns: &Option<Seq<Name>>,
     tuples: &[Seq<Literal>],
 ) -> Result<List<Row>, AllocError>
     ensures { IfOk result (λ rows. rows ≡ map (bound_row (visible_in table.now) (names_in_list columns.now)) (map tuple_in tuples.now)) }
@@ -170,7 +170,7 @@ pub(crate) fn rows(
 fn row(
     alloc: Global,
     table: &VisibleTable,
-    columns: &Option<Seq<Seq<u8>>>,
+    columns: &Option<Seq<Name>>,
     tuple: &[Literal],
 ) -> Result<Row, AllocError>
     ensures { IfOk result (λ row. row ≡ bound_row (visible_in table.now) (names_in_list columns.now) (map literal_in tuple.now)) }
@@ -201,7 +201,7 @@ fn values(alloc: Global, tuple: &[Literal]) -> Result<Row, AllocError>
 fn placed(
     alloc: Global,
     columns: &[ColumnDef],
-    names: &[Seq<u8>],
+    names: &[Name],
     tuple: &[Literal],
 ) -> Result<Row, AllocError>
     ensures { IfOk result (λ row. row ≡ map (λ column. value_listed (map name_in names.now) (map literal_in tuple.now) column.name) columns.now) }
@@ -216,7 +216,7 @@ fn placed(
 /// The value of a tuple for a column, NULL where the list leaves the column out.
 fn listed_value(
     alloc: Global,
-    names: &[Seq<u8>],
+    names: &[Name],
     tuple: &[Literal],
     column: &ColumnDef,
 ) -> Result<Value, AllocError>
@@ -228,7 +228,7 @@ fn listed_value(
         names_left.split_first(),
         rest.split_first(),
     ) {
-        if name.as_slice() == column.name.as_bytes() {
+        if name.is(column.name.as_bytes()) {
             return value(alloc, literal);
         }
         names_left = names_after;

@@ -7,8 +7,8 @@ ghost use Rattle.sql_bind.specs.Faults.{own_column};
 ghost use Rattle.sql_bind.specs.Seen.{visible_in, qualifier_in};
 
 use crate::types::BoundColumn;
-use cdb_values::{ColumnType, TableDef};
-use sql_grammar::{ColumnName, Seq};
+use cdb_values::{ColumnType, Name, TableDef};
+use sql_grammar::ColumnName;
 
 /// How many places there are: each is one byte.
 pub(crate) const PLACES: usize = 256;
@@ -35,7 +35,7 @@ impl VisibleTable<'_> {
         ensures { result ≡ place_in (column_in column.now) (visible_in self.now) }
     {
         if is_called(&column.qualifier, self.name) {
-            self.column(column.name.as_slice())
+            self.column(column.name.as_bytes())
         } else {
             None
         }
@@ -93,12 +93,12 @@ pub(crate) fn byte(place: usize) -> Option<u8>
 }
 
 /// Whether a column with this qualifier, or with none, may come from a table of that name.
-fn is_called(qualifier: &Option<Seq<u8>>, name: &[u8]) -> bool
+fn is_called(qualifier: &Option<Name>, name: &[u8]) -> bool
     ensures { result ≡ called (qualifier_in qualifier.now) name.now }
 {
     match qualifier {
         None => true,
-        Some(qualifier) => qualifier.as_slice() == name,
+        Some(qualifier) => qualifier.is(name),
     }
 }
 

@@ -10,7 +10,7 @@ ghost use Rattle.sql_bind.specs.Seen.{visible_in};
 use crate::faults::BindFault;
 use crate::scope::VisibleTable;
 use cdb_values::{Name, Schema};
-use sql_grammar::{FromTable, Seq};
+use sql_grammar::FromTable;
 use std::alloc::{AllocError, Global};
 
 /// A table of the schema, under a name.
@@ -39,13 +39,13 @@ fn found<'a>(
 pub(crate) fn target<'a>(
     alloc: Global,
     schema: &'a Schema,
-    table: &'a Seq<u8>,
+    table: &'a Name,
 ) -> Result<VisibleTable<'a>, BindFault>
     ensures found { IfOk result (λ v. visible_in v ≡ target_of schema.now (name_in table.now)) }
     ensures known { IfOk result (λ v. is_unknown_table schema.now (name_in table.now) ≡ false) }
     ensures refused { IfErr result (λ fault. Misses fault (is_unknown_table schema.now (name_in table.now))) }
 {
-    found(alloc, schema, table.as_slice(), table.as_slice())
+    found(alloc, schema, table.as_bytes(), table.as_bytes())
 }
 
 /// A table of FROM. An alias hides the table's name.
@@ -58,9 +58,9 @@ fn source<'a>(
     ensures known { IfOk result (λ v. is_unknown_table schema.now (source_in source.now).table ≡ false) }
     ensures refused { IfErr result (λ fault. Misses fault (is_unknown_table schema.now (source_in source.now).table)) }
 {
-    let table = source.table.as_slice();
+    let table = source.table.as_bytes();
     match &source.alias {
-        Some(alias) => found(alloc, schema, table, alias.as_slice()),
+        Some(alias) => found(alloc, schema, table, alias.as_bytes()),
         None => found(alloc, schema, table, table),
     }
 }

@@ -33,7 +33,7 @@ fn writes_unknown(table: &VisibleTable, assigns: &[Assign]) -> bool
 {
     assigns
         .iter()
-        .any(|assign| table.lacks(assign.column.as_slice()))
+        .any(|assign| table.lacks(assign.column.as_bytes()))
 }
 
 /// Whether SET reads a column that no table has.
@@ -54,7 +54,7 @@ pub(crate) fn columns_written<'a>(
 {
     let mut found = Vec::new(alloc);
     'assigns: for assign in assigns {
-        found.push(assign.column.as_slice())?;
+        found.push(assign.column.as_bytes())?;
     }
     Ok(found)
 }
@@ -79,7 +79,7 @@ fn assign_is_wrong(table: &VisibleTable, assign: &Assign) -> bool
     ensures { result ≡ setting_differs (visible_in table.now) (setting_in assign.now) }
 {
     let scope = [*table];
-    let kind = table.kind_of(assign.column.as_slice());
+    let kind = table.kind_of(assign.column.as_bytes());
     value_differs(kind, &scope, &assign.first, assign.rest.as_slice())
 }
 
@@ -144,7 +144,7 @@ fn bound_assign(
 {
     let scope = [*table];
     Ok(BoundAssign {
-        column: table.place_or_first(assign.column.as_slice()),
+        column: table.place_or_first(assign.column.as_bytes()),
         first: operand(alloc, &scope, &assign.first)?,
         rest: steps(alloc, &scope, assign.rest.as_slice())?,
     })

@@ -2,7 +2,7 @@
 //! notes the least kind of error on the way. A name is looked up as the list of all columns that it may mean.
 
 use crate::shown::{put_digits, put_integer, put_letters, put_mark, put_number};
-use cdb_values::{ColumnType, TableDef};
+use cdb_values::{ColumnType, Name, TableDef};
 use sql_grammar::{
     Assign, ColumnName, FromTable, Literal, Operand, OrderKey, SelectItem, SelectStmt, Seq, Sign,
     Stmt, Test,
@@ -118,10 +118,10 @@ fn one_source<'a>(
     least: &mut Problem,
     out: &mut String,
     tables: &'a [TableDef],
-    table: &'a Seq<u8>,
+    table: &'a Name,
 ) -> Result<Vec<Source<'a>>, AllocError> {
     let mut from = Vec::new(alloc);
-    let name = table.as_slice();
+    let name = table.as_bytes();
     if let Some(source) = put_table(alloc, least, out, tables, name, name)? {
         from.push(source)?;
     }
@@ -138,10 +138,10 @@ fn meanings(
     for (table, source) in from.iter().enumerate() {
         let called = match &column.qualifier {
             None => true,
-            Some(qualifier) => qualifier.as_slice() == source.name,
+            Some(qualifier) => qualifier.is(source.name),
         };
         for (at, def) in source.table.columns.as_slice().iter().enumerate() {
-            if called && def.name.is(column.name.as_slice()) {
+            if called && def.name.is(column.name.as_bytes()) {
                 found.push(Meaning {
                     table,
                     column: at,
@@ -191,13 +191,13 @@ fn put_literal(
         }
         Literal::Text(text) => {
             out.push_str("'")?;
-            put_letters(out, text.as_slice())?;
+            put_letters(out, text.as_bytes())?;
             out.push_str("'")?;
             Ok(Some(ColumnType::Text))
         }
         Literal::Blob(blob) => {
             out.push_str("x'")?;
-            put_digits(out, blob.as_slice())?;
+            put_digits(out, blob.as_bytes())?;
             out.push_str("'")?;
             Ok(Some(ColumnType::Blob))
         }
@@ -341,8 +341,8 @@ fn put_insert(
     least: &mut Problem,
     out: &mut String,
     tables: &[TableDef],
-    table: &Seq<u8>,
-    columns: &Option<Seq<Seq<u8>>>,
+    table: &Name,
+    columns: &Option<Seq<Name>>,
     rows: &Seq<Seq<Literal>>,
 ) -> Result<(), AllocError> {
     out.push_str("insert")?;
@@ -372,7 +372,7 @@ fn listed_places(
     alloc: Global,
     least: &mut Problem,
     from: &[Source],
-    columns: &Option<Seq<Seq<u8>>>,
+    columns: &Option<Seq<Name>>,
 ) -> Result<Vec<Meaning>, AllocError> {
     let mut places: Vec<Meaning> = Vec::new(alloc);
     match columns {
@@ -389,7 +389,7 @@ fn listed_places(
         }
         Some(names) => {
             for name in names.as_slice() {
-                let found = own_column(alloc, least, from, name.as_slice())?;
+                let found = own_column(alloc, least, from, name.as_bytes())?;
                 note_twice(least, places.as_slice(), &found);
                 if let Some(place) = found {
                     places.push(place)?;
@@ -439,7 +439,7 @@ fn put_update(
     least: &mut Problem,
     out: &mut String,
     tables: &[TableDef],
-    table: &Seq<u8>,
+    table: &Name,
     assigns: &Seq<Assign>,
     filter: &Option<Test>,
 ) -> Result<(), AllocError> {
@@ -448,7 +448,7 @@ fn put_update(
     let mut places: Vec<Meaning> = Vec::new(alloc);
     let mut mark = " ";
     for assign in assigns.as_slice() {
-        let found = own_column(alloc, least, from.as_slice(), assign.column.as_slice())?;
+        let found = own_column(alloc, least, from.as_slice(), assign.column.as_bytes())?;
         note_twice(least, places.as_slice(), &found);
         if let Some(place) = found {
             put_number(alloc, out, mark, place.column as u64)?;
@@ -629,13 +629,13 @@ fn query_sources<'a>(
     let mut from: Vec<Source<'a>> = Vec::new(alloc);
     for source in sources {
         let name = match &source.alias {
-            None => source.table.as_slice(),
-            Some(alias) => alias.as_slice(),
+            None => source.table.as_bytes(),
+            Some(alias) => alias.as_bytes(),
         };
         if from.as_slice().iter().any(|other| other.name == name) {
             tell(least, Problem::Ambiguous);
         }
-        if let Some(found) = put_table(alloc, least, out, tables, source.table.as_slice(), name)? {
+        if let Some(found) = put_table(alloc, least, out, tables, source.table.as_bytes(), name)? {
             from.push(found)?;
         }
     }

@@ -26,17 +26,17 @@ use Rattle.sql_grammar.specs.Trees.{Name, Constant, NullValue, IntValue, TextVal
 abbrev pub list_in : {A : Type 0} → Seq A → List A
 list_in s = s.items.items
 
-abbrev pub name_in : Seq ℕ → Name
-name_in s = s.items.items
+abbrev pub name_in : List ℕ → Name
+name_in n = n
 
-abbrev pub names_in : Seq (Seq ℕ) → List Name
+abbrev pub names_in : Seq (List ℕ) → List Name
 names_in s = map name_in s.items.items
 
 abbrev pub literal_in : Literal → Constant
 literal_in literals.Null = NullValue
 literal_in (literals.Int n) = IntValue n
-literal_in (literals.Text t) = TextValue t.items.items
-literal_in (literals.Blob b) = BlobValue b.items.items
+literal_in (literals.Text t) = TextValue t
+literal_in (literals.Blob b) = BlobValue b
 
 abbrev pub tuple_in : Seq Literal → List Constant
 tuple_in r = map literal_in r.items.items

@@ -1,5 +1,6 @@
 //! What a text of SQL says: statements, and the definition of a table.
 use crate::seq::Seq;
+use byte_lists::{Bytes, Name, Text};
 
 /// A statement.
 #[derive(Drop)]
@@ -16,21 +17,21 @@ pub enum Stmt {
     SetSerializable,
     /// `insert into table (columns) values rows`
     Insert {
-        table: Seq<u8>,
+        table: Name,
         /// `None` where no columns are named.
-        columns: Option<Seq<Seq<u8>>>,
+        columns: Option<Seq<Name>>,
         /// One tuple at least, each of one value at least.
         rows: Seq<Seq<Literal>>,
     },
     /// `update table set assigns where filter`
     Update {
-        table: Seq<u8>,
+        table: Name,
         assigns: Seq<Assign>,
         filter: Option<Test>,
     },
     /// `delete from table where filter`
     Delete {
-        table: Seq<u8>,
+        table: Name,
         filter: Option<Test>,
     },
     /// `select ..` or `selectv ..`
@@ -58,15 +59,15 @@ pub struct SelectStmt {
 /// A table of FROM, and its alias.
 #[derive(Drop)]
 pub struct FromTable {
-    pub table: Seq<u8>,
-    pub alias: Option<Seq<u8>>,
+    pub table: Name,
+    pub alias: Option<Name>,
 }
 
 /// A column, with its table or alias where one is written.
 #[derive(Drop)]
 pub struct ColumnName {
-    pub qualifier: Option<Seq<u8>>,
-    pub name: Seq<u8>,
+    pub qualifier: Option<Name>,
+    pub name: Name,
 }
 
 /// What a query gives in a column of its answer.
@@ -91,7 +92,7 @@ pub struct OrderKey {
 /// A column of SET and its value: `first`, and then each step from left to right.
 #[derive(Drop)]
 pub struct Assign {
-    pub column: Seq<u8>,
+    pub column: Name,
     pub first: Operand,
     pub rest: Seq<Step>,
 }
@@ -115,8 +116,8 @@ pub enum Operand {
 pub enum Literal {
     Null,
     Int(i64),
-    Text(Seq<u8>),
-    Blob(Seq<u8>),
+    Text(Text),
+    Blob(Bytes),
 }
 
 /// A comparison: `=`, `<>` or `!=`, `<`, `<=`, `>`, `>=`.
@@ -154,7 +155,7 @@ pub enum Test {
 /// The definition of a table.
 #[derive(Drop)]
 pub struct CreateTable {
-    pub name: Seq<u8>,
+    pub name: Name,
     /// One part at least, in the order of the text.
     pub parts: Seq<CreatePart>,
 }
@@ -163,18 +164,18 @@ pub struct CreateTable {
 #[derive(Drop)]
 pub enum CreatePart {
     Column {
-        name: Seq<u8>,
+        name: Name,
         kind: Kind,
         marks: Seq<Mark>,
     },
     Primary {
-        columns: Seq<Seq<u8>>,
+        columns: Seq<Name>,
     },
     /// `unique name (columns)` or `key name (columns)`
     Key {
         unique: bool,
-        name: Seq<u8>,
-        columns: Seq<Seq<u8>>,
+        name: Name,
+        columns: Seq<Name>,
     },
 }
 

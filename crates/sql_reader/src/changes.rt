@@ -13,16 +13,14 @@ use crate::cursor::{ReadError, expect, expect_sign, is_next, is_same_sign, is_si
 use crate::lists::{comma_list, in_parentheses, series};
 use crate::operands::operand;
 use crate::rules::{ChangeRule, LiteralRule, NameRule, SettingRule, TupleRule};
+use byte_lists::Name;
 use sql_grammar::{Assign, Literal, Seq, Step, Stmt};
 use sql_tokens::{Keyword, Sign, Token};
 use std::alloc::Global;
 
 /// Names in parentheses.
 #[tactic(auto, unfolding(sql_grammar::specs::Readers::names_r))]
-pub(crate) fn names(
-    alloc: Global,
-    tokens: &[Token],
-) -> Result<(Seq<Seq<u8>>, &[Token]), ReadError<'_>>
+pub(crate) fn names(alloc: Global, tokens: &[Token]) -> Result<(Seq<Name>, &[Token]), ReadError<'_>>
     ensures { Gives (λ x. names_in x.0) (λ x. x.1.now) result (names_r tokens.now) }
 {
     in_parentheses::<NameRule>(alloc, tokens)
@@ -102,10 +100,7 @@ pub(crate) fn setting(alloc: Global, tokens: &[Token]) -> Result<(Assign, &[Toke
 }
 
 /// The columns that an INSERT names, if it names any.
-fn columns(
-    alloc: Global,
-    tokens: &[Token],
-) -> Result<(Option<Seq<Seq<u8>>>, &[Token]), ReadError<'_>>
+fn columns(alloc: Global, tokens: &[Token]) -> Result<(Option<Seq<Name>>, &[Token]), ReadError<'_>>
     ensures { Gives (λ x. option_map names_in x.0) (λ x. x.1.now) result (optional (sign_is sign.Open) names_r tokens.now) }
 {
     if is_sign(tokens, Sign::Open) {

@@ -8,7 +8,7 @@ ghost use Rattle.sql_grammar.specs.Views.{name_in};
 ghost use Rattle.sql_reader.specs.Gives.{Gives};
 ghost use Rattle.sql_reader.specs.declared.cursor.ReadError.TheVariants.{Memory};
 
-use sql_grammar::Seq;
+use byte_lists::Name;
 use sql_tokens::{Keyword, Sign, Token};
 use std::alloc::{AllocError, AllocFailed, Global};
 
@@ -99,12 +99,12 @@ pub(crate) fn expect_sign(tokens: &[Token], expected: Sign) -> Result<&[Token], 
 
 /// A name, copied.
 #[tactic(auto, unfolding(sql_grammar::specs::Readers::name_r))]
-pub(crate) fn name(alloc: Global, tokens: &[Token]) -> Result<(Seq<u8>, &[Token]), ReadError<'_>>
+pub(crate) fn name(alloc: Global, tokens: &[Token]) -> Result<(Name, &[Token]), ReadError<'_>>
     ensures { Gives (λ x. name_in x.0) (λ x. x.1.now) result (name_r tokens.now) }
 {
     match tokens.split_first() {
         Some((Token::Name(bytes), rest)) if bytes.len() <= 32 => Ok((
-            Seq::from_vec(bytes.as_bytes().to_vec(alloc)?),
+            Name::copied(alloc, bytes.as_bytes())?,
             rest,
         )),
         _ => Err(ReadError::Refused(tokens)),

@@ -9,8 +9,9 @@ ghost use Rattle.sql_reader.specs.Gives.{Gives};
 use crate::cursor::{
     ReadError, expect, expect_sign, is_keyword, is_next, is_same_sign, is_sign, name,
 };
-use sql_grammar::{ColumnName, Literal, Operand, Seq};
-use sql_tokens::{Bytes, Keyword, Sign, Token};
+use byte_lists::{Bytes, Text};
+use sql_grammar::{ColumnName, Literal, Operand};
+use sql_tokens::{Keyword, Sign, Token};
 use std::alloc::{AllocError, Global};
 
 const LARGEST: u64 = 9223372036854775807;
@@ -32,13 +33,6 @@ fn negative(tokens: &[Token]) -> Result<(Literal, &[Token]), ReadError<'_>>
     }
 }
 
-/// A copy of the bytes of a token.
-fn copied(alloc: Global, bytes: &Bytes) -> Result<Seq<u8>, AllocError>
-    ensures { IfOk result (λ s. s.items.items ≡ bytes.now) }
-{
-    Ok(Seq::from_vec(bytes.as_bytes().to_vec(alloc)?))
-}
-
 /// A number, a text or a blob.
 fn constant(alloc: Global, tokens: &[Token]) -> Result<(Literal, &[Token]), ReadError<'_>>
     ensures { Gives (λ x. literal_in x.0) (λ x. x.1.now) result (one constant_of tokens.now) }
@@ -48,8 +42,14 @@ fn constant(alloc: Global, tokens: &[Token]) -> Result<(Literal, &[Token]), Read
             Literal::Int(*size as i64),
             rest,
         )),
-        Some((Token::Text(bytes), rest)) => Ok((Literal::Text(copied(alloc, bytes)?), rest)),
-        Some((Token::Blob(bytes), rest)) => Ok((Literal::Blob(copied(alloc, bytes)?), rest)),
+        Some((Token::Text(bytes), rest)) => Ok((
+            Literal::Text(Text::copied(alloc, bytes.as_bytes())?),
+            rest,
+        )),
+        Some((Token::Blob(bytes), rest)) => Ok((
+            Literal::Blob(Bytes::copied(alloc, bytes.as_bytes())?),
+            rest,
+        )),
         _ => Err(ReadError::Refused(tokens)),
     }
 }

@@ -12,6 +12,7 @@ use crate::cursor::{ReadError, expect, expect_sign, is_name_next, is_next, is_si
 use crate::lists::comma_list;
 use crate::operands::column;
 use crate::rules::{ColumnRule, ItemRule, KeyRule};
+use byte_lists::Name;
 use sql_grammar::{ColumnName, FromTable, OrderKey, SelectItem, SelectStmt, Seq, Test};
 use sql_tokens::{Keyword, Sign, Token};
 use std::alloc::Global;
@@ -77,7 +78,7 @@ fn items(
 }
 
 /// The alias of a table, if there is one.
-fn alias(alloc: Global, tokens: &[Token]) -> Result<(Option<Seq<u8>>, &[Token]), ReadError<'_>>
+fn alias(alloc: Global, tokens: &[Token]) -> Result<(Option<Name>, &[Token]), ReadError<'_>>
     ensures { Gives (λ x. option_map name_in x.0) (λ x. x.1.now) result (alias_r tokens.now) }
 {
     if is_next(tokens, Keyword::As) {

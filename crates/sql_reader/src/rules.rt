@@ -7,6 +7,7 @@ use crate::definitions::{is_mark_next, mark, part};
 use crate::lists::{Rule, Told};
 use crate::operands::{column, literal};
 use crate::queries::{item, key};
+use byte_lists::Name;
 use sql_grammar::{Assign, ColumnName, CreatePart, Literal, Mark, OrderKey, SelectItem, Seq, Step};
 use sql_tokens::Token;
 use std::alloc::Global;
@@ -15,7 +16,7 @@ use std::alloc::Global;
 pub(crate) struct NameRule;
 
 impl Rule for NameRule {
-    type Item = Seq<u8>;
+    type Item = Name;
 
     ghost use Rattle.sql_grammar.specs.Trees.{Name};
     ghost use Rattle.sql_grammar.specs.Views.{name_in};
@@ -38,7 +39,7 @@ impl Rule for NameRule {
 
     ghost exact = { exact_name };
 
-    fn read(alloc: Global, tokens: &[Token]) -> Result<(Seq<u8>, &[Token]), ReadError<'_>> {
+    fn read(alloc: Global, tokens: &[Token]) -> Result<(Name, &[Token]), ReadError<'_>> {
         name(alloc, tokens)
     }
 }

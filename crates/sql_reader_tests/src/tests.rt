@@ -194,7 +194,7 @@ fn is_wanted_query(found: &Stmt) -> bool {
     };
     let alias = match query.tables.as_slice() {
         [_, second] => match &second.alias {
-            Some(name) => name.as_slice() == b"z".as_slice(),
+            Some(name) => name.is(b"z"),
             None => false,
         },
         _ => false,
@@ -221,8 +221,8 @@ fn is_wanted_row(found: &Stmt) -> bool {
             Literal::Null,
         ] => {
             *least == i64::MIN
-                && text.as_slice() == b"it's".as_slice()
-                && blob.as_slice() == [0, 255].as_slice()
+                && text.is(b"it's")
+                && blob.is(&[0, 255])
         }
         _ => false,
     }
@@ -256,7 +256,7 @@ fn is_wanted_definition(found: &CreateTable) -> bool {
                 && marks.as_slice() == [Mark::Unique, Mark::NotNull].as_slice()
                 && columns.len() == 2
                 && !*unique
-                && name.as_slice() == b"k".as_slice()
+                && name.is(b"k")
         }
         _ => false,
     }

@@ -40,7 +40,7 @@ fn add_part(
         CreatePart::Column { name, kind, marks } => columns.push(column(
             alloc,
             keys,
-            name.as_slice(),
+            name.as_bytes(),
             *kind,
             marks.as_slice(),
         )?),

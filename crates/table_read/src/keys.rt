@@ -4,7 +4,7 @@ ghost use Rattle.sql_grammar.specs.Views.{name_in, part_in};
 ghost use Rattle.table_read.specs.Keys.{primary_over, keys_of_mark, keys_of_part, written_keys as keys_written};
 
 use cdb_values::{List, Name};
-use sql_grammar::{CreatePart, Mark, Seq};
+use sql_grammar::{CreatePart, Mark};
 use std::alloc::{AllocError, Global};
 
 /// The name of a primary key.
@@ -41,7 +41,7 @@ fn add_part(alloc: Global, keys: &mut List<WrittenKey>, part: &CreatePart) -> Re
 {
     match part {
         CreatePart::Column { name, marks, .. } => {
-            add_marks(alloc, keys, name.as_slice(), marks.as_slice())
+            add_marks(alloc, keys, name.as_bytes(), marks.as_slice())
         }
         CreatePart::Primary { columns } => {
             keys.push(primary_key(alloc, names(alloc, columns.as_slice())?)?)
@@ -51,7 +51,7 @@ fn add_part(alloc: Global, keys: &mut List<WrittenKey>, part: &CreatePart) -> Re
             name,
             columns,
         } => keys.push(WrittenKey {
-            name: Name::copied(alloc, name.as_slice())?,
+            name: name.clone()?,
             columns: names(alloc, columns.as_slice())?,
             unique: *unique,
         }),
@@ -116,13 +116,13 @@ fn one_name(alloc: Global, name: &[u8]) -> Result<List<Name>, AllocError>
 }
 
 /// Copies of these names.
-fn names(alloc: Global, names: &[Seq<u8>]) -> Result<List<Name>, AllocError>
+fn names(alloc: Global, names: &[Name]) -> Result<List<Name>, AllocError>
     ensures { IfOk result (λ copies. copies ≡ map name_in names.now) }
 {
     let mut copies = List::new(alloc);
     let mut rest = names;
     'names: while let Some((name, after)) = rest.split_first() {
-        copies.push(Name::copied(alloc, name.as_slice())?)?;
+        copies.push(name.clone()?)?;
         rest = after;
     }
     Ok(copies)
