@@ -17,12 +17,12 @@ use Rattle.btree_index.specs.Trees.{Entry, page_of, leaves, pages_of, spread, Is
 use Rattle.btree_index.specs.Ways.{IsAt}
 use Rattle.btree_index.specs.Fits.{HasSpare, IsFull, IsTreePage, HasNext, Stays, IsRaisable, IsSplittable, IsFullUntil, IsFullUnder}
 use Rattle.btree_index.specs.Changes.{raise, Stands, IsPath, Leads}
-use Rattle.btree_index.proofs.ApartLemmas.{in_left, in_right, apart_cross}
-use Rattle.btree_index.proofs.KeyLemmas.{none_before_empty}
+use Rattle.btree_index.proofs.ApartLaws.{in_left, in_right, apart_cross}
+use Rattle.btree_index.proofs.KeyLaws.{none_before_empty}
 use Rattle.btree_index.proofs.LevelLemmas.{uppers, all_pages, shaped_down, level_down, raise_suc}
-use Rattle.btree_index.proofs.LeafLemmas.{pages-append, each_at}
+use Rattle.btree_index.proofs.LeafLaws.{pages-append, each_at}
 use Rattle.btree_index.proofs.ParentLemmas.{level_inside}
-use Rattle.btree_index.proofs.RootLemmas.{root_in, root_level}
+use Rattle.btree_index.proofs.RootLaws.{root_in, root_level}
 use Rattle.btree_index.proofs.WayLemmas.{not_leaf, descend}
 
 -- a page so deep on the way to a key

@@ -8,7 +8,7 @@ use Rattle.page_store.specs.Edits.{IsFit}
 use Rattle.page_store.specs.declared.edits.Edit.TheVariants.{PutCell, TakeCell, SetHead}
 use Rattle.page_store.specs.declared.pages.Head.{Head}
 use Rattle.page_store.specs.declared.pages.PageKind.TheVariants.{Leaf, Inner}
-use Rattle.page_store.proofs.RoomLemmas.{slots_taken, taken_insert, taken_remove}
+use Rattle.page_store.proofs.RoomLaws.{slots_taken, taken_insert, taken_remove}
 use Rattle.page_workspace.specs.declared.workspaces.EditFault.{EditFault}
 use Rattle.page_workspace.specs.declared.workspaces.EditFault.TheVariants.{Unfit, Gone, NoMemory}
 use Rattle.page_workspace.specs.Drafts.{TellsFit, IsNotUnfit}

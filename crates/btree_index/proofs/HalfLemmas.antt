@@ -9,10 +9,10 @@ use Rattle.btree_index.specs.Keys.{Key}
 use Rattle.btree_index.specs.Cells.{key_size, key_of, child_of, inner_cell, IsLeafCell, IsInnerCell}
 use Rattle.btree_index.specs.Trees.{Entry, page_of, below, spread, cells_of, pages_of, IsLeafPage, IsInnerPage, BeginsEmpty, IsFenced, Holds}
 use Rattle.btree_index.specs.Steps.{Halves}
-use Rattle.btree_index.proofs.ApartLemmas.{in_left, in_right, in_either, in_more, apart_left, apart_right, apart_cross, apart_join, apart_more}
+use Rattle.btree_index.proofs.ApartLaws.{in_left, in_right, in_either, in_more, apart_left, apart_right, apart_cross, apart_join, apart_more}
 use Rattle.btree_index.proofs.CellLemmas.{child_of-cell, inner_key_is, inner_cell_is, inner_length}
 use Rattle.btree_index.proofs.LevelLemmas.{Grown, SameOn, spread-same}
-use Rattle.btree_index.proofs.LeafLemmas.{pages-append, cells-append, cells-same, holds_same, beside, each_at, fenced_at}
+use Rattle.btree_index.proofs.LeafLaws.{pages-append, cells-append, cells-same, holds_same, beside, each_at, fenced_at}
 use Rattle.btree_index.proofs.SplitLemmas.{each_split, fenced_split, linked_split, fence_halves, below_halves, spread-append, all_append}
 
 -- the numbers of a level with one entry more

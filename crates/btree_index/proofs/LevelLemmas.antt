@@ -5,7 +5,7 @@ use Rattle.page_store.specs.Image.{Image}
 use Rattle.page_workspace.specs.Spare.{IsIn, AreApart}
 use Rattle.btree_index.specs.Trees.{Entry, page_of, below, spread, leaves, cells_of, pages_of, IsShaped, IsInnerPage, AreFenced, AreLinked, Holds}
 use Rattle.btree_index.specs.Changes.{raise}
-use Rattle.btree_index.proofs.ApartLemmas.{in_left, in_right, in_either, apart_left, apart_right, apart_cross, apart_join}
+use Rattle.btree_index.proofs.ApartLaws.{in_left, in_right, in_either, apart_left, apart_right, apart_cross, apart_join}
 
 -- a level that holds cells now, on pages that were its own or are fresh
 pub record Grown (old new : ℕ → Image) (Fresh : ℕ → Type 0) (height : ℕ) (before level : List Entry) (cells : List (List ℕ)) : Type 0 where

@@ -1,11 +1,11 @@
-pub mod KeyLemmas
-pub mod TreeLemmas
+pub mod KeyLaws
+pub mod TreeLaws
 pub mod WayLemmas
 pub mod FindLemmas
 pub mod RowLemmas
-pub mod ApartLemmas
+pub mod ApartLaws
 pub mod LevelLemmas
-pub mod LeafLemmas
+pub mod LeafLaws
 pub mod PairLemmas
 pub mod PathLemmas
 pub mod StandLemmas
@@ -14,6 +14,6 @@ pub mod SplitLemmas
 pub mod HalfLemmas
 pub mod ParentLemmas
 pub mod StepLemmas
-pub mod RootLemmas
+pub mod RootLaws
 pub mod FitLemmas
 pub mod DepthLemmas

@@ -7,7 +7,7 @@ use Rattle.btree_index.specs.Keys.{Key, before, same_key}
 use Rattle.btree_index.specs.Cells.{key_of, value_of}
 use Rattle.btree_index.specs.Pairs.{with_pair, without_key, place_in, cell_value}
 use Rattle.btree_index.specs.Trees.{Entry, cells_of, IsUnder, Ascends, IsFenced, AreFenced, pair_of}
-use Rattle.btree_index.proofs.KeyLemmas.{before_atmost, atmost_before, before_before, not_back, not_same_before, not_same_behind, same_not_before, same_not_behind, else_before}
+use Rattle.btree_index.proofs.KeyLaws.{before_atmost, atmost_before, before_before, not_back, not_same_before, not_same_behind, same_not_before, same_not_behind, else_before}
 use Rattle.btree_index.proofs.WayLemmas.{begins_below}
 use Rattle.btree_index.proofs.RowLemmas.{front_low, pairs-append}
 

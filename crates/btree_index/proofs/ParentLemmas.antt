@@ -8,9 +8,9 @@ use Rattle.page_workspace.specs.Spare.{IsIn, AreApart}
 use Rattle.btree_index.specs.Keys.{Key}
 use Rattle.btree_index.specs.Cells.{key_of, child_of, IsInnerCell}
 use Rattle.btree_index.specs.Trees.{Entry, page_of, entry_of, below, spread, pages_of, IsInnerPage, BeginsEmpty, Holds}
-use Rattle.btree_index.proofs.ApartLemmas.{in_left, in_right, in_either, apart_left, apart_cross, apart_join}
+use Rattle.btree_index.proofs.ApartLaws.{in_left, in_right, in_either, apart_left, apart_cross, apart_join}
 use Rattle.btree_index.proofs.LevelLemmas.{Grown, SameOn, spread-same}
-use Rattle.btree_index.proofs.LeafLemmas.{pages-append, beside, each_with, each_at}
+use Rattle.btree_index.proofs.LeafLaws.{pages-append, beside, each_with, each_at}
 use Rattle.btree_index.proofs.SplitLemmas.{spread-append, entries-append}
 use Rattle.btree_index.proofs.PairLemmas.{all_insert}
 

@@ -9,7 +9,7 @@ use Rattle.btree_index.specs.Trees.{Entry, leaves, IsShaped, IsLeafPage, top}
 use Rattle.btree_index.specs.Ways.{IsAt}
 use Rattle.btree_index.specs.Fits.{HasSpare, IsFull}
 use Rattle.btree_index.specs.Changes.{raise, IsPath, Leads, LeadsOver}
-use Rattle.btree_index.proofs.KeyLemmas.{none_before_empty}
+use Rattle.btree_index.proofs.KeyLaws.{none_before_empty}
 use Rattle.btree_index.proofs.LevelLemmas.{shaped_down, level_down, raise_suc}
 use Rattle.btree_index.proofs.WayLemmas.{not_leaf, descend}
 

@@ -10,7 +10,7 @@ use Rattle.btree_index.specs.Cells.{key_of}
 use Rattle.btree_index.specs.Pairs.{is_below, is_between, between, HasBeyond}
 use Rattle.btree_index.specs.Trees.{Entry, cells_of, IsUnder, AreFenced, AreLinked, pair_of}
 use Rattle.btree_index.specs.Ways.{OnWay, OnRow}
-use Rattle.btree_index.proofs.KeyLemmas.{atmost_atmost, before_atmost, not_back}
+use Rattle.btree_index.proofs.KeyLaws.{atmost_atmost, before_atmost, not_back}
 use Rattle.std.proofs.lemmas.Option.{none-some, same_Some}
 use Rattle.btree_index.proofs.FindLemmas.{drop_here}
 use Rattle.btree_index.proofs.WayLemmas.{BeginsBelow, begins_below, way_ends}

@@ -6,10 +6,10 @@ use Rattle.page_workspace.specs.Spare.{IsIn}
 use Rattle.btree_index.specs.Keys.{Key, before}
 use Rattle.btree_index.specs.Cells.{key_of, child_of}
 use Rattle.btree_index.specs.Trees.{Entry, page_of, entry_of, below, spread, IsFenced, IsUnder, Ascends, AreFenced, AreLinked}
-use Rattle.btree_index.proofs.KeyLemmas.{atmost_before, before_before, irreflexive, not_back}
+use Rattle.btree_index.proofs.KeyLaws.{atmost_before, before_before, irreflexive, not_back}
 use Rattle.btree_index.proofs.PairLemmas.{ascends_all}
 use Rattle.btree_index.proofs.LevelLemmas.{SameOn}
-use Rattle.btree_index.proofs.LeafLemmas.{fenced_same, linked_same}
+use Rattle.btree_index.proofs.LeafLaws.{fenced_same, linked_same}
 
 -- one entry more behind another
 pub each_split : (P Q : Entry → Type 0) (front : List Entry) (m x : Entry) (others : List Entry)

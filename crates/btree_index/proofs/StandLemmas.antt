@@ -18,7 +18,7 @@ use Rattle.btree_index.specs.Cells.{key_of, value_of, leaf_cell, IsLeafCell}
 use Rattle.btree_index.specs.Pairs.{value_at, cell_value, with_pair, place_in, without_key, HasKeyAt}
 use Rattle.btree_index.specs.Trees.{Entry, cells_of, pages_of, IsFenced, AreFenced, Holds, top, pair_of}
 use Rattle.btree_index.specs.Changes.{Stands, Changes, Becomes, Leads}
-use Rattle.btree_index.proofs.LeafLemmas.{ChangesCells, Replaces, replaces, cells-append, fenced_at}
+use Rattle.btree_index.proofs.LeafLaws.{ChangesCells, Replaces, replaces, cells-append, fenced_at}
 use Rattle.btree_index.proofs.CellLemmas.{key_of-cell, value_of-cell, leaf_cell_is}
 use Rattle.btree_index.proofs.PairLemmas.{with_pair-cells, fenced_insert, all_insert, front_before, behind_after, without-cells, without-absent, fenced_remove, all_remove}
 use Rattle.btree_index.proofs.RowLemmas.{fenced_rest}

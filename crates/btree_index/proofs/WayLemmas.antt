@@ -9,8 +9,8 @@ use Rattle.btree_index.specs.Cells.{key_of, value_of, child_of}
 use Rattle.btree_index.specs.Pairs.{value_at, cell_value, chosen, choice}
 use Rattle.btree_index.specs.Trees.{AreLinked, page_of, pages_of, Entry, entry_of, below, spread, leaves, cells_of, IsShaped, IsLeafPage, IsInnerPage, BeginsEmpty, IsUnder, AreFenced, top, pair_of, TreeList}
 use Rattle.btree_index.specs.Ways.{IsAt, OnWay}
-use Rattle.btree_index.proofs.ApartLemmas.{in_right}
-use Rattle.btree_index.proofs.KeyLemmas.{before_atmost, before_before, not_back, not_same_before, not_same_behind, none_before_empty}
+use Rattle.btree_index.proofs.ApartLaws.{in_right}
+use Rattle.btree_index.proofs.KeyLaws.{before_atmost, before_before, not_back, not_same_before, not_same_behind, none_before_empty}
 
 at_more : (ys xs : List Entry) (key : Key) (page : ℕ) → IsAt xs key page → IsAt (ys ++ xs) key page
 at_more ys xs key page h = record {

@@ -1,5 +1,5 @@
-pub mod FormLemmas
-pub mod PartLemmas
-pub mod EntryLemmas
-pub mod FrameLemmas
-pub mod FrontLemmas
+pub mod FormLaws
+pub mod PartLaws
+pub mod EntryLaws
+pub mod FrameLaws
+pub mod FrontLaws

@@ -3,7 +3,7 @@ use Rattle.std.proofs.Common.{◌≡◌, ℕ, zero, suc, List, [], ◌∷◌, �
 use Rattle.std.specs.Ordering.{nat_cmp, ordering_then}
 use Rattle.key_code.specs.Codes.{escaped, ended}
 use Rattle.key_code.specs.Reads.{IsDead}
-use Rattle.key_code.proofs.NumberLemmas.{byte_order, less, greater, then_assoc}
+use Rattle.key_code.proofs.NumberLaws.{byte_order, less, greater, then_assoc}
 
 -- escaped bytes with their end tell the bytes and what is behind them
 pub escaped_tells : (t u ps qs : List ℕ) → escaped t ++ (0 ∷ 0 ∷ ps) ≡ escaped u ++ (0 ∷ 0 ∷ qs) → (t ≡ u) × (ps ≡ qs)

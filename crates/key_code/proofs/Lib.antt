@@ -1,5 +1,5 @@
-pub mod NumberLemmas
+pub mod NumberLaws
 pub mod EscapeLemmas
-pub mod ValueLemmas
-pub mod JoinedLemmas
+pub mod ValueLaws
+pub mod JoinedLaws
 pub mod SizeLemmas

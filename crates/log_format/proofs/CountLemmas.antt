@@ -5,8 +5,8 @@ use Rattle.std.proofs.lemmas.List.{append-nil}
 use Rattle.std.specs.Int.{byte_at, bytes_high_first}
 use Rattle.byteorder.specs.Endian.{big_bytes, big_from}
 use Rattle.byteorder.specs.Numbers.{length-bytes_high_first, big_from-cons, big_from-lt, big_number-reads_back}
-use Rattle.key_code.proofs.NumberLemmas.{before, same, after, trichotomy}
-use Rattle.key_code.proofs.ValueLemmas.{digits_tell}
+use Rattle.key_code.proofs.NumberLaws.{before, same, after, trichotomy}
+use Rattle.key_code.proofs.ValueLaws.{digits_tell}
 use Rattle.frame_code.specs.Codes.{number, two_bytes, sixteen_bytes}
 use Rattle.frame_code.specs.Spelled.{IsNumber, IsTwoBytes, IsSixteenBytes}
 use Rattle.frame_code.specs.Tells.{Lacks, Begins}

@@ -9,8 +9,8 @@ use Rattle.phys_log.specs.declared.entries.LogRecord.{LogRecord}
 use Rattle.frame_code.specs.Codes.{byte, number, level_code, entry_code}
 use Rattle.frame_code.specs.Spelled.{IsByte, IsNumber, IsEntry}
 use Rattle.frame_code.specs.Tells.{Lacks}
-use Rattle.frame_code.proofs.FormLemmas.{Both, both, numbers_tell}
-use Rattle.frame_code.proofs.EntryLemmas.{setup_parts, AreSetupParts, CommitParts, commit_parts, AreCommitParts}
+use Rattle.frame_code.proofs.FormLaws.{Both, both, numbers_tell}
+use Rattle.frame_code.proofs.EntryLaws.{setup_parts, AreSetupParts, CommitParts, commit_parts, AreCommitParts}
 
 -- the parts of a commit behind its tag
 abbrev pub parts_of : CommitId → ℕ → List Change → List LogRecord → CommitParts

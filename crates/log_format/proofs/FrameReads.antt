@@ -5,8 +5,8 @@ use Rattle.frame_code.specs.declared.frames.Frame.TheVariants as frames
 use Rattle.frame_code.specs.Codes.{number, payload, kind_of, frame_code}
 use Rattle.frame_code.specs.Fronts.{IsFront}
 use Rattle.frame_code.specs.Tells.{Tells, Lacks, Begins}
-use Rattle.frame_code.proofs.FrameLemmas.{envelopes_tell, header_parts, AreHeaderParts, frames_are_told}
-use Rattle.frame_code.proofs.FrontLemmas.{no_frames, no_envelope}
+use Rattle.frame_code.proofs.FrameLaws.{envelopes_tell, header_parts, AreHeaderParts, frames_are_told}
+use Rattle.frame_code.proofs.FrontLaws.{no_frames, no_envelope}
 use Rattle.log_format.specs.declared.frames.Reading.{Reading}
 use Rattle.log_format.specs.declared.frames.Reading.TheVariants.{Whole, Short, Bad}
 use Rattle.log_format.specs.Wholes.{IsNone, IsNoPayload}

@@ -7,7 +7,7 @@ use Rattle.cdb_values.specs.declared.tables.TableDef.{TableDef}
 use Rattle.frame_code.specs.Codes.{table_code}
 use Rattle.frame_code.specs.Spelled.{IsTable, Grow}
 use Rattle.frame_code.specs.Tells.{Tells, Lacks, Begins}
-use Rattle.frame_code.proofs.PartLemmas.{tables_tell}
+use Rattle.frame_code.proofs.PartLaws.{tables_tell}
 use Rattle.log_format.specs.Lists.{AreParts, AreTables}
 
 -- one part more, read from what was left

@@ -5,8 +5,8 @@ use Rattle.page_store.specs.declared.edits.Edit.TheVariants.{PutCell, TakeCell, 
 use Rattle.frame_code.specs.Codes.{byte, number, flag, few, name_code, type_code, column_code, index_code, table_code, change_code, kind_code, head_code, edit_code, record_code}
 use Rattle.frame_code.specs.Spelled.{IsByte, IsNumber, AreFew, IsNameBytes, IsColumn, IsIndex, IsTable, IsChange, IsHead, IsEdit, IsRecord}
 use Rattle.frame_code.specs.Tells.{Lacks}
-use Rattle.frame_code.proofs.FormLemmas.{Both, both, Any}
-use Rattle.frame_code.proofs.PartLemmas.{placed, IsPlaced, swapped, IsSwapped, two_heads, AreHeads, one_row, IsRowPart, two_rows, AreRowParts}
+use Rattle.frame_code.proofs.FormLaws.{Both, both, Any}
+use Rattle.frame_code.proofs.PartLaws.{placed, IsPlaced, swapped, IsSwapped, two_heads, AreHeads, one_row, IsRowPart, two_rows, AreRowParts}
 
 pub as_parts_lack : {A B : Type 0} (a : A → List ℕ) (IsA : A → Type 0) (b : B → List ℕ) (IsB : B → Type 0) (to : B → A)
     → ((v : B) → IsB v → IsA (to v)) → ((v : B) → b v ≡ a (to v)) → (bytes : List ℕ) → Lacks a IsA bytes → Lacks b IsB bytes

@@ -18,7 +18,7 @@ type TwoRows = (u16, (u64, (Row, (u64, Row))));
 impl Part for Change {
     ghost use Rattle.frame_code.specs.Codes.{change_code};
     ghost use Rattle.frame_code.specs.Spelled.{IsChange};
-    ghost use Rattle.frame_code.proofs.PartLemmas.{changes_tell};
+    ghost use Rattle.frame_code.proofs.PartLaws.{changes_tell};
 
     ghost code = { change_code };
 
@@ -125,8 +125,8 @@ fn read_delete(alloc: Global, rest: &[u8]) -> Result<Option<(Change, &[u8])>, Al
 impl Part for List<Change> {
     ghost use Rattle.frame_code.specs.Codes.{many, change_code};
     ghost use Rattle.frame_code.specs.Spelled.{AreMany, IsChange};
-    ghost use Rattle.frame_code.proofs.FormLemmas.{many_tell};
-    ghost use Rattle.frame_code.proofs.PartLemmas.{changes_tell};
+    ghost use Rattle.frame_code.proofs.FormLaws.{many_tell};
+    ghost use Rattle.frame_code.proofs.PartLaws.{changes_tell};
 
     ghost code = { many change_code };
 

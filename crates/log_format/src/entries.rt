@@ -41,7 +41,7 @@ fn write_id(alloc: Global, out: &mut Vec<u8>, id: &CommitId, begin: u64) -> Resu
 impl Part for Entry {
     ghost use Rattle.frame_code.specs.Codes.{entry_code};
     ghost use Rattle.frame_code.specs.Spelled.{IsEntry};
-    ghost use Rattle.frame_code.proofs.EntryLemmas.{entries_tell};
+    ghost use Rattle.frame_code.proofs.EntryLaws.{entries_tell};
 
     ghost code = { entry_code };
 

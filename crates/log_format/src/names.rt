@@ -23,7 +23,7 @@ fn take_bytes(size: u64, bytes: &[u8]) -> Option<(&[u8], &[u8])>
 impl Part for Name {
     ghost use Rattle.frame_code.specs.Codes.{name_code};
     ghost use Rattle.frame_code.specs.Spelled.{IsNameBytes};
-    ghost use Rattle.frame_code.proofs.PartLemmas.{names_tell};
+    ghost use Rattle.frame_code.proofs.PartLaws.{names_tell};
 
     ghost code = { name_code };
 
@@ -51,7 +51,7 @@ impl Part for Name {
 impl Part for Cell {
     ghost use Rattle.frame_code.specs.Codes.{cell_code};
     ghost use Rattle.frame_code.specs.Spelled.{IsCellBytes};
-    ghost use Rattle.frame_code.proofs.PartLemmas.{cells_tell};
+    ghost use Rattle.frame_code.proofs.PartLaws.{cells_tell};
 
     ghost code = { cell_code };
 
@@ -79,7 +79,7 @@ impl Part for Cell {
 impl Part for Row {
     ghost use Rattle.frame_code.specs.Codes.{stored_row};
     ghost use Rattle.frame_code.specs.Spelled.{IsStoredRow};
-    ghost use Rattle.frame_code.proofs.PartLemmas.{rows_tell};
+    ghost use Rattle.frame_code.proofs.PartLaws.{rows_tell};
 
     ghost code = { stored_row };
 

@@ -60,7 +60,7 @@ fn put_u128(out: &mut Vec<u8>, n: u128) -> Result<(), AllocError>
 impl Part for u8 {
     ghost use Rattle.frame_code.specs.Codes.{byte};
     ghost use Rattle.frame_code.specs.Spelled.{IsByte};
-    ghost use Rattle.frame_code.proofs.FormLemmas.{bytes_tell};
+    ghost use Rattle.frame_code.proofs.FormLaws.{bytes_tell};
 
     ghost code = { byte };
 
@@ -84,7 +84,7 @@ impl Part for u8 {
 impl Part for u16 {
     ghost use Rattle.frame_code.specs.Codes.{two_bytes};
     ghost use Rattle.frame_code.specs.Spelled.{IsTwoBytes};
-    ghost use Rattle.frame_code.proofs.FormLemmas.{two_bytes_tell};
+    ghost use Rattle.frame_code.proofs.FormLaws.{two_bytes_tell};
 
     ghost code = { two_bytes };
 
@@ -104,7 +104,7 @@ impl Part for u16 {
 impl Part for u64 {
     ghost use Rattle.frame_code.specs.Codes.{number};
     ghost use Rattle.frame_code.specs.Spelled.{IsNumber};
-    ghost use Rattle.frame_code.proofs.FormLemmas.{numbers_tell};
+    ghost use Rattle.frame_code.proofs.FormLaws.{numbers_tell};
 
     ghost code = { number };
 
@@ -124,7 +124,7 @@ impl Part for u64 {
 impl Part for u128 {
     ghost use Rattle.frame_code.specs.Codes.{sixteen_bytes};
     ghost use Rattle.frame_code.specs.Spelled.{IsSixteenBytes};
-    ghost use Rattle.frame_code.proofs.FormLemmas.{sixteen_bytes_tell};
+    ghost use Rattle.frame_code.proofs.FormLaws.{sixteen_bytes_tell};
 
     ghost code = { sixteen_bytes };
 
@@ -143,7 +143,7 @@ impl Part for u128 {
 
 impl Part for bool {
     ghost use Rattle.frame_code.specs.Codes.{flag};
-    ghost use Rattle.frame_code.proofs.FormLemmas.{Any, flags_tell};
+    ghost use Rattle.frame_code.proofs.FormLaws.{Any, flags_tell};
 
     ghost code = { flag };
 

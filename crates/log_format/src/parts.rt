@@ -31,7 +31,7 @@ pub(crate) trait Part: Drop + Sized {
 }
 
 impl<A: Part, B: Part> Part for (A, B) {
-    ghost use Rattle.frame_code.proofs.FormLemmas.{both, Both, both_tell};
+    ghost use Rattle.frame_code.proofs.FormLaws.{both, Both, both_tell};
 
     ghost code = { both A.code B.code };
 

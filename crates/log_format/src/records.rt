@@ -13,8 +13,8 @@ use std::alloc::{AllocError, Global};
 
 impl Part for PageKind {
     ghost use Rattle.frame_code.specs.Codes.{kind_code};
-    ghost use Rattle.frame_code.proofs.FormLemmas.{Any};
-    ghost use Rattle.frame_code.proofs.PartLemmas.{kinds_tell};
+    ghost use Rattle.frame_code.proofs.FormLaws.{Any};
+    ghost use Rattle.frame_code.proofs.PartLaws.{kinds_tell};
 
     ghost code = { kind_code };
 
@@ -50,7 +50,7 @@ type HeadParts = (PageKind, (u8, u64));
 impl Part for Head {
     ghost use Rattle.frame_code.specs.Codes.{head_code};
     ghost use Rattle.frame_code.specs.Spelled.{IsHead};
-    ghost use Rattle.frame_code.proofs.PartLemmas.{heads_tell};
+    ghost use Rattle.frame_code.proofs.PartLaws.{heads_tell};
 
     ghost code = { head_code };
 
@@ -76,7 +76,7 @@ impl Part for Head {
 impl Part for Edit {
     ghost use Rattle.frame_code.specs.Codes.{edit_code};
     ghost use Rattle.frame_code.specs.Spelled.{IsEdit};
-    ghost use Rattle.frame_code.proofs.PartLemmas.{edits_tell};
+    ghost use Rattle.frame_code.proofs.PartLaws.{edits_tell};
 
     ghost code = { edit_code };
 
@@ -181,7 +181,7 @@ type RecordParts = (u64, (u64, (u64, Edit)));
 impl Part for LogRecord {
     ghost use Rattle.frame_code.specs.Codes.{record_code};
     ghost use Rattle.frame_code.specs.Spelled.{IsRecord};
-    ghost use Rattle.frame_code.proofs.PartLemmas.{records_tell};
+    ghost use Rattle.frame_code.proofs.PartLaws.{records_tell};
 
     ghost code = { record_code };
 
@@ -214,8 +214,8 @@ impl Part for LogRecord {
 impl Part for List<LogRecord> {
     ghost use Rattle.frame_code.specs.Codes.{many, record_code};
     ghost use Rattle.frame_code.specs.Spelled.{AreMany, IsRecord};
-    ghost use Rattle.frame_code.proofs.FormLemmas.{many_tell};
-    ghost use Rattle.frame_code.proofs.PartLemmas.{records_tell};
+    ghost use Rattle.frame_code.proofs.FormLaws.{many_tell};
+    ghost use Rattle.frame_code.proofs.PartLaws.{records_tell};
 
     ghost code = { many record_code };
 

@@ -13,8 +13,8 @@ use std::alloc::{AllocError, Global};
 
 impl Part for ColumnType {
     ghost use Rattle.frame_code.specs.Codes.{type_code};
-    ghost use Rattle.frame_code.proofs.FormLemmas.{Any};
-    ghost use Rattle.frame_code.proofs.PartLemmas.{types_tell};
+    ghost use Rattle.frame_code.proofs.FormLaws.{Any};
+    ghost use Rattle.frame_code.proofs.PartLaws.{types_tell};
 
     ghost code = { type_code };
 
@@ -48,7 +48,7 @@ type ColumnParts = (Name, (ColumnType, bool));
 impl Part for ColumnDef {
     ghost use Rattle.frame_code.specs.Codes.{column_code};
     ghost use Rattle.frame_code.specs.Spelled.{IsColumn};
-    ghost use Rattle.frame_code.proofs.PartLemmas.{columns_tell};
+    ghost use Rattle.frame_code.proofs.PartLaws.{columns_tell};
 
     ghost code = { column_code };
 
@@ -79,8 +79,8 @@ impl Part for ColumnDef {
 impl Part for List<ColumnDef> {
     ghost use Rattle.frame_code.specs.Codes.{few, column_code};
     ghost use Rattle.frame_code.specs.Spelled.{AreFew, IsColumn};
-    ghost use Rattle.frame_code.proofs.FormLemmas.{few_tell};
-    ghost use Rattle.frame_code.proofs.PartLemmas.{columns_tell};
+    ghost use Rattle.frame_code.proofs.FormLaws.{few_tell};
+    ghost use Rattle.frame_code.proofs.PartLaws.{columns_tell};
 
     ghost code = { few column_code };
 
@@ -100,7 +100,7 @@ impl Part for List<ColumnDef> {
 impl Part for List<u8> {
     ghost use Rattle.frame_code.specs.Codes.{few, byte};
     ghost use Rattle.frame_code.specs.Spelled.{AreFew, IsByte};
-    ghost use Rattle.frame_code.proofs.FormLemmas.{few_tell, bytes_tell};
+    ghost use Rattle.frame_code.proofs.FormLaws.{few_tell, bytes_tell};
 
     ghost code = { few byte };
 
@@ -123,7 +123,7 @@ type KeyParts = (Name, (bool, List<u8>));
 impl Part for KeyDef {
     ghost use Rattle.frame_code.specs.Codes.{index_code};
     ghost use Rattle.frame_code.specs.Spelled.{IsIndex};
-    ghost use Rattle.frame_code.proofs.PartLemmas.{indexes_tell};
+    ghost use Rattle.frame_code.proofs.PartLaws.{indexes_tell};
 
     ghost code = { index_code };
 
@@ -154,8 +154,8 @@ impl Part for KeyDef {
 impl Part for List<KeyDef> {
     ghost use Rattle.frame_code.specs.Codes.{few, index_code};
     ghost use Rattle.frame_code.specs.Spelled.{AreFew, IsIndex};
-    ghost use Rattle.frame_code.proofs.FormLemmas.{few_tell};
-    ghost use Rattle.frame_code.proofs.PartLemmas.{indexes_tell};
+    ghost use Rattle.frame_code.proofs.FormLaws.{few_tell};
+    ghost use Rattle.frame_code.proofs.PartLaws.{indexes_tell};
 
     ghost code = { few index_code };
 
@@ -178,7 +178,7 @@ type TableParts = (Name, (List<ColumnDef>, List<KeyDef>));
 impl Part for TableDef {
     ghost use Rattle.frame_code.specs.Codes.{table_code};
     ghost use Rattle.frame_code.specs.Spelled.{IsTable};
-    ghost use Rattle.frame_code.proofs.PartLemmas.{tables_tell};
+    ghost use Rattle.frame_code.proofs.PartLaws.{tables_tell};
 
     ghost code = { table_code };
 
@@ -245,7 +245,7 @@ fn read_tables(
 impl Part for Schema {
     ghost use Rattle.frame_code.specs.Codes.{schema_code};
     ghost use Rattle.frame_code.specs.Spelled.{IsSchema};
-    ghost use Rattle.frame_code.proofs.PartLemmas.{schemas_tell};
+    ghost use Rattle.frame_code.proofs.PartLaws.{schemas_tell};
 
     ghost code = { schema_code };
 

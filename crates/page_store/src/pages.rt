@@ -94,7 +94,7 @@ impl Page {
     }
 
     /// How many cells the page has.
-    #[tactic(auto, using(crate::proofs::RoomLemmas::slots_taken))]
+    #[tactic(auto, using(crate::proofs::RoomLaws::slots_taken))]
     pub fn count(&self) -> u16
         ensures { result ≡ length self.now.cells }
     {
@@ -141,7 +141,7 @@ impl Page {
     }
 
     /// Whether one cell more fits the page.
-    #[tactic(auto, using(crate::proofs::RoomLemmas::taken_insert))]
+    #[tactic(auto, using(crate::proofs::RoomLaws::taken_insert))]
     pub(crate) fn fits(&self, at: u16, cell: &Cell) -> bool
         ensures { IsTrue result ↔ HasRoom (insert self.now.cells at cell.now) }
     {
@@ -149,7 +149,7 @@ impl Page {
     }
 
     /// Whether a cell fits the page in place of the one at a place.
-    #[tactic(auto, using(crate::proofs::RoomLemmas::taken_set, crate::proofs::RoomLemmas::place_taken))]
+    #[tactic(auto, using(crate::proofs::RoomLaws::taken_set, crate::proofs::RoomLaws::place_taken))]
     pub(crate) fn fits_instead(&self, at: u16, cell: &Cell) -> bool
         requires { at < length self.now.cells }
         ensures { IsTrue result ↔ HasRoom (slice_set self.now.cells at cell.now) }

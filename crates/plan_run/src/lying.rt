@@ -9,7 +9,7 @@ ghost use Rattle.sql_answer.specs.Writes.{keys_of};
 ghost use Rattle.sql_eval.specs.Views.{truth_in};
 
 use cdb_values::{KeyDef, TableDef, Value};
-use query_plan::{Edge, Interval};
+use cdb_values::{Edge, Interval};
 use sql_bind::Cmp;
 use sql_eval::{Truth, compare};
 

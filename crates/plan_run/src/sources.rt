@@ -9,7 +9,7 @@ ghost use Rattle.plan_run.specs.declared.sources.RowFault.TheVariants.{NoMemory}
 
 use crate::lying::lies;
 use cdb_values::{List, TableDef, Version};
-use query_plan::Interval;
+use cdb_values::Interval;
 use std::alloc::{AllocError, AllocFailed, Global};
 use thiserror::Error;
 

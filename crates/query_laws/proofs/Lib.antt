@@ -1,9 +1,9 @@
 pub mod AloneLemmas
-pub mod ConditionLemmas
+pub mod ConditionLaws
 pub mod ListLaws
 pub mod OuterLemmas
 pub mod PlanLemmas
 pub mod RowsLaws
 pub mod RunLaws
 pub mod StableLemmas
-pub mod WalkLemmas
+pub mod WalkLaws

@@ -1,4 +1,4 @@
 pub mod LanguageLemmas
-pub mod OrderLemmas
+pub mod OrderLaws
 pub mod ReadingLemmas
 pub mod SeenLemmas

@@ -1,4 +1,4 @@
-pub mod CombinationLemmas
+pub mod CombinationLaws
 pub mod SeenLemmas
 pub mod SizeLemmas
 pub mod StepLemmas

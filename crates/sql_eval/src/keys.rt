@@ -4,7 +4,7 @@ ghost use Rattle.std.specs.Cmp.{on_total, eq_by_cmp_equiv, partial_equiv_from_eq
 ghost use Rattle.std.specs.Cmp.Lexicographic.{slice_cmp, lists_total};
 ghost use Rattle.std.specs.Ordering.{on, eq_by_cmp, as_partial_cmp};
 ghost use Rattle.cdb_values.specs.Order.{value_order};
-ghost use Rattle.sql_answer.proofs.OrderLemmas.{values_total};
+ghost use Rattle.sql_answer.proofs.OrderLaws.{values_total};
 
 use cdb_values::{Row, Value, order};
 use std::cmp::Ordering;

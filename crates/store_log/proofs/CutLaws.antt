@@ -8,7 +8,7 @@ use Rattle.frame_code.specs.Fronts.{IsKind, IsFront}
 use Rattle.frame_code.specs.Spelled.{IsSpelled}
 use Rattle.frame_code.specs.declared.frames.Frame.{Frame}
 use Rattle.frame_code.specs.declared.frames.Frame.TheVariants as frame
-use Rattle.frame_code.proofs.FrontLemmas.{longer_front, fronts_are_short}
+use Rattle.frame_code.proofs.FrontLaws.{longer_front, fronts_are_short}
 use Rattle.store_log.specs.Cuts.{StandsAfter}
 use Rattle.store_log.specs.Held.{Held, at_first, after, AllMay, after_all, header, HasFrames}
 

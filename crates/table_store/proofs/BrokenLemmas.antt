@@ -14,7 +14,7 @@ use Rattle.cdb_values.specs.declared.tables.KeyDef.{KeyDef}
 use Rattle.cdb_values.specs.declared.values.Value.{Value}
 use Rattle.cdb_values.specs.declared.values.Value.TheVariants.{Null}
 use Rattle.key_code.specs.Codes.{key_code, IsInRange}
-use Rattle.key_code.proofs.JoinedLemmas.{key_order}
+use Rattle.key_code.proofs.JoinedLaws.{key_order}
 use Rattle.table_store.specs.Forests.{Pair}
 use Rattle.table_store.specs.Listings.{IsAmong, pair_of_version, keyed, Lists}
 use Rattle.table_store.specs.Operations.{put_all}

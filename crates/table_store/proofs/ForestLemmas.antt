@@ -7,10 +7,10 @@ use Rattle.page_workspace.specs.Spare.{IsIn, AreApart, AreFree, count_of}
 use Rattle.btree_index.specs.Keys.{Key}
 use Rattle.btree_index.specs.Trees.{Holds, top, pages_of, cells_of, leaves, pair_of}
 use Rattle.btree_index.specs.Changes.{Stands, Changes, Becomes}
-use Rattle.btree_index.proofs.ApartLemmas.{in_left, in_right, in_either, apart_left, apart_right, apart_cross, apart_join}
-use Rattle.btree_index.proofs.LeafLemmas.{holds_same}
-use Rattle.btree_index.proofs.RootLemmas.{pages_same}
-use Rattle.btree_index.proofs.TreeLemmas.{one_list, one_height}
+use Rattle.btree_index.proofs.ApartLaws.{in_left, in_right, in_either, apart_left, apart_right, apart_cross, apart_join}
+use Rattle.btree_index.proofs.LeafLaws.{holds_same}
+use Rattle.btree_index.proofs.RootLaws.{pages_same}
+use Rattle.btree_index.proofs.TreeLaws.{one_list, one_height}
 use Rattle.table_store.specs.Forests.{Pair, IsTree, AreTrees, joined, Forest}
 
 -- a tree whose pages stay

@@ -15,7 +15,7 @@ use Rattle.cdb_values.specs.Rows.{without}
 use Rattle.cdb_values.specs.declared.rows.Version.{Version}
 use Rattle.cdb_values.specs.declared.tables.KeyDef.{KeyDef}
 use Rattle.key_code.specs.Codes.{key_code, row_code}
-use Rattle.key_code.proofs.ValueLemmas.{front_tells}
+use Rattle.key_code.proofs.ValueLaws.{front_tells}
 use Rattle.table_store.specs.Forests.{Pair}
 use Rattle.table_store.specs.Listings.{IsAmong, pair_of_version, keyed, Lists}
 use Rattle.table_store.specs.Operations.{removed, put_all, NoTwice}

@@ -9,8 +9,8 @@ use Rattle.cdb_values.specs.declared.tables.TableDef.{TableDef}
 use Rattle.cdb_values.specs.declared.tables.KeyDef.{KeyDef}
 use Rattle.cdb_values.specs.declared.values.Value.{Value}
 use Rattle.key_code.specs.Codes.{row_code, row_value, IsRowValue, HasRowCode}
-use Rattle.key_code.proofs.ValueLemmas.{row_tells}
-use Rattle.key_code.proofs.JoinedLemmas.{row_begins}
+use Rattle.key_code.proofs.ValueLaws.{row_tells}
+use Rattle.key_code.proofs.JoinedLaws.{row_begins}
 use Rattle.table_store.specs.Forests.{Pair, Forest}
 use Rattle.table_store.specs.Plans.{Planned, key_trees, plan_from}
 use Rattle.table_store.specs.Listings.{IsAmong, pair_of_version, Lists, AreLists}

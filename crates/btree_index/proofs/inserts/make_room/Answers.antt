@@ -5,7 +5,7 @@ use Rattle.page_workspace.proofs.OwnLaws.{ok_all}
 use Rattle.btree_index.specs.Fits.{IsFullUnder}
 use Rattle.btree_index.specs.Changes.{LeadsOver}
 use Rattle.btree_index.proofs.DepthLemmas.{splittable, raisable}
-use Rattle.btree_index.proofs.RootLemmas.{splits, crowns}
+use Rattle.btree_index.proofs.RootLaws.{splits, crowns}
 use Rattle.btree_index.proofs.inserts.make_room.Goals as goal
 
 pub returns-in-Some-clause-room : goal.returns-in-Some-clause-room

@@ -1,4 +1,4 @@
-use Rattle.frame_code.proofs.FrontLemmas.{fronts_are_short, frames_have_fronts}
+use Rattle.frame_code.proofs.FrontLaws.{fronts_are_short, frames_have_fronts}
 use Rattle.frame_code.proofs.laws.envelopes_have_fronts.Goals as goal
 
 pub returns : goal.returns

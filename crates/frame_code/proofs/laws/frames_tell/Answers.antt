@@ -1,4 +1,4 @@
-use Rattle.frame_code.proofs.FrameLemmas.{frames_are_told, frames_begin_no_other}
+use Rattle.frame_code.proofs.FrameLaws.{frames_are_told, frames_begin_no_other}
 use Rattle.frame_code.proofs.laws.frames_tell.Goals as goal
 
 pub returns : goal.returns

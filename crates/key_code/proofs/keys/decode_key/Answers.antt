@@ -1,7 +1,7 @@
 use Rattle.std.proofs.Common.{◌≡◌, [], None, rules}
 use Rattle.key_code.specs.Codes.{key_value, IsKeyValue}
 use Rattle.key_code.specs.Reads.{Reads}
-use Rattle.key_code.proofs.JoinedLemmas.{key_dead, joined_more, all_more}
+use Rattle.key_code.proofs.JoinedLaws.{key_dead, joined_more, all_more}
 use Rattle.key_code.proofs.keys.decode_key.Goals as goal
 
 pub returns-in-Ok-None : goal.returns-in-Ok-None

@@ -1,7 +1,7 @@
 use Rattle.std.proofs.Common.{◌≡◌, ◌++◌, rules}
 use Rattle.std.specs.Str.{IsUtf8}
 use Rattle.key_code.specs.Codes.{ended}
-use Rattle.key_code.proofs.JoinedLemmas.{key_no_text}
+use Rattle.key_code.proofs.JoinedLaws.{key_no_text}
 use Rattle.key_code.proofs.keys.read_key_text.Goals as goal
 
 pub returns-then-not-is_text : goal.returns-then-not-is_text

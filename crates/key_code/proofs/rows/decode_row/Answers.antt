@@ -1,7 +1,7 @@
 use Rattle.std.proofs.Common.{◌≡◌, [], None, rules}
 use Rattle.key_code.specs.Codes.{row_value, IsRowValue}
 use Rattle.key_code.specs.Reads.{Reads}
-use Rattle.key_code.proofs.JoinedLemmas.{row_dead, joined_more, all_more}
+use Rattle.key_code.proofs.JoinedLaws.{row_dead, joined_more, all_more}
 use Rattle.key_code.proofs.rows.decode_row.Goals as goal
 
 pub returns-in-Ok-None : goal.returns-in-Ok-None

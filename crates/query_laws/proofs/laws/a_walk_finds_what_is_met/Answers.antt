@@ -1,4 +1,4 @@
-use Rattle.query_laws.proofs.WalkLemmas.{walk_is_filter}
+use Rattle.query_laws.proofs.WalkLaws.{walk_is_filter}
 use Rattle.query_laws.proofs.laws.a_walk_finds_what_is_met.Goals as goal
 
 pub returns : goal.returns

@@ -1,4 +1,4 @@
-use Rattle.sql_answer.proofs.OrderLemmas.{ordered_in_order, ordered_stable}
+use Rattle.sql_answer.proofs.OrderLaws.{ordered_in_order, ordered_stable}
 use Rattle.sql_answer.proofs.laws.orders_are_stable.Goals as goal
 
 pub returns : goal.returns

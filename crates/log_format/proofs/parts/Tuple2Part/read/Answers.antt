@@ -1,7 +1,7 @@
 -- Where no second part stands behind the first, the law of the first says that no two parts do.
 use Rattle.std.proofs.Common.{rules}
 use Rattle.frame_code.specs.Tells.{Lacks, Begins}
-use Rattle.frame_code.proofs.FormLemmas.{no_second}
+use Rattle.frame_code.proofs.FormLaws.{no_second}
 use Rattle.log_format.proofs.parts.Tuple2Part.read.Goals as goal
 
 pub returns-in_default-2 : goal.returns-in_default-2

@@ -1,7 +1,7 @@
 -- Bytes that are less than an envelope.
 use Rattle.std.proofs.Common.{◌≡◌, ◌⊎◌, inl, inr, ℕ, zero, suc, ◌+◌, ◌^◌, ◌<◌, ◌≤◌, List, [], ◌∷◌, ◌++◌, length, refl, sym, ap, ◌∙◌, subst, append_assoc, arith, length-append}
 use Rattle.byteorder.specs.Numbers.{length-bytes_high_first}
-use Rattle.key_code.proofs.ValueLemmas.{digits_tell}
+use Rattle.key_code.proofs.ValueLaws.{digits_tell}
 use Rattle.frame_code.specs.declared.frames.Frame.{Frame}
 use Rattle.frame_code.specs.declared.frames.Frame.TheVariants as frames
 use Rattle.frame_code.specs.Codes.{number, payload, kind_of, envelope, frame_code}

@@ -10,7 +10,7 @@ use Rattle.cdb_values.specs.declared.values.Value.{Value}
 use Rattle.cdb_values.specs.declared.values.Value.TheVariants.{Null, Int, Text, Blob}
 use Rattle.key_code.specs.Codes.{joined, ended, counted, key_value, key_code, row_value, row_code, IsInRange, IsKeyValue, HasRowCode, IsRowValue}
 use Rattle.key_code.specs.Reads.{Reads, Decodes}
-use Rattle.key_code.proofs.ValueLemmas.{key_keeps, key_tells, row_tells, ended_tells, counted_tells}
+use Rattle.key_code.proofs.ValueLaws.{key_keeps, key_tells, row_tells, ended_tells, counted_tells}
 
 -- a value's code tells it and what is behind it
 abbrev pub Tells : (Value → List ℕ) → (Value → Type 0) → Type 0

@@ -13,7 +13,7 @@ use Rattle.cdb_values.specs.Order.{rank, value_order}
 use Rattle.cdb_values.specs.declared.values.Value.{Value}
 use Rattle.cdb_values.specs.declared.values.Value.TheVariants.{Null, Int, Text, Blob}
 use Rattle.key_code.specs.Codes.{lifted, complement, escaped, ended, counted, key_value, row_value, IsInRange, HasRowCode}
-use Rattle.key_code.proofs.NumberLemmas.{byte_order, less, greater, equal, digits_order}
+use Rattle.key_code.proofs.NumberLaws.{byte_order, less, greater, equal, digits_order}
 use Rattle.key_code.proofs.EscapeLemmas.{escaped_tells, escaped_order}
 
 -- lists of one length that begin two equal lists

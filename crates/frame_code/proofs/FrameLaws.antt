@@ -1,14 +1,14 @@
 -- Frames tell themselves.
 use Rattle.std.proofs.Common.{◌≡◌, ℕ, ◌^◌, ◌<◌, List, [], ◌++◌, length, sym, ap, ◌∙◌, append_assoc, arith}
 use Rattle.std.proofs.lemmas.List.{append-nil}
-use Rattle.key_code.proofs.ValueLemmas.{front_tells, digits_tell}
+use Rattle.key_code.proofs.ValueLaws.{front_tells, digits_tell}
 use Rattle.frame_code.specs.declared.frames.Frame.{Frame}
 use Rattle.frame_code.specs.declared.frames.Frame.TheVariants as frames
 use Rattle.frame_code.specs.Codes.{byte, number, sixteen_bytes, entry_code, payload, kind_of, envelope, frame_code}
 use Rattle.frame_code.specs.Spelled.{IsByte, IsNumber, IsSixteenBytes, IsEntry, HasPayload, IsSpelled}
 use Rattle.frame_code.specs.Tells.{Tells}
-use Rattle.frame_code.proofs.FormLemmas.{Both, both, both_tell, bytes_tell, numbers_tell, sixteen_bytes_tell}
-use Rattle.frame_code.proofs.EntryLemmas.{entries_tell}
+use Rattle.frame_code.proofs.FormLaws.{Both, both, both_tell, bytes_tell, numbers_tell, sixteen_bytes_tell}
+use Rattle.frame_code.proofs.EntryLaws.{entries_tell}
 
 -- an envelope tells its kind, its payload and what is behind it
 pub envelopes_tell : (k l : ℕ) (x y ps qs : List ℕ) → length x < 2 ^ 64 → length y < 2 ^ 64

@@ -7,8 +7,8 @@ use Rattle.cdb_values.specs.declared.rows.Change.TheVariants as change
 use Rattle.cdb_values.specs.declared.tables.ColumnType.TheVariants as types
 use Rattle.cdb_values.specs.declared.values.Value.{Value}
 use Rattle.key_code.specs.Codes.{row_code, IsRowValue}
-use Rattle.key_code.proofs.ValueLemmas.{digits_tell}
-use Rattle.key_code.proofs.JoinedLemmas.{row_value_tells, row_begins}
+use Rattle.key_code.proofs.ValueLaws.{digits_tell}
+use Rattle.key_code.proofs.JoinedLaws.{row_value_tells, row_begins}
 use Rattle.page_store.specs.declared.edits.Edit.{Edit}
 use Rattle.page_store.specs.declared.edits.Edit.TheVariants.{PutCell, TakeCell, SwapCell, SetHead}
 use Rattle.page_store.specs.declared.pages.Head.{Head}
@@ -17,7 +17,7 @@ use Rattle.page_store.specs.declared.pages.PageKind.TheVariants.{Free, Leaf, Inn
 use Rattle.frame_code.specs.Codes.{byte, two_bytes, number, flag, few, name_code, cell_code, stored_row, type_code, column_code, index_code, table_code, schema_code, change_code, kind_code, head_code, edit_code, record_code}
 use Rattle.frame_code.specs.Spelled.{IsByte, IsTwoBytes, IsNumber, AreFew, IsNameBytes, IsCellBytes, IsStoredRow, IsColumn, IsIndex, IsTable, IsSchema, IsChange, IsHead, IsEdit, IsRecord}
 use Rattle.frame_code.specs.Tells.{Tells}
-use Rattle.frame_code.proofs.FormLemmas.{Both, both, both_tell, as_parts_tell, bytes_tell, two_bytes_tell, numbers_tell, flags_tell, Any, few_tell, listed_tell, counted_tell}
+use Rattle.frame_code.proofs.FormLaws.{Both, both, both_tell, as_parts_tell, bytes_tell, two_bytes_tell, numbers_tell, flags_tell, Any, few_tell, listed_tell, counted_tell}
 
 -- names, cells and rows
 pub names_tell : Tells name_code IsNameBytes

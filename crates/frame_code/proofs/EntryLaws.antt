@@ -9,8 +9,8 @@ use Rattle.phys_log.specs.declared.entries.LogRecord.{LogRecord}
 use Rattle.frame_code.specs.Codes.{number, many, name_code, schema_code, change_code, record_code, level_code, entry_code}
 use Rattle.frame_code.specs.Spelled.{IsNumber, AreMany, IsNameBytes, IsSchema, IsChange, IsRecord, IsEntry}
 use Rattle.frame_code.specs.Tells.{Tells}
-use Rattle.frame_code.proofs.FormLemmas.{Both, both, both_tell, numbers_tell, many_tell}
-use Rattle.frame_code.proofs.PartLemmas.{names_tell, schemas_tell, changes_tell, records_tell}
+use Rattle.frame_code.proofs.FormLaws.{Both, both, both_tell, numbers_tell, many_tell}
+use Rattle.frame_code.proofs.PartLaws.{names_tell, schemas_tell, changes_tell, records_tell}
 
 -- what stands behind the tag of a setup
 abbrev pub setup_parts : List TableDef × List LogRecord → List ℕ

@@ -12,10 +12,10 @@ use Rattle.btree_index.specs.Trees.{Entry, page_of, below, spread, leaves, pages
 use Rattle.btree_index.specs.Ways.{IsAt}
 use Rattle.btree_index.specs.Changes.{raise, Stands, Changes, Becomes, IsPath, Leads}
 use Rattle.btree_index.specs.Steps.{Alters, Halves, Splits, Crowns}
-use Rattle.btree_index.proofs.ApartLemmas.{in_left, in_right, apart_right, apart_cross}
+use Rattle.btree_index.proofs.ApartLaws.{in_left, in_right, apart_right, apart_cross}
 use Rattle.btree_index.proofs.CellLemmas.{child_of-cell, inner_key_is, inner_cell_is, inner_length}
 use Rattle.btree_index.proofs.LevelLemmas.{Grown, SameOn, climb, uppers, all_pages, holds_down, shaped_down, spread-same}
-use Rattle.btree_index.proofs.LeafLemmas.{holds_same}
+use Rattle.btree_index.proofs.LeafLaws.{holds_same}
 use Rattle.btree_index.proofs.HalfLemmas.{half_level}
 use Rattle.btree_index.proofs.ParentLemmas.{half_parent, level_inside, child_inside}
 use Rattle.btree_index.proofs.StandLemmas.{IsFresh, becomes, chain_same, kept_same}

@@ -13,7 +13,7 @@ use Rattle.btree_index.specs.Cells.{IsLeafCell}
 use Rattle.btree_index.specs.Trees.{Entry, page_of, spread, leaves, cells_of, pages_of, IsShaped, IsLeafPage, IsInnerPage, IsFenced, IsUnder, AreFenced, AreLinked, Holds, top}
 use Rattle.btree_index.specs.Ways.{IsAt}
 use Rattle.btree_index.specs.Changes.{raise, IsPath}
-use Rattle.btree_index.proofs.ApartLemmas.{in_left, in_right, apart_right, apart_cross}
+use Rattle.btree_index.proofs.ApartLaws.{in_left, in_right, apart_right, apart_cross}
 use Rattle.btree_index.proofs.LevelLemmas.{Grown, SameOn, each_same, lift, climb, uppers, all_pages, holds_down, shaped_down}
 use Rattle.btree_index.proofs.WayLemmas.{not_inner}
 

@@ -1,7 +1,7 @@
 -- Spellings of what is put together: of two parts, of a part seen as another, and of lists of parts.
 use Rattle.std.proofs.Common.{◌≡◌, ℕ, ◌^◌, ◌<◌, List, [], ◌∷◌, ◌++◌, length, true, false, refl, sym, ap, ◌∙◌, append_assoc, arith}
 use Rattle.std.specs.List.{flat_map, AllByRecursion}
-use Rattle.key_code.proofs.ValueLemmas.{front_tells, digits_tell}
+use Rattle.key_code.proofs.ValueLaws.{front_tells, digits_tell}
 use Rattle.frame_code.specs.Codes.{byte, two_bytes, number, sixteen_bytes, flag, few, many}
 use Rattle.frame_code.specs.Spelled.{IsByte, IsTwoBytes, IsNumber, IsSixteenBytes, AreFew, AreMany}
 use Rattle.frame_code.specs.Tells.{Tells, Lacks, Begins}
