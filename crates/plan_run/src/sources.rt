@@ -118,7 +118,7 @@ fn all_of(alloc: Global, versions: &[Version]) -> Result<List<Version>, AllocErr
 }
 
 /// Copies of the versions that lie in an interval.
-#[tactic(auto, using(sql_answer_plain::proofs::CombinationLemmas::kept_more))]
+#[tactic(auto, using(sql_answer_plain::proofs::CombinationLaws::kept_more))]
 fn lying(
     alloc: Global,
     tables: &[TableDef],
