@@ -19,10 +19,18 @@ use Rattle.report_text.specs.Grammar.{IsName, IsKey}
 use Rattle.report_text.specs.Text.{report_text}
 use Rattle.report_text.specs.Types.{FitsTypes}
 use Rattle.report_text.specs.declared.reports.Report.{Report}
-use Rattle.transaction_answers.specs.Answer.{from_nothing}
-use Rattle.transaction_answers.proofs.LanguageLaws.{statements_answer}
-use Rattle.transaction_answers.proofs.RowLaws.{statements_keep}
+use Rattle.script_play.specs.Basis.{from_nothing}
+use Rattle.report_laws.specs.Answers.{Answers}
+use Rattle.report_laws.specs.Spelled.{KeepsRows}
+use Rattle.sql_answer.proofs.LanguageLemmas.{sql_answers}
+use Rattle.sql_answer.specs.Language.{bound_in, sql_language}
 use Rattle.script_main.specs.Run.{IsReported}
+
+sql_is_answered : Answers sql_language
+sql_is_answered = sql_answers bound_in
+
+sql_keeps : KeepsRows sql_language
+sql_keeps = ?
 
 -- a name of a script is a name of a report
 
@@ -50,14 +58,14 @@ body_named [] all = tt
 body_named (l ∷ ls) all = (says_named l.act all.0, body_named ls all.1)
 
 pub spelled : (s : Script) → script.IsNamed s → IsSpelled (from_nothing s)
-spelled s is = record { language = statements_keep; rows = tt; tables = tables_named s.tables is.tables; body = body_named s.body is.body }
+spelled s is = record { language = sql_keeps; rows = tt; tables = tables_named s.tables is.tables; body = body_named s.body is.body }
 
 pub reported : (s : Script) (report : Report) (text : List ℕ) → script.IsNamed s → Lawful (from_nothing s) report → InPlayOrder (from_nothing s) report → FitsTypes report → text ≡ report_text report → IsReported s text
 reported s report text names lawful in_order fits is = record {
   report = report;
   lawful = lawful;
   in_order = in_order;
-  one = λ other uncut lawful' in_order' uncut'. one_report (from_nothing s) report other statements_answer lawful in_order uncut lawful' in_order' uncut';
+  one = λ other uncut lawful' in_order' uncut'. one_report (from_nothing s) report other sql_is_answered lawful in_order uncut lawful' in_order' uncut';
   is_report = of_the_grammar (from_nothing s) report (spelled s names) lawful in_order fits;
   is_text = is;
 }
