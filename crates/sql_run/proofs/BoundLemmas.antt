@@ -1,0 +1,198 @@
+-- What a bound statement has of the text that it is of: the rows of an INSERT, and the values that SET gives, are of the
+-- grammar of reports, and a query has an item or more.
+use Rattle.std.proofs.Common.{◌≡◌, ℕ, zero, suc, ◌+◌, ◌<◌, ◌≤◌, ◌==◌, List, [], ◌∷◌, ◌++◌, length, map, take, Bool, true, false, cond, not, ◌||◌, refl, sym, subst, arith, Option, Some, None, Result, Ok, Err}
+use Rattle.std.specs.Prelude.{slice_get, is_none, bytes_eq, if◌then◌else◌}
+use Rattle.std.specs.List.{AllByRecursion, list_any}
+use Rattle.std.proofs.lemmas.Bool.{or_parts, eqb-true, not-false}
+use Rattle.std.proofs.lemmas.Option.{same_Some}
+use Rattle.cdb_values.specs.Named.{Place, found_at, with_place, table_named}
+use Rattle.cdb_values.specs.Tables.{place_of}
+use Rattle.cdb_values.specs.declared.tables.ColumnDef.{ColumnDef}
+use Rattle.cdb_values.specs.declared.tables.TableDef.{TableDef}
+use Rattle.cdb_values.specs.declared.values.Value.{Value}
+use Rattle.report_laws.proofs.EachLaws.{all_found}
+use Rattle.report_text.specs.Grammar.{IsValue, IsRow}
+use Rattle.sql_bind.specs.Binding.{binding}
+use Rattle.sql_bind.specs.Bound.{BoundStatement, BeginIt, CommitIt, RollbackIt, SetIt, InsertInto, UpdateOf, DeleteFrom, SelectOf}
+use Rattle.sql_bind.specs.Faults.{Kind, UnknownTable, UnknownColumn, AmbiguousName, WrongType, WrongCount, has_unknown_table, has_unknown_column, has_ambiguous_name, has_wrong_type, has_wrong_count, width}
+use Rattle.sql_bind.specs.Meaning.{value_of, bound_side, listed_value, bound_row, bound_setting, bound_filter, bound_item, columns_from, all_from, bound_items, bound_query, bound_as}
+use Rattle.sql_bind.specs.Scope.{Visible, target, visible, visible_at, is_unknown_table, named_ones}
+use Rattle.sql_bind.specs.declared.types.BoundAssign.{BoundAssign}
+use Rattle.sql_bind.specs.declared.types.BoundItem.{BoundItem}
+use Rattle.sql_bind.specs.declared.types.BoundOperand.{BoundOperand}
+use Rattle.sql_bind.specs.declared.types.BoundOperand.TheVariants as operand
+use Rattle.sql_grammar.specs.Trees as written
+use Rattle.sql_grammar.specs.Trees.{Name, Constant, Side, OfLiteral, OfColumn, Item, Query, Setting, Source, Statement}
+use Rattle.sql_run.specs.Spelled.{HasColumns}
+use Rattle.sql_run.proofs.GrammarLemmas.{IsConstant, HasValue, HasOne, HasItems, IsWritten}
+
+-- an operand that is such a value, or a column
+abbrev pub IsOperand : BoundOperand → Type 0
+IsOperand (operand.Value value) = IsValue value
+IsOperand (operand.Column column) = Unit {0}
+
+abbrev pub GivesValue : BoundAssign → Type 0
+GivesValue assign = IsOperand assign.first
+
+abbrev pub IsBoundWell : BoundStatement → Type 0
+IsBoundWell BeginIt = Unit {0}
+IsBoundWell CommitIt = Unit {0}
+IsBoundWell RollbackIt = Unit {0}
+IsBoundWell (SetIt level) = Unit {0}
+IsBoundWell (InsertInto table rows) = AllByRecursion IsRow rows
+IsBoundWell (UpdateOf table assigns filter) = AllByRecursion GivesValue assigns
+IsBoundWell (DeleteFrom table filter) = Unit {0}
+IsBoundWell (SelectOf query) = HasOne query.items
+
+-- ---- a statement that is bound has none of the errors
+
+unless : (t : Bool) (kind : Kind) (rest : Result BoundStatement Kind) (b : BoundStatement) → cond t (Err kind) rest ≡ Ok b → (t ≡ false) × (rest ≡ Ok b)
+unless true kind rest b is = absurd cc
+unless false kind rest b is = (refl, is)
+
+pub record IsFaultless (tables : List TableDef) (s : Statement) (b : BoundStatement) : Type 0 where
+  pub table : has_unknown_table tables s ≡ false
+  pub column : has_unknown_column tables s ≡ false
+  pub name : has_ambiguous_name tables s ≡ false
+  pub type_ : has_wrong_type tables s ≡ false
+  pub count : has_wrong_count tables s ≡ false
+  pub is : bound_as tables s ≡ b
+
+ok_same : (x y : BoundStatement) → Ok x ≡ Ok y → x ≡ y
+ok_same x y same = cc
+
+pub faultless : (tables : List TableDef) (s : Statement) (b : BoundStatement) → binding tables s ≡ Ok b → IsFaultless tables s b
+unfolding binding
+faultless tables s b is =
+    let last : Result BoundStatement Kind = Ok (bound_as tables s) in
+    let counted : Result BoundStatement Kind = cond (has_wrong_count tables s) (Err WrongCount) last in
+    let typed : Result BoundStatement Kind = cond (has_wrong_type tables s) (Err WrongType) counted in
+    let named : Result BoundStatement Kind = cond (has_ambiguous_name tables s) (Err AmbiguousName) typed in
+    let known : Result BoundStatement Kind = cond (has_unknown_column tables s) (Err UnknownColumn) named in
+    let a = unless (has_unknown_table tables s) UnknownTable known b is in
+    let c = unless (has_unknown_column tables s) UnknownColumn named b a.1 in
+    let d = unless (has_ambiguous_name tables s) AmbiguousName typed b c.1 in
+    let e = unless (has_wrong_type tables s) WrongType counted b d.1 in
+    let f = unless (has_wrong_count tables s) WrongCount last b e.1 in
+    record { table = a.0; column = c.0; name = d.0; type_ = e.0; count = f.0; is = ok_same (bound_as tables s) b f.1 }
+
+-- ---- a table that is known
+
+placed_is : (place : ℕ) (found : Option TableDef) (p : Place) → with_place place found ≡ Some p → found ≡ Some p.table
+placed_is place None p is = absurd cc
+placed_is place (Some table) p is = cc
+
+pub named_table : (tables : List TableDef) (name : Name) (p : Place) → table_named tables name ≡ Some p → slice_get tables p.place ≡ Some p.table
+named_table tables name p is = go (place_of tables name) refl is
+  where
+    place_is : (place : ℕ) (found : Option TableDef) → with_place place found ≡ Some p → place ≡ p.place
+    place_is place None is = absurd cc
+    place_is place (Some table) is = cc
+
+    go : (o : Option ℕ) → place_of tables name ≡ o → found_at tables o ≡ Some p → slice_get tables p.place ≡ Some p.table
+    go None found is = absurd cc
+    go (Some place) found is = subst (λ (n : ℕ). slice_get tables n ≡ Some p.table) (place_is place (slice_get tables place) is) (placed_is place (slice_get tables place) p is)
+
+has_columns : (tables : List TableDef) (name called : Name) → AllByRecursion HasColumns tables → is_none (table_named tables name) ≡ false → HasOne (visible_at called (table_named tables name)).columns
+has_columns tables name called all known = go (table_named tables name) refl known
+  where
+    go : (o : Option Place) → table_named tables name ≡ o → is_none o ≡ false → HasOne (visible_at called o).columns
+    go None found known = absurd cc
+    go (Some p) found known = all_found HasColumns tables p.place p.table all (named_table tables name p found)
+
+-- ---- INSERT
+
+values_are : (literals : List Constant) → AllByRecursion IsConstant literals → AllByRecursion IsValue (map value_of literals)
+values_are [] all = tt
+values_are (l ∷ ls) all = (all.0, values_are ls all.1)
+
+listed_is : (names : List Name) (literals : List Constant) (column : Name) → AllByRecursion IsConstant literals → IsValue (listed_value names literals column)
+listed_is [] literals column all = tt
+listed_is (name ∷ names) [] column all = tt
+listed_is (name ∷ names) (literal ∷ literals) column all = pick (bytes_eq name column) (listed_is names literals column all.1)
+  where
+    pick : (b : Bool) → IsValue (listed_value names literals column) → IsValue (cond b (value_of literal) (listed_value names literals column))
+    pick true later = all.0
+    pick false later = later
+
+all_listed : (names : List Name) (literals : List Constant) (columns : List ColumnDef) → AllByRecursion IsConstant literals → AllByRecursion IsValue (map (λ column. listed_value names literals column.name) columns)
+all_listed names literals [] all = tt
+all_listed names literals (column ∷ columns) all = (listed_is names literals column.name all, all_listed names literals columns all)
+
+pub row_from : (row : List Value) → HasOne row → AllByRecursion IsValue row → IsRow row
+row_from [] has all = absurd has
+row_from (v ∷ vs) has all = all
+
+mapped_has : {A B : Type 0} (f : A → B) (xs : List A) → HasOne xs → HasOne (map f xs)
+mapped_has f [] has = absurd has
+mapped_has f (x ∷ xs) has = tt
+
+as_many : {A B : Type 0} (xs : List A) (ys : List B) → length xs ≡ length ys → HasOne ys → HasOne xs
+as_many [] [] same has = absurd has
+as_many [] (y ∷ ys) same has = absurd (omega arith)
+as_many (x ∷ xs) ys same has = tt
+
+row_is : (table : Visible) (names : Option (List Name)) (literals : List Constant) → HasOne table.columns → AllByRecursion IsConstant literals
+    → not (length literals == width table names) ≡ false → IsRow (bound_row table names literals)
+row_is table None literals has all counted =
+    let same : length literals ≡ length table.columns = eqb-true (length literals) (length table.columns) (not-false (length literals == length table.columns) counted) in
+    row_from (map value_of literals) (mapped_has value_of literals (as_many literals table.columns same has)) (values_are literals all)
+row_is table (Some names) literals has all counted =
+    row_from (map (λ column. listed_value names literals column.name) table.columns)
+    (mapped_has (λ (column : ColumnDef). listed_value names literals column.name) table.columns has) (all_listed names literals table.columns all)
+
+rows_are : (table : Visible) (names : Option (List Name)) (rows : List (List Constant)) → HasOne table.columns → AllByRecursion (AllByRecursion IsConstant) rows
+    → list_any (λ row. not (length row == width table names)) rows ≡ false → AllByRecursion IsRow (map (bound_row table names) rows)
+rows_are table names [] has all counted = tt
+rows_are table names (row ∷ rows) has all counted =
+    let parts = or_parts (not (length row == width table names)) (list_any (λ (r : List Constant). not (length r == width table names)) rows) counted in
+    (row_is table names row has all.0 parts.0, rows_are table names rows has all.1 parts.1)
+
+-- ---- UPDATE
+
+side_is : (scope : List Visible) (side : Side) → HasValue side → IsOperand (bound_side scope side)
+side_is scope (OfLiteral literal) is = is
+side_is scope (OfColumn column) is = tt
+
+settings_are : (scope : List Visible) (settings : List Setting) → AllByRecursion (λ s. HasValue s.first) settings → AllByRecursion GivesValue (map (bound_setting scope) settings)
+settings_are scope [] all = tt
+settings_are scope (s ∷ ss) all = (side_is scope s.first all.0, settings_are scope ss all.1)
+
+-- ---- SELECT
+
+first_columns : (place : ℕ) (columns : List ColumnDef) (later : List BoundItem) → HasOne columns → HasOne (columns_from place 0 (take 256 columns) ++ later)
+first_columns place [] later has = absurd has
+first_columns place (c ∷ cs) later has = tt
+
+items_have : (tables : List TableDef) (items : Option (List Item)) (sources : List Source) → AllByRecursion HasColumns tables → HasItems items → HasOne sources
+    → list_any (is_unknown_table tables) (map (λ source. source.table) sources) ≡ false → HasOne (bound_items (named_ones (map (visible tables) sources)) items)
+items_have tables items [] all has some known = absurd some
+items_have tables None (source ∷ sources) all has some known =
+    let parts = or_parts (is_unknown_table tables source.table) (list_any (is_unknown_table tables) (map (λ (s : Source). s.table) sources)) known in
+    first_columns 0 (visible tables source).columns _ (has_columns tables source.table _ all parts.0)
+items_have tables (Some items) (source ∷ sources) all has some known = mapped_has (bound_item (named_ones (map (visible tables) (source ∷ sources)))) items has
+
+-- ---- statements
+
+first_known : (b : Bool) → (b || false) ≡ false → b ≡ false
+first_known true is = absurd cc
+first_known false is = refl
+
+bound_is : (tables : List TableDef) (s : Statement) → AllByRecursion HasColumns tables → IsWritten s → has_unknown_table tables s ≡ false → has_wrong_count tables s ≡ false → IsBoundWell (bound_as tables s)
+unfolding bound_as
+bound_is tables written.BeginIt all is known counted = tt
+bound_is tables written.CommitIt all is known counted = tt
+bound_is tables written.RollbackIt all is known counted = tt
+bound_is tables written.SnapshotIt all is known counted = tt
+bound_is tables written.SerializableIt all is known counted = tt
+bound_is tables (written.InsertInto table names rows) all is known counted =
+    rows_are (target tables table) names rows (has_columns tables table table all (first_known (is_unknown_table tables table) known)) is counted
+bound_is tables (written.UpdateOf table settings filter) all is known counted = settings_are (target tables table ∷ []) settings is
+bound_is tables (written.DeleteFrom table filter) all is known counted = tt
+bound_is tables (written.SelectOf query) all is known counted = items_have tables query.items query.tables all is.0 is.1 known
+
+-- a statement of a text that is UTF-8, bound in tables with columns
+pub bound_well : (tables : List TableDef) (s : Statement) (b : BoundStatement) → AllByRecursion HasColumns tables → IsWritten s → binding tables s ≡ Ok b → IsBoundWell b
+bound_well tables s b all is binds =
+    let f = faultless tables s b binds in
+    subst IsBoundWell f.is (bound_is tables s all is f.table f.count)

@@ -1,0 +1,2 @@
+pub mod LyingLemmas
+pub mod SourceLemmas

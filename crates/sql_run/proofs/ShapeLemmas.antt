@@ -1,0 +1,252 @@
+-- The rows that a query gives of combinations of rows of the grammar are such rows: it has an item or more, SUM stays within
+-- 64 bits, and COUNT counts fewer combinations than 2 ^ 63.
+use Rattle.std.proofs.Common.{◌≡◌, ℕ, zero, suc, ◌+◌, ◌<◌, ◌≤◌, ◌^◌, List, [], ◌∷◌, ◌++◌, length, map, take, filter, Bool, true, false, cond, not, ltb, ◌||◌, refl, sym, subst, ap, arith, Option, Some, None, pos, negsuc, lit<}
+use Rattle.std.specs.Prelude.{ℤ, slice_get, option_map}
+use Rattle.std.specs.Option.{option_and_then}
+use Rattle.std.specs.Ordering.{is_lt, is_gt}
+use Rattle.std.specs.List.{AllByRecursion}
+use Rattle.std.proofs.lemmas.Bool.{ltb-true, cond_both}
+use Rattle.std.proofs.lemmas.List.{length-append}
+use Rattle.std.proofs.lemmas.Option.{same_Some}
+use Rattle.cdb_values.specs.Good.{same_values}
+use Rattle.cdb_values.specs.Order.{value_order}
+use Rattle.cdb_values.specs.declared.values.Value.{Value}
+use Rattle.cdb_values.specs.declared.values.Value.TheVariants.{Null, Int, Text, Blob}
+use Rattle.report_laws.proofs.EachLaws.{all_append, all_map}
+use Rattle.report_laws.proofs.SpelledLaws.{all_filtered}
+use Rattle.report_text.specs.Grammar.{IsValue, IsRow}
+use Rattle.sql_answer.specs.Aggregates.{is_64_bits, int_value, integers, total, sum_of, known, least_from, least, greatest_from, greatest, values_in, first_of, item_value, all_there, item_values}
+use Rattle.sql_answer.specs.Conditions.{cell, cell_of, column_value}
+use Rattle.sql_answer.specs.Shapes.{Group, group, Keyed, keyed, is_below, is_grouped, key_items, grouped_with, values_at, grouped_from, grouped, groups_by, groups_of, projected, placed, sorted, ordered, limited, projections, arranged, shape}
+use Rattle.sql_bind.specs.Bound.{BoundQuery}
+use Rattle.sql_bind.specs.declared.types.BoundColumn.{BoundColumn}
+use Rattle.sql_bind.specs.declared.types.BoundItem.{BoundItem}
+use Rattle.sql_bind.specs.declared.types.BoundItem.TheVariants as item
+use Rattle.sql_run.proofs.BoundLemmas.{row_from}
+use Rattle.sql_run.proofs.GrammarLemmas.{HasOne}
+
+abbrev Rows : Type 0
+Rows = List (List Value)
+
+-- ---- values
+
+row_values : (row : List Value) → IsRow row → AllByRecursion IsValue row
+row_values [] is = absurd is
+row_values (v ∷ vs) is = is
+
+cell_is : (row : List Value) (column : ℕ) → AllByRecursion IsValue row → IsValue (cell row column)
+cell_is [] column all = tt
+cell_is (v ∷ vs) zero all = all.0
+cell_is (v ∷ vs) (suc column) all = cell_is vs column all.1
+
+-- the value of a column in rows of the grammar
+pub column_is : (rows : Rows) (column : BoundColumn) → AllByRecursion IsRow rows → IsValue (column_value rows column)
+column_is rows column all = go rows column.place all
+  where
+    go : (rest : Rows) (place : ℕ) → AllByRecursion IsRow rest → IsValue (cell_of (slice_get rest place) column.column)
+    go [] place all = tt
+    go (row ∷ rest) zero all = cell_is row column.column (row_values row all.0)
+    go (row ∷ rest) (suc place) all = go rest place all.1
+
+values_are : (members : List Rows) (column : BoundColumn) → AllByRecursion (AllByRecursion IsRow) members → AllByRecursion IsValue (values_in members column)
+values_are [] column all = tt
+values_are (rows ∷ members) column all = (column_is rows column all.0, values_are members column all.1)
+
+first_is : (values : List Value) → AllByRecursion IsValue values → IsValue (first_of values)
+first_is [] all = tt
+first_is (v ∷ vs) all = all.0
+
+-- an integer that stays within 64 bits
+bits_are : (x : ℤ) → is_64_bits x ≡ true → IsValue (Int x)
+bits_are (pos n) is = ltb-true n (2 ^ 63) is
+bits_are (negsuc n) is = ltb-true n (2 ^ 63) is
+
+pub int_is : (x : ℤ) (v : Value) → int_value x ≡ Some v → IsValue v
+int_is x v is = go (is_64_bits x) refl is
+  where
+    go : (b : Bool) → is_64_bits x ≡ b → cond b (Some (Int x)) None ≡ Some v → IsValue v
+    go true within same = subst IsValue (same_Some (Int x) v same) (bits_are x within)
+    go false past same = absurd cc
+
+sum_is : (xs : List ℤ) (v : Value) → sum_of xs ≡ Some v → IsValue v
+sum_is [] v is = subst IsValue (same_Some Null v is) tt
+sum_is (x ∷ xs) v is = int_is (total (x ∷ xs)) v is
+
+one_of : (b : Bool) (x y : Value) → IsValue x → IsValue y → IsValue (cond b x y)
+one_of true x y first second = first
+one_of false x y first second = second
+
+least_from_is : (best : Value) (values : List Value) → IsValue best → AllByRecursion IsValue values → IsValue (least_from best values)
+least_from_is best [] is all = is
+least_from_is best (v ∷ vs) is all = least_from_is (cond (is_lt (value_order v best)) v best) vs (one_of (is_lt (value_order v best)) v best all.0 is) all.1
+
+least_is : (values : List Value) → AllByRecursion IsValue values → IsValue (least values)
+least_is [] all = tt
+least_is (v ∷ vs) all = least_from_is v vs all.0 all.1
+
+greatest_from_is : (best : Value) (values : List Value) → IsValue best → AllByRecursion IsValue values → IsValue (greatest_from best values)
+greatest_from_is best [] is all = is
+greatest_from_is best (v ∷ vs) is all = greatest_from_is (cond (is_gt (value_order v best)) v best) vs (one_of (is_gt (value_order v best)) v best all.0 is) all.1
+
+greatest_is : (values : List Value) → AllByRecursion IsValue values → IsValue (greatest values)
+greatest_is [] all = tt
+greatest_is (v ∷ vs) all = greatest_from_is v vs all.0 all.1
+
+-- ---- the items of a group
+
+-- a group that COUNT can tell, of rows of the grammar
+abbrev IsGroup : List Rows → Type 0
+IsGroup members = (length members < 2 ^ 63) × AllByRecursion (AllByRecursion IsRow) members
+
+item_is : (members : List Rows) (i : BoundItem) (v : Value) → IsGroup members → item_value members i ≡ Some v → IsValue v
+item_is members (item.Column column) v is same = subst IsValue (same_Some (first_of (values_in members column)) v same) (first_is (values_in members column) (values_are members column is.1))
+item_is members item.Count v is same = subst IsValue (same_Some (Int (pos (length members))) v same) is.0
+item_is members (item.Sum column) v is same = sum_is (integers (values_in members column)) v same
+item_is members (item.Min column) v is same =
+    subst IsValue (same_Some (least (known (values_in members column))) v same) (least_is (known (values_in members column)) (all_filtered IsValue _ (values_in members column) (values_are members column is.1)))
+item_is members (item.Max column) v is same =
+    subst IsValue (same_Some (greatest (known (values_in members column))) v same) (greatest_is (known (values_in members column)) (all_filtered IsValue _ (values_in members column) (values_are members column is.1)))
+
+-- each that is there has what each has
+all_there_are : {A B : Type 0} (f : A → Option B) (P : A → Type 0) (Q : B → Type 0) → ((x : A) (y : B) → P x → f x ≡ Some y → Q y)
+    → (xs : List A) (ys : List B) → AllByRecursion P xs → all_there (map f xs) ≡ Some ys → AllByRecursion Q ys
+all_there_are f P Q each [] ys all is = subst (AllByRecursion Q) (same_Some [] ys is) tt
+all_there_are {A} {B} f P Q each (x ∷ xs) ys all is = step (f x) refl (λ zs rest. all_there_are f P Q each xs zs all.1 rest) is
+  where
+    behind : (y : B) (o : Option (List B)) → f x ≡ Some y → ((zs : List B) → o ≡ Some zs → AllByRecursion Q zs) → option_map (λ zs. y ∷ zs) o ≡ Some ys → AllByRecursion Q ys
+    behind y None first later is = absurd cc
+    behind y (Some zs) first later is = subst (AllByRecursion Q) (same_Some (y ∷ zs) ys is) (each x y all.0 first, later zs refl)
+
+    step : (o : Option B) → f x ≡ o → ((zs : List B) → all_there (map f xs) ≡ Some zs → AllByRecursion Q zs) → all_there (o ∷ map f xs) ≡ Some ys → AllByRecursion Q ys
+    step None first later is = absurd cc
+    step (Some y) first later is = behind y (all_there (map f xs)) first later is
+
+there_has : {B : Type 0} (os : List (Option B)) (ys : List B) → HasOne os → all_there os ≡ Some ys → HasOne ys
+there_has [] ys has is = absurd has
+there_has (None ∷ os) ys has is = absurd cc
+there_has {B} (Some y ∷ os) ys has is = go (all_there os) is
+  where
+    go : (o : Option (List B)) → option_map (λ zs. y ∷ zs) o ≡ Some ys → HasOne ys
+    go None is = absurd cc
+    go (Some zs) is = subst HasOne (same_Some (y ∷ zs) ys is) tt
+
+free : {A : Type 0} (xs : List A) → AllByRecursion (λ (x : A). Unit {0}) xs
+free [] = tt
+free (x ∷ xs) = (tt, free xs)
+
+mapped_has : {A B : Type 0} (f : A → B) (xs : List A) → HasOne xs → HasOne (map f xs)
+mapped_has f [] has = absurd has
+mapped_has f (x ∷ xs) has = tt
+
+row_is : (members : List Rows) (items : List BoundItem) (row : List Value) → HasOne items → IsGroup members → item_values members items ≡ Some row → IsRow row
+row_is members items row has is same =
+    row_from row (there_has (map (item_value members) items) row (mapped_has (item_value members) items has) same)
+    (all_there_are (item_value members) (λ (i : BoundItem). Unit {0}) IsValue (λ i v any given. item_is members i v is given) items row (free items) same)
+
+-- ---- groups
+
+-- a group of so many combinations at most, of rows of the grammar
+abbrev IsGroupOf : ℕ → Group → Type 0
+IsGroupOf most g = (length g.members ≤ most) × AllByRecursion (AllByRecursion IsRow) g.members
+
+wider : (n m : ℕ) → n ≤ m → (groups : List Group) → AllByRecursion (IsGroupOf n) groups → AllByRecursion (IsGroupOf m) groups
+wider n m fits [] all = tt
+wider n m fits (g ∷ gs) all = let few : length g.members ≤ n = all.0.0 in ((omega arith, all.0.1), wider n m fits gs all.1)
+
+with_one : (n : ℕ) (values : List Value) (rows : Rows) (groups : List Group) → AllByRecursion IsRow rows → AllByRecursion (IsGroupOf n) groups → AllByRecursion (IsGroupOf (n + 1)) (grouped_with values rows groups)
+with_one n values rows [] is all = ((omega arith, (is, tt)), tt)
+with_one n values rows (g ∷ gs) is all = pick (same_values g.values values) (with_one n values rows gs is all.1)
+  where
+    pick : (b : Bool) → AllByRecursion (IsGroupOf (n + 1)) (grouped_with values rows gs)
+        → AllByRecursion (IsGroupOf (n + 1)) (cond b (group g.values (g.members ++ rows ∷ []) ∷ gs) (g ∷ grouped_with values rows gs))
+    pick true later =
+        let few : length g.members ≤ n = all.0.0 in
+        let more : length (g.members ++ rows ∷ []) ≡ length g.members + length (rows ∷ []) = length-append g.members (rows ∷ []) in
+        let within : length (g.members ++ rows ∷ []) ≤ n + 1 = omega arith in
+        let next : n ≤ n + 1 = omega arith in
+        ((within, all_append (AllByRecursion IsRow) g.members (rows ∷ []) all.0.1 (is, tt)), wider n (n + 1) next gs all.1)
+    pick false later =
+        let few : length g.members ≤ n = all.0.0 in
+        let within : length g.members ≤ n + 1 = omega arith in
+        ((within, all.0.1), later)
+
+with_all : (n most : ℕ) (columns : List BoundColumn) (groups : List Group) (combinations : List Rows) → n + length combinations ≤ most → AllByRecursion (AllByRecursion IsRow) combinations
+    → AllByRecursion (IsGroupOf n) groups → AllByRecursion (IsGroupOf most) (grouped_from columns groups combinations)
+with_all n most columns groups [] fits are all = let within : n ≤ most = omega arith in wider n most within groups all
+with_all n most columns groups (rows ∷ combinations) fits are all =
+    let later : (n + 1) + length combinations ≤ most = omega arith in
+    with_all (n + 1) most columns (grouped_with (values_at columns rows) rows groups) combinations later are.1 (with_one n (values_at columns rows) rows groups are.0 all)
+
+members_are : (most : ℕ) (groups : List Group) → most < 2 ^ 63 → AllByRecursion (IsGroupOf most) groups → AllByRecursion IsGroup (map (λ g. g.members) groups)
+members_are most [] few all = tt
+members_are most (g ∷ gs) few all = let within : length g.members ≤ most = all.0.0 in ((omega arith, all.0.1), members_are most gs few all.1)
+
+singles_are : (combinations : List Rows) → AllByRecursion (AllByRecursion IsRow) combinations → AllByRecursion IsGroup (map (λ rows. rows ∷ []) combinations)
+singles_are [] all = tt
+singles_are (rows ∷ combinations) all = ((lit< tt, (all.0, tt)), singles_are combinations all.1)
+
+groups_are : (is_grouped : Bool) (columns : List BoundColumn) (combinations : List Rows) → length combinations < 2 ^ 63 → AllByRecursion (AllByRecursion IsRow) combinations
+    → AllByRecursion IsGroup (groups_by is_grouped columns combinations)
+groups_are false columns combinations few all = singles_are combinations all
+groups_are true [] combinations few all = ((few, all), tt)
+groups_are true (column ∷ columns) combinations few all =
+    let whole : 0 + length combinations ≤ length combinations = omega arith in
+    members_are (length combinations) (grouped (column ∷ columns) combinations) few (with_all 0 (length combinations) (column ∷ columns) [] combinations whole all tt)
+
+-- ---- rows with their keys
+
+abbrev IsKeyed : Keyed → Type 0
+IsKeyed k = IsRow k.row
+
+projected_is : (query : BoundQuery) (members : List Rows) (k : Keyed) → HasOne query.items → IsGroup members → projected query members ≡ Some k → IsKeyed k
+projected_is query members k has is same = go (item_values members query.items) refl same
+  where
+    with_keys : (row : List Value) → IsRow row → (o : Option (List Value)) → option_map (keyed row) o ≡ Some k → IsKeyed k
+    with_keys row good None same = absurd cc
+    with_keys row good (Some keys) same = subst IsKeyed (same_Some (keyed row keys) k same) good
+
+    go : (o : Option (List Value)) → item_values members query.items ≡ o → option_and_then (λ row. option_map (keyed row) (item_values members (key_items query))) o ≡ Some k → IsKeyed k
+    go None given same = absurd cc
+    go (Some row) given same = with_keys row (row_is members query.items row has is given) (item_values members (key_items query)) same
+
+placed_are : (below : Keyed → Keyed → Bool) (k : Keyed) (ks : List Keyed) → IsKeyed k → AllByRecursion IsKeyed ks → AllByRecursion IsKeyed (placed below k ks)
+placed_are below k [] is all = (is, tt)
+placed_are below k (other ∷ ks) is all = pick (below other k) (placed_are below k ks is all.1)
+  where
+    pick : (b : Bool) → AllByRecursion IsKeyed (placed below k ks) → AllByRecursion IsKeyed (cond b (other ∷ placed below k ks) (k ∷ other ∷ ks))
+    pick true later = (all.0, later)
+    pick false later = (is, all)
+
+sorted_are : (below : Keyed → Keyed → Bool) (ks : List Keyed) → AllByRecursion IsKeyed ks → AllByRecursion IsKeyed (sorted below ks)
+sorted_are below [] all = tt
+sorted_are below (k ∷ ks) all = placed_are below k (sorted below ks) all.0 (sorted_are below ks all.1)
+
+told_are : (ks : List Keyed) → AllByRecursion IsKeyed ks → AllByRecursion IsRow (map (λ k. k.row) ks)
+told_are [] all = tt
+told_are (k ∷ ks) all = (all.0, told_are ks all.1)
+
+taken_are : (most : ℕ) (rows : Rows) → AllByRecursion IsRow rows → AllByRecursion IsRow (take most rows)
+taken_are zero rows all = tt
+taken_are (suc most) [] all = tt
+taken_are (suc most) (row ∷ rows) all = (all.0, taken_are most rows all.1)
+
+limited_are : (limit : Option ℕ) (rows : Rows) → AllByRecursion IsRow rows → AllByRecursion IsRow (limited limit rows)
+limited_are None rows all = all
+limited_are (Some most) rows all = taken_are most rows all
+
+arranged_are : (query : BoundQuery) (ks : List Keyed) → AllByRecursion IsKeyed ks → AllByRecursion IsRow (arranged query ks)
+arranged_are query ks all = limited_are query.limit (map (λ k. k.row) (ordered query.order ks)) (told_are (ordered query.order ks) (sorted_are (is_below query.order) ks all))
+
+-- the rows of a query
+pub shaped : (query : BoundQuery) (combinations : List Rows) (rows : Rows) → HasOne query.items → length combinations < 2 ^ 63 → AllByRecursion (AllByRecursion IsRow) combinations
+    → shape query combinations ≡ Some rows → AllByRecursion IsRow rows
+unfolding shape
+shaped query combinations rows has few all same = go (projections query combinations) refl same
+  where
+    go : (o : Option (List Keyed)) → projections query combinations ≡ o → option_map (arranged query) o ≡ Some rows → AllByRecursion IsRow rows
+    go None given same = absurd cc
+    go (Some ks) given same =
+        subst (AllByRecursion IsRow) (same_Some (arranged query ks) rows same)
+        (arranged_are query ks
+        (all_there_are (projected query) IsGroup IsKeyed (λ members k is given. projected_is query members k has is given) (groups_of query combinations) ks
+        (groups_are (is_grouped query) query.group combinations few all) given))

@@ -1,0 +1,4 @@
+pub mod Sound
+pub mod Spelled
+pub mod Texts
+pub mod Views
