@@ -117,18 +117,18 @@ same_named tables item other same has = (has.0, ap (λ place. name_of_table tabl
 
 touched_named : (tables : List TableDef) (taken : List GenidItem) (item : GenidItem) → AllByRecursion (HasName tables) taken → is_touched taken item ≡ true → HasName tables item
 touched_named tables [] item all is = absurd cc
-touched_named tables (other ∷ taken) item all is = pick (is_same_item item other) refl is
+touched_named tables (other ∷ taken) item all is = pick (is_same_item item other) refl (touched_named tables taken item all.1) is
   where
-    pick : (b : Bool) → is_same_item item other ≡ b → (b || is_touched taken item) ≡ true → HasName tables item
-    pick true same h = same_named tables item other same all.0
-    pick false differs h = touched_named tables taken item all.1 h
+    pick : (b : Bool) → is_same_item item other ≡ b → (is_touched taken item ≡ true → HasName tables item) → (b || is_touched taken item) ≡ true → HasName tables item
+    pick true same later h = same_named tables item other same all.0
+    pick false differs later h = later h
 
 -- the version of a conflict is one of a table that has a name, where those that the entry took away are
 pub named : (tables : List TableDef) (taken used : List GenidItem) (item : GenidItem) → AllByRecursion (HasName tables) taken
     → first_touched taken used ≡ Some item → (name : List ℕ) × (name_of_table tables item.table ≡ Some name)
 named tables taken [] item all is = absurd cc
-named tables taken (first ∷ used) item all is = pick (is_touched taken first) refl is
+named tables taken (first ∷ used) item all is = pick (is_touched taken first) refl (named tables taken used item all) is
   where
-    pick : (b : Bool) → is_touched taken first ≡ b → (if b then Some first else first_touched taken used) ≡ Some item → HasName tables item
-    pick true touched found = let same : first ≡ item = cc in subst (HasName tables) same (touched_named tables taken first all touched)
-    pick false none found = named tables taken used item all found
+    pick : (b : Bool) → is_touched taken first ≡ b → (first_touched taken used ≡ Some item → HasName tables item) → (if b then Some first else first_touched taken used) ≡ Some item → HasName tables item
+    pick true touched later found = let same : first ≡ item = cc in subst (HasName tables) same (touched_named tables taken first all touched)
+    pick false none later found = later found
