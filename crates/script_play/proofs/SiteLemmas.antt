@@ -151,7 +151,7 @@ turn_is script left l lines entries taken ages states name text before is_act = 
 }
   where
     said : IsDeclared name script.sessions
-    said = subst (λ (a : Act). IsSaid script.sessions a) is_act before.said.0
+    said = (subst (λ (a : Act). IsSaid script.sessions a) is_act before.said.0).0
 
 -- a line that was taken keeps the run so far
 pub turn_taken : (script : Script) (left : List BodyLine) (l : BodyLine) (lines lines' : List Line) (entries entries' : List EntryLine) (taken taken' : List (List GenidItem)) (ages ages' : Ages) (states : List SessionState) (name text : List ℕ) (at : ℕ) (x after : SessionState) →

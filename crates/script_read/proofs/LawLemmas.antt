@@ -1,9 +1,10 @@
 -- Every script that is read is lawful, can run and has names that are names: each line that is read keeps what holds
 -- of those before it.
-use Rattle.std.proofs.Common.{◌≡◌, ℕ, ◌+◌, ◌<◌, ◌≤◌, List, [], ◌∷◌, ◌++◌, length, map, Bool, true, false, not, ◌&&◌, ◌||◌, ◌==◌, Option, Some, None, Result, Ok, Err, refl, sym, ◌∙◌, ap, subst, arith, if◌then◌else◌, nat_lt, nat_le, ◌⊎◌, inl, inr, append_assoc, length-append}
+use Rattle.std.proofs.Common.{◌≡◌, ◌≢◌, ℕ, ◌+◌, ◌<◌, ◌≤◌, List, [], ◌∷◌, ◌++◌, length, map, Bool, true, false, not, ◌&&◌, ◌||◌, ◌==◌, Option, Some, None, Result, Ok, Err, refl, sym, ◌∙◌, ap, subst, arith, if◌then◌else◌, nat_lt, nat_le, ◌⊎◌, inl, inr, append_assoc, length-append}
 use Rattle.std.specs.List.{AllByRecursion}
 use Rattle.std.specs.Str.{is_utf8}
 use Rattle.cdb_values.specs.Tables.{add_fault, place_of}
+use Rattle.cdb_values.specs.declared.tables.ColumnDef.{ColumnDef}
 use Rattle.cdb_values.specs.declared.tables.TableDef.{TableDef}
 use Rattle.byte_words.specs.Lines.{lines_of, text_of, is_skipped}
 use Rattle.byte_words.specs.Words.{after_piece, is_end, is_name}
@@ -197,6 +198,7 @@ record Going (draft : Draft) (line : ℕ) : Type 0 where
   taken : AreTaken [] draft.schema
   table_names : AllByRecursion (λ t. IsNamedTable t.table) draft.tables
   texts : AllByRecursion (λ l. IsSaid draft.sessions l.act) draft.body
+  columns : AllByRecursion (λ t. t.table.columns ≢ []) draft.tables
   tables_part : (draft.tables ≡ []) ⊎ (5 ≤ draft.part)
   body_part : (draft.body ≡ []) ⊎ (7 ≤ draft.part)
   lines : Rising (numbers_of draft.sessions draft.tables draft.body) line
@@ -207,7 +209,7 @@ data Stage (draft : Draft) (line : ℕ) : Type 0 where
 
 later : (draft : Draft) (line : ℕ) → Stage draft line → Stage draft (line + 1)
 later draft line (at_fresh f) = let h : 1 ≤ line = f.first in at_fresh (record { part = f.part; sessions = f.sessions; schema = f.schema; tables = f.tables; watches = f.watches; body = f.body; first = omega arith })
-later draft line (at_going g) = at_going (record { begun = g.begun; nodes = g.nodes; watches = g.watches; few = g.few; sessions = g.sessions; new = g.new; session_names = g.session_names; schema = g.schema; taken = g.taken; table_names = g.table_names; texts = g.texts; tables_part = g.tables_part; body_part = g.body_part; lines = rising_later _ line g.lines })
+later draft line (at_going g) = at_going (record { begun = g.begun; nodes = g.nodes; watches = g.watches; few = g.few; sessions = g.sessions; new = g.new; session_names = g.session_names; schema = g.schema; taken = g.taken; table_names = g.table_names; texts = g.texts; columns = g.columns; tables_part = g.tables_part; body_part = g.body_part; lines = rising_later _ line g.lines })
 
 -- which parts may come behind one
 come_later : (before part : ℕ) → (before == 0) ≡ false → may_come before part ≡ true → before ≤ part
@@ -261,6 +263,7 @@ nodes_keeps draft line (Some nodes) next f e =
       taken = subst (λ ts. AreTaken [] ts) (sym f.schema) tt;
       table_names = subst (λ ts. AllByRecursion (λ t. IsNamedTable t.table) ts) (sym f.tables) tt;
       texts = subst (λ b. AllByRecursion (λ l. IsSaid draft.sessions l.act) b) (sym f.body) tt;
+      columns = subst (λ ts. AllByRecursion (λ t. t.table.columns ≢ []) ts) (sym f.tables) tt;
       tables_part = inl f.tables;
       body_part = inl f.body;
       lines = subst (λ b. Rising (numbers_of draft.sessions draft.tables b) (line + 1)) (sym f.body) (subst (λ t. Rising (numbers_of draft.sessions t []) (line + 1)) (sym f.tables) (subst (λ s. Rising (numbers_of s [] []) (line + 1)) (sym f.sessions) (none f.first)));
@@ -329,6 +332,7 @@ session_keeps draft line (Some ((name, node), hasql)) next g p e =
       taken = g.taken;
       table_names = g.table_names;
       texts = subst (λ b. AllByRecursion (λ l. IsSaid (draft.sessions ++ session ∷ []) l.act) b) (sym body) tt;
+      columns = g.columns;
       tables_part = inl tables;
       body_part = inl body;
       lines = more tables body g.lines;
@@ -359,10 +363,15 @@ tabled_ok tables line text table e = go (table_of tables text) refl (then_ok (is
     go (Err Unlawful) h e = absurd cc
     go (Err Limit) h e = absurd cc
 
+some_columns : (columns : List ColumnDef) → (length columns == 0) ≡ false → columns ≢ []
+some_columns [] some is = absurd cc
+some_columns (column ∷ columns) some is = absurd cc
+
 table_keeps : (draft : Draft) (line : ℕ) (text : List ℕ) (next : Draft) → Going draft line → draft.part ≤ 5 → and_then (table_said draft.schema line text) (tables_with draft line) ≡ Ok next → Stage next (line + 1)
 table_keeps draft line text next g p e =
     let a = and_ok (table_said draft.schema line text) (tables_with draft line) next e in
-    let same : with_table draft line a.0 ≡ next = same_ok _ _ a.1.1 in
+    let b = else_ok (length a.0.columns == 0) _ _ next a.1.1 in
+    let same : with_table draft line a.0 ≡ next = same_ok _ _ b.1 in
     let table : TableLine = record { line = line; table = a.0 } in
     let body : draft.body ≡ [] = no_body draft g.body_part p in
     let of_text : table_of draft.schema text ≡ Ok a.0 = tabled_ok draft.schema line text a.0 a.1.0 in
@@ -378,6 +387,7 @@ table_keeps draft line text next g p e =
       taken = taken_more [] draft.schema a.0 g.taken (lawful draft.schema text a.0 of_text);
       table_names = all_more (λ t. IsNamedTable t.table) draft.tables table g.table_names (table_named draft.schema text a.0 of_text);
       texts = subst (λ b. AllByRecursion (λ l. IsSaid draft.sessions l.act) b) (sym body) tt;
+      columns = all_more (λ t. t.table.columns ≢ []) draft.tables table g.columns (some_columns a.0.columns b.0);
       tables_part = inr (omega arith);
       body_part = inl body;
       lines = more a.0 body g.lines;
@@ -410,7 +420,8 @@ say_keeps draft line (Some (name, text)) next g e =
       schema = g.schema;
       taken = g.taken;
       table_names = g.table_names;
-      texts = all_more (λ l. IsSaid draft.sessions l.act) draft.body added g.texts (declared name draft.sessions b.0);
+      texts = all_more (λ l. IsSaid draft.sessions l.act) draft.body added g.texts (declared name draft.sessions b.0, and_first (is_utf8 text) _ k.0);
+      columns = g.columns;
       tables_part = inr (omega arith);
       body_part = inr (omega arith);
       lines = subst (λ ns. Rising ns (line + 1)) (sym (body_numbers draft.sessions draft.tables draft.body added)) (rising_more (numbers_of draft.sessions draft.tables draft.body) line g.lines);
@@ -484,6 +495,7 @@ going_can_run draft line g = record {
   few_sessions = g.few;
   no_hasql = g.sessions;
   tables_lawful = subst (λ ts. AreTaken [] ts) g.schema g.taken;
+  columns = g.columns;
   said = g.texts;
 }
 
@@ -498,7 +510,7 @@ at_node : (nodes node : ℕ) → nodes ≡ 1 → node ≡ 1 → IsNode nodes nod
 at_node nodes node a b = (omega arith, omega arith)
 
 names_declared : (nodes : ℕ) (sessions : List SessionLine) (act : Act) → IsSaid sessions act → NamesDeclared nodes sessions act
-names_declared nodes sessions (acts.Say name text) h = h
+names_declared nodes sessions (acts.Say name text) h = h.0
 names_declared nodes sessions (acts.Stop node) h = absurd h
 names_declared nodes sessions (acts.Start node) h = absurd h
 names_declared nodes sessions (acts.Arm name moment) h = absurd h

@@ -80,7 +80,7 @@ declared_named name (session ∷ sessions) all (inr h) = declared_named name ses
 
 -- a line of the body that runs speaks of a declared session
 pub says_named : (sessions : List SessionLine) (act : Act) → AllByRecursion (λ s. IsName s.name) sessions → IsSaid sessions act → SaysNamed act
-says_named sessions (acts.Say name text) all h = declared_named name sessions all h
+says_named sessions (acts.Say name text) all h = declared_named name sessions all h.0
 says_named sessions (acts.Stop node) all h = tt
 says_named sessions (acts.Start node) all h = tt
 says_named sessions (acts.Arm name moment) all h = absurd h

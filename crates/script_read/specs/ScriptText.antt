@@ -78,9 +78,9 @@ with_table draft line table = record draft { part = 5; schema = draft.schema ++ 
 abbrev pub if_built : Draft → ℕ → Said → Result Draft Refusal
 if_built draft line said = if is_built said then Ok (with_said draft line said) else Err (refusal line 10)
 
--- a line that says a table
+-- a line that says a table; one without columns may not be (and none is spelled)
 abbrev pub tables_with : Draft → ℕ → TableDef → Result Draft Refusal
-tables_with draft line table = Ok (with_table draft line table)
+tables_with draft line table = if length table.columns == 0 then Err (refusal line 7) else Ok (with_table draft line table)
 
 -- a line of that kind, where it may come
 abbrev pub read_placed : Draft → ℕ → List ℕ → LineKind → Result Draft Refusal

@@ -217,13 +217,19 @@ fn added(draft: Draft, line: u64, said: Said) -> Result<Draft, ScriptStop>
     }
 }
 
-/// A table added to what was read.
+/// A table added to what was read. One without columns may not be, and none is spelled.
 fn table_after(alloc: Global, draft: Draft, line: u64, text: &[u8]) -> Result<Draft, ScriptStop>
     requires { length text.now < 2 ^ 32 }
     ensures { Answers (λ d. d) result (and_then (table_said draft.schema line text.now) (tables_with draft line)) }
 {
     let mut draft = draft;
     let table = table_line(alloc, &mut draft.schema, line, text)?;
+    if table.columns.is_empty() {
+        return Err(ScriptStop::Refused {
+            line,
+            why: WRONG_TABLE,
+        });
+    }
     draft.part = 5;
     draft.tables.push(TableLine { line, table })?;
     Ok(draft)
