@@ -73,9 +73,9 @@ all_standing P (y ∷ front) back x all = all_standing P front back x all.1
 -- rows
 
 abbrev IsVersion : Version → Type 0
-IsVersion v = IsRow v.row
+IsVersion v = IsToldRow v.row
 
-added_rows : (rows : Rows) (table : ℕ) (row : List Value) → HaveRows rows.tables → IsRow row → HaveRows (added rows table row).tables
+added_rows : (rows : Rows) (table : ℕ) (row : List Value) → HaveRows rows.tables → IsToldRow row → HaveRows (added rows table row).tables
 added_rows rows table row have is =
     all_exchanged (AllByRecursion IsVersion) rows.tables table (versions_of rows table ++ version rows.next row ∷ []) have
     (all_append IsVersion (versions_of rows table) (version rows.next row ∷ []) (all_got (AllByRecursion IsVersion) rows.tables table [] have tt) (is, tt))

@@ -13,7 +13,7 @@ use Rattle.script_form.specs.declared.scripts.Act.{Act}
 use Rattle.script_form.specs.declared.scripts.Act.TheVariants as act
 use Rattle.report_laws.specs.History.{Basis}
 use Rattle.report_laws.specs.Language.{Language}
-use Rattle.report_text.specs.Grammar.{IsName, IsKey, IsRow}
+use Rattle.report_text.specs.Grammar.{IsName, IsKey}
 use Rattle.report_text.specs.declared.reports.ReplyLine.{ReplyLine}
 use Rattle.report_text.specs.declared.reports.ReplyLine.TheVariants as reply
 
@@ -45,15 +45,15 @@ SpellsReply (reply.Lost node down) = Unit {0}
 SpellsReply (reply.NoMajority up nodes) = Unit {0}
 SpellsReply reply.NoMemory = Unit {0}
 
--- an operation writes a row of the grammar, if it writes one
+-- an operation writes such a row, if it writes one
 abbrev pub WritesRow : RowOp → Type 0
-WritesRow (Insert table row) = IsRow row
-WritesRow (Update table target old row) = IsRow row
+WritesRow (Insert table row) = IsToldRow row
+WritesRow (Update table target old row) = IsToldRow row
 WritesRow (Delete table target old) = Unit {0}
 
--- the versions of all tables have rows of the grammar
+-- the versions of all tables have such rows
 abbrev pub HaveRows : List (List Version) → Type 0
-HaveRows tables = AllByRecursion (λ versions. AllByRecursion (λ v. IsRow v.row) versions) tables
+HaveRows tables = AllByRecursion (λ versions. AllByRecursion (λ v. IsToldRow v.row) versions) tables
 
 -- a language that answers each text of UTF-8 over such versions of these tables, behind such operations, by such
 -- replies and operations
