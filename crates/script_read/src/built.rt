@@ -52,7 +52,7 @@ fn text_runs(alloc: Global, text: &[u8]) -> Result<bool, AllocError>
     if TEXT_LIMIT <= text.len() {
         return Err(AllocError);
     }
-    statement_runs(alloc, text)
+    Ok(statement_runs(alloc, text)?)
 }
 
 /// Whether the statement that a text reads as runs today; a text that reads as none is answered so.
