@@ -343,10 +343,7 @@ fn go_on(
 }
 
 /// These versions, and then those.
-fn joined(
-    first: List<GenidItem>,
-    second: List<GenidItem>,
-) -> Result<List<GenidItem>, AllocError>
+fn joined(first: List<GenidItem>, second: List<GenidItem>) -> Result<List<GenidItem>, AllocError>
     ensures { IfOk result (λ all. all ≡ first ++ second) }
 {
     let mut all = first.into_vec();
