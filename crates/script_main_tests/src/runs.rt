@@ -288,8 +288,14 @@ static STORIES: [Story; 13] = [
             ),
             ("a: begin", "a 2 begin 2"),
             ("a: select id from t where v = null", "a 2 done 0"),
-            ("a: select id from t where v is null", "a 2 row 1 ; a 2 done 1"),
-            ("a: select sum(v) from t where id = 1", "a 2 row null ; a 2 done 1"),
+            (
+                "a: select id from t where v is null",
+                "a 2 row 1 ; a 2 done 1",
+            ),
+            (
+                "a: select sum(v) from t where id = 1",
+                "a 2 row null ; a 2 done 1",
+            ),
             ("a: commit", "a 2 committed 2"),
         ],
         history: "entry 1 schema ; entry 2 a 1 1 snapshot ; end 2",
@@ -311,10 +317,22 @@ static STORIES: [Story; 13] = [
     // Errors of statements that are transactions of their own: nothing is done, and they are committed so.
     Story {
         turns: &[
-            ("a: selec 1", "a 1 begin 1 ; a 1 error syntax 0 ; a 1 committed 1"),
-            ("a: select * frm t", "a 2 begin 1 ; a 2 error syntax 9 ; a 2 committed 1"),
-            ("a: select * from u", "a 3 begin 1 ; a 3 error table ; a 3 committed 1"),
-            ("a: select x from t", "a 4 begin 1 ; a 4 error column ; a 4 committed 1"),
+            (
+                "a: selec 1",
+                "a 1 begin 1 ; a 1 error syntax 0 ; a 1 committed 1",
+            ),
+            (
+                "a: select * frm t",
+                "a 2 begin 1 ; a 2 error syntax 9 ; a 2 committed 1",
+            ),
+            (
+                "a: select * from u",
+                "a 3 begin 1 ; a 3 error table ; a 3 committed 1",
+            ),
+            (
+                "a: select x from t",
+                "a 4 begin 1 ; a 4 error column ; a 4 committed 1",
+            ),
             (
                 "a: select id from t, t y",
                 "a 5 begin 1 ; a 5 error ambiguous ; a 5 committed 1",
@@ -358,14 +376,22 @@ fn rows_and_keys_have_limits(rt: HostRuntime) -> Result<(), Fail> {
     let alloc = rt.alloc();
     let stored =
         b"a 1 begin 1\na 1 changed 1\na 1 committed 2\nentry 1 schema\nentry 2 a 1 1 snapshot\nend 2\n";
-    let refused =
-        b"a 1 begin 1\na 1 error toolong\na 1 committed 1\nentry 1 schema\nend 1\n";
+    let refused = b"a 1 begin 1\na 1 error toolong\na 1 committed 1\nentry 1 schema\nend 1\n";
     let row = "insert into u values (1, '";
     let key = "insert into w values ('";
-    assert_eq!(rt; long_insert(alloc, row, 1_586)?.as_slice(), stored.as_slice());
-    assert_eq!(rt; long_insert(alloc, row, 1_587)?.as_slice(), refused.as_slice());
+    assert_eq!(rt;
+        long_insert(alloc, row, 1_586)?.as_slice(),
+        stored.as_slice()
+    );
+    assert_eq!(rt;
+        long_insert(alloc, row, 1_587)?.as_slice(),
+        refused.as_slice()
+    );
     assert_eq!(rt; long_insert(alloc, key, 509)?.as_slice(), stored.as_slice());
-    assert_eq!(rt; long_insert(alloc, key, 510)?.as_slice(), refused.as_slice());
+    assert_eq!(rt;
+        long_insert(alloc, key, 510)?.as_slice(),
+        refused.as_slice()
+    );
     Ok(())
 }
 

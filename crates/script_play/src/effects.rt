@@ -38,12 +38,13 @@ pub(crate) struct LineEffect {
     pub added: Option<List<RowOp>>,
 }
 
-/// What a line is to do, by its prepared text.
+/// What a line of that kind is to do, by its prepared text.
 pub(crate) fn effect_of(
     alloc: Global,
     schema: &Schema,
     run: &RunSoFar,
     state: SessionState,
+    kind: TextKind,
     prepared: &Prepared,
 ) -> Result<LineEffect, AllocError>
     requires ready { IsReadyFor schema.now run.now }
@@ -51,7 +52,7 @@ pub(crate) fn effect_of(
     requires plan { (text_in prepared.now).plan ≡ plan_by schema.now (text_in prepared.now).meaning }
     requires of_text { IsOfText schema.now (text_in prepared.now).meaning }
     ensures { IfOk result (λ p. IsEffect p
-        (turn_of (world schema.now run.now) state.number state.level (text_in prepared.now).meaning (text_in prepared.now).kind state.doing)) }
+        (turn_of (world schema.now run.now) state.number state.level (text_in prepared.now).meaning (kind_in kind) state.doing)) }
 {
     let SessionState {
         number,
@@ -59,7 +60,7 @@ pub(crate) fn effect_of(
         doing,
     } = state;
     match doing {
-        InTransaction::No => outside(alloc, schema, run, number, level, prepared),
+        InTransaction::No => outside(alloc, schema, run, number, level, kind, prepared),
         InTransaction::Open { begin, ops, uses } => {
             let open = OpenTransaction {
                 number,
@@ -68,9 +69,9 @@ pub(crate) fn effect_of(
                 ops,
                 uses,
             };
-            inside(alloc, schema, run, open, prepared)
+            inside(alloc, schema, run, open, kind, prepared)
         }
-        InTransaction::Aborted => Ok(skip(alloc, number, level, prepared.kind())),
+        InTransaction::Aborted => Ok(skip(alloc, number, level, kind)),
     }
 }
 
@@ -133,15 +134,16 @@ fn outside(
     run: &RunSoFar,
     number: u64,
     level: Level,
+    kind: TextKind,
     prepared: &Prepared,
 ) -> Result<LineEffect, AllocError>
     requires ready { IsReadyFor schema.now run.now }
     requires plan { (text_in prepared.now).plan ≡ plan_by schema.now (text_in prepared.now).meaning }
     requires of_text { IsOfText schema.now (text_in prepared.now).meaning }
     ensures { IfOk result (λ p. IsEffect p
-        (turn_of (world schema.now run.now) number level (text_in prepared.now).meaning (text_in prepared.now).kind InTransaction.No)) }
+        (turn_of (world schema.now run.now) number level (text_in prepared.now).meaning (kind_in kind) InTransaction.No)) }
 {
-    match prepared.kind() {
+    match kind {
         TextKind::Begin => begin(alloc, run, number, level),
         TextKind::Commit => refused(alloc, number, level),
         TextKind::Rollback => refused(alloc, number, level),
@@ -167,15 +169,16 @@ fn inside(
     schema: &Schema,
     run: &RunSoFar,
     open: OpenTransaction,
+    kind: TextKind,
     prepared: &Prepared,
 ) -> Result<LineEffect, AllocError>
     requires ready { IsReadyFor schema.now run.now }
     requires sound { AllByRecursion (IsSoundOp schema.now run.now.rows.next) open.ops }
     requires plan { (text_in prepared.now).plan ≡ plan_by schema.now (text_in prepared.now).meaning }
     ensures { IfOk result (λ p. IsEffect p
-        (turn_of (world schema.now run.now) open.number open.level (text_in prepared.now).meaning (text_in prepared.now).kind (InTransaction.Open open.begin open.ops open.uses))) }
+        (turn_of (world schema.now run.now) open.number open.level (text_in prepared.now).meaning (kind_in kind) (InTransaction.Open open.begin open.ops open.uses))) }
 {
-    match prepared.kind() {
+    match kind {
         TextKind::Commit => commit(alloc, schema, run, open),
         TextKind::Rollback => rolled_back(alloc, open.number, open.level),
         TextKind::Begin => go_on(alloc, schema, run, open, prepared),
@@ -340,10 +343,7 @@ fn go_on(
 }
 
 /// These versions, and then those.
-fn joined(
-    first: List<GenidItem>,
-    second: List<GenidItem>,
-) -> Result<List<GenidItem>, AllocError>
+fn joined(first: List<GenidItem>, second: List<GenidItem>) -> Result<List<GenidItem>, AllocError>
     ensures { IfOk result (λ all. all ≡ first ++ second) }
 {
     let mut all = first.into_vec();

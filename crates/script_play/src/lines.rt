@@ -5,7 +5,7 @@ ghost use Rattle.report_text.specs.declared.reports.Line.{Line};
 ghost use Rattle.sql_answer.specs.Language.{meaning, bound_in};
 ghost use Rattle.sql_answer.specs.Reading.{kind_of_text};
 ghost use Rattle.sql_run.specs.Texts.{plan_by};
-ghost use Rattle.sql_run.specs.Views.{text_in};
+ghost use Rattle.sql_run.specs.Views.{kind_in, text_in};
 ghost use Rattle.script_play.specs.RunViews.{world, IsReadyFor, IsSameHistory, IsTakenFrom, IsDoneFrom, IsOfText};
 ghost use Rattle.script_play.specs.Effects.{Grown};
 ghost use Rattle.script_play.specs.Ready.{IsReadyToGo};
@@ -16,7 +16,7 @@ use super::run::{RunSoFar, add_reply, apply_effect};
 use super::states::SessionState;
 use cdb_values::{Name, Schema};
 use report_text::ReplyLine;
-use sql_run::{Prepared, prepare};
+use sql_run::{Prepared, TextKind, prepare};
 use std::alloc::{AllocError, Global};
 
 /// More bytes than any line has.
@@ -38,9 +38,10 @@ pub(crate) fn run_session_line(
     ensures { IfOk result (λ after. IsTakenFrom schema.now name.now state text.now after run.old run.new) }
 {
     let prepared = read_text(alloc, schema, text)?;
-    let cut = cut_state(&state, prepared.kind());
+    let kind = prepared.kind();
+    let cut = cut_state(&state, kind);
     let had = run.lines.len();
-    match run_whole(alloc, schema, name, state, &prepared, run) {
+    match run_whole(alloc, schema, name, state, kind, &prepared, run) {
         Ok(after) => Ok(after),
         Err(_) => cut_short(name, had, cut, run),
     }
@@ -69,6 +70,7 @@ fn run_whole(
     schema: &Schema,
     name: &Name,
     state: SessionState,
+    kind: TextKind,
     prepared: &Prepared,
     run: &mut RunSoFar,
 ) -> Result<SessionState, AllocError>
@@ -76,11 +78,11 @@ fn run_whole(
     requires ready_to_go { IsReadyToGo schema.now (length run.old.entries.items) run.old.rows.next state.doing }
     requires plan { (text_in prepared.now).plan ≡ plan_by schema.now (text_in prepared.now).meaning }
     requires of_text { IsOfText schema.now (text_in prepared.now).meaning }
-    ensures ok { IfOk result (λ after. IsDoneFrom schema.now name.now (turn_of (world schema.now run.old) state.number state.level (text_in prepared.now).meaning (text_in prepared.now).kind state.doing) after run.old run.new) }
+    ensures ok { IfOk result (λ after. IsDoneFrom schema.now name.now (turn_of (world schema.now run.old) state.number state.level (text_in prepared.now).meaning (kind_in kind) state.doing) after run.old run.new) }
     ensures err_lines { OnErr result (Grown run.old.lines.items run.new.lines.items) }
     ensures err_same { OnErr result (IsSameHistory run.old run.new) }
 {
-    let effect = effect_of(alloc, schema, run, state, prepared)?;
+    let effect = effect_of(alloc, schema, run, state, kind, prepared)?;
     apply_effect(alloc, name, effect, run)
 }
 

@@ -182,7 +182,13 @@ fn statements_are_judged(rt: HostRuntime) {
     assert!(rt; is_fifth_refused(rt.alloc(), b"a: set transaction serializable", 10));
     assert!(rt; is_fifth_refused(rt.alloc(), b"a: SET Transaction SERIALIZABLE ;", 10));
     assert!(rt; is_fifth_refused(rt.alloc(), b"a: selectv * from t", 10));
-    assert!(rt; is_fifth_refused(rt.alloc(), b"a: SELECTV count(*) from nowhere group by x", 10));
+    assert!(rt;
+        is_fifth_refused(
+            rt.alloc(),
+            b"a: SELECTV count(*) from nowhere group by x",
+            10
+        )
+    );
     assert!(rt; is_fifth_read(rt.alloc(), b"a: set transaction snapshot"));
     assert!(rt; is_fifth_read(rt.alloc(), b"a: select * from t"));
     assert!(rt; is_fifth_read(rt.alloc(), b"a: insert into t values('selectv')"));

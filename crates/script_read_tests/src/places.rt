@@ -64,7 +64,10 @@ static OF_NUMBERS: [(&[u8], &[u8]); 8] = [
         b"nodes 1\nsession a 1\na:selectv * from t where v=@",
         &[0, 0, 0, 10],
     ),
-    (b"nodes 1\nsession a 1\na:selectv * from t limit @", &[0, 0, 0, 10]),
+    (
+        b"nodes 1\nsession a 1\na:selectv * from t limit @",
+        &[0, 0, 0, 10],
+    ),
 ];
 
 /// A script with what fills its places.

@@ -1,7 +1,7 @@
 -- What a bound statement has of the text that it is of: the rows of an INSERT, and the values that SET gives, are of the
 -- grammar of reports, and a query has an item or more.
-use Rattle.std.proofs.Common.{◌≡◌, ℕ, zero, suc, ◌+◌, ◌<◌, ◌≤◌, ◌==◌, List, [], ◌∷◌, ◌++◌, length, map, take, Bool, true, false, cond, not, ◌||◌, refl, sym, subst, arith, Option, Some, None, Result, Ok, Err}
-use Rattle.std.specs.Prelude.{slice_get, is_none, bytes_eq, if◌then◌else◌}
+use Rattle.std.proofs.Common.{◌≡◌, ℕ, zero, suc, ◌+◌, ◌<◌, ◌≤◌, ◌==◌, List, [], ◌∷◌, ◌++◌, length, map, take, Bool, true, false, cond, not, ◌||◌, refl, sym, ap, subst, arith, Option, Some, None, Result, Ok, Err}
+use Rattle.std.specs.Prelude.{slice_get, is_none, bytes_eq, unwrap_or}
 use Rattle.std.specs.List.{AllByRecursion, list_any}
 use Rattle.std.proofs.lemmas.Bool.{or_parts, eqb-true, not-false}
 use Rattle.std.proofs.lemmas.Option.{same_Some}
@@ -23,7 +23,7 @@ use Rattle.sql_bind.specs.declared.types.BoundOperand.{BoundOperand}
 use Rattle.sql_bind.specs.declared.types.BoundOperand.TheVariants as operand
 use Rattle.sql_grammar.specs.Trees as written
 use Rattle.sql_grammar.specs.Trees.{Name, Constant, Side, OfLiteral, OfColumn, Item, Query, Setting, Source, Statement}
-use Rattle.sql_run.specs.Spelled.{HasColumns}
+use Rattle.sql_run.specs.Spelled.{HasColumn, HasColumns}
 use Rattle.sql_run.proofs.GrammarLemmas.{IsConstant, HasValue, HasOne, HasItems, IsWritten}
 
 -- an operand that is such a value, or a column
@@ -78,27 +78,34 @@ faultless tables s b is =
 
 -- ---- a table that is known
 
+abbrev placed : ℕ → TableDef → Place
+placed place table = record { place = place; table = table }
+
 placed_is : (place : ℕ) (found : Option TableDef) (p : Place) → with_place place found ≡ Some p → found ≡ Some p.table
 placed_is place None p is = absurd cc
-placed_is place (Some table) p is = cc
+placed_is place (Some table) p is = ap (λ (q : Place). Some q.table) (same_Some (placed place table) p is)
 
 pub named_table : (tables : List TableDef) (name : Name) (p : Place) → table_named tables name ≡ Some p → slice_get tables p.place ≡ Some p.table
 named_table tables name p is = go (place_of tables name) refl is
   where
     place_is : (place : ℕ) (found : Option TableDef) → with_place place found ≡ Some p → place ≡ p.place
     place_is place None is = absurd cc
-    place_is place (Some table) is = cc
+    place_is place (Some table) is = ap (λ (q : Place). q.place) (same_Some (placed place table) p is)
 
     go : (o : Option ℕ) → place_of tables name ≡ o → found_at tables o ≡ Some p → slice_get tables p.place ≡ Some p.table
     go None found is = absurd cc
     go (Some place) found is = subst (λ (n : ℕ). slice_get tables n ≡ Some p.table) (place_is place (slice_get tables place) is) (placed_is place (slice_get tables place) p is)
+
+has_one : (columns : List ColumnDef) → HasColumn columns → HasOne columns
+has_one [] has = absurd has
+has_one (c ∷ cs) has = tt
 
 has_columns : (tables : List TableDef) (name called : Name) → AllByRecursion HasColumns tables → is_none (table_named tables name) ≡ false → HasOne (visible_at called (table_named tables name)).columns
 has_columns tables name called all known = go (table_named tables name) refl known
   where
     go : (o : Option Place) → table_named tables name ≡ o → is_none o ≡ false → HasOne (visible_at called o).columns
     go None found known = absurd cc
-    go (Some p) found known = all_found HasColumns tables p.place p.table all (named_table tables name p found)
+    go (Some p) found known = has_one p.table.columns (all_found HasColumns tables p.place p.table all (named_table tables name p found))
 
 -- ---- INSERT
 
@@ -169,12 +176,12 @@ items_have : (tables : List TableDef) (items : Option (List Item)) (sources : Li
 items_have tables items [] all has some known = absurd some
 items_have tables None (source ∷ sources) all has some known =
     let parts = or_parts (is_unknown_table tables source.table) (list_any (is_unknown_table tables) (map (λ (s : Source). s.table) sources)) known in
-    first_columns 0 (visible tables source).columns _ (has_columns tables source.table _ all parts.0)
+    first_columns 0 (visible tables source).columns _ (has_columns tables source.table (unwrap_or source.alias source.table) all parts.0)
 items_have tables (Some items) (source ∷ sources) all has some known = mapped_has (bound_item (named_ones (map (visible tables) (source ∷ sources)))) items has
 
 -- ---- statements
 
-first_known : (b : Bool) → (b || false) ≡ false → b ≡ false
+pub first_known : (b : Bool) → (b || false) ≡ false → b ≡ false
 first_known true is = absurd cc
 first_known false is = refl
 

@@ -1,2 +1,14 @@
+pub mod BoundLemmas
+pub mod CombinationLemmas
+pub mod GrammarLemmas
+pub mod HeldLemmas
 pub mod LyingLemmas
+pub mod NeedLaws
+pub mod NetLemmas
+pub mod ReadLemmas
+pub mod RowLaws
+pub mod ShapeLemmas
+pub mod SoundLaws
 pub mod SourceLemmas
+pub mod TextLemmas
+pub mod TypeLemmas

@@ -110,7 +110,7 @@ item_is members (item.Max column) v is same =
 -- each that is there has what each has
 all_there_are : {A B : Type 0} (f : A → Option B) (P : A → Type 0) (Q : B → Type 0) → ((x : A) (y : B) → P x → f x ≡ Some y → Q y)
     → (xs : List A) (ys : List B) → AllByRecursion P xs → all_there (map f xs) ≡ Some ys → AllByRecursion Q ys
-all_there_are f P Q each [] ys all is = subst (AllByRecursion Q) (same_Some [] ys is) tt
+all_there_are {A} {B} f P Q each [] ys all is = subst (AllByRecursion Q) (same_Some [] ys is) tt
 all_there_are {A} {B} f P Q each (x ∷ xs) ys all is = step (f x) refl (λ zs rest. all_there_are f P Q each xs zs all.1 rest) is
   where
     behind : (y : B) (o : Option (List B)) → f x ≡ Some y → ((zs : List B) → o ≡ Some zs → AllByRecursion Q zs) → option_map (λ zs. y ∷ zs) o ≡ Some ys → AllByRecursion Q ys
@@ -122,8 +122,8 @@ all_there_are {A} {B} f P Q each (x ∷ xs) ys all is = step (f x) refl (λ zs r
     step (Some y) first later is = behind y (all_there (map f xs)) first later is
 
 there_has : {B : Type 0} (os : List (Option B)) (ys : List B) → HasOne os → all_there os ≡ Some ys → HasOne ys
-there_has [] ys has is = absurd has
-there_has (None ∷ os) ys has is = absurd cc
+there_has {B} [] ys has is = absurd has
+there_has {B} (None ∷ os) ys has is = absurd cc
 there_has {B} (Some y ∷ os) ys has is = go (all_there os) is
   where
     go : (o : Option (List B)) → option_map (λ zs. y ∷ zs) o ≡ Some ys → HasOne ys
@@ -183,7 +183,7 @@ members_are most (g ∷ gs) few all = let within : length g.members ≤ most = a
 
 singles_are : (combinations : List Rows) → AllByRecursion (AllByRecursion IsRow) combinations → AllByRecursion IsGroup (map (λ rows. rows ∷ []) combinations)
 singles_are [] all = tt
-singles_are (rows ∷ combinations) all = ((lit< tt, (all.0, tt)), singles_are combinations all.1)
+singles_are (rows ∷ combinations) all = let one : length (rows ∷ []) ≡ 1 = refl in ((omega arith, (all.0, tt)), singles_are combinations all.1)
 
 groups_are : (is_grouped : Bool) (columns : List BoundColumn) (combinations : List Rows) → length combinations < 2 ^ 63 → AllByRecursion (AllByRecursion IsRow) combinations
     → AllByRecursion IsGroup (groups_by is_grouped columns combinations)

@@ -163,7 +163,7 @@ hex_value : (b : ℕ) → is_ascii_hexdigit b ≡ true → digit_value b < 16
 hex_value b is =
     let agrees : (not (is_ascii_hexdigit b) || ltb (digit_value b) 16) ≡ true
     = agree_below_at (λ n. not (is_ascii_hexdigit n) || ltb (digit_value n) 16) (λ n. true) 128 b refl (hex_low b is) in
-    let small : ltb (digit_value b) 16 ≡ true = rw is at agrees in
+    let small : ltb (digit_value b) 16 ≡ true = subst (λ (t : Bool). (not t || ltb (digit_value b) 16) ≡ true) is agrees in
     ltb-true (digit_value b) 16 small
 
 digit_is : (b v : ℕ) → hex_digit b ≡ Some v → (b < 128) × (v < 16)

@@ -1,3 +1,4 @@
+pub mod Needs
 pub mod Sound
 pub mod Spelled
 pub mod Texts

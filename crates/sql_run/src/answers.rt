@@ -37,6 +37,7 @@ pub struct Answer {
 /// A text with an error gives `done` back as it was. Nothing is asked of the rows: a table that is not there has none.
 ///
 /// `Err` is want of memory alone.
+#[tactic(auto, unfolding(sql_answer::specs::Answers::finish))]
 pub fn answer_prepared(
     alloc: Global,
     schema: &Schema,

@@ -15,7 +15,7 @@
 //! | a text read and bound once | `prepares` | `specs/Texts` |
 //! | the versions at a position | `sources` | `snapshot_rows`, `Ages` |
 //! | the answer | `answers` | `sql_answer`, `Language` |
-//! | what operations keep sound | `laws` | `specs/Sound` |
+//! | rows of the grammar of reports, and sound operations | `laws` | `specs/Spelled`, `specs/Sound` |
 //!
 //! For example, over t(id, v) with `v` in the key by_v, a transaction that began at position 4 and says
 //! `update t set v = v + 1 where v = 9` reads from the ages of t those that were written by position 4, lived there, and
@@ -25,11 +25,13 @@
 
 mod answers;
 mod kinds;
+mod laws;
 mod lying;
 mod prepares;
 mod sources;
 
 pub use answers::{Answer, answer_prepared};
 pub use kinds::TextKind;
+pub use laws::{sql_keeps_rows, sql_keeps_rows_no_further, sql_leaves_sound_operations};
 pub use prepares::{Prepared, prepare};
 pub use sources::RowsAt;

@@ -27,8 +27,8 @@ use Rattle.report_text.specs.declared.reports.ReplyLine.{ReplyLine}
 use Rattle.report_text.specs.declared.reports.ReplyLine.TheVariants as reply
 use Rattle.sql_answer.specs.Aggregates.{int_value}
 use Rattle.sql_answer.specs.Answers.{Meaning, Outcome, Fails, Gives, told_only, most_net_ops, net_given, given_unless, rows_met, updating, deleting, items_used, row_replies, rows_given, selected, finished, finish, found, tables_read, filter_met}
-use Rattle.sql_answer.specs.Combinations.{Seen, seen_version, seen_own, own_or, own_from, is_left, of_table, seen, rows_of, extended, combinations_from, combinations, met}
-use Rattle.sql_answer.specs.Conditions.{meets, operand_value}
+use Rattle.sql_answer.specs.Combinations.{Seen, seen_version, seen_own, own_or, own_from, is_left, of_table, seen, rows_of}
+use Rattle.sql_answer.specs.Conditions.{operand_value}
 use Rattle.sql_answer.specs.Language.{answered, bound_in, meaning, meant_by, meant_as, cause_of, sql_language}
 use Rattle.sql_answer.specs.Reading.{reading}
 use Rattle.sql_answer.specs.Shapes.{shape}
@@ -44,6 +44,7 @@ use Rattle.sql_bind.specs.declared.types.BoundStep.{BoundStep}
 use Rattle.sql_grammar.specs.Trees.{Statement}
 use Rattle.sql_run.specs.Spelled.{HasColumns, FindsFew, RepliesBySuchRows, LeavesSuchRows}
 use Rattle.sql_run.proofs.BoundLemmas.{IsOperand, GivesValue, IsBoundWell, bound_well, row_from}
+use Rattle.sql_run.proofs.CombinationLemmas.{all_found, all_met, each_of}
 use Rattle.sql_run.proofs.GrammarLemmas.{HasOne, written}
 use Rattle.sql_run.proofs.NetLemmas.{net_writes_rows}
 use Rattle.sql_run.proofs.ShapeLemmas.{column_is, int_is, shaped}
@@ -76,24 +77,8 @@ all_seen versions ops table have all =
 
 -- ---- combinations
 
-one_extended : (rows combination : List Seen) → AllByRecursion IsSeen rows → AllByRecursion IsSeen combination → AllByRecursion (AllByRecursion IsSeen) (extended rows combination)
-one_extended [] combination all is = tt
-one_extended (s ∷ rows) combination all is = (all_append IsSeen combination (s ∷ []) is (all.0, tt), one_extended rows combination all.1 is)
-
-all_extended : (rows : List Seen) (combinations : List (List Seen)) → AllByRecursion IsSeen rows → AllByRecursion (AllByRecursion IsSeen) combinations
-    → AllByRecursion (AllByRecursion IsSeen) (flat_map (extended rows) combinations)
-all_extended rows [] all are = tt
-all_extended rows (c ∷ cs) all are = all_append (AllByRecursion IsSeen) (extended rows c) (flat_map (extended rows) cs) (one_extended rows c all are.0) (all_extended rows cs all are.1)
-
-all_combined : (view : ℕ → List Seen) → ((table : ℕ) → AllByRecursion IsSeen (view table)) → (tables : List ℕ) (combos : List (List Seen)) → AllByRecursion (AllByRecursion IsSeen) combos
-    → AllByRecursion (AllByRecursion IsSeen) (combinations_from view tables combos)
-all_combined view each [] combos all = all
-all_combined view each (table ∷ tables) combos all = all_combined view each tables (flat_map (extended (view table)) combos) (all_extended (view table) combos (each table) all)
-
-all_found : (versions : List (List Version)) (ops : List RowOp) (s : Meaning) → HaveRows versions → AllByRecursion WritesRow ops → AllByRecursion (AllByRecursion IsSeen) (found versions ops s)
-all_found versions ops s have all =
-    all_filtered (AllByRecursion IsSeen) (λ c. meets (filter_met s) (rows_of c)) (combinations (seen versions ops) (tables_read s))
-    (all_combined (seen versions ops) (λ table. all_seen versions ops table have all) (tables_read s) ([] ∷ []) (tt, tt))
+all_found_are : (versions : List (List Version)) (ops : List RowOp) (s : Meaning) → HaveRows versions → AllByRecursion WritesRow ops → AllByRecursion (AllByRecursion IsSeen) (found versions ops s)
+all_found_are versions ops s have all = all_found IsSeen versions ops s (each_of (λ table. AllByRecursion IsSeen (seen versions ops table)) (λ table. all_seen versions ops table have all) (tables_read s))
 
 rows_are : (combination : List Seen) → AllByRecursion IsSeen combination → AllByRecursion IsRow (rows_of combination)
 rows_are [] all = tt
@@ -102,10 +87,6 @@ rows_are (s ∷ ss) all = (all.0, rows_are ss all.1)
 all_rows_are : (combos : List (List Seen)) → AllByRecursion (AllByRecursion IsSeen) combos → AllByRecursion (AllByRecursion IsRow) (map rows_of combos)
 all_rows_are [] all = tt
 all_rows_are (c ∷ cs) all = (rows_are c all.0, all_rows_are cs all.1)
-
-met_are : (combos : List (List Seen)) → AllByRecursion (AllByRecursion IsSeen) combos → AllByRecursion IsSeen (rows_met combos)
-met_are [] all = tt
-met_are (c ∷ cs) all = all_append IsSeen c (rows_met cs) all.0 (met_are cs all.1)
 
 -- ---- SET
 
@@ -219,7 +200,7 @@ finished_leaves tables (InsertInto table rows) ops combos well all are =
     unless_leaves (rows_error (slice_get tables table) (map (λ row. Some row) rows)) ops (map (op.Insert table) rows) all (inserts_are table rows well)
 finished_leaves tables (UpdateOf table assigns filter) ops combos well all are =
     unless_leaves (rows_error (slice_get tables table) (map (λ s. set_row assigns s.row) (rows_met combos))) ops (filter_map (updating table assigns) (rows_met combos))
-    all (updates_are table assigns (rows_met combos) well (met_are combos are))
+    all (updates_are table assigns (rows_met combos) well (all_met IsSeen combos are))
 finished_leaves tables (DeleteFrom table filter) ops combos well all are = net_leaves ops (map (deleting table) (rows_met combos)) all (deletes_are table (rows_met combos))
 finished_leaves tables (SelectOf query) ops combos well all are = rows_leave (items_used query combos) ops (shape query (map rows_of combos)) all
 
@@ -295,8 +276,8 @@ means_well tables text has utf8 = go (reading text) refl
 
 pub replies_by_such_rows : RepliesBySuchRows
 replies_by_such_rows tables versions done text has utf8 few have all =
-    finish_tells tables (meaning bound_in tables text) done (found versions done (meaning bound_in tables text)) (means_well tables text has utf8) few (all_found versions done (meaning bound_in tables text) have all)
+    finish_tells tables (meaning bound_in tables text) done (found versions done (meaning bound_in tables text)) (means_well tables text has utf8) few (all_found_are versions done (meaning bound_in tables text) have all)
 
 pub leaves_such_rows : LeavesSuchRows
 leaves_such_rows tables versions done text has utf8 have all =
-    finish_leaves tables (meaning bound_in tables text) done (found versions done (meaning bound_in tables text)) (means_well tables text has utf8) all (all_found versions done (meaning bound_in tables text) have all)
+    finish_leaves tables (meaning bound_in tables text) done (found versions done (meaning bound_in tables text)) (means_well tables text has utf8) all (all_found_are versions done (meaning bound_in tables text) have all)
