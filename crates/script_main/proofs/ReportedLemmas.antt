@@ -8,6 +8,7 @@ use Rattle.cdb_values.specs.declared.tables.TableDef.{TableDef}
 use Rattle.script_form.specs.CanRun.{CanRun, IsSaid, tables_of}
 use Rattle.script_form.specs.Named as script
 use Rattle.script_form.specs.declared.scripts.SessionLine.{SessionLine}
+use Rattle.sql_run.proofs.RowLaws.{replies_by_such_rows, leaves_such_rows}
 use Rattle.sql_run.specs.Spelled.{HasColumn, HasColumns}
 use Rattle.script_form.specs.declared.scripts.Act.{Act}
 use Rattle.script_form.specs.declared.scripts.Act.TheVariants as act
@@ -34,7 +35,10 @@ sql_is_answered : Answers sql_language
 sql_is_answered = sql_answers bound_in
 
 sql_keeps : (tables : List TableDef) → AllByRecursion HasColumns tables → KeepsRows sql_language tables
-sql_keeps tables columns = ?
+sql_keeps tables columns = record {
+  replies = λ versions done text utf8 have all. replies_by_such_rows tables versions done text columns utf8 have all;
+  ops = λ versions done text utf8 have all. leaves_such_rows tables versions done text columns utf8 have all;
+}
 
 -- a name of a script is a name of a report
 

@@ -3,7 +3,6 @@ pub mod CombinationLemmas
 pub mod GrammarLemmas
 pub mod HeldLemmas
 pub mod LyingLemmas
-pub mod NeedLaws
 pub mod NetLemmas
 pub mod ReadLemmas
 pub mod RowLaws
