@@ -22,11 +22,7 @@ pub fn sql_keeps_rows()
 /// None of these premises can be left out: where nothing is asked of tables, texts and rows, a text that reads as
 /// `select * from t` tells a row without values, one whose literal is no text writes it, and one that reads as
 /// `select count(*) from t` tells a number past 64 bits.
-#[tactic(auto, using(
-    crate::proofs::NeedLaws::needs_columns,
-    crate::proofs::NeedLaws::needs_text,
-    crate::proofs::NeedLaws::needs_few
-))]
+#[tactic(auto, using(crate::proofs::NeedLaws::needs_columns, crate::proofs::NeedLaws::needs_text, crate::proofs::NeedLaws::needs_few))]
 pub fn sql_keeps_rows_no_further()
     ensures columns { (text : List ℕ) → reading text ≡ Ok (SelectOf all_of_t) → KeepsRows sql_language → ⊥ }
     ensures utf8 { (text : List ℕ) → reading text ≡ Ok insert_byte → KeepsRows sql_language → ⊥ }
