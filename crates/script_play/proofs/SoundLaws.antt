@@ -98,8 +98,14 @@ on_base tables count next ops many sound = subst (λ n. AllByRecursion (IsOnBase
 
 -- a table that may be added has distinct names of columns
 distinct_one : (before : List TableDef) (table : TableDef) → add_fault before table ≡ None → HasDistinctColumns table
-distinct_one before table none = first (has_twice (map (λ (c : ColumnDef). c.name) table.columns)) (has_twice (map (λ (k : KeyDef). k.name) table.keys) || are_bad_keys table.columns table.keys) (unlawful (is_named table.name (map (λ (t : TableDef). t.name) before)) (is_unlawful table) none)
+distinct_one before table none = first columns keys (first (columns || keys) (are_bad_keys table.columns table.keys) (unlawful (is_named table.name (map (λ (t : TableDef). t.name) before)) (is_unlawful table) none))
   where
+    columns : Bool
+    columns = has_twice (map (λ (c : ColumnDef). c.name) table.columns)
+
+    keys : Bool
+    keys = has_twice (map (λ (k : KeyDef). k.name) table.keys)
+
     full : Bool
     full = nat_le 64 (length before) || is_past_limits table
 

@@ -1,6 +1,6 @@
 -- What a bound statement has of the text that it is of: the rows of an INSERT, and the values that SET gives, are of the
 -- grammar of reports, and a query has an item or more.
-use Rattle.std.proofs.Common.{◌≡◌, ℕ, zero, suc, ◌+◌, ◌<◌, ◌≤◌, ◌==◌, List, [], ◌∷◌, ◌++◌, length, map, take, Bool, true, false, cond, not, ◌||◌, refl, sym, ap, subst, arith, Option, Some, None, Result, Ok, Err}
+use Rattle.std.proofs.Common.{◌≡◌, ℕ, ◌==◌, List, [], ◌∷◌, ◌++◌, length, map, take, Bool, true, false, cond, not, ◌||◌, refl, ap, subst, arith, Option, Some, None, Result, Ok, Err}
 use Rattle.std.specs.Prelude.{slice_get, is_none, bytes_eq, unwrap_or}
 use Rattle.std.specs.List.{AllByRecursion, list_any}
 use Rattle.std.proofs.lemmas.Bool.{or_parts, eqb-true, not-false}
@@ -15,7 +15,7 @@ use Rattle.report_laws.specs.Spelled.{IsToldValue, IsToldRow}
 use Rattle.sql_bind.specs.Binding.{binding}
 use Rattle.sql_bind.specs.Bound.{BoundStatement, BeginIt, CommitIt, RollbackIt, SetIt, InsertInto, UpdateOf, DeleteFrom, SelectOf}
 use Rattle.sql_bind.specs.Faults.{Kind, UnknownTable, UnknownColumn, AmbiguousName, WrongType, WrongCount, has_unknown_table, has_unknown_column, has_ambiguous_name, has_wrong_type, has_wrong_count, width}
-use Rattle.sql_bind.specs.Meaning.{value_of, bound_side, listed_value, bound_row, bound_setting, bound_filter, bound_item, columns_from, all_from, bound_items, bound_query, bound_as}
+use Rattle.sql_bind.specs.Meaning.{value_of, bound_side, listed_value, bound_row, bound_setting, bound_item, columns_from, bound_items, bound_as}
 use Rattle.sql_bind.specs.Scope.{Visible, target, visible, visible_at, is_unknown_table, named_ones}
 use Rattle.sql_bind.specs.declared.types.BoundAssign.{BoundAssign}
 use Rattle.sql_bind.specs.declared.types.BoundItem.{BoundItem}
@@ -58,7 +58,10 @@ pub record IsFaultless (tables : List TableDef) (s : Statement) (b : BoundStatem
   pub count : has_wrong_count tables s ≡ false
   pub is : bound_as tables s ≡ b
 
-ok_same : (x y : BoundStatement) → Ok x ≡ Ok y → x ≡ y
+abbrev bound_ok : BoundStatement → Result BoundStatement Kind
+bound_ok b = Ok b
+
+ok_same : (x y : BoundStatement) → bound_ok x ≡ bound_ok y → x ≡ y
 ok_same x y same = cc
 
 pub faultless : (tables : List TableDef) (s : Statement) (b : BoundStatement) → binding tables s ≡ Ok b → IsFaultless tables s b

@@ -1,17 +1,17 @@
 -- What the grammar gives of the tokens of a text: values of the grammar of reports, a table or more behind FROM, and an
 -- item or more.
-use Rattle.std.proofs.Common.{◌≡◌, ℕ, zero, suc, ◌<◌, ◌≤◌, ◌^◌, List, [], ◌∷◌, ◌++◌, map, Bool, true, false, cond, ltb, leb, ◌⊎◌, inl, inr, refl, sym, subst, arith, Option, Some, None, pos, negsuc}
-use Rattle.std.specs.Prelude.{ℤ, neg_ℤ}
+use Rattle.std.proofs.Common.{◌≡◌, ℕ, zero, suc, ◌≤◌, ◌^◌, List, [], ◌∷◌, ◌++◌, map, Bool, true, false, cond, ltb, leb, inl, inr, refl, sym, subst, arith, Option, Some, None, pos}
+use Rattle.std.specs.Prelude.{neg_ℤ}
 use Rattle.std.specs.List.{AllByRecursion}
 use Rattle.std.specs.Str.{is_utf8}
 use Rattle.std.proofs.lemmas.Option.{same_Some}
 use Rattle.std.proofs.lemmas.Str.{IsUtf8-from_is_utf8}
-use Rattle.grammar_forms.specs.Forms.{Spelling, One, Nothing, Both, Either, As, Many}
-use Rattle.grammar_forms.specs.Parts.{Word, After, Before, Optional, Separated, UpTo, first_of_two, second_of_two, list_of}
+use Rattle.grammar_forms.specs.Forms.{Spelling, One, Both, Either, As, Many}
+use Rattle.grammar_forms.specs.Parts.{Word, After, Before, Optional, Separated, first_of_two, second_of_two, list_of}
 use Rattle.report_laws.specs.Spelled.{IsToldValue}
 use Rattle.sql_bind.specs.Meaning.{value_of}
-use Rattle.sql_grammar.specs.Grammar.{pair, setting, insert_into, update_of, query, tail, Tail, LiteralS, OperandS, ChangeS, SettingS, TupleS, InsertS, UpdateS, DeleteS, SourceS, FromS, ItemS, ItemsS, TailS, QueryS, LevelS, OneS, StatementS, WhereS, NameS, NamesS, ColumnS}
-use Rattle.sql_grammar.specs.Trees.{Name, Constant, NullValue, IntValue, TextValue, BlobValue, Column, Side, OfLiteral, OfColumn, Cond, Item, Source, Change, Setting, Query, Statement, BeginIt, CommitIt, RollbackIt, SnapshotIt, SerializableIt, InsertInto, UpdateOf, DeleteFrom, SelectOf}
+use Rattle.sql_grammar.specs.Grammar.{pair, setting, insert_into, update_of, query, Tail, LiteralS, OperandS, ChangeS, SettingS, TupleS, InsertS, UpdateS, DeleteS, SourceS, FromS, ItemS, ItemsS, TailS, QueryS, LevelS, OneS, StatementS, WhereS, NameS, NamesS, ColumnS}
+use Rattle.sql_grammar.specs.Trees.{Name, Constant, NullValue, IntValue, TextValue, BlobValue, Side, OfLiteral, OfColumn, Cond, Item, Source, Change, Setting, Statement, BeginIt, CommitIt, RollbackIt, SnapshotIt, SerializableIt, InsertInto, UpdateOf, DeleteFrom, SelectOf}
 use Rattle.sql_grammar.specs.Words.{constant_of, negated}
 use Rattle.sql_reader.specs.Promise.{Spells}
 use Rattle.sql_run.proofs.TextLemmas.{IsFine, fine_tokens}

@@ -3,7 +3,6 @@ use Rattle.std.proofs.Common.{◌≡◌, ℕ, zero, suc, ◌+◌, ◌-◌, ◌<�
 use Rattle.std.specs.Prelude.{slice_get, slice_set}
 use Rattle.std.specs.List.{AllByRecursion}
 use Rattle.std.proofs.lemmas.List.{length-append, length-set}
-use Rattle.std.proofs.lemmas.Option.{same_Some}
 use Rattle.cdb_values.specs.Good.{FitsTable}
 use Rattle.cdb_values.specs.declared.rows.RowOp.{RowOp}
 use Rattle.cdb_values.specs.declared.rows.RowOp.TheVariants.{Insert, Update, Delete}
@@ -15,7 +14,7 @@ use Rattle.net_writes.proofs.CountLemmas.{at_suc, out_suc}
 use Rattle.net_writes.specs.Net.{held_of, held_at, taken_out, rewritten, undone, held_with, held_after, standing, net_of}
 use Rattle.report_laws.proofs.EachLaws.{all_append, all_map, get_front}
 use Rattle.report_laws.proofs.SpelledLaws.{all_exchanged}
-use Rattle.sql_run.specs.Sound.{IsBelow, IsSoundOp}
+use Rattle.sql_run.specs.Sound.{IsSoundOp}
 
 abbrev pub Held : Type 0
 Held = List (Option RowOp)

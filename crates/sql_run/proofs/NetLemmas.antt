@@ -1,12 +1,12 @@
 -- What each operation has, the net operations have: an update of an own write has its own row, and the rest is of writes.
-use Rattle.std.proofs.Common.{◌≡◌, ℕ, ◌-◌, ◌==◌, List, [], ◌∷◌, ◌++◌, Bool, true, false, cond, Option, Some, None}
-use Rattle.std.specs.Prelude.{slice_get, slice_set}
+use Rattle.std.proofs.Common.{ℕ, ◌-◌, ◌==◌, List, [], ◌∷◌, Bool, true, false, cond, Option, Some, None}
+use Rattle.std.specs.Prelude.{slice_set}
 use Rattle.std.specs.List.{AllByRecursion}
 use Rattle.cdb_values.specs.declared.rows.RowOp.{RowOp}
 use Rattle.cdb_values.specs.declared.rows.RowOp.TheVariants.{Insert, Update, Delete}
 use Rattle.cdb_values.specs.declared.rows.RowRef.TheVariants.{Base, Own}
 use Rattle.cdb_values.specs.declared.values.Value.{Value}
-use Rattle.net_writes.specs.Net.{held_of, held_at, taken_out, rewritten, undone, held_with, held_after, and_then, standing, net_of}
+use Rattle.net_writes.specs.Net.{held_at, taken_out, rewritten, undone, held_with, held_after, standing, net_of}
 use Rattle.report_laws.proofs.EachLaws.{all_append}
 use Rattle.report_laws.proofs.SpelledLaws.{all_exchanged}
 use Rattle.report_laws.specs.Spelled.{IsToldRow, WritesRow}

@@ -1,17 +1,15 @@
 -- Over rows of the grammar of reports, SQL answers by such rows and leaves operations that write such rows.
-use Rattle.std.proofs.Common.{◌≡◌, ℕ, zero, suc, ◌+◌, ◌<◌, ◌≤◌, ◌==◌, ◌^◌, List, [], ◌∷◌, ◌++◌, length, map, filter, Bool, true, false, cond, not, ltb, refl, sym, subst, ap, arith, Option, Some, None, Ok, Err, Result, ◌+ℤ◌, ◌-ℤ◌}
+use Rattle.std.proofs.Common.{◌≡◌, ℕ, zero, suc, ◌+◌, ◌<◌, ◌==◌, ◌^◌, List, [], ◌∷◌, ◌++◌, length, map, filter, Bool, true, false, ltb, refl, sym, subst, Option, Some, None, Ok, Err, Result, ◌+ℤ◌, ◌-ℤ◌}
 use Rattle.std.specs.Prelude.{slice_get, slice_set, option_map}
 use Rattle.std.specs.Option.{option_and_then}
-use Rattle.std.specs.List.{AllByRecursion, cons_option, flat_map, filter_map, list_any}
+use Rattle.std.specs.List.{AllByRecursion, cons_option, filter_map}
 use Rattle.std.specs.Str.{is_utf8}
 use Rattle.std.proofs.lemmas.Bool.{cond_both}
 use Rattle.std.proofs.lemmas.List.{length-map}
 use Rattle.std.proofs.lemmas.Option.{same_Some}
-use Rattle.cdb_values.specs.Rows.{takes}
 use Rattle.cdb_values.specs.declared.items.GenidItem.{GenidItem}
 use Rattle.cdb_values.specs.declared.rows.RowOp.{RowOp}
 use Rattle.cdb_values.specs.declared.rows.RowOp.TheVariants as op
-use Rattle.cdb_values.specs.declared.rows.RowRef.TheVariants.{Base, Own}
 use Rattle.cdb_values.specs.declared.rows.StatementError.{StatementError}
 use Rattle.cdb_values.specs.declared.rows.StatementError.TheVariants as error
 use Rattle.cdb_values.specs.declared.rows.Version.{Version}
@@ -24,17 +22,16 @@ use Rattle.report_laws.proofs.SpelledLaws.{all_got, all_exchanged, all_filtered}
 use Rattle.report_laws.specs.Spelled.{IsToldValue, IsToldRow, SpellsReply, WritesRow, HaveRows}
 use Rattle.report_text.specs.declared.reports.ReplyLine.{ReplyLine}
 use Rattle.report_text.specs.declared.reports.ReplyLine.TheVariants as reply
-use Rattle.sql_answer.specs.Aggregates.{int_value}
-use Rattle.sql_answer.specs.Answers.{Meaning, Outcome, Fails, Gives, told_only, most_net_ops, net_given, given_unless, rows_met, updating, deleting, items_used, row_replies, rows_given, selected, finished, finish, found, tables_read, filter_met}
-use Rattle.sql_answer.specs.Combinations.{Seen, seen_version, seen_own, own_or, own_from, is_left, of_table, seen, rows_of}
+use Rattle.sql_answer.specs.Answers.{Meaning, Outcome, Fails, Gives, told_only, most_net_ops, net_given, given_unless, rows_met, updating, deleting, items_used, rows_given, finished, finish, found, tables_read}
+use Rattle.sql_answer.specs.Combinations.{Seen, seen_version, own_or, own_from, is_left, of_table, seen, rows_of}
 use Rattle.sql_answer.specs.Conditions.{operand_value}
-use Rattle.sql_answer.specs.Language.{answered, bound_in, meaning, meant_by, meant_as, cause_of, sql_language}
+use Rattle.sql_answer.specs.Language.{answered, bound_in, meaning, meant_by, meant_as}
 use Rattle.sql_answer.specs.Reading.{reading}
 use Rattle.sql_answer.specs.Shapes.{shape}
 use Rattle.sql_answer.specs.Writes.{changed, stepped, assigned, set_from, set_row, rows_error}
 use Rattle.sql_answer.proofs.ReadingLemmas.{reading_spells}
 use Rattle.sql_bind.specs.Binding.{binding}
-use Rattle.sql_bind.specs.Bound.{BoundQuery, BoundStatement, BeginIt, CommitIt, RollbackIt, SetIt, InsertInto, UpdateOf, DeleteFrom, SelectOf}
+use Rattle.sql_bind.specs.Bound.{BoundStatement, BeginIt, CommitIt, RollbackIt, SetIt, InsertInto, UpdateOf, DeleteFrom, SelectOf}
 use Rattle.sql_bind.specs.Faults.{Kind}
 use Rattle.sql_bind.specs.declared.types.BoundAssign.{BoundAssign}
 use Rattle.sql_bind.specs.declared.types.BoundOperand.{BoundOperand}
@@ -42,9 +39,9 @@ use Rattle.sql_bind.specs.declared.types.BoundOperand.TheVariants as operand
 use Rattle.sql_bind.specs.declared.types.BoundStep.{BoundStep}
 use Rattle.sql_grammar.specs.Trees.{Statement}
 use Rattle.sql_run.specs.Spelled.{HasColumns, RepliesBySuchRows, LeavesSuchRows}
-use Rattle.sql_run.proofs.BoundLemmas.{IsOperand, GivesValue, IsBoundWell, bound_well, row_from}
+use Rattle.sql_run.proofs.BoundLemmas.{IsOperand, GivesValue, IsBoundWell, bound_well}
 use Rattle.sql_run.proofs.CombinationLemmas.{all_found, all_met, each_of}
-use Rattle.sql_run.proofs.GrammarLemmas.{HasOne, written}
+use Rattle.sql_run.proofs.GrammarLemmas.{written}
 use Rattle.sql_run.proofs.NetLemmas.{net_writes_rows}
 use Rattle.sql_run.proofs.ShapeLemmas.{column_is, int_is, shaped}
 
@@ -197,10 +194,10 @@ finished_leaves tables RollbackIt ops combos well all are = all
 finished_leaves tables (SetIt level) ops combos well all are = all
 finished_leaves tables (InsertInto table rows) ops combos well all are =
     unless_leaves (rows_error (slice_get tables table) (map (λ row. Some row) rows)) ops (map (op.Insert table) rows) all (inserts_are table rows well)
-finished_leaves tables (UpdateOf table assigns filter) ops combos well all are =
+finished_leaves tables (UpdateOf table assigns condition) ops combos well all are =
     unless_leaves (rows_error (slice_get tables table) (map (λ s. set_row assigns s.row) (rows_met combos))) ops (filter_map (updating table assigns) (rows_met combos))
     all (updates_are table assigns (rows_met combos) well (all_met IsSeen combos are))
-finished_leaves tables (DeleteFrom table filter) ops combos well all are = net_leaves ops (map (deleting table) (rows_met combos)) all (deletes_are table (rows_met combos))
+finished_leaves tables (DeleteFrom table condition) ops combos well all are = net_leaves ops (map (deleting table) (rows_met combos)) all (deletes_are table (rows_met combos))
 finished_leaves tables (SelectOf query) ops combos well all are = rows_leave (items_used query combos) ops (shape query (map rows_of combos)) all
 
 abbrev pub IsWell : Meaning → Type 0
@@ -242,9 +239,9 @@ finished_tells tables CommitIt ops combos well are = (tt, tt)
 finished_tells tables RollbackIt ops combos well are = (tt, tt)
 finished_tells tables (SetIt level) ops combos well are = (tt, tt)
 finished_tells tables (InsertInto table rows) ops combos well are = unless_tells (rows_error (slice_get tables table) (map (λ row. Some row) rows)) ops (map (op.Insert table) rows)
-finished_tells tables (UpdateOf table assigns filter) ops combos well are =
+finished_tells tables (UpdateOf table assigns condition) ops combos well are =
     unless_tells (rows_error (slice_get tables table) (map (λ s. set_row assigns s.row) (rows_met combos))) ops (filter_map (updating table assigns) (rows_met combos))
-finished_tells tables (DeleteFrom table filter) ops combos well are = net_tells ops (map (deleting table) (rows_met combos))
+finished_tells tables (DeleteFrom table condition) ops combos well are = net_tells ops (map (deleting table) (rows_met combos))
 finished_tells tables (SelectOf query) ops combos well are =
     rows_tell (items_used query combos) ops (shape query (map rows_of combos)) (λ rows given. shaped query (map rows_of combos) rows well (all_rows_are combos are) given)
 

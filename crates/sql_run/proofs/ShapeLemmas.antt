@@ -1,18 +1,18 @@
 -- The rows that a query gives of combinations of rows of the grammar are such rows: it has an item or more, SUM stays within
 -- 64 bits, and COUNT counts fewer combinations than 2 ^ 63.
-use Rattle.std.proofs.Common.{◌≡◌, ℕ, zero, suc, ◌+◌, ◌<◌, ◌≤◌, ◌^◌, List, [], ◌∷◌, ◌++◌, length, map, take, filter, Bool, true, false, cond, not, ltb, ◌||◌, refl, sym, subst, ap, arith, Option, Some, None, pos, negsuc, lit<}
+use Rattle.std.proofs.Common.{◌≡◌, ℕ, zero, suc, ◌+◌, ◌<◌, ◌≤◌, ◌^◌, List, [], ◌∷◌, ◌++◌, length, map, take, Bool, true, false, cond, refl, subst, arith, Option, Some, None, pos, negsuc}
 use Rattle.std.specs.Prelude.{ℤ, slice_get, option_map}
 use Rattle.std.specs.Option.{option_and_then}
 use Rattle.std.specs.Ordering.{is_lt, is_gt}
 use Rattle.std.specs.List.{AllByRecursion}
-use Rattle.std.proofs.lemmas.Bool.{ltb-true, cond_both}
+use Rattle.std.proofs.lemmas.Bool.{ltb-true}
 use Rattle.std.proofs.lemmas.List.{length-append}
 use Rattle.std.proofs.lemmas.Option.{same_Some}
 use Rattle.cdb_values.specs.Good.{same_values}
 use Rattle.cdb_values.specs.Order.{value_order}
 use Rattle.cdb_values.specs.declared.values.Value.{Value}
-use Rattle.cdb_values.specs.declared.values.Value.TheVariants.{Null, Int, Text, Blob}
-use Rattle.report_laws.proofs.EachLaws.{all_append, all_map}
+use Rattle.cdb_values.specs.declared.values.Value.TheVariants.{Null, Int}
+use Rattle.report_laws.proofs.EachLaws.{all_append}
 use Rattle.report_laws.proofs.SpelledLaws.{all_filtered}
 use Rattle.report_laws.specs.Spelled.{IsToldValue, IsToldRow}
 use Rattle.sql_answer.specs.Aggregates.{is_64_bits, int_value, integers, total, sum_of, known, least_from, least, greatest_from, greatest, values_in, first_of, item_value, all_there, item_values}

@@ -1,8 +1,8 @@
 -- Over sound rows, and behind sound operations, each text of SQL leaves sound operations.
-use Rattle.std.proofs.Common.{◌≡◌, ℕ, zero, suc, ◌+◌, ◌<◌, ◌≤◌, ◌==◌, List, [], ◌∷◌, ◌++◌, length, map, filter, Bool, true, false, cond, not, ltb, ◌||◌, ◌&&◌, refl, sym, ◌∙◌, subst, ap, arith, append_assoc, Option, Some, None, Ok, Err, Result}
-use Rattle.std.specs.Prelude.{slice_get, option_map, unwrap_or, is_none, bytes_eq, flat_map}
+use Rattle.std.proofs.Common.{◌≡◌, ℕ, zero, suc, ◌+◌, ◌≤◌, ◌==◌, List, [], ◌∷◌, ◌++◌, length, map, filter, Bool, true, false, cond, not, ltb, ◌&&◌, refl, sym, ◌∙◌, subst, ap, arith, append_assoc, Option, Some, None, Ok, Err, Result}
+use Rattle.std.specs.Prelude.{slice_get, option_map, is_none, flat_map}
 use Rattle.std.specs.List.{AllByRecursion, cons_option, filter_map, list_any}
-use Rattle.std.proofs.lemmas.Bool.{cond_both, or_parts, eqb-true, ltb-false, not-false}
+use Rattle.std.proofs.lemmas.Bool.{cond_both, or_parts, eqb-true, ltb-false}
 use Rattle.std.proofs.lemmas.List.{length-append, length-map}
 use Rattle.std.proofs.lemmas.List.Folds.{list_any-append}
 use Rattle.std.proofs.lemmas.Option.{same_Some}
@@ -12,8 +12,6 @@ use Rattle.cdb_values.specs.Tables.{has_twice}
 use Rattle.cdb_values.specs.declared.items.GenidItem.{GenidItem}
 use Rattle.cdb_values.specs.declared.rows.RowOp.{RowOp}
 use Rattle.cdb_values.specs.declared.rows.RowOp.TheVariants.{Insert, Update, Delete}
-use Rattle.cdb_values.specs.declared.rows.RowRef.{RowRef}
-use Rattle.cdb_values.specs.declared.rows.RowRef.TheVariants.{Base, Own}
 use Rattle.cdb_values.specs.declared.rows.StatementError.{StatementError}
 use Rattle.cdb_values.specs.declared.rows.StatementError.TheVariants as error
 use Rattle.cdb_values.specs.declared.rows.Version.{Version}
@@ -23,29 +21,29 @@ use Rattle.cdb_values.specs.declared.tables.TableDef.{TableDef}
 use Rattle.cdb_values.specs.declared.values.Value.{Value}
 use Rattle.cdb_values.specs.declared.values.Value.TheVariants.{Null, Int, Text, Blob}
 use Rattle.net_writes.proofs.CountLemmas.{at_suc}
-use Rattle.net_writes.specs.Net.{held_of, held_at, net_of}
-use Rattle.report_laws.proofs.EachLaws.{all_append, all_found as found_in_all, get_next}
+use Rattle.net_writes.specs.Net.{held_of, net_of}
+use Rattle.report_laws.proofs.EachLaws.{all_append, all_found as found_in_all}
 use Rattle.report_laws.proofs.SpelledLaws.{all_filtered}
 use Rattle.report_text.specs.declared.reports.ReplyLine.TheVariants as reply
 use Rattle.sql_answer.specs.Answers.{Meaning, Outcome, Fails, Gives, told_only, most_net_ops, net_given, given_unless, rows_met, updating, deleting, items_used, rows_given, finished, finish, found, tables_read}
-use Rattle.sql_answer.specs.Combinations.{Seen, seen_version, seen_own, own_or, own_from, is_left, of_table, seen, rows_of}
+use Rattle.sql_answer.specs.Combinations.{Seen, seen_version, own_or, own_from, is_left, of_table, seen, rows_of}
 use Rattle.sql_answer.specs.Language.{answered, bound_in, meaning, meant_by, meant_as}
 use Rattle.sql_answer.specs.Reading.{reading}
 use Rattle.sql_answer.specs.Shapes.{shape}
 use Rattle.sql_answer.specs.Truth.{is_null}
-use Rattle.sql_answer.specs.Writes.{set_row, has_null, is_too_long, columns_of, keys_of, row_error, or_later, rows_error, most_row_bytes, most_key_bytes}
+use Rattle.sql_answer.specs.Writes.{set_row, has_null, is_too_long, row_error, or_later, rows_error, most_row_bytes, most_key_bytes}
 use Rattle.sql_bind.specs.Binding.{binding}
 use Rattle.sql_bind.specs.Bound.{BoundStatement, BeginIt, CommitIt, RollbackIt, SetIt, InsertInto, UpdateOf, DeleteFrom, SelectOf}
-use Rattle.sql_bind.specs.Faults.{Kind, own_column, own_columns, setting_columns, setting_differs, tuple_kinds, tuple_differs, width, filter_columns, filter_differs, update_columns, has_unknown_table, has_unknown_column, has_wrong_type, has_wrong_count}
+use Rattle.sql_bind.specs.Faults.{Kind, own_column, own_columns, setting_columns, setting_differs, tuple_kinds, tuple_differs, width, filter_columns, filter_differs, has_unknown_table, has_unknown_column, has_wrong_type, has_wrong_count}
 use Rattle.sql_bind.specs.Meaning.{bound_row, bound_setting, bound_as}
 use Rattle.sql_bind.specs.Scope.{Visible, target, visible_at, is_unknown_table, is_unknown}
 use Rattle.sql_bind.specs.declared.types.BoundAssign.{BoundAssign}
 use Rattle.sql_grammar.specs.Trees as written
 use Rattle.sql_grammar.specs.Trees.{Name, Constant, Setting, Statement}
 use Rattle.sql_run.specs.Sound.{AreSound, HasDistinctColumns, IsSoundOp, IsSoundVersion, LeavesSoundOps}
-use Rattle.sql_run.proofs.BoundLemmas.{IsFaultless, faultless, first_known, named_table}
+use Rattle.sql_run.proofs.BoundLemmas.{faultless, first_known, named_table}
 use Rattle.sql_run.proofs.CombinationLemmas.{all_found, all_met}
-use Rattle.sql_run.proofs.HeldLemmas.{Held, IsOnTable, IsTarget, IsSoundWrite, table_of, net_is_sound}
+use Rattle.sql_run.proofs.HeldLemmas.{IsOnTable, IsTarget, IsSoundWrite, table_of, net_is_sound}
 use Rattle.sql_run.proofs.TypeLemmas.{IsOfKind, FitKinds, RowFits, IsTypedAssign, row_fits_kinds, setting_fits, set_fits}
 
 -- ---- rows that fit
@@ -128,7 +126,7 @@ module _ (tables : List TableDef) (next : ℕ) (done : List RowOp) (place : ℕ)
   written_at : (front : List RowOp) (op : RowOp) (ops : List RowOp) → done ≡ front ++ op ∷ ops → (table_of op == place) ≡ true → IsOnTable (map (λ o. Some o) done) (suc (length front)) place
   written_at front op ops splits here =
       let on : table_of op ≡ place = eqb-true (table_of op) place here in
-      let long : length (map (λ (o : RowOp). Some o) done) ≡ length done = length-map (λ (o : RowOp). Some o) done in
+      let long : length (map (λ (o : RowOp). Some o) done) ≡ length done = length-map done (λ (o : RowOp). Some o) in
       let whole : length done ≡ length (front ++ op ∷ ops) = ap length splits in
       let parts : length (front ++ op ∷ ops) ≡ length front + length (op ∷ ops) = length-append front (op ∷ ops) in
       let there : slice_get (map (λ (o : RowOp). Some o) done) (length front) ≡ Some (Some op) = ap (λ (l : List RowOp). slice_get (map (λ (o : RowOp). Some o) l) (length front)) splits ∙ at_front front in
@@ -176,10 +174,7 @@ module _ (tables : List TableDef) (next : ℕ) (done : List RowOp) (place : ℕ)
       all_append IsSoundSeen (map seen_version (filter (is_left done place) (of_table versions place))) (own_from 1 place done)
       (versions_seen (filter (is_left done place) (of_table versions place))
       (all_filtered (IsSoundVersion table next) (is_left done place) (of_table versions place) (versions_at tables next versions place table sound at)))
-      (own_seen [] done 1 refl one_is all)
-    where
-      one_is : 1 ≡ suc (length [])
-      one_is = omega arith
+      (own_seen [] done 1 refl (omega arith) all)
 
   -- the rows that a write of this table meets
   rows_met_are : (versions : List (List Version)) (s : BoundStatement) → AreSound tables next versions → AllByRecursion (IsSoundOp tables next) done → tables_read (Ok s) ≡ place ∷ []
@@ -244,8 +239,8 @@ IsTyped tables CommitIt = Unit {0}
 IsTyped tables RollbackIt = Unit {0}
 IsTyped tables (SetIt level) = Unit {0}
 IsTyped tables (InsertInto place rows) = (table : TableDef) × (slice_get tables place ≡ Some table) × AllByRecursion (FitKinds table.columns) rows
-IsTyped tables (UpdateOf place assigns filter) = (table : TableDef) × (slice_get tables place ≡ Some table) × AllByRecursion (IsTypedAssign table.columns) assigns
-IsTyped tables (DeleteFrom place filter) = (table : TableDef) × (slice_get tables place ≡ Some table)
+IsTyped tables (UpdateOf place assigns condition) = (table : TableDef) × (slice_get tables place ≡ Some table) × AllByRecursion (IsTypedAssign table.columns) assigns
+IsTyped tables (DeleteFrom place condition) = (table : TableDef) × (slice_get tables place ≡ Some table)
 IsTyped tables (SelectOf query) = Unit {0}
 
 statement_leaves : (tables : List TableDef) (versions : List (List Version)) (done : List RowOp) (next : ℕ) (s : BoundStatement) → AreSound tables next versions → AllByRecursion (IsSoundOp tables next) done
@@ -257,14 +252,14 @@ statement_leaves tables versions done next (SetIt level) sound all typed = all
 statement_leaves tables versions done next (InsertInto place rows) sound all (table, at, kinds) =
     unless_leaves tables next (rows_error (slice_get tables place) (map (λ row. Some row) rows)) done (map (Insert place) rows) all
     (λ free. inserts_are tables next done place table at rows kinds (subst (λ (o : Option TableDef). rows_error o (map (λ (row : List Value). Some row) rows) ≡ None) at free))
-statement_leaves tables versions done next (UpdateOf place assigns filter) sound all (table, at, typed) =
-    let rows : List Seen = rows_met (found versions done (Ok (UpdateOf place assigns filter))) in
+statement_leaves tables versions done next (UpdateOf place assigns condition) sound all (table, at, typed) =
+    let rows : List Seen = rows_met (found versions done (Ok (UpdateOf place assigns condition))) in
     unless_leaves tables next (rows_error (slice_get tables place) (map (λ s. set_row assigns s.row) rows)) done (filter_map (updating place assigns) rows) all
-    (λ free. updates_are tables next done place table at assigns rows typed (rows_met_are tables next done place table at versions (UpdateOf place assigns filter) sound all refl)
+    (λ free. updates_are tables next done place table at assigns rows typed (rows_met_are tables next done place table at versions (UpdateOf place assigns condition) sound all refl)
     (subst (λ (o : Option TableDef). rows_error o (map (λ (s : Seen). set_row assigns s.row) rows) ≡ None) at free))
-statement_leaves tables versions done next (DeleteFrom place filter) sound all (table, at) =
-    let rows : List Seen = rows_met (found versions done (Ok (DeleteFrom place filter))) in
-    net_leaves tables next done (map (deleting place) rows) all (deletes_are tables next done place table at rows (rows_met_are tables next done place table at versions (DeleteFrom place filter) sound all refl))
+statement_leaves tables versions done next (DeleteFrom place condition) sound all (table, at) =
+    let rows : List Seen = rows_met (found versions done (Ok (DeleteFrom place condition))) in
+    net_leaves tables next done (map (deleting place) rows) all (deletes_are tables next done place table at rows (rows_met_are tables next done place table at versions (DeleteFrom place condition) sound all refl))
 statement_leaves tables versions done next (SelectOf query) sound all typed =
     rows_leave tables next (items_used query (found versions done (Ok (SelectOf query)))) done (shape query (map rows_of (found versions done (Ok (SelectOf query))))) all
 
@@ -305,7 +300,7 @@ settings_typed table [] known others agrees = tt
 settings_typed table (s ∷ ss) known others agrees =
     let knows = or_parts (is_unknown (table ∷ []) (own_column s.column)) (list_any (is_unknown (table ∷ [])) (map (λ (x : Setting). own_column x.column) ss)) known in
     let sides = or_parts (list_any (is_unknown (table ∷ [])) (setting_columns s)) (list_any (is_unknown (table ∷ [])) (flat_map setting_columns ss))
-        (sym (list_any-append (is_unknown (table ∷ [])) (setting_columns s) (flat_map setting_columns ss)) ∙ others) in
+    (sym (list_any-append (is_unknown (table ∷ [])) (setting_columns s) (flat_map setting_columns ss)) ∙ others) in
     let types = or_parts (setting_differs table s) (list_any (setting_differs table) ss) agrees in
     (setting_fits table s knows.0 sides.0 types.0, settings_typed table ss knows.1 sides.1 types.1)
 
@@ -322,18 +317,21 @@ typed_as tables written.RollbackIt all tabled known agrees counted = tt
 typed_as tables written.SnapshotIt all tabled known agrees counted = tt
 typed_as tables written.SerializableIt all tabled known agrees counted = tt
 typed_as tables (written.InsertInto name names rows) all tabled known agrees counted =
-    let t : IsTargetOf tables name = target_is tables name (first_known (is_unknown_table tables name) tabled) in
-    (t.table, t.at, subst (λ (cs : List ColumnDef). AllByRecursion (FitKinds cs) (map (bound_row (target tables name) names) rows)) t.columns
-    (rows_typed (target tables name) names rows (distinct_at tables name t all) counted known agrees))
+    let t : IsTargetOf tables name = target_is tables name (first_known (is_unknown_table tables name) tabled) in (
+      t.table,
+      t.at,
+      subst (λ (cs : List ColumnDef). AllByRecursion (FitKinds cs) (map (bound_row (target tables name) names) rows)) t.columns
+          (rows_typed (target tables name) names rows (distinct_at tables name t all) counted known agrees),
+    )
 typed_as tables (written.UpdateOf name settings filter) all tabled known agrees counted =
     let table : Visible = target tables name in
     let t : IsTargetOf tables name = target_is tables name (first_known (is_unknown_table tables name) tabled) in
     let own = map (λ (s : Setting). own_column s.column) settings in
     let others = flat_map setting_columns settings in
     let a = or_parts (list_any (is_unknown (table ∷ [])) own) (list_any (is_unknown (table ∷ [])) (others ++ filter_columns filter))
-        (sym (list_any-append (is_unknown (table ∷ [])) own (others ++ filter_columns filter)) ∙ known) in
+    (sym (list_any-append (is_unknown (table ∷ [])) own (others ++ filter_columns filter)) ∙ known) in
     let c = or_parts (list_any (is_unknown (table ∷ [])) others) (list_any (is_unknown (table ∷ [])) (filter_columns filter))
-        (sym (list_any-append (is_unknown (table ∷ [])) others (filter_columns filter)) ∙ a.1) in
+    (sym (list_any-append (is_unknown (table ∷ [])) others (filter_columns filter)) ∙ a.1) in
     let types = or_parts (list_any (setting_differs table) settings) (filter_differs (table ∷ []) filter) agrees in
     (t.table, t.at, subst (λ (cs : List ColumnDef). AllByRecursion (IsTypedAssign cs) (map (bound_setting (table ∷ [])) settings)) t.columns (settings_typed table settings a.0 c.0 types.0))
 typed_as tables (written.DeleteFrom name filter) all tabled known agrees counted =

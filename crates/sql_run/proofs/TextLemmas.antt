@@ -1,20 +1,20 @@
 -- The tokens of a text that is UTF-8: a text between quotes is UTF-8, and a blob is of bytes.
-use Rattle.std.proofs.Common.{◌≡◌, ℕ, zero, suc, ◌+◌, ◌*◌, ◌-◌, ◌<◌, ◌≤◌, ◌==◌, List, [], ◌∷◌, ◌++◌, length, map, take, drop, get_or, Bool, true, false, cond, ltb, leb, eqb, ◌&&◌, ◌||◌, not, ◌⊎◌, inl, inr, refl, sym, ap, subst, ◌∙◌, append_assoc, append-nil, arith, Option, Some, None, lit<}
-use Rattle.std.specs.Prelude.{codes, option_map, option_and_then, if◌then◌else◌}
+use Rattle.std.proofs.Common.{◌≡◌, ℕ, zero, suc, ◌+◌, ◌*◌, ◌<◌, ◌≤◌, ◌==◌, List, [], ◌∷◌, ◌++◌, length, map, get_or, Bool, true, false, cond, ltb, leb, ◌&&◌, ◌||◌, not, ◌⊎◌, inl, inr, refl, sym, ap, subst, append_assoc, append-nil, arith, Option, Some, None, lit<}
+use Rattle.std.specs.Prelude.{option_map, option_and_then}
 use Rattle.std.specs.Char.{is_ascii_digit, is_ascii_alphabetic, is_ascii_hexdigit, digit_value}
 use Rattle.std.specs.List.{AllByRecursion}
 use Rattle.std.specs.Str.{is_utf8, IsUtf8, IsAscii}
 use Rattle.std.proofs.Math.Seq.{take-append_seam, drop-append_seam, get_or-append_seam}
-use Rattle.std.proofs.lemmas.Bool.{and_parts, or_cases, leb-true, leb-false, ltb-true, ltb-false, eqb-true, agree_below_at}
+use Rattle.std.proofs.lemmas.Bool.{and_parts, or_cases, leb-true, ltb-true, eqb-true, agree_below_at}
 use Rattle.std.proofs.lemmas.List.{length-append}
 use Rattle.std.proofs.lemmas.Option.{same_Some}
-use Rattle.std.proofs.lemmas.Str.{IsUtf8-from_is_utf8, is_utf8-from_IsUtf8, IsUtf8-append, IsUtf8-from_ascii, IsUtf8-take, IsUtf8-drop, IsUtf8-past_char, IsCharBoundary-before_ascii, encode_ascii}
+use Rattle.std.proofs.lemmas.Str.{is_utf8-from_IsUtf8, IsUtf8-append, IsUtf8-from_ascii, IsUtf8-take, IsUtf8-drop, IsUtf8-past_char, IsCharBoundary-before_ascii, encode_ascii}
 use Rattle.sql_tokens.specs.Letters.{is_blank, is_word_start, is_word_byte, is_quote, is_x, Each, hex_digit, hex_byte}
 use Rattle.sql_tokens.specs.Signs.{SpellsSign}
-use Rattle.sql_tokens.specs.Spot.{Spot, spot, token_of}
-use Rattle.sql_tokens.specs.Token.{IsToken, IsNumber, IsText, IsBlob, IsKeyword, IsName}
+use Rattle.sql_tokens.specs.Spot.{Spot, token_of}
+use Rattle.sql_tokens.specs.Token.{IsToken}
 use Rattle.sql_tokens.specs.Tokens.{Tokens, no_more, a_blank, a_token, none_begins}
-use Rattle.sql_tokens.specs.Values.{largest, quoted, SpellsHex}
+use Rattle.sql_tokens.specs.Values.{quoted, SpellsHex}
 use Rattle.sql_tokens.specs.declared.kinds.Sign.{Sign}
 use Rattle.sql_tokens.specs.declared.kinds.Sign.TheVariants as sign
 use Rattle.sql_tokens.specs.declared.kinds.Token.{Token}
@@ -42,9 +42,10 @@ seam_within xs ys b = let all : length (xs ++ b ∷ ys) ≡ length xs + length (
 around_ascii : (xs ys : List ℕ) (b : ℕ) → b < 128 → IsUtf8 (xs ++ b ∷ ys) → IsUtf8 xs × IsUtf8 ys
 around_ascii xs ys b low is =
     let at : get_or (xs ++ b ∷ ys) (length xs) 0 < 128 = subst (λ (n : ℕ). n < 128) (sym (get_or-append_seam xs b ys 0)) low in
-    let cut = IsCharBoundary-before_ascii (xs ++ b ∷ ys) (length xs) (seam_within xs ys b) at in
-    (subst IsUtf8 (take-append_seam xs (b ∷ ys)) (IsUtf8-take (xs ++ b ∷ ys) (length xs) is cut),
-    past_ascii b ys low (subst IsUtf8 (drop-append_seam xs (b ∷ ys)) (IsUtf8-drop (xs ++ b ∷ ys) (length xs) is cut)))
+    let cut = IsCharBoundary-before_ascii (xs ++ b ∷ ys) (length xs) (seam_within xs ys b) at in (
+      subst IsUtf8 (take-append_seam xs (b ∷ ys)) (IsUtf8-take (xs ++ b ∷ ys) (length xs) is cut),
+      past_ascii b ys low (subst IsUtf8 (drop-append_seam xs (b ∷ ys)) (IsUtf8-drop (xs ++ b ∷ ys) (length xs) is cut)),
+    )
 
 -- ASCII bytes in front of a text
 past_all : (w rest : List ℕ) → AllByRecursion (λ b. b < 128) w → IsUtf8 (w ++ rest) → IsUtf8 rest
@@ -105,7 +106,6 @@ x_is_low b is = go (or_cases (b == 120) (b == 88) is)
     go : ((b == 120) ≡ true) ⊎ ((b == 88) ≡ true) → b < 128
     go (inl small) = is_low_at b 120 (lit< tt) small
     go (inr large) = is_low_at b 88 (lit< tt) large
-
 
 sign_is_low : (s : Sign) (w : List ℕ) → SpellsSign s w → AllByRecursion (λ b. b < 128) w
 sign_is_low sign.Open w is = subst (AllByRecursion (λ b. b < 128)) (sym is) (lit< tt, tt)

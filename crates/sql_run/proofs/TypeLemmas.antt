@@ -1,6 +1,6 @@
 -- A bound statement has the types of its table: the rows of an INSERT, and the values that SET gives on rows of these types.
-use Rattle.std.proofs.Common.{◌≡◌, ℕ, zero, suc, ◌+◌, ◌-◌, ◌<◌, ◌≤◌, ◌==◌, List, [], ◌∷◌, ◌++◌, length, map, Bool, true, false, cond, not, ltb, ◌||◌, ◌&&◌, refl, sym, ◌∙◌, subst, ap, arith, Option, Some, None, ◌+ℤ◌, ◌-ℤ◌}
-use Rattle.std.specs.Prelude.{ℤ, slice_get, slice_set, option_map, unwrap_or, bytes_eq, is_none, is_some, flat_map}
+use Rattle.std.proofs.Common.{◌≡◌, ℕ, zero, suc, ◌+◌, ◌==◌, List, [], ◌∷◌, length, map, Bool, true, false, cond, not, ltb, ◌||◌, refl, sym, ◌∙◌, subst, ap, arith, Option, Some, None, ◌+ℤ◌, ◌-ℤ◌}
+use Rattle.std.specs.Prelude.{ℤ, slice_get, slice_set, option_map, unwrap_or, bytes_eq, is_some, flat_map}
 use Rattle.std.specs.Option.{option_and_then}
 use Rattle.std.specs.List.{AllByRecursion, list_any}
 use Rattle.std.proofs.lemmas.Bool.{both_ways, cond-true, eqb-true, not-false, or_left, or_parts, or_right}
@@ -16,10 +16,10 @@ use Rattle.cdb_values.specs.declared.values.Value.{Value}
 use Rattle.cdb_values.specs.declared.values.Value.TheVariants.{Null, Int, Text, Blob}
 use Rattle.sql_answer.specs.Aggregates.{is_64_bits, int_value}
 use Rattle.sql_answer.specs.Conditions.{cell, column_value, operand_value}
-use Rattle.sql_answer.specs.Writes.{changed, stepped, assigned, set_from, set_row}
+use Rattle.sql_answer.specs.Writes.{changed, stepped, assigned, set_from}
 use Rattle.sql_bind.specs.Faults.{own_column, own_columns, side_columns, setting_columns, literal_kind, side_kind, is_same_type, differ, is_no_number, value_differs, setting_differs, tuple_kinds, tuple_differs, width}
 use Rattle.sql_bind.specs.Meaning.{value_of, bound_side, listed_value, bound_row, bound_change, bound_setting}
-use Rattle.sql_bind.specs.Scope.{Visible, as_byte, column_place, is_called, place_in, may_mean, is_unknown, at_place, meant_from, meant, kind_at, kind_meant}
+use Rattle.sql_bind.specs.Scope.{Visible, as_byte, column_place, is_called, place_in, is_unknown, at_place, meant_from, meant, kind_at, kind_meant}
 use Rattle.sql_bind.specs.declared.types.BoundAssign.{BoundAssign}
 use Rattle.sql_bind.specs.declared.types.BoundColumn.{BoundColumn}
 use Rattle.sql_bind.specs.declared.types.BoundStep.{BoundStep}

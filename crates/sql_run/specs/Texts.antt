@@ -1,6 +1,6 @@
 -- What a text comes to in a schema before any row is looked at: what it is to transactions, what it means, and the plan
 -- by which it reads.
-use Rattle.std.specs.Prelude.{◌≡◌, List, [], Ok, Err}
+use Rattle.std.specs.Prelude.{List, [], Ok, Err}
 use Rattle.cdb_values.specs.declared.rows.RowOp.{RowOp}
 use Rattle.cdb_values.specs.declared.rows.Version.{Version}
 use Rattle.cdb_values.specs.declared.tables.TableDef.{TableDef}

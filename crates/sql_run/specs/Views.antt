@@ -1,5 +1,5 @@
 -- What values of the code say.
-use Rattle.std.specs.Prelude.{◌≡◌, List, [], Ok, Err}
+use Rattle.std.specs.Prelude.{List, [], Ok, Err}
 use Rattle.query_plan.specs.Planned.{Planned}
 use Rattle.report_laws.specs.Language.{Kind, BeginText, CommitText, RollbackText, LevelText, OtherText}
 use Rattle.sql_answer.specs.Answers as laws

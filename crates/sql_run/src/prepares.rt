@@ -71,12 +71,7 @@ pub fn prepare(alloc: Global, schema: &Schema, text: &[u8]) -> Result<Prepared, 
 }
 
 /// The same of a text that is known to be UTF-8.
-#[tactic(auto, using(
-    crate::proofs::ReadLemmas::kind_read,
-    crate::proofs::ReadLemmas::meaning_read,
-    crate::proofs::ReadLemmas::kind_refused,
-    crate::proofs::ReadLemmas::meaning_refused
-))]
+#[tactic(auto, using(crate::proofs::ReadLemmas::kind_read, crate::proofs::ReadLemmas::meaning_read, crate::proofs::ReadLemmas::kind_refused, crate::proofs::ReadLemmas::meaning_refused))]
 fn prepare_text(alloc: Global, schema: &Schema, text: &str) -> Result<Prepared, AllocError>
     requires { length text.now < 2 ^ 32 }
     ensures kind { IfOk result (λ p. (text_in p).kind ≡ kind_of_text text.now) }
