@@ -12,13 +12,14 @@ use Rattle.report_laws.specs.Answers.{Answers}
 use Rattle.report_laws.specs.Language.{Language, alone_from}
 use Rattle.sql_answer.proofs.LanguageLemmas.{sql_answers}
 use Rattle.sql_answer.specs.Language.{bound_in, sql_language}
+use Rattle.sql_run.proofs.SoundLaws.{leaves_sound_ops}
 
 pub sql_is_answered : Answers sql_language
 sql_is_answered = sql_answers bound_in
 
 pub sound_answer : (tables : List TableDef) (versions : List (List Version)) (done : List RowOp) (text : List ℕ) (next : ℕ) → AllByRecursion HasDistinctColumns tables → AreSound tables next versions → AllByRecursion (IsSoundOp tables next) done
     → AllByRecursion (IsSoundOp tables next) (sql_language.answer tables versions done text).ops
-sound_answer tables versions done text next apart sound all = ?
+sound_answer tables versions done text next apart sound all = leaves_sound_ops tables versions done text next apart sound all
 
 -- one text more uses what it uses behind the texts before it
 pub uses_more : (language : Language) (tables : List TableDef) (versions : List (List Version)) (done : List RowOp) (texts : List (List ℕ)) (text : List ℕ) →
