@@ -17,7 +17,6 @@ use Rattle.cdb_values.specs.declared.rows.RowRef.TheVariants.{Base}
 use Rattle.cdb_values.specs.declared.rows.StatementError.{StatementError}
 use Rattle.cdb_values.specs.declared.rows.StatementError.TheVariants as error
 use Rattle.cdb_values.specs.declared.rows.Version.{Version}
-use Rattle.cdb_values.specs.declared.tables.TableDef.{TableDef}
 use Rattle.cdb_values.specs.declared.values.Value.{Value}
 use Rattle.cdb_values.specs.declared.values.Value.TheVariants.{Int}
 use Rattle.script_form.specs.CanRun.{tables_of}
