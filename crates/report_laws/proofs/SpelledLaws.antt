@@ -1,9 +1,9 @@
 -- A lawful report in the order of play, whose numbers fit their types, is of the grammar, where what it is
 -- told of is called by names and has rows of the grammar.
-use Rattle.std.proofs.Common.{◌≡◌, ℕ, zero, suc, ◌-◌, ◌==◌, List, [], ◌∷◌, ◌++◌, map, filter, refl, sym, subst, ap, Bool, true, false, not, if◌then◌else◌, Option, Some, None, unwrap_or, inl, inr}
+use Rattle.std.proofs.Common.{◌≡◌, ℕ, zero, suc, ◌-◌, ◌==◌, List, [], ◌∷◌, ◌++◌, map, filter, refl, sym, subst, ap, Bool, true, false, not, if◌then◌else◌, Option, Some, None, unwrap_or, inl, inr, pos, negsuc}
 use Rattle.std.specs.Prelude.{slice_get, slice_set}
 use Rattle.std.specs.List.{AllByRecursion}
-use Rattle.std.specs.Str.{bytes_eq}
+use Rattle.std.specs.Str.{bytes_eq, is_utf8}
 use Rattle.cdb_values.specs.Good.{first_broken, broken_key, breaks, or_broken, KeyName}
 use Rattle.cdb_values.specs.Rows.{Rows, versions_of, without, version, added, taken, apply, apply_all}
 use Rattle.cdb_values.specs.declared.rows.RowOp.{RowOp}
@@ -14,6 +14,7 @@ use Rattle.cdb_values.specs.declared.items.GenidItem.{GenidItem}
 use Rattle.cdb_values.specs.declared.tables.KeyDef.{KeyDef}
 use Rattle.cdb_values.specs.declared.tables.TableDef.{TableDef}
 use Rattle.cdb_values.specs.declared.values.Value.{Value}
+use Rattle.cdb_values.specs.declared.values.Value.TheVariants.{Null, Int, Text, Blob}
 use Rattle.script_form.specs.declared.scripts.Act.{Act}
 use Rattle.script_form.specs.declared.scripts.Act.TheVariants as act
 use Rattle.script_form.specs.declared.scripts.BodyLine.{BodyLine}
@@ -24,12 +25,12 @@ use Rattle.report_laws.specs.Language.{Language, Answered, Kind, BeginText, Comm
 use Rattle.report_laws.specs.Lawful.{Lawful}
 use Rattle.report_laws.specs.Outcome.{IsRight, Ends, IsOneDecision, IsDecided, line_by, name_or_none, key_name}
 use Rattle.report_laws.specs.Play.{InPlayOrder, InTurns, piece, opening}
-use Rattle.report_laws.specs.Spelled.{SpellsReply, WritesRow, HaveRows, KeepsRows, IsNamedTable, SaysAsNamed, IsSpelled}
+use Rattle.report_laws.specs.Spelled.{IsToldValue, IsToldRow, SpellsReply, WritesRow, HaveRows, KeepsRows, IsNamedTable, SaysAsNamed, IsSpelled}
 use Rattle.report_laws.specs.Told.{Along, Numbered, numbered, told, told_by, lines_of, IsTold, IsWhole, IsCut, IsEntryTold, alone_at}
 use Rattle.report_laws.specs.View.{View}
-use Rattle.report_laws.specs.Work.{Transaction, End, ByCommit, ByRollback, WithItsLine, Nowhere, Item, Does, Lone, Place, start, next_by, next_place, place_from, place_after, said, open_item, work, number_of, transaction_of}
-use Rattle.report_text.specs.Grammar.{IsName, IsKey, IsRow, IsReply, IsLine, IsEntry, IsFeed, IsReport}
-use Rattle.report_text.specs.Types.{FitsReply, FitsLine, FitsEntry, FitsTypes}
+use Rattle.report_laws.specs.Work.{Transaction, End, ByCommit, ByRollback, WithItsLine, Nowhere, Item, Does, Lone, Place, start, next_by, next_place, place_from, place_after, said, said_by, open_item, work, number_of, numbered_among, transaction_of}
+use Rattle.report_text.specs.Grammar.{IsName, IsKey, IsValue, IsRow, IsReply, IsLine, IsEntry, IsFeed, IsReport}
+use Rattle.report_text.specs.Types.{FitsValue, FitsReply, FitsLine, FitsEntry, FitsTypes}
 use Rattle.report_text.specs.declared.reports.EntryLine.{EntryLine}
 use Rattle.report_text.specs.declared.reports.EntryLine.TheVariants.{Setup, Commit}
 use Rattle.report_text.specs.declared.reports.Line.{Line}
@@ -72,9 +73,9 @@ all_standing P (y ∷ front) back x all = all_standing P front back x all.1
 -- rows
 
 abbrev IsVersion : Version → Type 0
-IsVersion v = IsRow v.row
+IsVersion v = IsToldRow v.row
 
-added_rows : (rows : Rows) (table : ℕ) (row : List Value) → HaveRows rows.tables → IsRow row → HaveRows (added rows table row).tables
+added_rows : (rows : Rows) (table : ℕ) (row : List Value) → HaveRows rows.tables → IsToldRow row → HaveRows (added rows table row).tables
 added_rows rows table row have is =
     all_exchanged (AllByRecursion IsVersion) rows.tables table (versions_of rows table ++ version rows.next row ∷ []) have
     (all_append IsVersion (versions_of rows table) (version rows.next row ∷ []) (all_got (AllByRecursion IsVersion) rows.tables table [] have tt) (is, tt))
@@ -99,20 +100,41 @@ no_rows_rows : (tables : List TableDef) → HaveRows (map (λ _. []) tables)
 no_rows_rows [] = tt
 no_rows_rows (table ∷ tables) = (tt, no_rows_rows tables)
 
+-- texts of UTF-8
+
+abbrev AreTexts : List (List ℕ) → Type 0
+AreTexts texts = AllByRecursion (λ text. is_utf8 text ≡ true) texts
+
+said_pick : (b : Bool) (text : List ℕ) (later : List (List ℕ)) → is_utf8 text ≡ true → AreTexts later → AreTexts (if b then text ∷ later else later)
+said_pick true text later is are = (is, are)
+said_pick false text later is are = are
+
+said_texts : (name : List ℕ) (body : List BodyLine) → AllByRecursion (λ (b : BodyLine). SaysAsNamed b.act) body → AreTexts (said name body)
+said_texts name [] all = tt
+said_texts name (l ∷ ls) all = by_act l.act all.0 (said_texts name ls all.1)
+  where
+    by_act : (a : Act) → SaysAsNamed a → AreTexts (said name ls) → AreTexts (said_by name a (said name ls))
+    by_act (act.Say session text) is later = said_pick (bytes_eq session name) text (said name ls) is.1 later
+    by_act (act.Stop node) is later = later
+    by_act (act.Start node) is later = later
+    by_act (act.Arm session moment) is later = later
+    by_act act.Barrier is later = later
+    by_act act.Feed is later = later
+
 -- a transaction run alone
 
-alone_ops : (language : Language) → KeepsRows language → (tables : List TableDef) (versions : List (List Version)) (done : List RowOp) (texts : List (List ℕ)) →
+alone_ops : (language : Language) (tables : List TableDef) → KeepsRows language tables → (versions : List (List Version)) (done : List RowOp) (texts : List (List ℕ)) → AreTexts texts →
     HaveRows versions → AllByRecursion WritesRow done → AllByRecursion WritesRow (alone_from language tables versions done texts).ops
-alone_ops language keeps tables versions done [] have all = all
-alone_ops language keeps tables versions done (text ∷ texts) have all =
-    alone_ops language keeps tables versions (language.answer tables versions done text).ops texts have (keeps.ops tables versions done text have all)
+alone_ops language tables keeps versions done [] utf8 have all = all
+alone_ops language tables keeps versions done (text ∷ texts) utf8 have all =
+    alone_ops language tables keeps versions (language.answer tables versions done text).ops texts utf8.1 have (keeps.ops versions done text utf8.0 have all)
 
-alone_replies : (language : Language) → KeepsRows language → (tables : List TableDef) (versions : List (List Version)) (done : List RowOp) (texts : List (List ℕ)) →
+alone_replies : (language : Language) (tables : List TableDef) → KeepsRows language tables → (versions : List (List Version)) (done : List RowOp) (texts : List (List ℕ)) → AreTexts texts →
     HaveRows versions → AllByRecursion WritesRow done → AllByRecursion SpellsReply (alone_from language tables versions done texts).replies
-alone_replies language keeps tables versions done [] have all = tt
-alone_replies language keeps tables versions done (text ∷ texts) have all =
-    all_append SpellsReply (language.answer tables versions done text).replies _ (keeps.replies tables versions done text have all)
-    (alone_replies language keeps tables versions (language.answer tables versions done text).ops texts have (keeps.ops tables versions done text have all))
+alone_replies language tables keeps versions done [] utf8 have all = tt
+alone_replies language tables keeps versions done (text ∷ texts) utf8 have all =
+    all_append SpellsReply (language.answer tables versions done text).replies _ (keeps.replies versions done text utf8.0 have all)
+    (alone_replies language tables keeps versions (language.answer tables versions done text).ops texts utf8.1 have (keeps.ops versions done text utf8.0 have all))
 
 -- what a decision tells
 
@@ -148,39 +170,61 @@ first_named (t ∷ tables) [] table key all is = none_is (key_name table key) is
 first_named (t ∷ tables) (vs ∷ rest) table key all is =
     first_step t (broken_key vs t.keys) (first_broken tables rest) table key all.0.0 (λ k e. broken_named vs t.keys k all.0.1 e) (first_named tables rest table key all.1) is
 
--- a session's work: a line outside a transaction is told nothing that has a name
+-- a session's work: a line outside a transaction is told nothing that has a name, and transactions have texts of UTF-8
 
 abbrev SpellsItem : Item → Type 0
-SpellsItem (Does t) = Unit {0}
+SpellsItem (Does t) = AreTexts t.texts
 SpellsItem (Lone answer) = SpellsReply answer
+
+abbrev ArePending : Option (List (List ℕ)) → Type 0
+ArePending None = Unit {0}
+ArePending (Some texts) = AreTexts texts
+
+abbrev SpellsPlace : Place → Type 0
+SpellsPlace p = AllByRecursion SpellsItem p.over × ArePending p.pending
 
 one_more : (over : List Item) (item : Item) → AllByRecursion SpellsItem over → SpellsItem item → AllByRecursion SpellsItem (over ++ item ∷ [])
 one_more over item all is = all_append SpellsItem over (item ∷ []) all (is, tt)
 
-next_spelled : (p : Place) (text : List ℕ) (kind : Kind) (pending : Option (List (List ℕ))) → AllByRecursion SpellsItem p.over → AllByRecursion SpellsItem (next_by p text kind pending).over
-next_spelled p text BeginText None all = all
-next_spelled p text CommitText None all = one_more p.over _ all tt
-next_spelled p text RollbackText None all = one_more p.over _ all tt
-next_spelled p text (LevelText level) None all = one_more p.over _ all tt
-next_spelled p text OtherText None all = one_more p.over _ all tt
-next_spelled p text BeginText (Some texts) all = all
-next_spelled p text CommitText (Some texts) all = one_more p.over _ all tt
-next_spelled p text RollbackText (Some texts) all = one_more p.over _ all tt
-next_spelled p text (LevelText level) (Some texts) all = all
-next_spelled p text OtherText (Some texts) all = all
+next_spelled : (p : Place) (text : List ℕ) (kind : Kind) (pending : Option (List (List ℕ))) → is_utf8 text ≡ true → ArePending pending → AllByRecursion SpellsItem p.over → SpellsPlace (next_by p text kind pending)
+next_spelled p text BeginText None utf8 are all = (all, tt)
+next_spelled p text CommitText None utf8 are all = (one_more p.over _ all tt, tt)
+next_spelled p text RollbackText None utf8 are all = (one_more p.over _ all tt, tt)
+next_spelled p text (LevelText level) None utf8 are all = (one_more p.over _ all tt, tt)
+next_spelled p text OtherText None utf8 are all = (one_more p.over _ all (utf8, tt), tt)
+next_spelled p text BeginText (Some texts) utf8 are all = (all, all_append _ texts (text ∷ []) are (utf8, tt))
+next_spelled p text CommitText (Some texts) utf8 are all = (one_more p.over _ all are, tt)
+next_spelled p text RollbackText (Some texts) utf8 are all = (one_more p.over _ all are, tt)
+next_spelled p text (LevelText level) (Some texts) utf8 are all = (all, all_append _ texts (text ∷ []) are (utf8, tt))
+next_spelled p text OtherText (Some texts) utf8 are all = (all, all_append _ texts (text ∷ []) are (utf8, tt))
 
-places_spelled : (language : Language) (p : Place) (texts : List (List ℕ)) → AllByRecursion SpellsItem p.over → AllByRecursion SpellsItem (place_from language p texts).over
-places_spelled language p [] all = all
-places_spelled language p (text ∷ texts) all = places_spelled language (next_place language p text) texts (next_spelled p text (language.kind text) p.pending all)
+places_spelled : (language : Language) (p : Place) (texts : List (List ℕ)) → AreTexts texts → SpellsPlace p → SpellsPlace (place_from language p texts)
+places_spelled language p [] utf8 all = all
+places_spelled language p (text ∷ texts) utf8 all = places_spelled language (next_place language p text) texts utf8.1 (next_spelled p text (language.kind text) p.pending utf8.0 all.1 all.0)
 
-open_spelled : (p : Place) (pending : Option (List (List ℕ))) → AllByRecursion SpellsItem (open_item p pending)
-open_spelled p None = tt
-open_spelled p (Some texts) = (tt, tt)
+open_spelled : (p : Place) (pending : Option (List (List ℕ))) → ArePending pending → AllByRecursion SpellsItem (open_item p pending)
+open_spelled p None are = tt
+open_spelled p (Some texts) are = (are, tt)
 
-work_spelled : (language : Language) (name : List ℕ) (body : List BodyLine) → AllByRecursion SpellsItem (work language name body)
-work_spelled language name body =
+work_spelled : (language : Language) (name : List ℕ) (body : List BodyLine) → AllByRecursion (λ (b : BodyLine). SaysAsNamed b.act) body → AllByRecursion SpellsItem (work language name body)
+work_spelled language name body all =
     let p : Place = place_after language name body in
-    all_append SpellsItem p.over (open_item p p.pending) (places_spelled language start (said name body) tt) (open_spelled p p.pending)
+    let there : SpellsPlace p = places_spelled language start (said name body) (said_texts name body all) (tt, tt) in
+    all_append SpellsItem p.over (open_item p p.pending) there.0 (open_spelled p p.pending there.1)
+
+-- the texts of a transaction that is looked up
+abbrev HasTexts : Option Transaction → Type 0
+HasTexts None = Unit {0}
+HasTexts (Some t) = AreTexts t.texts
+
+among_texts : (number : ℕ) (items : List Item) → AllByRecursion SpellsItem items → HasTexts (numbered_among number items)
+among_texts number [] all = tt
+among_texts number (Does t ∷ items) all = pick (t.number == number) (among_texts number items all.1)
+  where
+    pick : (b : Bool) → HasTexts (numbered_among number items) → HasTexts (if b then Some t else numbered_among number items)
+    pick true later = all.0
+    pick false later = later
+among_texts number (Lone answer ∷ items) all = among_texts number items all.1
 
 cut_spelled : (cause : ReplyLine) → cuts cause ≡ true → SpellsReply cause
 cut_spelled (reply.Begin position) e = cc
@@ -202,16 +246,19 @@ module _ (basis : Basis) (spelled : IsSpelled basis) where
   abbrev HasRows : Rows → Type 0
   HasRows rows = HaveRows rows.tables
 
-  ops_spelled : (rows : Rows) (t : Option Transaction) → HasRows rows → AllByRecursion WritesRow (ops_alone basis rows t)
-  ops_spelled rows None have = tt
-  ops_spelled rows (Some t) have = alone_ops basis.language spelled.language basis.origin.tables rows.tables [] t.texts have tt
+  ops_spelled : (rows : Rows) (t : Option Transaction) → HasTexts t → HasRows rows → AllByRecursion WritesRow (ops_alone basis rows t)
+  ops_spelled rows None are have = tt
+  ops_spelled rows (Some t) are have = alone_ops basis.language basis.origin.tables spelled.language rows.tables [] t.texts are have tt
+
+  its_texts : (session : List ℕ) (txn : ℕ) → HasTexts (transaction_of basis.language session txn basis.script.body)
+  its_texts session txn = among_texts txn (work basis.language session basis.script.body) (work_spelled basis.language session basis.script.body spelled.body)
 
   after_spelled : (states : List Rows) (e : EntryLine) → AllByRecursion HasRows states → HasRows (rows_after basis states e)
   after_spelled states (Setup position) all = no_rows_rows basis.origin.tables
   after_spelled states (Commit position session txn begin level) all =
       apply_all_rows (rows_among basis.origin states (position - 1)) (ops_of basis states (Commit position session txn begin level))
       (all_got HasRows states (position - 1 - basis.origin.position) basis.origin.rows all spelled.rows)
-      (ops_spelled (rows_among basis.origin states begin) (transaction_of basis.language session txn basis.script.body) (all_got HasRows states (begin - basis.origin.position) basis.origin.rows all spelled.rows))
+      (ops_spelled (rows_among basis.origin states begin) (transaction_of basis.language session txn basis.script.body) (its_texts session txn) (all_got HasRows states (begin - basis.origin.position) basis.origin.rows all spelled.rows))
 
   states_spelled : (states : List Rows) (es : List EntryLine) → AllByRecursion HasRows states → AllByRecursion HasRows (states_from basis states es)
   states_spelled states [] all = all
@@ -255,24 +302,24 @@ module _ (basis : Basis) (spelled : IsSpelled basis) where
   end_spelled es name t begin used ops WithItsLine last ends right = decision_spelled es name t begin used ops last ends right
   end_spelled es name t begin used ops Nowhere last ends right = subst (AllByRecursion SpellsReply) (sym ends) tt
 
-  ran_spelled : (es : List EntryLine) (t : Transaction) (begin : ℕ) (ran : Answered) → ran ≡ alone_at basis (view_of basis es) t begin → AllByRecursion SpellsReply ran.replies
-  ran_spelled es t begin ran is =
+  ran_spelled : (es : List EntryLine) (t : Transaction) (begin : ℕ) (ran : Answered) → AreTexts t.texts → ran ≡ alone_at basis (view_of basis es) t begin → AllByRecursion SpellsReply ran.replies
+  ran_spelled es t begin ran are is =
       subst (λ (a : Answered). AllByRecursion SpellsReply a.replies) (sym is)
-      (alone_replies basis.language spelled.language basis.origin.tables (rows_at basis es begin).tables [] t.texts (rows_spelled es begin) tt)
+      (alone_replies basis.language basis.origin.tables spelled.language (rows_at basis es begin).tables [] t.texts are (rows_spelled es begin) tt)
 
-  whole_spelled : (es : List EntryLine) (name : List ℕ) (t : Transaction) (mine : List ReplyLine) → IsWhole basis (view_of basis es) name t mine → AllByRecursion SpellsReply mine
-  whole_spelled es name t mine w =
+  whole_spelled : (es : List EntryLine) (name : List ℕ) (t : Transaction) (mine : List ReplyLine) → AreTexts t.texts → IsWhole basis (view_of basis es) name t mine → AllByRecursion SpellsReply mine
+  whole_spelled es name t mine are w =
       subst (AllByRecursion SpellsReply) (sym w.says)
-      (tt, all_append SpellsReply w.ran.replies w.last (ran_spelled es t w.begin w.ran w.is_ran) (end_spelled es name t w.begin (used_by w.ran) w.ran.ops t.end w.last w.ends w.right))
+      (tt, all_append SpellsReply w.ran.replies w.last (ran_spelled es t w.begin w.ran are w.is_ran) (end_spelled es name t w.begin (used_by w.ran) w.ran.ops t.end w.last w.ends w.right))
 
-  cut_short_spelled : (es : List EntryLine) (t : Transaction) (mine : List ReplyLine) → IsCut basis (view_of basis es) t mine → AllByRecursion SpellsReply mine
-  cut_short_spelled es t mine c =
-      let all : AllByRecursion SpellsReply (c.front ++ c.rest) = subst (AllByRecursion SpellsReply) (sym c.fits) (tt, ran_spelled es t c.begin c.ran c.is_ran) in
+  cut_short_spelled : (es : List EntryLine) (t : Transaction) (mine : List ReplyLine) → AreTexts t.texts → IsCut basis (view_of basis es) t mine → AllByRecursion SpellsReply mine
+  cut_short_spelled es t mine are c =
+      let all : AllByRecursion SpellsReply (c.front ++ c.rest) = subst (AllByRecursion SpellsReply) (sym c.fits) (tt, ran_spelled es t c.begin c.ran are c.is_ran) in
       subst (AllByRecursion SpellsReply) (sym c.says) (all_append SpellsReply c.front (c.cause ∷ []) (all_front SpellsReply c.front c.rest all) (cut_spelled c.cause c.is_cause, tt))
 
   told_spelled : (es : List EntryLine) (name : List ℕ) (item : Item) (mine : List ReplyLine) → SpellsItem item → IsTold basis (view_of basis es) name item mine → AllByRecursion SpellsReply mine
-  told_spelled es name (Does t) mine is (inl whole) = whole_spelled es name t mine whole
-  told_spelled es name (Does t) mine is (inr cut) = cut_short_spelled es t mine cut
+  told_spelled es name (Does t) mine is (inl whole) = whole_spelled es name t mine is whole
+  told_spelled es name (Does t) mine is (inr cut) = cut_short_spelled es t mine is cut
   told_spelled es name (Lone answer) mine is told = subst (AllByRecursion SpellsReply) (sym told) (is, tt)
 
   abbrev SpellsTold : Numbered → Type 0
@@ -325,7 +372,7 @@ replies_named session number [] is = tt
 replies_named session number (r ∷ rs) is = (is, replies_named session number rs is)
 
 piece_named : (language : Language) (done : List BodyLine) (a : Act) (replies : List ReplyLine) → SaysAsNamed a → AllByRecursion IsNamedLine (piece language done a replies)
-piece_named language done (act.Say session text) replies is = replies_named session _ replies is
+piece_named language done (act.Say session text) replies is = replies_named session _ replies is.0
 piece_named language done (act.Stop node) replies is = tt
 piece_named language done (act.Start node) replies is = tt
 piece_named language done (act.Arm session moment) replies is = tt
@@ -342,9 +389,24 @@ turns_named basis done before history (b ∷ bs) lines entries all (replies, oth
 
 -- what is spelled and whose numbers fit is of the grammar
 
+value_is : (v : Value) → FitsValue v → IsToldValue v → IsValue v
+value_is Null fits told = tt
+value_is (Int (pos n)) fits told = fits
+value_is (Int (negsuc n)) fits told = fits
+value_is (Text text) fits told = told
+value_is (Blob blob) fits told = told
+
+values_are : (vs : List Value) → AllByRecursion FitsValue vs → AllByRecursion IsToldValue vs → AllByRecursion IsValue vs
+values_are [] fits told = tt
+values_are (v ∷ vs) fits told = (value_is v fits.0 told.0, values_are vs fits.1 told.1)
+
+row_is : (row : List Value) → AllByRecursion FitsValue row → IsToldRow row → IsRow row
+row_is [] fits told = absurd told
+row_is (v ∷ vs) fits told = (value_is v fits.0 told.0, values_are vs fits.1 told.1)
+
 reply_is : (r : ReplyLine) → FitsReply r → SpellsReply r → IsReply r
 reply_is (reply.Begin position) fits spells = fits
-reply_is (reply.Row row) fits spells = spells
+reply_is (reply.Row row) fits spells = row_is row fits spells
 reply_is (reply.Done rows) fits spells = fits
 reply_is (reply.Changed rows) fits spells = fits
 reply_is (reply.Error cause) fits spells = fits
@@ -381,7 +443,7 @@ pub of_the_grammar : (basis : Basis) (report : Report) → IsSpelled basis → L
 of_the_grammar basis report spelled lawful order fits =
     let named : AllByRecursion IsNamedLine report.lines = turns_named basis [] [] (opening basis.origin) basis.script.body report.lines order.later spelled.body order.order in
     let each : (name : List ℕ) → AllByRecursion (λ (n : Numbered). SpellsReply n.1) (told name report.lines)
-    = λ name. along_spelled basis spelled report.entries name (work basis.language name basis.script.body) (told name report.lines) (work_spelled basis.language name basis.script.body) (lawful.replies name) in
+    = λ name. along_spelled basis spelled report.entries name (work basis.language name basis.script.body) (told name report.lines) (work_spelled basis.language name basis.script.body spelled.body) (lawful.replies name) in
     record {
       lines = lines_are report.lines fits.lines (lines_spelled report.lines each named);
       base = fits.base;

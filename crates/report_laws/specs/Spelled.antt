@@ -1,23 +1,37 @@
 -- What a report is asked besides its numbers, so that it is one of the grammar: its names are names, its
 -- rows rows; and what the language, the tables and the script have to give for that.
-use Rattle.std.specs.Prelude.{ℕ, List}
+use Rattle.std.specs.Prelude.{◌≡◌, ℕ, ◌<◌, ◌∷◌, [], List, true}
 use Rattle.std.specs.List.{AllByRecursion}
+use Rattle.std.specs.Str.{is_utf8}
 use Rattle.cdb_values.specs.declared.rows.RowOp.{RowOp}
 use Rattle.cdb_values.specs.declared.rows.RowOp.TheVariants.{Insert, Update, Delete}
 use Rattle.cdb_values.specs.declared.rows.Version.{Version}
 use Rattle.cdb_values.specs.declared.tables.TableDef.{TableDef}
+use Rattle.cdb_values.specs.declared.values.Value.{Value}
+use Rattle.cdb_values.specs.declared.values.Value.TheVariants.{Null, Int, Text, Blob}
 use Rattle.script_form.specs.declared.scripts.Act.{Act}
 use Rattle.script_form.specs.declared.scripts.Act.TheVariants as act
 use Rattle.report_laws.specs.History.{Basis}
 use Rattle.report_laws.specs.Language.{Language}
-use Rattle.report_text.specs.Grammar.{IsName, IsKey, IsRow}
+use Rattle.report_text.specs.Grammar.{IsName, IsKey}
 use Rattle.report_text.specs.declared.reports.ReplyLine.{ReplyLine}
 use Rattle.report_text.specs.declared.reports.ReplyLine.TheVariants as reply
 
--- a reply names tables and keys, and tells rows, of the grammar
+-- a row of the grammar, but for the sizes of its integers: those that are told stand in 64 bits anyway
+abbrev pub IsToldValue : Value → Type 0
+IsToldValue Null = Unit {0}
+IsToldValue (Int n) = Unit {0}
+IsToldValue (Text text) = is_utf8 text ≡ true
+IsToldValue (Blob blob) = AllByRecursion (λ b. b < 256) blob
+
+abbrev pub IsToldRow : List Value → Type 0
+IsToldRow [] = ⊥
+IsToldRow (v ∷ vs) = IsToldValue v × AllByRecursion IsToldValue vs
+
+-- a reply names tables and keys of the grammar, and tells such rows
 abbrev pub SpellsReply : ReplyLine → Type 0
 SpellsReply (reply.Begin position) = Unit {0}
-SpellsReply (reply.Row row) = IsRow row
+SpellsReply (reply.Row row) = IsToldRow row
 SpellsReply (reply.Done rows) = Unit {0}
 SpellsReply (reply.Changed rows) = Unit {0}
 SpellsReply (reply.Error cause) = Unit {0}
@@ -31,28 +45,29 @@ SpellsReply (reply.Lost node down) = Unit {0}
 SpellsReply (reply.NoMajority up nodes) = Unit {0}
 SpellsReply reply.NoMemory = Unit {0}
 
--- an operation writes a row of the grammar, if it writes one
+-- an operation writes such a row, if it writes one
 abbrev pub WritesRow : RowOp → Type 0
-WritesRow (Insert table row) = IsRow row
-WritesRow (Update table target old row) = IsRow row
+WritesRow (Insert table row) = IsToldRow row
+WritesRow (Update table target old row) = IsToldRow row
 WritesRow (Delete table target old) = Unit {0}
 
--- the versions of all tables have rows of the grammar
+-- the versions of all tables have such rows
 abbrev pub HaveRows : List (List Version) → Type 0
-HaveRows tables = AllByRecursion (λ versions. AllByRecursion (λ v. IsRow v.row) versions) tables
+HaveRows tables = AllByRecursion (λ versions. AllByRecursion (λ v. IsToldRow v.row) versions) tables
 
--- a language that answers over such versions, behind such operations, by such replies and operations
-pub record KeepsRows (language : Language) : Type 0 where
-  pub replies : (tables : List TableDef) (versions : List (List Version)) (done : List RowOp) (text : List ℕ) → HaveRows versions → AllByRecursion WritesRow done → AllByRecursion SpellsReply (language.answer tables versions done text).replies
-  pub ops : (tables : List TableDef) (versions : List (List Version)) (done : List RowOp) (text : List ℕ) → HaveRows versions → AllByRecursion WritesRow done → AllByRecursion WritesRow (language.answer tables versions done text).ops
+-- a language that answers each text of UTF-8 over such versions of these tables, behind such operations, by such
+-- replies and operations
+pub record KeepsRows (language : Language) (tables : List TableDef) : Type 0 where
+  pub replies : (versions : List (List Version)) (done : List RowOp) (text : List ℕ) → is_utf8 text ≡ true → HaveRows versions → AllByRecursion WritesRow done → AllByRecursion SpellsReply (language.answer tables versions done text).replies
+  pub ops : (versions : List (List Version)) (done : List RowOp) (text : List ℕ) → is_utf8 text ≡ true → HaveRows versions → AllByRecursion WritesRow done → AllByRecursion WritesRow (language.answer tables versions done text).ops
 
 -- a table is called by a name, and its keys by names that may be told of a broken key
 abbrev pub IsNamedTable : TableDef → Type 0
 IsNamedTable table = IsName table.name × AllByRecursion (λ key. IsKey key.name) table.keys
 
--- the session of a line is called by a name
+-- the session of a line is called by a name, and its text is UTF-8
 abbrev pub SaysAsNamed : Act → Type 0
-SaysAsNamed (act.Say session text) = IsName session
+SaysAsNamed (act.Say session text) = IsName session × (is_utf8 text ≡ true)
 SaysAsNamed (act.Stop node) = Unit {0}
 SaysAsNamed (act.Start node) = Unit {0}
 SaysAsNamed (act.Arm session moment) = Unit {0}
@@ -60,9 +75,9 @@ SaysAsNamed act.Barrier = Unit {0}
 SaysAsNamed act.Feed = Unit {0}
 
 -- what a report's grammar asks of what it is told of: the language keeps rows, the rows before the run are
--- such, and tables, keys and sessions are called by names
+-- such, tables, keys and sessions are called by names, and texts are UTF-8
 pub record IsSpelled (basis : Basis) : Type 0 where
-  pub language : KeepsRows basis.language
+  pub language : KeepsRows basis.language basis.origin.tables
   pub rows : HaveRows basis.origin.rows.tables
   pub tables : AllByRecursion IsNamedTable basis.origin.tables
   pub body : AllByRecursion (λ l. SaysAsNamed l.act) basis.script.body

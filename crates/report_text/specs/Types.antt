@@ -1,7 +1,10 @@
 -- The numbers of a report, each in its type: 64 bits for a position, a count, a transaction, a genid and
--- a node, 32 for the offset of a syntax error. A report that stands in memory is so.
-use Rattle.std.specs.Prelude.{◌≡◌, ℕ, List, IfSome}
+-- a node, 64 bits with a sign for an integer of a row, 32 for the offset of a syntax error. A report that
+-- stands in memory is so.
+use Rattle.std.specs.Prelude.{◌≡◌, ℕ, ℤ, pos, negsuc, ◌<◌, ◌^◌, List, IfSome}
 use Rattle.std.specs.List.{AllByRecursion}
+use Rattle.cdb_values.specs.declared.values.Value.{Value}
+use Rattle.cdb_values.specs.declared.values.Value.TheVariants.{Null, Int, Text, Blob}
 use Rattle.report_text.specs.Grammar.{IsNumber, IsError}
 use Rattle.report_text.specs.declared.reports.Report.{Report}
 use Rattle.report_text.specs.declared.reports.Line.{Line}
@@ -12,9 +15,19 @@ use Rattle.report_text.specs.declared.reports.EntryLine.{EntryLine}
 use Rattle.report_text.specs.declared.reports.EntryLine.TheVariants.{Setup, Commit}
 use Rattle.report_text.specs.declared.reports.FeedLine.{FeedLine}
 
+abbrev pub FitsInteger : ℤ → Type 0
+FitsInteger (pos n) = n < 2 ^ 63
+FitsInteger (negsuc n) = n < 2 ^ 63
+
+abbrev pub FitsValue : Value → Type 0
+FitsValue Null = Unit {0}
+FitsValue (Int n) = FitsInteger n
+FitsValue (Text text) = Unit {0}
+FitsValue (Blob blob) = Unit {0}
+
 abbrev pub FitsReply : ReplyLine → Type 0
 FitsReply (reply.Begin position) = IsNumber position
-FitsReply (reply.Row row) = Unit {0}
+FitsReply (reply.Row row) = AllByRecursion FitsValue row
 FitsReply (reply.Done rows) = IsNumber rows
 FitsReply (reply.Changed rows) = IsNumber rows
 FitsReply (reply.Error cause) = IsError cause

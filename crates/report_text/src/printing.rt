@@ -3,7 +3,7 @@ ghost use Rattle.std.specs.Fmt.{decimal, signed_decimal};
 ghost use Rattle.std.specs.List.{AllByRecursion};
 ghost use Rattle.report_text.specs.Grammar.{IsNumber, IsError};
 ghost use Rattle.report_text.specs.Text.{value_text, values_text, more_values, quoted, hexadecimal, hex_digit, level_text, error_text, reply_text, number_then, cause_text, words_of, entry_words, feed_words, ended, base_text, end_text, lines_text, entries_text, feeds_text, report_text};
-ghost use Rattle.report_text.specs.Types.{FitsReply, FitsLine, FitsEntry, FitsFeed, FitsTypes};
+ghost use Rattle.report_text.specs.Types.{FitsValue, FitsReply, FitsLine, FitsEntry, FitsFeed, FitsTypes};
 
 use super::reports::{EntryLine, FeedLine, Line, ReplyLine, Report};
 use cdb_values::{Bytes, Level, Name, StatementError, Value};
@@ -111,7 +111,8 @@ fn put_reply(alloc: Global, out: &mut Vec<u8>, reply: &ReplyLine) -> Result<(), 
 
 /// A reply row.
 fn put_row(alloc: Global, out: &mut Vec<u8>, row: &[Value]) -> Result<(), AllocError>
-    ensures { OnOk result (out.new.items ≡ out.old.items ++ (codes "row " ++ values_text row.now)) }
+    ensures text { OnOk result (out.new.items ≡ out.old.items ++ (codes "row " ++ values_text row.now)) }
+    ensures fits { OnOk result (AllByRecursion FitsValue row.now) }
 {
     put_bytes(out, b"row ")?;
     put_values(alloc, out, row)
@@ -119,7 +120,8 @@ fn put_row(alloc: Global, out: &mut Vec<u8>, row: &[Value]) -> Result<(), AllocE
 
 /// The values of a row, with bars between them.
 fn put_values(alloc: Global, out: &mut Vec<u8>, row: &[Value]) -> Result<(), AllocError>
-    ensures { OnOk result (out.new.items ≡ out.old.items ++ values_text row.now) }
+    ensures text { OnOk result (out.new.items ≡ out.old.items ++ values_text row.now) }
+    ensures fits { OnOk result (AllByRecursion FitsValue row.now) }
 {
     match row.split_first() {
         None => Ok(()),
@@ -132,7 +134,8 @@ fn put_values(alloc: Global, out: &mut Vec<u8>, row: &[Value]) -> Result<(), All
 
 /// Each further value of a row, after a bar.
 fn put_more_values(alloc: Global, out: &mut Vec<u8>, values: &[Value]) -> Result<(), AllocError>
-    ensures { OnOk result (out.new.items ≡ out.old.items ++ more_values values.now) }
+    ensures text { OnOk result (out.new.items ≡ out.old.items ++ more_values values.now) }
+    ensures fits { OnOk result (AllByRecursion FitsValue values.now) }
 {
     let mut rest = values;
     'values: while let Some((value, after)) = rest.split_first() {
@@ -145,14 +148,12 @@ fn put_more_values(alloc: Global, out: &mut Vec<u8>, values: &[Value]) -> Result
 
 /// A value.
 fn put_value(alloc: Global, out: &mut Vec<u8>, value: &Value) -> Result<(), AllocError>
-    ensures { OnOk result (out.new.items ≡ out.old.items ++ value_text value.now) }
+    ensures text { OnOk result (out.new.items ≡ out.old.items ++ value_text value.now) }
+    ensures fits { OnOk result (FitsValue value.now) }
 {
     match value {
         Value::Null => put_bytes(out, b"null"),
-        Value::Int(n) => {
-            let text = n.to_string(alloc)?;
-            put_bytes(out, text.as_bytes())
-        }
+        Value::Int(n) => put_integer(alloc, out, *n),
         Value::Text(text) => {
             put_bytes(out, b"'")?;
             put_quoted(out, text.as_bytes())
@@ -162,6 +163,15 @@ fn put_value(alloc: Global, out: &mut Vec<u8>, value: &Value) -> Result<(), Allo
             put_hexadecimal(out, blob.as_bytes())
         }
     }
+}
+
+/// An integer.
+fn put_integer(alloc: Global, out: &mut Vec<u8>, n: i64) -> Result<(), AllocError>
+    ensures text { OnOk result (out.new.items ≡ out.old.items ++ value_text (Value.Int n)) }
+    ensures fits { OnOk result (FitsValue (Value.Int n)) }
+{
+    let text = n.to_string(alloc)?;
+    put_bytes(out, text.as_bytes())
 }
 
 /// A text with each quote twice, and the closing quote.

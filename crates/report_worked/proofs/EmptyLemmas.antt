@@ -11,10 +11,10 @@ use Rattle.report_worked.specs.Worked.{empty_report, report_with}
 use Rattle.report_text.specs.declared.reports.EntryLine.{EntryLine}
 use Rattle.report_text.specs.declared.reports.EntryLine.TheVariants.{Setup}
 use Rattle.report_text.specs.declared.reports.ReplyLine.{ReplyLine}
-use Rattle.transaction_answers.specs.Answer.{from_nothing, statement_language}
+use Rattle.report_worked.specs.Small.{from_nothing, small_language}
 
-along_none : (P : Item → List ReplyLine → Type 0) (name : List ℕ) (body : List BodyLine) → body ≡ [] → Along P (work statement_language name body) []
-along_none P name body is = subst (λ (b : List BodyLine). Along P (work statement_language name b) []) (sym is) refl
+along_none : (P : Item → List ReplyLine → Type 0) (name : List ℕ) (body : List BodyLine) → body ≡ [] → Along P (work small_language name body) []
+along_none P name body is = subst (λ (b : List BodyLine). Along P (work small_language name b) []) (sym is) refl
 
 pub empty_is_lawful : (script : Script) → script.body ≡ [] → Lawful (from_nothing script) empty_report
 empty_is_lawful script is = record {

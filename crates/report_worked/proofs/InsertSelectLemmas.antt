@@ -3,7 +3,6 @@ use Rattle.std.proofs.Common.{◌≡◌, ℕ, List, [], ◌∷◌, refl, sym, su
 use Rattle.std.specs.Fmt.{digits}
 use Rattle.cdb_values.specs.Good.{IsGood}
 use Rattle.cdb_values.specs.declared.rows.Level.TheVariants.{Snapshot}
-use Rattle.statement_read.specs.Statements.{insert_of, insert_head_of, select_of, selected_of}
 use Rattle.report_text.specs.Text.{report_text}
 use Rattle.report_laws.specs.History.{nothing_before, rows_at, view_of}
 use Rattle.report_laws.specs.Lawful.{Lawful}
@@ -18,7 +17,7 @@ use Rattle.report_text.specs.declared.reports.ReplyLine.TheVariants as reply
 use Rattle.report_laws.proofs.HistoryLaws.{none_stands}
 use Rattle.report_laws.proofs.LineLaws.{fresh_begin}
 use Rattle.report_worked.proofs.WorkedLemmas.{along_each, along_parts, EachPart, whole, in_turns, is_turn, entry_told}
-use Rattle.transaction_answers.specs.Answer.{from_nothing, statement_language}
+use Rattle.report_worked.specs.Small.{from_nothing, small_language}
 
 -- the report's text
 pub says_its_lines : report_text insert_select_report ≡ insert_select_text
@@ -35,13 +34,11 @@ selecting = transaction 2 (select_text ∷ []) Snapshot WithItsLine
 abbrev pub items_of_a : List Item
 items_of_a = Does inserting ∷ Does selecting ∷ []
 
-pub work_of_a : work statement_language (codes "a") insert_select.body ≡ items_of_a
-unfolding insert_of insert_head_of select_of selected_of
+pub work_of_a : work small_language (codes "a") insert_select.body ≡ items_of_a
 work_of_a = refl
 
 -- the rows at the entry of the insert are good
 pub good_insert : IsGood (tables_of insert_select) (rows_at (from_nothing insert_select) inserted_entries 2).tables
-unfolding insert_of insert_head_of select_of selected_of
 good_insert = record {
   rows_fit = ((record { columns = (refl, (refl, tt)); size = omega arith; keys = (omega arith, tt) }, tt), tt);
   keys_kept = refl;
@@ -53,7 +50,7 @@ replies_of_a = (reply.Begin 1 ∷ reply.Changed 1 ∷ reply.Committed 2 ∷ []) 
 
 -- the laws along each session's work hold where they hold of these
 along_its_work : (P : List ℕ → Item → List ReplyLine → Type 0) → EachPart (P (codes "a")) items_of_a replies_of_a →
-    (name : List ℕ) → Along (P name) (work statement_language name insert_select.body) (told name insert_select_report.lines)
+    (name : List ℕ) → Along (P name) (work small_language name insert_select.body) (told name insert_select_report.lines)
 along_its_work P is =
     along_each P insert_select.body insert_select_report.lines
     (inl refl, (inl refl, tt)) (inl refl, (inl refl, (inl refl, (inl refl, (inl refl, (inl refl, (inl refl, tt)))))))
@@ -61,7 +58,6 @@ along_its_work P is =
     refl
 
 pub insert_select_is_lawful : Lawful (from_nothing insert_select) insert_select_report
-unfolding insert_of insert_head_of select_of selected_of
 insert_select_is_lawful = record {
   replies = along_its_work (IsTold (from_nothing insert_select) (view_of (from_nothing insert_select) inserted_entries)) (
     whole 1 (reply.Committed 2) (omega arith) (omega arith) tt (record { later = omega arith; stands = refl; untouched = λ j after before. absurd (omega (arith, after, before)); is_good = good_insert }) refl,
@@ -98,7 +94,6 @@ insert_select_is_lawful = record {
 }
 
 pub insert_select_is_in_order : InPlayOrder (from_nothing insert_select) insert_select_report
-unfolding insert_of insert_head_of select_of selected_of
 insert_select_is_in_order = record {
   later = of_a 2 1 1 ∷ [];
   opened = refl;

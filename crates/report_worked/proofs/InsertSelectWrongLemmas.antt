@@ -1,7 +1,6 @@
 -- Reports of an insert and a select that are wrong in one place, refuted.
 use Rattle.std.proofs.Common.{◌≡◌, ◌≤◌, ℕ, List, [], ◌∷◌, ◌++◌, Some, None, true, refl, sym, subst, arith, codes, inl, take, drop, ap, length, false, ◌∙◌}
 use Rattle.std.specs.List.{AllByRecursion}
-use Rattle.statement_read.specs.Statements.{insert_of, insert_head_of, select_of, selected_of}
 use Rattle.report_laws.specs.Lawful.{Lawful, IsFresh, NameUpTo, positions}
 use Rattle.report_laws.specs.Play.{InPlayOrder}
 use Rattle.report_laws.specs.Told.{told, Along, IsTold, alone_at}
@@ -16,13 +15,13 @@ use Rattle.report_laws.proofs.OneLaws.{one_report}
 use Rattle.report_text.specs.declared.reports.Report.{Report}
 use Rattle.report_laws.proofs.LineLaws.{fresh_begin}
 use Rattle.report_worked.proofs.WorkedLemmas.{along_each, along_parts, EachPart, whole, entry_told, ToldAt, told_at}
-use Rattle.transaction_answers.specs.Answer.{from_nothing, statement_language}
+use Rattle.report_worked.specs.Small.{from_nothing, small_language}
 use Rattle.report_laws.specs.Cut.{cuts}
 use Rattle.report_laws.specs.History.{nothing_before, used_by, view_of}
 use Rattle.report_laws.specs.Outcome.{IsRight}
 use Rattle.report_laws.specs.Work.{Transaction}
 use Rattle.report_laws.proofs.AlongLaws.{AllOther, along_its, of_number}
-use Rattle.transaction_answers.proofs.LanguageLaws.{statements_answer}
+use Rattle.report_worked.proofs.SmallLaws.{statements_answer}
 
 -- what a transaction was told, where the law on replies holds: the replies at its begin, and a right outcome
 its_told : (t : Transaction) (before after : List Item) (lines : List Line) (begin : ℕ) (back front : List ReplyLine) (outcome : ReplyLine) → before ++ Does t ∷ after ≡ items_of_a → AllOther t.number before → AllOther t.number after →
@@ -45,7 +44,6 @@ other_value : (last : List ReplyLine) → row 1 11 ∷ reply.Done 1 ∷ reply.Co
 other_value last is = cc
 
 value_told : RepliesAreRight insert_select wrong_value → ⊥
-unfolding insert_of insert_head_of select_of selected_of
 value_told law =
     let at = select_told wrong_value.lines 2 (row 1 11 ∷ reply.Done 1 ∷ reply.Committed 2 ∷ []) (reply.Begin 2 ∷ row 1 11 ∷ reply.Done 1 ∷ []) (reply.Committed 2) refl refl refl law in
     let said : row 1 11 ∷ reply.Done 1 ∷ reply.Committed 2 ∷ [] ≡ row 1 10 ∷ reply.Done 1 ∷ at.last = at.says in
@@ -56,7 +54,6 @@ wrong_value_is_refused = (value_told, λ is. value_told is.replies)
 
 -- no row
 row_missed : RepliesAreRight insert_select missing_row → ⊥
-unfolding insert_of insert_head_of select_of selected_of
 row_missed law =
     let at = select_told missing_row.lines 2 (reply.Done 1 ∷ reply.Committed 2 ∷ []) (reply.Begin 2 ∷ reply.Done 1 ∷ []) (reply.Committed 2) refl refl refl law in
     let said : reply.Done 1 ∷ reply.Committed 2 ∷ [] ≡ row 1 10 ∷ reply.Done 1 ∷ at.last = at.says in
@@ -67,7 +64,6 @@ missing_row_is_refused = (row_missed, λ is. row_missed is.replies)
 
 -- the number of rows before the row
 row_last : RepliesAreRight insert_select out_of_order → ⊥
-unfolding insert_of insert_head_of select_of selected_of
 row_last law =
     let at = select_told out_of_order.lines 2 (reply.Done 1 ∷ row 1 10 ∷ reply.Committed 2 ∷ []) (reply.Begin 2 ∷ reply.Done 1 ∷ row 1 10 ∷ []) (reply.Committed 2) refl refl refl law in
     let said : reply.Done 1 ∷ row 1 10 ∷ reply.Committed 2 ∷ [] ≡ row 1 10 ∷ reply.Done 1 ∷ at.last = at.says in
@@ -78,7 +74,6 @@ out_of_order_is_refused = (row_last, λ is. row_last is.replies)
 
 -- a row that did not stand yet
 row_early : RepliesAreRight insert_select early_row → ⊥
-unfolding insert_of insert_head_of select_of selected_of
 row_early law =
     let at = select_told early_row.lines 1 (row 1 10 ∷ reply.Done 1 ∷ reply.Committed 1 ∷ []) (reply.Begin 1 ∷ row 1 10 ∷ reply.Done 1 ∷ []) (reply.Committed 1) refl refl refl law in
     let said : row 1 10 ∷ reply.Done 1 ∷ reply.Committed 1 ∷ [] ≡ reply.Done 0 ∷ at.last = at.says in
@@ -89,7 +84,6 @@ early_row_is_refused = (row_early, λ is. row_early is.replies)
 
 -- a commit at a position at which no entry stands
 committed_behind : RepliesAreRight insert_select wrong_position → ⊥
-unfolding insert_of insert_head_of select_of selected_of
 committed_behind law =
     let at = its_told inserting [] (Does selecting ∷ []) wrong_position.lines 1 (reply.Changed 1 ∷ reply.Committed 3 ∷ []) (reply.Begin 1 ∷ reply.Changed 1 ∷ []) (reply.Committed 3) refl tt (refl, tt) refl refl refl law in
     let said : reply.Changed 1 ∷ reply.Committed 3 ∷ [] ≡ reply.Changed 1 ∷ at.last = at.says in
@@ -141,7 +135,7 @@ all_before {A} P (x ∷ xs) (f ∷ front) back y mark is all =
 abbrev late_replies : List (List ReplyLine)
 late_replies = (reply.Begin 1 ∷ reply.Changed 1 ∷ reply.Committed 2 ∷ []) ∷ (reply.Begin 1 ∷ reply.Done 0 ∷ reply.Committed 1 ∷ []) ∷ []
 
-along_late : (P : List ℕ → Item → List ReplyLine → Type 0) → EachPart (P (codes "a")) items_of_a late_replies → (name : List ℕ) → Along (P name) (work statement_language name insert_select.body) (told name late.lines)
+along_late : (P : List ℕ → Item → List ReplyLine → Type 0) → EachPart (P (codes "a")) items_of_a late_replies → (name : List ℕ) → Along (P name) (work small_language name insert_select.body) (told name late.lines)
 along_late P is =
     along_each P insert_select.body late.lines
     (inl refl, (inl refl, tt)) (inl refl, (inl refl, (inl refl, (inl refl, (inl refl, (inl refl, tt))))))
@@ -150,7 +144,6 @@ along_late P is =
 
 -- a begin that does not reach the position that the session's own last line named is lawful
 pub late_is_lawful : Lawful (from_nothing insert_select) late
-unfolding insert_of insert_head_of select_of selected_of
 late_is_lawful = record {
   replies = along_late (IsTold (from_nothing insert_select) (view_of (from_nothing insert_select) inserted_entries)) (
     whole 1 (reply.Committed 2) (omega arith) (omega arith) tt (record { later = omega arith; stands = refl; untouched = λ j after before. absurd (omega (arith, after, before)); is_good = good_insert }) refl,

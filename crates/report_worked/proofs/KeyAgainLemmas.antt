@@ -2,7 +2,6 @@
 use Rattle.std.proofs.Common.{◌≡◌, ℕ, List, [], ◌∷◌, refl, sym, subst, arith, codes, inl, inr, take}
 use Rattle.cdb_values.specs.Good.{IsGood}
 use Rattle.cdb_values.specs.declared.rows.Level.TheVariants.{Snapshot}
-use Rattle.statement_read.specs.Statements.{insert_of, insert_head_of, equation_at, where_of, delete_of, deleted_of}
 use Rattle.report_laws.specs.History.{nothing_before, rows_at, view_of}
 use Rattle.report_laws.specs.Lawful.{Lawful}
 use Rattle.report_laws.specs.Play.{InPlayOrder}
@@ -16,7 +15,7 @@ use Rattle.report_text.specs.declared.reports.ReplyLine.TheVariants as reply
 use Rattle.report_laws.proofs.HistoryLaws.{none_stands}
 use Rattle.report_laws.proofs.LineLaws.{fresh_begin}
 use Rattle.report_worked.proofs.WorkedLemmas.{along_each, along_parts, EachPart, whole, in_turns, is_turn, entry_told}
-use Rattle.transaction_answers.specs.Answer.{from_nothing, statement_language}
+use Rattle.report_worked.specs.Small.{from_nothing, small_language}
 
 -- the transactions of the sessions
 abbrev pub first_insert : Transaction
@@ -31,8 +30,7 @@ second_insert = transaction 1 ((codes "insert into t values(1, 2)") ∷ []) Snap
 abbrev pub items_of_a : List Item
 items_of_a = Does first_insert ∷ Does taking_again ∷ []
 
-pub work_of_a : work statement_language (codes "a") key_again.body ≡ items_of_a
-unfolding insert_of insert_head_of equation_at where_of delete_of deleted_of
+pub work_of_a : work small_language (codes "a") key_again.body ≡ items_of_a
 work_of_a = refl
 
 -- and the replies to each of them
@@ -42,8 +40,7 @@ replies_of_a = ((reply.Begin 1) ∷ (reply.Changed 1) ∷ (reply.Duplicate 2 (co
 abbrev pub items_of_b : List Item
 items_of_b = Does second_insert ∷ []
 
-pub work_of_b : work statement_language (codes "b") key_again.body ≡ items_of_b
-unfolding insert_of insert_head_of equation_at where_of delete_of deleted_of
+pub work_of_b : work small_language (codes "b") key_again.body ≡ items_of_b
 work_of_b = refl
 
 -- and the replies to each of them
@@ -52,7 +49,7 @@ replies_of_b = ((reply.Begin 1) ∷ (reply.Changed 1) ∷ (reply.Committed 2) �
 
 -- the laws along each session's work hold where they hold of these
 along_their_work : (P : List ℕ → Item → List ReplyLine → Type 0) → EachPart (P (codes "a")) items_of_a replies_of_a → EachPart (P (codes "b")) items_of_b replies_of_b →
-    (name : List ℕ) → Along (P name) (work statement_language name key_again.body) (told name key_again_report.lines)
+    (name : List ℕ) → Along (P name) (work small_language name key_again.body) (told name key_again_report.lines)
 along_their_work P of_a of_b =
     along_each P key_again.body key_again_report.lines
     (inl refl, (inl refl, (inr refl, (inl refl, (inl refl, (inl refl, (inl refl, (inl refl, tt))))))))
@@ -62,21 +59,18 @@ along_their_work P of_a of_b =
 
 -- the rows at the entries are good
 pub good_at_2 : IsGood (tables_of key_again) (rows_at (from_nothing key_again) key_again_report.entries 2).tables
-unfolding insert_of insert_head_of equation_at where_of delete_of deleted_of
 good_at_2 = record {
   rows_fit = ((record { columns = (refl, (refl, tt)); size = omega arith; keys = (omega arith, tt) }, tt), tt);
   keys_kept = refl;
 }
 
 pub good_at_3 : IsGood (tables_of key_again) (rows_at (from_nothing key_again) key_again_report.entries 3).tables
-unfolding insert_of insert_head_of equation_at where_of delete_of deleted_of
 good_at_3 = record {
   rows_fit = ((record { columns = (refl, (refl, tt)); size = omega arith; keys = (omega arith, tt) }, tt), tt);
   keys_kept = refl;
 }
 
 pub key_again_is_lawful : Lawful (from_nothing key_again) key_again_report
-unfolding insert_of insert_head_of equation_at where_of delete_of deleted_of
 key_again_is_lawful = record {
   replies = along_their_work (IsTold (from_nothing key_again) (view_of (from_nothing key_again) key_again_report.entries)) (
     whole 1 (reply.Duplicate 2 (codes "t") (codes "pk")) (omega arith) (omega arith) tt (record { has_ops = λ is. cc; begun = omega arith; within = omega arith; untouched = λ j after before. refl; breaks = refl }) refl,
@@ -125,7 +119,6 @@ key_again_is_lawful = record {
 }
 
 pub key_again_is_in_order : InPlayOrder (from_nothing key_again) key_again_report
-unfolding insert_of insert_head_of equation_at where_of delete_of deleted_of
 key_again_is_in_order = record {
   later = of_b 2 1 1 ∷ of_a 3 2 2 ∷ [];
   opened = refl;

@@ -4,6 +4,7 @@ pub mod InsertSelectWrongLemmas
 pub mod KeyAgainLemmas
 pub mod OwnWritesLemmas
 pub mod SerialLemmas
+pub mod SmallLaws
 pub mod TwoUpdatesLemmas
 pub mod TwoUpdatesWrongLemmas
 pub mod WorkedLemmas

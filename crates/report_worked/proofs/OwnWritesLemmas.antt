@@ -2,7 +2,6 @@
 use Rattle.std.proofs.Common.{◌≡◌, ℕ, List, [], ◌∷◌, refl, sym, subst, arith, codes, inl, drop}
 use Rattle.cdb_values.specs.Good.{IsGood}
 use Rattle.cdb_values.specs.declared.rows.Level.TheVariants.{Snapshot}
-use Rattle.statement_read.specs.Statements.{insert_of, insert_head_of, select_of, selected_of, equation_at, where_of, update_of, updated_of, delete_of, deleted_of}
 use Rattle.report_laws.specs.History.{nothing_before, rows_at, view_of}
 use Rattle.report_laws.specs.Lawful.{Lawful}
 use Rattle.report_laws.specs.Play.{InPlayOrder}
@@ -16,7 +15,7 @@ use Rattle.report_text.specs.declared.reports.ReplyLine.TheVariants as reply
 use Rattle.report_laws.proofs.HistoryLaws.{none_stands}
 use Rattle.report_laws.proofs.LineLaws.{fresh_begin}
 use Rattle.report_worked.proofs.WorkedLemmas.{along_each, along_parts, EachPart, whole, in_turns, is_turn, entry_told}
-use Rattle.transaction_answers.specs.Answer.{from_nothing, statement_language}
+use Rattle.report_worked.specs.Small.{from_nothing, small_language}
 
 -- the transactions of the sessions
 abbrev pub inserting : Transaction
@@ -28,8 +27,7 @@ reading_its_own = transaction 2 ((codes "insert into t values(2, 20)") ∷ (code
 abbrev pub items_of_a : List Item
 items_of_a = Does inserting ∷ Does reading_its_own ∷ []
 
-pub work_of_a : work statement_language (codes "a") own_writes.body ≡ items_of_a
-unfolding insert_of insert_head_of select_of selected_of equation_at where_of update_of updated_of delete_of deleted_of
+pub work_of_a : work small_language (codes "a") own_writes.body ≡ items_of_a
 work_of_a = refl
 
 -- and the replies to each of them
@@ -38,7 +36,7 @@ replies_of_a = ((reply.Begin 1) ∷ (reply.Changed 1) ∷ (reply.Committed 2) �
 
 -- the laws along each session's work hold where they hold of these
 along_their_work : (P : List ℕ → Item → List ReplyLine → Type 0) → EachPart (P (codes "a")) items_of_a replies_of_a →
-    (name : List ℕ) → Along (P name) (work statement_language name own_writes.body) (told name own_writes_report.lines)
+    (name : List ℕ) → Along (P name) (work small_language name own_writes.body) (told name own_writes_report.lines)
 along_their_work P of_a =
     along_each P own_writes.body own_writes_report.lines
     (inl refl, (inl refl, (inl refl, (inl refl, (inl refl, (inl refl, (inl refl, (inl refl, tt))))))))
@@ -48,14 +46,12 @@ along_their_work P of_a =
 
 -- the rows at the entries are good
 pub good_at_2 : IsGood (tables_of own_writes) (rows_at (from_nothing own_writes) inserted_entries 2).tables
-unfolding insert_of insert_head_of select_of selected_of equation_at where_of update_of updated_of delete_of deleted_of
 good_at_2 = record {
   rows_fit = ((record { columns = (refl, (refl, tt)); size = omega arith; keys = (omega arith, tt) }, tt), tt);
   keys_kept = refl;
 }
 
 pub own_writes_is_lawful : Lawful (from_nothing own_writes) own_writes_report
-unfolding insert_of insert_head_of select_of selected_of equation_at where_of update_of updated_of delete_of deleted_of
 own_writes_is_lawful = record {
   replies = along_their_work (IsTold (from_nothing own_writes) (view_of (from_nothing own_writes) inserted_entries)) (
     whole 1 (reply.Committed 2) (omega arith) (omega arith) tt (record { later = omega arith; stands = refl; untouched = λ j after before. absurd (omega (arith, after, before)); is_good = good_at_2 }) refl,
@@ -89,7 +85,6 @@ own_writes_is_lawful = record {
 }
 
 pub own_writes_is_in_order : InPlayOrder (from_nothing own_writes) own_writes_report
-unfolding insert_of insert_head_of select_of selected_of equation_at where_of update_of updated_of delete_of deleted_of
 own_writes_is_in_order = record {
   later = of_a 2 1 1 ∷ [];
   opened = refl;

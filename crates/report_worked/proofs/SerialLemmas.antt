@@ -2,7 +2,6 @@
 -- not in the order of play.
 use Rattle.std.proofs.Common.{◌≡◌, ℕ, List, [], ◌∷◌, refl, sym, subst, arith, codes, inl, inr, take, drop, ap, length}
 use Rattle.cdb_values.specs.Good.{IsGood}
-use Rattle.statement_read.specs.Statements.{insert_of, insert_head_of, equation_at, where_of, update_of, updated_of}
 use Rattle.report_laws.specs.History.{nothing_before, rows_at, view_of}
 use Rattle.report_laws.specs.Lawful.{Lawful}
 use Rattle.report_laws.specs.One.{IsUncut}
@@ -20,8 +19,8 @@ use Rattle.report_laws.proofs.HistoryLaws.{none_stands}
 use Rattle.report_laws.proofs.LineLaws.{fresh_begin}
 use Rattle.report_worked.proofs.TwoUpdatesLemmas.{inserting, first_update, second_update, items_of_a, work_of_a, items_of_b, work_of_b, two_updates_is_lawful, two_updates_is_in_order}
 use Rattle.report_worked.proofs.WorkedLemmas.{along_each, along_parts, EachPart, whole, entry_told}
-use Rattle.transaction_answers.specs.Answer.{from_nothing, statement_language}
-use Rattle.transaction_answers.proofs.LanguageLaws.{statements_answer}
+use Rattle.report_worked.specs.Small.{from_nothing, small_language}
+use Rattle.report_worked.proofs.SmallLaws.{statements_answer}
 
 abbrev pub serial_of_a : List (List ReplyLine)
 serial_of_a = ((reply.Begin 1) ∷ (reply.Changed 1) ∷ (reply.Committed 2) ∷ []) ∷ ((reply.Begin 2) ∷ (reply.Changed 1) ∷ (reply.Committed 3) ∷ []) ∷ []
@@ -30,7 +29,7 @@ abbrev pub serial_of_b : List (List ReplyLine)
 serial_of_b = ((reply.Begin 3) ∷ (reply.Changed 1) ∷ (reply.Committed 4) ∷ []) ∷ []
 
 along_serial : (P : List ℕ → Item → List ReplyLine → Type 0) → EachPart (P (codes "a")) items_of_a serial_of_a → EachPart (P (codes "b")) items_of_b serial_of_b →
-    (name : List ℕ) → Along (P name) (work statement_language name two_updates.body) (told name serial.lines)
+    (name : List ℕ) → Along (P name) (work small_language name two_updates.body) (told name serial.lines)
 along_serial P of_a of_b =
     along_each P two_updates.body serial.lines
     (inl refl, (inl refl, (inr refl, (inl refl, (inr refl, (inl refl, (inr refl, tt)))))))
@@ -39,28 +38,24 @@ along_serial P of_a of_b =
     (subst (λ (items : List Item). Along (P (codes "b")) items (told (codes "b") serial.lines)) (sym work_of_b) (along_parts (P (codes "b")) items_of_b serial_of_b of_b))
 
 pub serial_at_2 : IsGood (tables_of two_updates) (rows_at (from_nothing two_updates) serial.entries 2).tables
-unfolding insert_of insert_head_of equation_at where_of update_of updated_of
 serial_at_2 = record {
   rows_fit = ((record { columns = (refl, (refl, tt)); size = omega arith; keys = (omega arith, tt) }, tt), tt);
   keys_kept = refl;
 }
 
 pub serial_at_3 : IsGood (tables_of two_updates) (rows_at (from_nothing two_updates) serial.entries 3).tables
-unfolding insert_of insert_head_of equation_at where_of update_of updated_of
 serial_at_3 = record {
   rows_fit = ((record { columns = (refl, (refl, tt)); size = omega arith; keys = (omega arith, tt) }, tt), tt);
   keys_kept = refl;
 }
 
 pub serial_at_4 : IsGood (tables_of two_updates) (rows_at (from_nothing two_updates) serial.entries 4).tables
-unfolding insert_of insert_head_of equation_at where_of update_of updated_of
 serial_at_4 = record {
   rows_fit = ((record { columns = (refl, (refl, tt)); size = omega arith; keys = (omega arith, tt) }, tt), tt);
   keys_kept = refl;
 }
 
 pub serial_is_lawful : Lawful (from_nothing two_updates) serial
-unfolding insert_of insert_head_of equation_at where_of update_of updated_of
 serial_is_lawful = record {
   replies = along_serial (IsTold (from_nothing two_updates) (view_of (from_nothing two_updates) serial.entries)) (
     whole 1 (reply.Committed 2) (omega arith) (omega arith) tt (record { later = omega arith; stands = refl; untouched = λ j after before. absurd (omega (arith, after, before)); is_good = serial_at_2 }) refl,

@@ -2,7 +2,6 @@
 use Rattle.std.proofs.Common.{◌≡◌, ℕ, List, [], ◌∷◌, refl, sym, subst, arith, codes, inl, inr, take, drop}
 use Rattle.cdb_values.specs.Good.{IsGood}
 use Rattle.cdb_values.specs.declared.rows.Level.TheVariants.{Snapshot}
-use Rattle.statement_read.specs.Statements.{insert_of, insert_head_of, equation_at, where_of, update_of, updated_of}
 use Rattle.report_laws.specs.History.{nothing_before, rows_at, view_of}
 use Rattle.report_laws.specs.Lawful.{Lawful}
 use Rattle.report_laws.specs.Play.{InPlayOrder}
@@ -16,7 +15,7 @@ use Rattle.report_text.specs.declared.reports.ReplyLine.TheVariants as reply
 use Rattle.report_laws.proofs.HistoryLaws.{none_stands}
 use Rattle.report_laws.proofs.LineLaws.{fresh_begin}
 use Rattle.report_worked.proofs.WorkedLemmas.{along_each, along_parts, EachPart, whole, in_turns, is_turn, entry_told}
-use Rattle.transaction_answers.specs.Answer.{from_nothing, statement_language}
+use Rattle.report_worked.specs.Small.{from_nothing, small_language}
 use Rattle.cdb_values.specs.Changes.{genid_item}
 
 -- the transactions of the sessions
@@ -32,8 +31,7 @@ second_update = transaction 1 ((codes "update t set v = 12 where id = 1") ∷ []
 abbrev pub items_of_a : List Item
 items_of_a = Does inserting ∷ Does first_update ∷ []
 
-pub work_of_a : work statement_language (codes "a") two_updates.body ≡ items_of_a
-unfolding insert_of insert_head_of equation_at where_of update_of updated_of
+pub work_of_a : work small_language (codes "a") two_updates.body ≡ items_of_a
 work_of_a = refl
 
 -- and the replies to each of them
@@ -43,8 +41,7 @@ replies_of_a = ((reply.Begin 1) ∷ (reply.Changed 1) ∷ (reply.Committed 2) �
 abbrev pub items_of_b : List Item
 items_of_b = Does second_update ∷ []
 
-pub work_of_b : work statement_language (codes "b") two_updates.body ≡ items_of_b
-unfolding insert_of insert_head_of equation_at where_of update_of updated_of
+pub work_of_b : work small_language (codes "b") two_updates.body ≡ items_of_b
 work_of_b = refl
 
 -- and the replies to each of them
@@ -53,7 +50,7 @@ replies_of_b = ((reply.Begin 2) ∷ (reply.Changed 1) ∷ conflict ∷ []) ∷ [
 
 -- the laws along each session's work hold where they hold of these
 along_their_work : (P : List ℕ → Item → List ReplyLine → Type 0) → EachPart (P (codes "a")) items_of_a replies_of_a → EachPart (P (codes "b")) items_of_b replies_of_b →
-    (name : List ℕ) → Along (P name) (work statement_language name two_updates.body) (told name two_updates_report.lines)
+    (name : List ℕ) → Along (P name) (work small_language name two_updates.body) (told name two_updates_report.lines)
 along_their_work P of_a of_b =
     along_each P two_updates.body two_updates_report.lines
     (inl refl, (inl refl, (inr refl, (inl refl, (inr refl, (inl refl, (inr refl, tt)))))))
@@ -63,21 +60,18 @@ along_their_work P of_a of_b =
 
 -- the rows at the entries are good
 pub good_at_2 : IsGood (tables_of two_updates) (rows_at (from_nothing two_updates) two_updates_entries 2).tables
-unfolding insert_of insert_head_of equation_at where_of update_of updated_of
 good_at_2 = record {
   rows_fit = ((record { columns = (refl, (refl, tt)); size = omega arith; keys = (omega arith, tt) }, tt), tt);
   keys_kept = refl;
 }
 
 pub good_at_3 : IsGood (tables_of two_updates) (rows_at (from_nothing two_updates) two_updates_entries 3).tables
-unfolding insert_of insert_head_of equation_at where_of update_of updated_of
 good_at_3 = record {
   rows_fit = ((record { columns = (refl, (refl, tt)); size = omega arith; keys = (omega arith, tt) }, tt), tt);
   keys_kept = refl;
 }
 
 pub two_updates_is_lawful : Lawful (from_nothing two_updates) two_updates_report
-unfolding insert_of insert_head_of equation_at where_of update_of updated_of
 two_updates_is_lawful = record {
   replies = along_their_work (IsTold (from_nothing two_updates) (view_of (from_nothing two_updates) two_updates_entries)) (
     whole 1 (reply.Committed 2) (omega arith) (omega arith) tt (record { later = omega arith; stands = refl; untouched = λ j after before. absurd (omega (arith, after, before)); is_good = good_at_2 }) refl,
@@ -126,7 +120,6 @@ two_updates_is_lawful = record {
 }
 
 pub two_updates_is_in_order : InPlayOrder (from_nothing two_updates) two_updates_report
-unfolding insert_of insert_head_of equation_at where_of update_of updated_of
 two_updates_is_in_order = record {
   later = of_a 2 1 1 ∷ of_a 3 2 2 ∷ [];
   opened = refl;

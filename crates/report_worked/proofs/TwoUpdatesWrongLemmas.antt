@@ -1,7 +1,6 @@
 -- Reports of two updates of one row that are wrong in one place, refuted.
 use Rattle.std.proofs.Common.{◌≡◌, ℕ, List, [], ◌∷◌, refl, sym, subst, ap, arith, ◌∙◌, codes, Some, None}
 use Rattle.cdb_values.specs.declared.rows.Level.TheVariants.{Snapshot}
-use Rattle.statement_read.specs.Statements.{insert_of, insert_head_of, equation_at, where_of, update_of, updated_of}
 use Rattle.cdb_values.specs.Changes.{genid_item}
 use Rattle.report_laws.specs.History.{rows_at, taken_at, IsCommitAfter, used_by, alone_on, view_of}
 use Rattle.report_laws.specs.View.{first_touched}
@@ -15,7 +14,7 @@ use Rattle.cdb_values.specs.declared.items.GenidItem.{GenidItem}
 use Rattle.report_text.specs.declared.reports.ReplyLine.TheVariants as reply
 use Rattle.report_worked.proofs.TwoUpdatesLemmas.{second_update, work_of_b}
 use Rattle.report_worked.proofs.WorkedLemmas.{ToldAt, told_at}
-use Rattle.transaction_answers.specs.Answer.{from_nothing}
+use Rattle.report_worked.specs.Small.{from_nothing}
 use Rattle.std.specs.List.{AllByRecursion}
 use Rattle.report_laws.specs.Language.{Answered}
 use Rattle.report_text.specs.declared.reports.ReplyLine.{ReplyLine}
@@ -29,7 +28,6 @@ same_genid : (genid : ℕ) → Some (reply.ConflictGenid 3 (codes "t") genid) �
 same_genid genid is = cc
 
 touches_another : RepliesAreRight two_updates untouched_row → ⊥
-unfolding insert_of insert_head_of equation_at where_of update_of updated_of
 touches_another law =
     let at : ToldAt (from_nothing two_updates) two_updates_entries (codes "b") second_update 2 (reply.Changed 1 ∷ reply.ConflictGenid 3 (codes "t") 2 ∷ []) =
     told_at (from_nothing two_updates) two_updates_entries (codes "b") second_update 2 (reply.Changed 1 ∷ reply.ConflictGenid 3 (codes "t") 2 ∷ []) (reply.Begin 2 ∷ reply.Changed 1 ∷ []) (reply.ConflictGenid 3 (codes "t") 2) refl refl
@@ -54,7 +52,6 @@ some_or_none : (item : GenidItem) → Some item ≡ None → ⊥
 some_or_none item is = cc
 
 entered_after : (before : IsCommitAfter (from_nothing two_updates) (view_of (from_nothing two_updates) two_updates_entries) 4 (codes "b") 1 2 Snapshot) → ⊥
-unfolding insert_of insert_head_of equation_at where_of update_of updated_of
 entered_after is =
     let its : Some second_update ≡ Some is.transaction = is.is_its in
     some_or_none (genid_item 0 1)

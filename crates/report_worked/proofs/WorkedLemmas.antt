@@ -17,7 +17,7 @@ use Rattle.report_text.specs.declared.reports.Line.TheVariants as line
 use Rattle.report_text.specs.declared.reports.ReplyLine.{ReplyLine}
 use Rattle.report_text.specs.declared.reports.ReplyLine.TheVariants as reply
 use Rattle.report_laws.proofs.GrowLaws.{first_begin, first_rest, same_last}
-use Rattle.transaction_answers.specs.Answer.{statement_language}
+use Rattle.report_worked.specs.Small.{small_language}
 use Rattle.report_laws.specs.Cut.{cuts}
 use Rattle.report_laws.specs.Language.{Answered}
 use Rattle.report_laws.specs.Outcome.{IsRight, Ends}
@@ -69,15 +69,15 @@ told_none name (line.Fed position ∷ ls) a b all = told_none name ls a b all.1
 -- a law along the work of each session holds where it holds along the work of the sessions a and b
 pub along_each : (P : List ℕ → Item → List ReplyLine → Type 0) (body : List BodyLine) (lines : List Line) →
     AllByRecursion (λ l. SaidTheirs l.act) body → AllByRecursion ToThem lines →
-    Along (P (codes "a")) (work statement_language (codes "a") body) (told (codes "a") lines) → Along (P (codes "b")) (work statement_language (codes "b") body) (told (codes "b") lines) →
-    (name : List ℕ) → Along (P name) (work statement_language name body) (told name lines)
+    Along (P (codes "a")) (work small_language (codes "a") body) (told (codes "a") lines) → Along (P (codes "b")) (work small_language (codes "b") body) (told (codes "b") lines) →
+    (name : List ℕ) → Along (P name) (work small_language name body) (told name lines)
 along_each P body lines theirs to_them of_a of_b name = go (bytes_eq (codes "a") name) (bytes_eq (codes "b") name) refl refl
   where
-    go : (a b : Bool) → bytes_eq (codes "a") name ≡ a → bytes_eq (codes "b") name ≡ b → Along (P name) (work statement_language name body) (told name lines)
-    go true b is_a is_b = subst (λ (n : List ℕ). Along (P n) (work statement_language n body) (told n lines)) ((bytes_eq-Decides (codes "a") name).0 is_a) of_a
-    go false true is_a is_b = subst (λ (n : List ℕ). Along (P n) (work statement_language n body) (told n lines)) ((bytes_eq-Decides (codes "b") name).0 is_b) of_b
+    go : (a b : Bool) → bytes_eq (codes "a") name ≡ a → bytes_eq (codes "b") name ≡ b → Along (P name) (work small_language name body) (told name lines)
+    go true b is_a is_b = subst (λ (n : List ℕ). Along (P n) (work small_language n body) (told n lines)) ((bytes_eq-Decides (codes "a") name).0 is_a) of_a
+    go false true is_a is_b = subst (λ (n : List ℕ). Along (P n) (work small_language n body) (told n lines)) ((bytes_eq-Decides (codes "b") name).0 is_b) of_b
     go false false is_a is_b =
-        subst (λ (items : List Item). Along (P name) items (told name lines)) (sym (ap (λ (texts : List (List ℕ)). items_at (place_from statement_language start texts)) (said_none name body is_a is_b theirs)))
+        subst (λ (items : List Item). Along (P name) items (told name lines)) (sym (ap (λ (texts : List (List ℕ)). items_at (place_from small_language start texts)) (said_none name body is_a is_b theirs)))
         (told_none name lines is_a is_b to_them)
 
 -- a transaction is told whole, by its begin and its outcome

@@ -12,11 +12,11 @@ use Rattle.report_text.specs.declared.reports.Report.{Report}
 use Rattle.report_text.specs.declared.reports.Line.{Line}
 use Rattle.report_text.specs.declared.reports.Line.TheVariants as line
 use Rattle.report_text.specs.declared.reports.ReplyLine.TheVariants as reply
-use Rattle.transaction_answers.specs.Answer.{from_nothing, statement_language}
+use Rattle.report_worked.specs.Small.{from_nothing, small_language}
 
 -- the four laws of a lawful report that these break
 abbrev pub RepliesAreRight : Script → Report → Type 0
-RepliesAreRight script report = (name : List ℕ) → Along (IsTold (from_nothing script) (view_of (from_nothing script) report.entries) name) (work statement_language name script.body) (told name report.lines)
+RepliesAreRight script report = (name : List ℕ) → Along (IsTold (from_nothing script) (view_of (from_nothing script) report.entries) name) (work small_language name script.body) (told name report.lines)
 
 abbrev pub BeginsAreFresh : Report → Type 0
 BeginsAreFresh report = EachAfter (IsFreshLine (nothing_before (worked_table ∷ []))) [] report.lines

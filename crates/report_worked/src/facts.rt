@@ -1,7 +1,7 @@
 //! The worked examples: facts of their reports, each a clause of a function that does nothing.
 
 ghost use Rattle.std.specs.Prelude.{◌≡◌, []};
-ghost use Rattle.transaction_answers.specs.Answer.{from_nothing};
+ghost use Rattle.report_worked.specs.Small.{from_nothing};
 ghost use Rattle.report_laws.specs.Lawful.{Lawful};
 ghost use Rattle.report_laws.specs.Play.{InPlayOrder};
 ghost use Rattle.report_worked.specs.Worked.{empty_report, report_with, insert_select, insert_select_report, insert_select_text, two_updates, two_updates_report, key_again, key_again_report, own_writes, own_writes_report, two_selects};

@@ -1,12 +1,10 @@
--- What runs: a script of one node without watches, of tables with integer columns alone, whose body
--- is statements of declared sessions on declared tables.
-use Rattle.std.specs.Prelude.{◌≡◌, ℕ, ◌≤◌, ◌∷◌, ◌++◌, [], List, length, map, false, None, ◌⊎◌}
+-- What runs: a script of one node without watches, of lawful tables with columns, whose body is texts of declared
+-- sessions, of UTF-8. What else the texts are is nothing to it: each of them is answered, if by an error.
+use Rattle.std.specs.Prelude.{◌≡◌, ◌≢◌, ℕ, ◌≤◌, ◌∷◌, ◌++◌, [], List, length, map, true, false, None, ◌⊎◌}
 use Rattle.std.specs.List.{AllByRecursion}
+use Rattle.std.specs.Str.{is_utf8}
 use Rattle.cdb_values.specs.Tables.{add_fault}
-use Rattle.cdb_values.specs.declared.tables.ColumnType.TheVariants.{Integer}
 use Rattle.cdb_values.specs.declared.tables.TableDef.{TableDef}
-use Rattle.statement_read.specs.OnTables.{IsOn}
-use Rattle.statement_read.specs.Statements.{statement_of}
 use Rattle.script_form.specs.declared.scripts.Act.{Act}
 use Rattle.script_form.specs.declared.scripts.Act.TheVariants as acts
 use Rattle.script_form.specs.declared.scripts.Script.{Script}
@@ -22,14 +20,14 @@ abbrev pub AreTaken : List TableDef → List TableDef → Type 0
 AreTaken before [] = Unit {0}
 AreTaken before (table ∷ tables) = (add_fault before table ≡ None) × AreTaken (before ++ table ∷ []) tables
 
--- a statement of a declared session on these tables
-abbrev pub IsSaid : List SessionLine → List TableDef → Act → Type 0
-IsSaid sessions tables (acts.Say name text) = IsDeclared name sessions × IsOn tables (statement_of text)
-IsSaid sessions tables (acts.Stop node) = ⊥
-IsSaid sessions tables (acts.Start node) = ⊥
-IsSaid sessions tables (acts.Arm name moment) = ⊥
-IsSaid sessions tables acts.Barrier = ⊥
-IsSaid sessions tables acts.Feed = ⊥
+-- a text of a declared session
+abbrev pub IsSaid : List SessionLine → Act → Type 0
+IsSaid sessions (acts.Say name text) = IsDeclared name sessions × (is_utf8 text ≡ true)
+IsSaid sessions (acts.Stop node) = ⊥
+IsSaid sessions (acts.Start node) = ⊥
+IsSaid sessions (acts.Arm name moment) = ⊥
+IsSaid sessions acts.Barrier = ⊥
+IsSaid sessions acts.Feed = ⊥
 
 -- the tables of a script
 abbrev pub tables_of : Script → List TableDef
@@ -41,5 +39,5 @@ pub record CanRun (script : Script) : Type 0 where
   pub few_sessions : length script.sessions ≤ 64
   pub no_hasql : AllByRecursion (λ s. (s.node ≡ 1) × (s.hasql ≡ false)) script.sessions
   pub tables_lawful : AreTaken [] (tables_of script)
-  pub integers : AllByRecursion (λ t. AllByRecursion (λ c. c.kind ≡ Integer) t.table.columns) script.tables
-  pub statements : AllByRecursion (λ l. IsSaid script.sessions (tables_of script) l.act) script.body
+  pub columns : AllByRecursion (λ t. t.table.columns ≢ []) script.tables
+  pub said : AllByRecursion (λ l. IsSaid script.sessions l.act) script.body

@@ -15,7 +15,7 @@ use Rattle.report_laws.specs.One.{IsUncut}
 use Rattle.report_laws.specs.Play.{InPlayOrder}
 use Rattle.report_text.specs.Grammar.{IsReport}
 use Rattle.report_text.specs.Text.{report_text}
-use Rattle.transaction_answers.specs.Answer.{from_nothing}
+use Rattle.script_play.specs.Basis.{from_nothing}
 use Rattle.report_text.specs.declared.reports.Report.{Report}
 use Rattle.script_main.specs.declared.statuses.Status.{Status}
 use Rattle.script_main.specs.declared.statuses.Status.TheVariants as status
@@ -32,9 +32,9 @@ usage_text = codes "usage: cdb play|run|fill N [--stores DIR]" ++ (10 ∷ [])
 abbrev pub refused_text : ℕ → ℕ → List ℕ
 refused_text line why = codes "refused " ++ (decimal line ++ (32 ∷ (decimal why ++ (10 ∷ []))))
 
--- the text of a report of the grammar that is lawful over the script, the language of the statements that
--- run and a history that begins with the run, and whose lines stand in the order of play; where no
--- transaction is cut short, there is no other such report
+-- the text of a report of the grammar that is lawful over the script, the language of SQL and a history that
+-- begins with the run, and whose lines stand in the order of play; where no transaction is cut short, there
+-- is no other such report
 pub record IsReported (script : Script) (text : List ℕ) : Type 0 where
   pub report : Report
   pub lawful : Lawful (from_nothing script) report

@@ -92,7 +92,7 @@ struct Story {
     history: &'static str,
 }
 
-static STORIES: [Story; 10] = [
+static STORIES: [Story; 13] = [
     // An insert and a select, each a transaction of its own.
     Story {
         turns: &[
@@ -278,7 +278,121 @@ static STORIES: [Story; 10] = [
         ],
         history: "entry 1 schema ; entry 2 a 1 1 snapshot ; entry 3 a 2 2 snapshot ; entry 4 a 3 3 snapshot ; entry 5 a 4 4 snapshot ; entry 6 a 5 5 snapshot ; end 6",
     },
+    // NULL meets no comparison, and a sum of nothing is NULL.
+    Story {
+        turns: &[
+            (
+                "a: insert into t values(1, null), (2, 5)",
+                "a 1 begin 1 ; a 1 changed 2 ; a 1 committed 2",
+            ),
+            ("a: begin", "a 2 begin 2"),
+            ("a: select id from t where v = null", "a 2 done 0"),
+            (
+                "a: select id from t where v is null",
+                "a 2 row 1 ; a 2 done 1",
+            ),
+            (
+                "a: select sum(v) from t where id = 1",
+                "a 2 row null ; a 2 done 1",
+            ),
+            ("a: commit", "a 2 committed 2"),
+        ],
+        history: "entry 1 schema ; entry 2 a 1 1 snapshot ; end 2",
+    },
+    // A sum that leaves 64 bits in one row is an error, and the transaction goes on.
+    Story {
+        turns: &[
+            (
+                "a: insert into t values(1, 9223372036854775807)",
+                "a 1 begin 1 ; a 1 changed 1 ; a 1 committed 2",
+            ),
+            ("a: begin", "a 2 begin 2"),
+            ("a: update t set v = v + 1", "a 2 error overflow"),
+            ("a: update t set v = v - 1 where id = 1", "a 2 changed 1"),
+            ("a: commit", "a 2 committed 3"),
+        ],
+        history: "entry 1 schema ; entry 2 a 1 1 snapshot ; entry 3 a 2 2 snapshot ; end 3",
+    },
+    // Errors of statements that are transactions of their own: nothing is done, and they are committed so.
+    Story {
+        turns: &[
+            (
+                "a: selec 1",
+                "a 1 begin 1 ; a 1 error syntax 0 ; a 1 committed 1",
+            ),
+            (
+                "a: select * frm t",
+                "a 2 begin 1 ; a 2 error syntax 9 ; a 2 committed 1",
+            ),
+            (
+                "a: select * from u",
+                "a 3 begin 1 ; a 3 error table ; a 3 committed 1",
+            ),
+            (
+                "a: select x from t",
+                "a 4 begin 1 ; a 4 error column ; a 4 committed 1",
+            ),
+            (
+                "a: select id from t, t y",
+                "a 5 begin 1 ; a 5 error ambiguous ; a 5 committed 1",
+            ),
+            (
+                "a: select id from t where v = 'a'",
+                "a 6 begin 1 ; a 6 error type ; a 6 committed 1",
+            ),
+            (
+                "a: insert into t values(1)",
+                "a 7 begin 1 ; a 7 error count ; a 7 committed 1",
+            ),
+            (
+                "a: insert into t values(null, 1)",
+                "a 8 begin 1 ; a 8 error notnull ; a 8 committed 1",
+            ),
+            ("a: commit", "a 0 error state"),
+            ("a:", "a 9 begin 1 ; a 9 error syntax 0 ; a 9 committed 1"),
+        ],
+        history: "entry 1 schema ; end 1",
+    },
 ];
+
+/// What is written for one statement over the tables `u` and `w`, with so many letters in its text.
+fn long_insert(alloc: Global, front: &str, letters: usize) -> Result<Vec<u8>, AllocError> {
+    let mut script = String::from_str(
+        alloc,
+        "nodes 1\nsession a 1\ncreate table u(id integer primary key, s text)\ncreate table w(k text primary key)\na: ",
+    )?;
+    script.push_str(front)?;
+    for _ in 0..letters {
+        script.push_str("x")?;
+    }
+    script.push_str("')\n")?;
+    let (_, text) = played(alloc, &["play"], script.as_bytes())?;
+    Ok(text)
+}
+
+#[test]
+fn rows_and_keys_have_limits(rt: HostRuntime) -> Result<(), Fail> {
+    let alloc = rt.alloc();
+    let stored =
+        b"a 1 begin 1\na 1 changed 1\na 1 committed 2\nentry 1 schema\nentry 2 a 1 1 snapshot\nend 2\n";
+    let refused = b"a 1 begin 1\na 1 error toolong\na 1 committed 1\nentry 1 schema\nend 1\n";
+    let row = "insert into u values (1, '";
+    let key = "insert into w values ('";
+    assert_eq!(rt;
+        long_insert(alloc, row, 1_586)?.as_slice(),
+        stored.as_slice()
+    );
+    assert_eq!(rt;
+        long_insert(alloc, row, 1_587)?.as_slice(),
+        refused.as_slice()
+    );
+    assert_eq!(rt; long_insert(alloc, key, 509)?.as_slice(), stored.as_slice());
+    assert_eq!(rt;
+        long_insert(alloc, key, 510)?.as_slice(),
+        refused.as_slice()
+    );
+    Ok(())
+}
 
 /// The script and the report of a story.
 fn told(alloc: Global, story: &Story) -> Result<(String, String), AllocError> {
@@ -330,7 +444,6 @@ fn scripts_are_refused_at_their_lines(rt: HostRuntime) -> Result<(), Fail> {
         ),
         (b"nodes 1\nworkers 65\nhello\n".as_slice(), 2, 8),
         (b"nodes 1\nworkers 1\n\xff".as_slice(), 2, 10),
-        (b"nodes 1\ncreate table t(c text)\n".as_slice(), 2, 10),
         (
             b"nodes 1\nsession a 1\ncreate table t(c integer)\na: \xff\n".as_slice(),
             4,
@@ -355,15 +468,8 @@ fn lines_are_refused_in_the_body(rt: HostRuntime) -> Result<(), Fail> {
         ("arm c ship", 5),
         ("stop 2", 6),
         ("watch t", 8),
-        ("a:", 10),
-        ("a: select * from u", 10),
-        ("a: select * from t where w = 1", 10),
-        ("a: update t set w = 1", 10),
-        ("a: insert into t values(1)", 10),
-        ("a: insert into t values(9223372036854775808, 1)", 10),
-        ("a: insert into t values(1, -9223372036854775809)", 10),
-        ("a: SELECT * from t", 10),
-        ("a: select * from t;", 10),
+        ("a: selectv * from t", 10),
+        ("a: SELECTV v from nowhere limit 1;", 10),
         ("a: set transaction serializable", 10),
         ("stop 1", 10),
         ("barrier", 10),

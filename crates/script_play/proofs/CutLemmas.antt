@@ -3,15 +3,14 @@ use Rattle.std.proofs.Common.{◌≡◌, ℕ, ◌+◌, List, [], ◌∷◌, ◌+
 use Rattle.std.proofs.lemmas.List.{append-nil}
 use Rattle.cdb_values.specs.declared.rows.RowOp.{RowOp}
 use Rattle.snapshot_rows.specs.Ages.{Ages}
-use Rattle.statement_read.specs.declared.statements.TextKind.{TextKind}
-use Rattle.statement_read.specs.declared.statements.TextKind.TheVariants as kind
 use Rattle.script_form.specs.declared.scripts.Script.{Script}
 use Rattle.report_text.specs.declared.reports.EntryLine.{EntryLine}
 use Rattle.report_text.specs.declared.reports.ReplyLine.TheVariants as reply
 use Rattle.script_form.specs.CanRun.{tables_of}
 use Rattle.report_laws.specs.History.{rows_at, view_of}
-use Rattle.report_laws.specs.Language.{alone}
-use Rattle.transaction_answers.specs.Answer.{answer, kind_by, from_nothing, statement_language}
+use Rattle.report_laws.specs.Language.{alone, Kind, BeginText, CommitText, RollbackText, LevelText, OtherText}
+use Rattle.script_play.specs.Basis.{from_nothing}
+use Rattle.sql_answer.specs.Language.{sql_language}
 use Rattle.report_laws.specs.Play.{number_by}
 use Rattle.report_laws.specs.Told.{Numbered, IsCut, numbered, alone_at}
 use Rattle.report_laws.specs.Work.{Does, Place, End, ByCommit, ByRollback, WithItsLine, Nowhere, transaction, with_open, with_own_line, closed, next_by}
@@ -40,7 +39,7 @@ module _ (script : Script) (entries : List EntryLine) (taken : List (List GenidI
   empty_cut : (t_texts : List (List ℕ)) (number : ℕ) (end : End) → IsCut (from_nothing script) (view_of (from_nothing script) entries) (transaction number t_texts p.level end) (reply.NoMemory ∷ [])
   empty_cut t_texts number end = record { begin = 0; base = omega arith; within = omega arith; ran = alone_at (from_nothing script) (view_of (from_nothing script) entries) (transaction number t_texts p.level end) 0; is_ran = refl; front = []; rest = _; fits = refl; cause = reply.NoMemory; is_cause = refl; says = refl }
 
-  module _ (texts : List (List ℕ)) (begin : ℕ) (ops : List RowOp) (k : TextKind) (c : Comes script entries taken ages name p (Some texts) (doing.Open begin ops) text k lines) where
+  module _ (texts : List (List ℕ)) (begin : ℕ) (ops : List RowOp) (uses : List GenidItem) (k : Kind) (c : Comes script entries taken ages name p (Some texts) (doing.Open begin ops uses) text k lines) where
     cut_more : IsCut (from_nothing script) (view_of (from_nothing script) entries) (transaction p.number (texts ++ text ∷ []) p.level Nowhere) (c.mine ++ reply.NoMemory ∷ [])
     cut_more = record {
       begin = begin;
@@ -51,9 +50,9 @@ module _ (script : Script) (entries : List EntryLine) (taken : List (List GenidI
       cause = reply.NoMemory;
       is_cause = refl;
       front = c.mine;
-      rest = (answer (tables_of script) (rows_at (from_nothing script) entries begin).tables (alone statement_language (tables_of script) (rows_at (from_nothing script) entries begin) texts).ops text).replies;
-      fits = ap (λ rs. rs ++ (answer (tables_of script) (rows_at (from_nothing script) entries begin).tables (alone statement_language (tables_of script) (rows_at (from_nothing script) entries begin) texts).ops text).replies) c.doing.says
-          ∙ ap (λ rs. reply.Begin begin ∷ rs) (sym (replies_more statement_language (tables_of script) (rows_at (from_nothing script) entries begin).tables [] texts text));
+      rest = (sql_language.answer (tables_of script) (rows_at (from_nothing script) entries begin).tables (alone sql_language (tables_of script) (rows_at (from_nothing script) entries begin) texts).ops text).replies;
+      fits = ap (λ rs. rs ++ (sql_language.answer (tables_of script) (rows_at (from_nothing script) entries begin).tables (alone sql_language (tables_of script) (rows_at (from_nothing script) entries begin) texts).ops text).replies) c.doing.says
+          ∙ ap (λ rs. reply.Begin begin ∷ rs) (sym (replies_more sql_language (tables_of script) (rows_at (from_nothing script) entries begin).tables [] texts text));
       says = refl;
     }
 
@@ -72,39 +71,39 @@ module _ (script : Script) (entries : List EntryLine) (taken : List (List GenidI
       number = refl;
     }
 
-  begin_cut : (c : Comes script entries taken ages name p None doing.No text kind.Begin lines) → CutStands script entries ages name (with_open p (Some []) (p.number + 1)) lines (p.number + 1) (record { number = p.number + 1; after = state (p.number + 1) p.level doing.Aborted })
+  begin_cut : (c : Comes script entries taken ages name p None doing.No text BeginText lines) → CutStands script entries ages name (with_open p (Some []) (p.number + 1)) lines (p.number + 1) (record { number = p.number + 1; after = state (p.number + 1) p.level doing.Aborted })
   begin_cut c = record {
     stands = in_transaction script entries entries (inl refl) name p c.before c.past [] (reply.NoMemory ∷ []) (lines ++ numbered (p.number + 1) (reply.NoMemory ∷ [])) ages.next (p.number + 1) doing.Aborted
         (empty_cut [] (p.number + 1) Nowhere)
-        (ap (λ ls. ls ++ numbered (p.number + 1) (reply.NoMemory ∷ [])) (idle_lines script entries taken ages ages name p text lines kind.Begin c));
+        (ap (λ ls. ls ++ numbered (p.number + 1) (reply.NoMemory ∷ [])) (idle_lines script entries taken ages ages name p text lines BeginText c));
     number = refl;
   }
 
-  own_cut : (c : Comes script entries taken ages name p None doing.No text kind.Other lines) → CutStands script entries ages name (with_own_line p text) lines (p.number + 1) (record { number = p.number + 1; after = state (p.number + 1) p.level doing.No })
+  own_cut : (c : Comes script entries taken ages name p None doing.No text OtherText lines) → CutStands script entries ages name (with_own_line p text) lines (p.number + 1) (record { number = p.number + 1; after = state (p.number + 1) p.level doing.No })
   own_cut c = record {
     stands = idle_after script entries entries (inl refl) name p c.before c.past (Does (transaction (p.number + 1) (text ∷ []) p.level WithItsLine)) (reply.NoMemory ∷ []) (lines ++ numbered (p.number + 1) (reply.NoMemory ∷ [])) ages.next (p.number + 1) p.level
         (inr (empty_cut (text ∷ []) (p.number + 1) WithItsLine))
-        (ap (λ ls. ls ++ numbered (p.number + 1) (reply.NoMemory ∷ [])) (idle_lines script entries taken ages ages name p text lines kind.Other c));
+        (ap (λ ls. ls ++ numbered (p.number + 1) (reply.NoMemory ∷ [])) (idle_lines script entries taken ages ages name p text lines OtherText c));
     number = refl;
   }
 
-  pub cuts : (k : TextKind) (pending : Option (List (List ℕ))) (what : InTransaction) → Comes script entries taken ages name p pending what text k lines →
-      CutGoal (next_by p text (kind_by k) pending) (number_by p.number (kind_by k) pending) (cut_by p.number p.level k what)
-  cuts kind.Begin None doing.No c x is = this _ _ _ x is (begin_cut c)
-  cuts kind.Commit None doing.No c x is = absurd cc
-  cuts kind.Rollback None doing.No c x is = absurd cc
-  cuts kind.SetSnapshot None doing.No c x is = absurd cc
-  cuts kind.Other None doing.No c x is = this _ _ _ x is (own_cut c)
-  cuts kind.Begin (Some texts) (doing.Open begin ops) c x is = this _ _ _ x is (goes_cut texts begin ops kind.Begin c)
-  cuts kind.Commit (Some texts) (doing.Open begin ops) c x is = this _ _ _ x is (ends_cut texts begin ops kind.Commit c ByCommit)
-  cuts kind.Rollback (Some texts) (doing.Open begin ops) c x is = this _ _ _ x is (ends_cut texts begin ops kind.Rollback c ByRollback)
-  cuts kind.SetSnapshot (Some texts) (doing.Open begin ops) c x is = this _ _ _ x is (goes_cut texts begin ops kind.SetSnapshot c)
-  cuts kind.Other (Some texts) (doing.Open begin ops) c x is = this _ _ _ x is (goes_cut texts begin ops kind.Other c)
-  cuts kind.Begin (Some texts) doing.Aborted c x is = absurd cc
-  cuts kind.Commit (Some texts) doing.Aborted c x is = absurd cc
-  cuts kind.Rollback (Some texts) doing.Aborted c x is = absurd cc
-  cuts kind.SetSnapshot (Some texts) doing.Aborted c x is = absurd cc
-  cuts kind.Other (Some texts) doing.Aborted c x is = absurd cc
-  cuts k None (doing.Open begin ops) c x is = absurd c.doing
+  pub cuts : (k : Kind) (pending : Option (List (List ℕ))) (what : InTransaction) → Comes script entries taken ages name p pending what text k lines →
+      CutGoal (next_by p text k pending) (number_by p.number k pending) (cut_by p.number p.level k what)
+  cuts BeginText None doing.No c x is = this _ _ _ x is (begin_cut c)
+  cuts CommitText None doing.No c x is = absurd cc
+  cuts RollbackText None doing.No c x is = absurd cc
+  cuts (LevelText later) None doing.No c x is = absurd cc
+  cuts OtherText None doing.No c x is = this _ _ _ x is (own_cut c)
+  cuts BeginText (Some texts) (doing.Open begin ops uses) c x is = this _ _ _ x is (goes_cut texts begin ops uses BeginText c)
+  cuts CommitText (Some texts) (doing.Open begin ops uses) c x is = this _ _ _ x is (ends_cut texts begin ops uses CommitText c ByCommit)
+  cuts RollbackText (Some texts) (doing.Open begin ops uses) c x is = this _ _ _ x is (ends_cut texts begin ops uses RollbackText c ByRollback)
+  cuts (LevelText later) (Some texts) (doing.Open begin ops uses) c x is = this _ _ _ x is (goes_cut texts begin ops uses (LevelText later) c)
+  cuts OtherText (Some texts) (doing.Open begin ops uses) c x is = this _ _ _ x is (goes_cut texts begin ops uses OtherText c)
+  cuts BeginText (Some texts) doing.Aborted c x is = absurd cc
+  cuts CommitText (Some texts) doing.Aborted c x is = absurd cc
+  cuts RollbackText (Some texts) doing.Aborted c x is = absurd cc
+  cuts (LevelText later) (Some texts) doing.Aborted c x is = absurd cc
+  cuts OtherText (Some texts) doing.Aborted c x is = absurd cc
+  cuts k None (doing.Open begin ops uses) c x is = absurd c.doing
   cuts k None doing.Aborted c x is = absurd c.doing
   cuts k (Some texts) doing.No c x is = absurd c.doing

@@ -1,3 +1,6 @@
+pub mod AppliedLaws
+pub mod FitLaws
+pub mod SoundLaws
 pub mod StoredLemmas
 pub mod DecisionLemmas
 pub mod StandingLemmas
@@ -7,5 +10,7 @@ pub mod RunLemmas
 pub mod WholeLemmas
 pub mod CourseLemmas
 pub mod SiteLemmas
+pub mod SqlLaws
 pub mod PlayLaws
 pub mod TakeLemmas
+pub mod TextLemmas

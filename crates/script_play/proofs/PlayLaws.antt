@@ -12,7 +12,7 @@ use Rattle.report_text.specs.declared.reports.Line.{Line}
 use Rattle.report_text.specs.declared.reports.Report.{Report}
 use Rattle.report_laws.specs.Lawful.{Lawful}
 use Rattle.report_laws.specs.Play.{InPlayOrder}
-use Rattle.transaction_answers.specs.Answer.{from_nothing}
+use Rattle.script_play.specs.Basis.{from_nothing}
 use Rattle.cdb_values.specs.declared.items.GenidItem.{GenidItem}
 use Rattle.script_play.specs.SoFar.{IsBefore, at_start, report_of}
 use Rattle.script_play.specs.declared.states.SessionState.{SessionState}
@@ -32,7 +32,7 @@ opens_so script lines entries taken ages states tables can are no_lines schema_s
     (subst (λ (ss : List SessionState). IsBefore script script.body [] opening ([] ∷ []) (no_ages (tables_of script)) ss) (sym starts)
     (record {
       can_run = can;
-      said = can.statements;
+      said = can.said;
       same = as_many script.sessions;
       done = [];
       so_far = begins_so script;

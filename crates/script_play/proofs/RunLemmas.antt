@@ -5,15 +5,9 @@ use Rattle.std.specs.List.{AllByRecursion}
 use Rattle.std.specs.Str.{bytes_eq}
 use Rattle.std.specs.Cmp.Lexicographic.{same_text}
 use Rattle.cdb_values.specs.declared.rows.Level.{Level}
-use Rattle.cdb_values.specs.declared.tables.ColumnDef.{ColumnDef}
-use Rattle.cdb_values.specs.declared.tables.TableDef.{TableDef}
-use Rattle.cdb_values.specs.declared.tables.ColumnType.TheVariants.{Integer}
 use Rattle.snapshot_rows.specs.Ages.{Ages}
-use Rattle.statement_read.specs.OnTables.{IsOn}
-use Rattle.statement_read.specs.Statements.{statement_of, kind_of}
-use Rattle.statement_read.specs.declared.statements.TextKind.{TextKind}
-use Rattle.statement_read.specs.declared.statements.TextKind.TheVariants as kind
-use Rattle.script_form.specs.CanRun.{CanRun, tables_of}
+use Rattle.sql_answer.specs.Reading.{kind_of_text}
+use Rattle.script_form.specs.CanRun.{tables_of}
 use Rattle.script_form.specs.declared.scripts.Script.{Script}
 use Rattle.script_form.specs.declared.scripts.BodyLine.{BodyLine}
 use Rattle.script_form.specs.declared.scripts.Act.{Act}
@@ -24,6 +18,7 @@ use Rattle.report_text.specs.declared.reports.Line.{Line}
 use Rattle.report_text.specs.declared.reports.ReplyLine.{ReplyLine}
 use Rattle.report_text.specs.declared.reports.ReplyLine.TheVariants as reply
 use Rattle.cdb_values.specs.Changes.{taken_by}
+use Rattle.report_laws.specs.Language.{Kind, BeginText, CommitText, RollbackText, LevelText, OtherText}
 use Rattle.report_laws.specs.History.{last_position, view_of}
 use Rattle.report_laws.specs.Lawful.{IsFreshLine}
 use Rattle.report_laws.specs.Paced.{Paced}
@@ -37,7 +32,9 @@ use Rattle.report_laws.proofs.EntryToldLaws.{entry_told_more, entry_told_stays, 
 use Rattle.report_laws.proofs.LineLaws.{ArePaced, paced_laws, named_more, in_turns_more, timely_paced}
 use Rattle.report_laws.proofs.ToldLaws.{told_append, told_own, told_other}
 use Rattle.report_laws.proofs.WorkLaws.{after_own, after_other, its_transaction}
-use Rattle.transaction_answers.specs.Answer.{kind_by, from_nothing, statement_language}
+use Rattle.script_play.specs.Basis.{from_nothing}
+use Rattle.sql_answer.specs.Language.{sql_language}
+use Rattle.sql_run.specs.Sound.{HasDistinctColumns}
 use Rattle.script_play.specs.SoFar.{SoFar, Stored, Standing, IsPast, IsEnded, state_of}
 use Rattle.script_play.specs.Step.{Turned, Cut, IsTurned, IsCutShort, IsKept, turn, turn_by, cut_by, entries_added}
 use Rattle.script_play.specs.declared.states.SessionState.{SessionState}
@@ -55,49 +52,49 @@ pub same_name : (name m : List ℕ) → bytes_eq name m ≡ true → name ≡ m
 same_name name m is = same_text name m (sym is)
 
 -- what is over stays over
-past_next : (p : Place) (text : List ℕ) (k : TextKind) (pending : Option (List (List ℕ))) (txn : ℕ) → IsPast p.number pending txn → IsPast (next_by p text (kind_by k) pending).number (next_by p text (kind_by k) pending).pending txn
-past_next p text kind.Begin None txn is = omega (arith, is)
-past_next p text kind.Commit None txn is = is
-past_next p text kind.Rollback None txn is = is
-past_next p text kind.SetSnapshot None txn is = is
-past_next p text kind.Other None txn is = omega (arith, is)
-past_next p text kind.Begin (Some texts) txn is = is
-past_next p text kind.Commit (Some texts) txn is = omega (arith, is)
-past_next p text kind.Rollback (Some texts) txn is = omega (arith, is)
-past_next p text kind.SetSnapshot (Some texts) txn is = is
-past_next p text kind.Other (Some texts) txn is = is
+past_next : (p : Place) (text : List ℕ) (k : Kind) (pending : Option (List (List ℕ))) (txn : ℕ) → IsPast p.number pending txn → IsPast (next_by p text k pending).number (next_by p text k pending).pending txn
+past_next p text BeginText None txn is = omega (arith, is)
+past_next p text CommitText None txn is = is
+past_next p text RollbackText None txn is = is
+past_next p text (LevelText later) None txn is = is
+past_next p text OtherText None txn is = omega (arith, is)
+past_next p text BeginText (Some texts) txn is = is
+past_next p text CommitText (Some texts) txn is = omega (arith, is)
+past_next p text RollbackText (Some texts) txn is = omega (arith, is)
+past_next p text (LevelText later) (Some texts) txn is = is
+past_next p text OtherText (Some texts) txn is = is
 
 -- what a line of the script leaves, so that the run so far is kept
 pub record Keeps (script : Script) (done : List BodyLine) (l : BodyLine) (lines : List Line) (entries entries' : List EntryLine) (taken' : List (List GenidItem)) (ages ages' : Ages) (name text : List ℕ) (number : ℕ) (rs : List ReplyLine) (after : SessionState) : Type 0 where
   pub stored : Stored script entries' taken' ages'
   pub grows : Grows entries entries'
   pub next : ages.next ≤ ages'.next
-  pub stands : Standing script entries' ages'.next name (next_place statement_language (place_after statement_language name done) text) (told name lines ++ numbered number rs) after
+  pub stands : Standing script entries' ages'.next name (next_place sql_language (place_after sql_language name done) text) (told name lines ++ numbered number rs) after
   pub paced : Paced (length entries) (length entries') rs
-  pub belongs : number ≡ number_told statement_language (place_after statement_language name done) text
+  pub belongs : number ≡ number_told sql_language (place_after sql_language name done) text
   pub added : List EntryLine
   pub grown : entries' ≡ entries ++ added
-  pub turn : IsTurn (length entries) lines name (number_told statement_language (place_after statement_language name done) text) (is_own statement_language (place_after statement_language name done) text) rs added
+  pub turn : IsTurn (length entries) lines name (number_told sql_language (place_after sql_language name done) text) (is_own sql_language (place_after sql_language name done) text) rs added
   pub answered : AllByRecursion (IsEntryTold (from_nothing script) (view_of (from_nothing script) entries') (lines ++ lines_of name number rs)) entries'
   pub ended : AllByRecursion (IsEnded (done ++ l ∷ [])) entries'
 
 module _ (script : Script) (done left : List BodyLine) (l : BodyLine) (lines : List Line) (entries : List EntryLine) (taken : List (List GenidItem)) (ages : Ages) (states sites' : List SessionState) (name text : List ℕ)
     (was : SoFar script done (l ∷ left) lines entries taken ages states) (is_act : l.act ≡ Say name text) where
   abbrev pub place : Place
-  place = place_after statement_language name done
+  place = place_after sql_language name done
 
-  own_place : place_after statement_language name (done ++ l ∷ []) ≡ next_place statement_language place text
-  own_place = after_own statement_language name name text l done is_act (same_itself name)
+  own_place : place_after sql_language name (done ++ l ∷ []) ≡ next_place sql_language place text
+  own_place = after_own sql_language name name text l done is_act (same_itself name)
 
   -- an entry of a transaction that is over stays so
   pub ended_later : (e : EntryLine) → IsEnded done e → IsEnded (done ++ l ∷ []) e
   ended_later (Setup position) is = tt
   ended_later (Commit position session txn begin level) is = pick (bytes_eq name session) refl
     where
-      pick : (b : Bool) → bytes_eq name session ≡ b → IsPast (place_after statement_language session (done ++ l ∷ [])).number (place_after statement_language session (done ++ l ∷ [])).pending txn
-      pick true same = subst (λ (p : Place). IsPast p.number p.pending txn) (sym (after_own statement_language session name text l done is_act same))
-          (past_next (place_after statement_language session done) text (kind_of (statement_of text)) (place_after statement_language session done).pending txn is)
-      pick false differs = subst (λ (p : Place). IsPast p.number p.pending txn) (sym (after_other statement_language session name text l done is_act differs)) is
+      pick : (b : Bool) → bytes_eq name session ≡ b → IsPast (place_after sql_language session (done ++ l ∷ [])).number (place_after sql_language session (done ++ l ∷ [])).pending txn
+      pick true same = subst (λ (p : Place). IsPast p.number p.pending txn) (sym (after_own sql_language session name text l done is_act same))
+          (past_next (place_after sql_language session done) text (kind_of_text text) (place_after sql_language session done).pending txn is)
+      pick false differs = subst (λ (p : Place). IsPast p.number p.pending txn) (sym (after_other sql_language session name text l done is_act differs)) is
 
   pub advanced : (entries' : List EntryLine) (taken' : List (List GenidItem)) (ages' : Ages) (number : ℕ) (rs : List ReplyLine) (after : SessionState) → Keeps script done l lines entries entries' taken' ages ages' name text number rs after →
       state_of name script.sessions sites' ≡ after → ((m : List ℕ) → bytes_eq name m ≡ false → state_of m script.sessions sites' ≡ state_of m script.sessions states) →
@@ -126,60 +123,57 @@ module _ (script : Script) (done left : List BodyLine) (l : BodyLine) (lines : L
       laws : ArePaced (from_nothing script).origin name number lines (length entries') rs
       laws = paced_laws (from_nothing script).origin name number (length entries) (length entries') lines rs was.named was.stored.opened (omega arith) longer keeps.paced
 
-      its_piece : piece statement_language done l.act rs ≡ lines_of name number rs
-      its_piece = ap (λ (a : Act). piece statement_language done a rs) is_act ∙ ap (λ n. lines_of name n rs) (sym keeps.belongs)
+      its_piece : piece sql_language done l.act rs ≡ lines_of name number rs
+      its_piece = ap (λ (a : Act). piece sql_language done a rs) is_act ∙ ap (λ n. lines_of name n rs) (sym keeps.belongs)
 
-      its_turn_of : IsTurnOf statement_language (last_position (from_nothing script).origin (Setup 1 ∷ was.later)) done lines l.act rs keeps.added
+      its_turn_of : IsTurnOf sql_language (last_position (from_nothing script).origin (Setup 1 ∷ was.later)) done lines l.act rs keeps.added
       its_turn_of =
           let count : length entries ≡ suc (length was.later) = ap (λ (es : List EntryLine). length es) was.begins in
           let now : length entries ≡ last_position (from_nothing script).origin (Setup 1 ∷ was.later) = omega (arith, count) in
-          subst (λ (a : Act). IsTurnOf statement_language (last_position (from_nothing script).origin (Setup 1 ∷ was.later)) done lines a rs keeps.added) (sym is_act)
-          (subst (λ n. IsTurn n lines name (number_told statement_language place text) (is_own statement_language place text) rs keeps.added) now keeps.turn)
+          subst (λ (a : Act). IsTurnOf sql_language (last_position (from_nothing script).origin (Setup 1 ∷ was.later)) done lines a rs keeps.added) (sym is_act)
+          (subst (λ n. IsTurn n lines name (number_told sql_language place text) (is_own sql_language place text) rs keeps.added) now keeps.turn)
 
-      own_stands : Standing script entries' ages'.next name (place_after statement_language name (done ++ l ∷ [])) (told name (lines ++ lines_of name number rs)) (state_of name script.sessions sites')
+      own_stands : Standing script entries' ages'.next name (place_after sql_language name (done ++ l ∷ [])) (told name (lines ++ lines_of name number rs)) (state_of name script.sessions sites')
       own_stands =
           subst (λ (p : Place). Standing script entries' ages'.next name p (told name (lines ++ lines_of name number rs)) (state_of name script.sessions sites')) (sym own_place)
-          (subst (λ ls. Standing script entries' ages'.next name (next_place statement_language place text) ls (state_of name script.sessions sites')) (sym (told_append name lines (lines_of name number rs) ∙ ap (λ ls. told name lines ++ ls) (told_own name name number rs (same_itself name))))
-          (subst (λ (x : SessionState). Standing script entries' ages'.next name (next_place statement_language place text) (told name lines ++ numbered number rs) x) (sym own) keeps.stands))
+          (subst (λ ls. Standing script entries' ages'.next name (next_place sql_language place text) ls (state_of name script.sessions sites')) (sym (told_append name lines (lines_of name number rs) ∙ ap (λ ls. told name lines ++ ls) (told_own name name number rs (same_itself name))))
+          (subst (λ (x : SessionState). Standing script entries' ages'.next name (next_place sql_language place text) (told name lines ++ numbered number rs) x) (sym own) keeps.stands))
 
-      other_stands : (m : List ℕ) → bytes_eq name m ≡ false → Standing script entries' ages'.next m (place_after statement_language m (done ++ l ∷ [])) (told m (lines ++ lines_of name number rs)) (state_of m script.sessions sites')
+      other_stands : (m : List ℕ) → bytes_eq name m ≡ false → Standing script entries' ages'.next m (place_after sql_language m (done ++ l ∷ [])) (told m (lines ++ lines_of name number rs)) (state_of m script.sessions sites')
       other_stands m differs =
-          subst (λ (p : Place). Standing script entries' ages'.next m p (told m (lines ++ lines_of name number rs)) (state_of m script.sessions sites')) (sym (after_other statement_language m name text l done is_act differs))
-          (subst (λ ls. Standing script entries' ages'.next m (place_after statement_language m done) ls (state_of m script.sessions sites')) (sym (told_append m lines (lines_of name number rs) ∙ ap (λ ls. told m lines ++ ls) (told_other m name number rs differs) ∙ append-nil (told m lines)))
-          (subst (λ (x : SessionState). Standing script entries' ages'.next m (place_after statement_language m done) (told m lines) x) (sym (others m differs))
-          (stands_on script entries entries' ages.next ages'.next m (place_after statement_language m done) (told m lines) (state_of m script.sessions states) keeps.grows keeps.next (was.standing m))))
+          subst (λ (p : Place). Standing script entries' ages'.next m p (told m (lines ++ lines_of name number rs)) (state_of m script.sessions sites')) (sym (after_other sql_language m name text l done is_act differs))
+          (subst (λ ls. Standing script entries' ages'.next m (place_after sql_language m done) ls (state_of m script.sessions sites')) (sym (told_append m lines (lines_of name number rs) ∙ ap (λ ls. told m lines ++ ls) (told_other m name number rs differs) ∙ append-nil (told m lines)))
+          (subst (λ (x : SessionState). Standing script entries' ages'.next m (place_after sql_language m done) (told m lines) x) (sym (others m differs))
+          (stands_on script entries entries' ages.next ages'.next m (place_after sql_language m done) (told m lines) (state_of m script.sessions states) keeps.grows keeps.next (was.standing m))))
 
-      standing : (m : List ℕ) → Standing script entries' ages'.next m (place_after statement_language m (done ++ l ∷ [])) (told m (lines ++ lines_of name number rs)) (state_of m script.sessions sites')
+      standing : (m : List ℕ) → Standing script entries' ages'.next m (place_after sql_language m (done ++ l ∷ [])) (told m (lines ++ lines_of name number rs)) (state_of m script.sessions sites')
       standing m = pick (bytes_eq name m) refl
         where
-          pick : (b : Bool) → bytes_eq name m ≡ b → Standing script entries' ages'.next m (place_after statement_language m (done ++ l ∷ [])) (told m (lines ++ lines_of name number rs)) (state_of m script.sessions sites')
-          pick true same = subst (λ n. Standing script entries' ages'.next n (place_after statement_language n (done ++ l ∷ [])) (told n (lines ++ lines_of name number rs)) (state_of n script.sessions sites')) (same_name name m same) own_stands
+          pick : (b : Bool) → bytes_eq name m ≡ b → Standing script entries' ages'.next m (place_after sql_language m (done ++ l ∷ [])) (told m (lines ++ lines_of name number rs)) (state_of m script.sessions sites')
+          pick true same = subst (λ n. Standing script entries' ages'.next n (place_after sql_language n (done ++ l ∷ [])) (told n (lines ++ lines_of name number rs)) (state_of n script.sessions sites')) (same_name name m same) own_stands
           pick false differs = other_stands m differs
 
   -- the session before its line
-  pub comes : CanRun script → IsOn (tables_of script) (statement_of text) → AllByRecursion (λ (t : TableDef). AllByRecursion (λ (c : ColumnDef). c.kind ≡ Integer) t.columns) (tables_of script) →
-      Comes script entries taken ages name place place.pending (state_of name script.sessions states).doing text (kind_of (statement_of text)) (told name lines)
-  comes can on kinds = record {
-    lawful = can.tables_lawful;
-    integers = kinds;
+  pub comes : AllByRecursion HasDistinctColumns (tables_of script) → Comes script entries taken ages name place place.pending (state_of name script.sessions states).doing text (kind_of_text text) (told name lines)
+  comes apart = record {
+    apart = apart;
     stored = was.stored;
-    on = on;
     before = (was.standing name).before;
     mine = (was.standing name).mine;
     is = (was.standing name).is;
     past = (was.standing name).past;
     doing = (was.standing name).doing;
     entered = all_map (IsEnded done) (IsPastOf name place.number place.pending) of_name entries was.ended;
-    its = λ t ends number. its_transaction statement_language name name text script.body done left l t was.body is_act (same_itself name)
+    its = λ t ends number. its_transaction sql_language name name text script.body done left l t was.body is_act (same_itself name)
         (ap (λ (p : Place). p.over) own_place ∙ ends) (number ∙ ap (λ (p : Place). p.number) (sym own_place));
   }
     where
       of_name : (e : EntryLine) → IsEnded done e → IsPastOf name place.number place.pending e
       of_name (Setup position) is = tt
-      of_name (Commit position session txn begin level) is = λ same. subst (λ n. IsPast (place_after statement_language n done).number (place_after statement_language n done).pending txn) (same_name session name same) is
+      of_name (Commit position session txn begin level) is = λ same. subst (λ n. IsPast (place_after sql_language n done).number (place_after sql_language n done).pending txn) (same_name session name same) is
 
   -- what a line leaves, where it did what it does
-  pub turn_keeps : (entries' : List EntryLine) (taken' : List (List GenidItem)) (ages' : Ages) (t : Turned) → Turns script entries entries' taken' ages ages' name (next_place statement_language place text) (told name lines) (number_told statement_language place text) (is_own statement_language place text) t →
+  pub turn_keeps : (entries' : List EntryLine) (taken' : List (List GenidItem)) (ages' : Ages) (t : Turned) → Turns script entries entries' taken' ages ages' name (next_place sql_language place text) (told name lines) (number_told sql_language place text) (is_own sql_language place text) t →
       Keeps script done l lines entries entries' taken' ages ages' name text t.number t.replies t.after
   turn_keeps entries' taken' ages' t turn = record {
     stored = turn.stored;
@@ -201,13 +195,13 @@ module _ (script : Script) (done left : List BodyLine) (l : BodyLine) (lines : L
       told_all : told name all_lines ≡ told name lines ++ numbered t.number t.replies
       told_all = told_append name lines (lines_of name t.number t.replies) ∙ ap (λ ls. told name lines ++ ls) (told_own name name t.number t.replies (same_itself name))
 
-      up_to : (are_up_to (is_last_of (is_own statement_language place text)) t.replies ≡ true) ⊎ ((t.replies ≡ []) × WasCutUnder (told name lines) (number_told statement_language place text)) →
-          (are_up_to (is_last_of (is_own statement_language place text)) t.replies ≡ true) ⊎ ((t.replies ≡ []) × WasCut lines name (number_told statement_language place text))
+      up_to : (are_up_to (is_last_of (is_own sql_language place text)) t.replies ≡ true) ⊎ ((t.replies ≡ []) × WasCutUnder (told name lines) (number_told sql_language place text)) →
+          (are_up_to (is_last_of (is_own sql_language place text)) t.replies ≡ true) ⊎ ((t.replies ≡ []) × WasCut lines name (number_told sql_language place text))
       up_to (inl is) = inl is
-      up_to (inr (none, (cause, cuts_it, stands))) = inr (none, (cause, cuts_it, told_stands name (number_told statement_language place text) cause lines stands))
+      up_to (inr (none, (cause, cuts_it, stands))) = inr (none, (cause, cuts_it, told_stands name (number_told sql_language place text) cause lines stands))
 
-      turn_with : (added : List EntryLine) → entries' ≡ entries ++ added → IsAppended (length entries) name (number_told statement_language place text) t.replies added →
-          IsTurn (length entries) lines name (number_told statement_language place text) (is_own statement_language place text) t.replies added
+      turn_with : (added : List EntryLine) → entries' ≡ entries ++ added → IsAppended (length entries) name (number_told sql_language place text) t.replies added →
+          IsTurn (length entries) lines name (number_told sql_language place text) (is_own sql_language place text) t.replies added
       turn_with added grown appended = record {
         told = up_to turn.up_to;
         timely = subst (λ n. AllByRecursion (IsTimely (length entries) n) t.replies) (ap (λ (es : List EntryLine). length es) grown ∙ length-append entries added) (timely_paced (length entries) (length entries') t.replies turn.paced);
@@ -215,8 +209,8 @@ module _ (script : Script) (done left : List BodyLine) (l : BodyLine) (lines : L
       }
 
       -- the entry that the line appends, if it appends one
-      appends : IsNews script name (told name lines) entries entries' (next_place statement_language place text) t →
-          (added : List EntryLine) × (entries' ≡ entries ++ added) × IsTurn (length entries) lines name (number_told statement_language place text) (is_own statement_language place text) t.replies added
+      appends : IsNews script name (told name lines) entries entries' (next_place sql_language place text) t →
+          (added : List EntryLine) × (entries' ≡ entries ++ added) × IsTurn (length entries) lines name (number_told sql_language place text) (is_own sql_language place text) t.replies added
       appends (inl same) = ([], same ∙ sym (append-nil entries), turn_with [] (same ∙ sym (append-nil entries)) tt)
       appends (inr (more, stands, past, begins)) = (
         entry_of name t.number t.begin t.after.level (length entries) ∷ [],
@@ -224,13 +218,13 @@ module _ (script : Script) (done left : List BodyLine) (l : BodyLine) (lines : L
         turn_with (entry_of name t.number t.begin t.after.level (length entries) ∷ []) more (refl, t.begin, t.after.level, ap (λ n. entry_of name n t.begin t.after.level (length entries)) turn.number, stands),
       )
 
-      news : (added : List EntryLine) × (entries' ≡ entries ++ added) × IsTurn (length entries) lines name (number_told statement_language place text) (is_own statement_language place text) t.replies added
+      news : (added : List EntryLine) × (entries' ≡ entries ++ added) × IsTurn (length entries) lines name (number_told sql_language place text) (is_own sql_language place text) t.replies added
       news = appends turn.news
 
       answered_later : (e : EntryLine) → IsEntryTold (from_nothing script) (view_of (from_nothing script) entries) lines e → IsEntryTold (from_nothing script) (view_of (from_nothing script) entries) all_lines e
       answered_later e is = entry_told_more (from_nothing script) (view_of (from_nothing script) entries) lines (lines_of name t.number t.replies) e is
 
-      answered : IsNews script name (told name lines) entries entries' (next_place statement_language place text) t → AllByRecursion (IsEntryTold (from_nothing script) (view_of (from_nothing script) entries') all_lines) entries'
+      answered : IsNews script name (told name lines) entries entries' (next_place sql_language place text) t → AllByRecursion (IsEntryTold (from_nothing script) (view_of (from_nothing script) entries') all_lines) entries'
       answered (inl same) = subst (λ es. AllByRecursion (IsEntryTold (from_nothing script) (view_of (from_nothing script) es) all_lines) es) (sym same) (all_map (IsEntryTold (from_nothing script) (view_of (from_nothing script) entries) lines) _ answered_later entries was.answered)
       answered (inr (more, stands, past, its)) = subst (λ es. AllByRecursion (IsEntryTold (from_nothing script) (view_of (from_nothing script) es) all_lines) es) (sym more)
           (all_append _ entries (e ∷ [])
@@ -257,7 +251,7 @@ module _ (script : Script) (done left : List BodyLine) (l : BodyLine) (lines : L
                 says = told_all ∙ its.says ∙ ap (λ (ls : List Numbered). its.before ++ ls) (sym (append-nil _));
               }
 
-      ended : IsNews script name (told name lines) entries entries' (next_place statement_language place text) t → AllByRecursion (IsEnded (done ++ l ∷ [])) entries'
+      ended : IsNews script name (told name lines) entries entries' (next_place sql_language place text) t → AllByRecursion (IsEnded (done ++ l ∷ [])) entries'
       ended (inl same) = subst (λ es. AllByRecursion (IsEnded (done ++ l ∷ [])) es) (sym same) (all_map (IsEnded done) _ ended_later entries was.ended)
       ended (inr (more, stands, past, begins)) = subst (λ es. AllByRecursion (IsEnded (done ++ l ∷ [])) es) (sym more)
           (all_append _ entries (entry_of name t.number t.begin t.after.level (length entries) ∷ []) (all_map (IsEnded done) _ ended_later entries was.ended)
@@ -265,7 +259,7 @@ module _ (script : Script) (done left : List BodyLine) (l : BodyLine) (lines : L
 
   -- what the line does, by the number of transactions that the session has begun, and its level
   abbrev pub turn_at : ℕ → Level → Turned
-  turn_at n level = turn_by (world script entries taken ages) n level text (kind_of (statement_of text)) (state_of name script.sessions states).doing
+  turn_at n level = turn_by (world script entries taken ages) n level text (kind_of_text text) (state_of name script.sessions states).doing
 
   abbrev pub its_turn : Turned
   its_turn = turn_at (state_of name script.sessions states).number (state_of name script.sessions states).level
@@ -274,16 +268,15 @@ module _ (script : Script) (done left : List BodyLine) (l : BodyLine) (lines : L
   KeptAt ages' n level = IsKept (length entries) ages ages' (turn_at n level).added
 
   abbrev pub TurnsAt : Ages → ℕ → Level → Type 0
-  TurnsAt ages' n level = Turns script entries (entries ++ entries_added name (length entries) (turn_at n level)) (taken ++ map taken_by (turn_at n level).added) ages ages' name (next_place statement_language place text) (told name lines) (number_told statement_language place text) (is_own statement_language place text) (turn_at n level)
+  TurnsAt ages' n level = Turns script entries (entries ++ entries_added name (length entries) (turn_at n level)) (taken ++ map taken_by (turn_at n level).added) ages ages' name (next_place sql_language place text) (told name lines) (number_told sql_language place text) (is_own sql_language place text) (turn_at n level)
 
   -- a line that was done keeps the run so far
-  pub turned_keeps : CanRun script → IsOn (tables_of script) (statement_of text) → AllByRecursion (λ (t : TableDef). AllByRecursion (λ (c : ColumnDef). c.kind ≡ Integer) t.columns) (tables_of script) →
-      (lines' : List Line) (entries' : List EntryLine) (taken' : List (List GenidItem)) (ages' : Ages) →
+  pub turned_keeps : AllByRecursion HasDistinctColumns (tables_of script) → (lines' : List Line) (entries' : List EntryLine) (taken' : List (List GenidItem)) (ages' : Ages) →
       IsTurned (world script entries taken ages) name (turn (world script entries taken ages) (state_of name script.sessions states) text) lines lines' entries entries' taken' ages' →
       state_of name script.sessions sites' ≡ (turn (world script entries taken ages) (state_of name script.sessions states) text).after →
       ((m : List ℕ) → bytes_eq name m ≡ false → state_of m script.sessions sites' ≡ state_of m script.sessions states) →
       SoFar script (done ++ l ∷ []) left lines' entries' taken' ages' sites'
-  turned_keeps can on kinds lines' entries' taken' ages' run own others =
+  turned_keeps apart lines' entries' taken' ages' run own others =
       subst (λ ls. SoFar script (done ++ l ∷ []) left ls entries' taken' ages' sites') (sym run.lines_are)
       (subst (λ es. SoFar script (done ++ l ∷ []) left (lines ++ lines_of name its_turn.number its_turn.replies) es taken' ages' sites') (sym run.entries_are)
       (subst (λ ts. SoFar script (done ++ l ∷ []) left (lines ++ lines_of name its_turn.number its_turn.replies) (entries ++ entries_added name (length entries) its_turn) ts ages' sites') (sym run.taken_are)
@@ -298,17 +291,16 @@ module _ (script : Script) (done left : List BodyLine) (l : BodyLine) (lines : L
 
       goes : TurnsAt ages' (state_of name script.sessions states).number (state_of name script.sessions states).level
       goes = subst (λ (v : Level). KeptAt ages' (state_of name script.sessions states).number v → TurnsAt ages' (state_of name script.sessions states).number v) level
-          (subst (λ n. KeptAt ages' n place.level → TurnsAt ages' n place.level) number (turns script entries taken ages ages' name place text (told name lines) (kind_of (statement_of text)) place.pending (state_of name script.sessions states).doing (comes can on kinds))) run.rows_are
+          (subst (λ n. KeptAt ages' n place.level → TurnsAt ages' n place.level) number (turns script entries taken ages ages' name place text (told name lines) (kind_of_text text) place.pending (state_of name script.sessions states).doing (comes apart))) run.rows_are
 
   -- and so does one that was cut short
-  pub cut_keeps : CanRun script → IsOn (tables_of script) (statement_of text) → AllByRecursion (λ (t : TableDef). AllByRecursion (λ (c : ColumnDef). c.kind ≡ Integer) t.columns) (tables_of script) →
-      (lines' : List Line) (entries' : List EntryLine) (taken' : List (List GenidItem)) (ages' : Ages) (c : Cut) →
-      cut_by (state_of name script.sessions states).number (state_of name script.sessions states).level (kind_of (statement_of text)) (state_of name script.sessions states).doing ≡ Some c →
+  pub cut_keeps : AllByRecursion HasDistinctColumns (tables_of script) → (lines' : List Line) (entries' : List EntryLine) (taken' : List (List GenidItem)) (ages' : Ages) (c : Cut) →
+      cut_by (state_of name script.sessions states).number (state_of name script.sessions states).level (kind_of_text text) (state_of name script.sessions states).doing ≡ Some c →
       IsCutShort (world script entries taken ages) name c lines lines' entries entries' taken' ages' →
       state_of name script.sessions sites' ≡ c.after →
       ((m : List ℕ) → bytes_eq name m ≡ false → state_of m script.sessions sites' ≡ state_of m script.sessions states) →
       SoFar script (done ++ l ∷ []) left lines' entries' taken' ages' sites'
-  cut_keeps can on kinds lines' entries' taken' ages' c is run own others =
+  cut_keeps apart lines' entries' taken' ages' c is run own others =
       subst (λ ls. SoFar script (done ++ l ∷ []) left ls entries' taken' ages' sites') (sym run.lines_are)
       (subst (λ es. SoFar script (done ++ l ∷ []) left (lines ++ lines_of name c.number (reply.NoMemory ∷ [])) es taken' ages' sites') (sym run.entries_are)
       (subst (λ ts. SoFar script (done ++ l ∷ []) left (lines ++ lines_of name c.number (reply.NoMemory ∷ [])) entries ts ages' sites') (sym run.taken_are)
@@ -322,15 +314,15 @@ module _ (script : Script) (done left : List BodyLine) (l : BodyLine) (lines : L
         belongs = stands.number;
         added = [];
         grown = sym (append-nil entries);
-        turn = record { told = inl (cut_up_to (is_own statement_language place text)); timely = (tt, tt); appended = tt };
+        turn = record { told = inl (cut_up_to (is_own sql_language place text)); timely = (tt, tt); appended = tt };
         answered = all_map (IsEntryTold (from_nothing script) (view_of (from_nothing script) entries) lines) _ later entries was.answered;
         ended = all_map (IsEnded done) _ ended_later entries was.ended;
       }) own others))))
     where
-      stands : CutStands script entries ages name (next_place statement_language place text) (told name lines) (number_told statement_language place text) c
-      stands = cuts script entries taken ages name place text (told name lines) (kind_of (statement_of text)) place.pending (state_of name script.sessions states).doing (comes can on kinds) c
-          (ap (λ n. cut_by n place.level (kind_of (statement_of text)) (state_of name script.sessions states).doing) (sym (was.standing name).number)
-          ∙ ap (λ (v : Level). cut_by (state_of name script.sessions states).number v (kind_of (statement_of text)) (state_of name script.sessions states).doing) (sym (was.standing name).level) ∙ is)
+      stands : CutStands script entries ages name (next_place sql_language place text) (told name lines) (number_told sql_language place text) c
+      stands = cuts script entries taken ages name place text (told name lines) (kind_of_text text) place.pending (state_of name script.sessions states).doing (comes apart) c
+          (ap (λ n. cut_by n place.level (kind_of_text text) (state_of name script.sessions states).doing) (sym (was.standing name).number)
+          ∙ ap (λ (v : Level). cut_by (state_of name script.sessions states).number v (kind_of_text text) (state_of name script.sessions states).doing) (sym (was.standing name).level) ∙ is)
 
       later : (e : EntryLine) → IsEntryTold (from_nothing script) (view_of (from_nothing script) entries) lines e → IsEntryTold (from_nothing script) (view_of (from_nothing script) entries) (lines ++ lines_of name c.number (reply.NoMemory ∷ [])) e
       later e is = entry_told_more (from_nothing script) (view_of (from_nothing script) entries) lines (lines_of name c.number (reply.NoMemory ∷ [])) e is

@@ -3,13 +3,9 @@ use Rattle.std.proofs.Common.{◌≡◌, ℕ, zero, suc, ◌+◌, ◌≤◌, ◌
 use Rattle.std.proofs.lemmas.List.{length-set}
 use Rattle.std.specs.List.{AllByRecursion, slice_get}
 use Rattle.std.specs.Str.{bytes_eq}
-use Rattle.cdb_values.specs.declared.tables.ColumnDef.{ColumnDef}
 use Rattle.cdb_values.specs.declared.tables.TableDef.{TableDef}
-use Rattle.cdb_values.specs.declared.tables.ColumnType.TheVariants.{Integer}
 use Rattle.snapshot_rows.specs.Ages.{Ages, seen}
 use Rattle.snapshot_rows.specs.declared.ages.Age.{Age}
-use Rattle.statement_read.specs.OnTables.{IsOn}
-use Rattle.statement_read.specs.Statements.{statement_of}
 use Rattle.script_form.specs.CanRun.{IsDeclared, IsSaid, tables_of}
 use Rattle.script_form.specs.declared.scripts.Script.{Script}
 use Rattle.script_form.specs.declared.scripts.Act.{Act}
@@ -21,9 +17,10 @@ use Rattle.report_text.specs.declared.reports.EntryLine.{EntryLine}
 use Rattle.report_text.specs.declared.reports.Line.{Line}
 use Rattle.report_text.specs.declared.reports.ReplyLine.{ReplyLine}
 use Rattle.report_laws.specs.Work.{Place, place_after}
-use Rattle.transaction_answers.specs.Answer.{statement_language}
+use Rattle.sql_answer.specs.Language.{sql_language}
 use Rattle.cdb_values.specs.declared.items.GenidItem.{GenidItem}
-use Rattle.transaction_answers.proofs.SoundLaws.{sound_length}
+use Rattle.script_play.proofs.SoundLaws.{distinct, sound_length}
+use Rattle.sql_run.specs.Sound.{HasDistinctColumns}
 use Rattle.script_play.specs.Ready.{IsReady, IsReadyToGo}
 use Rattle.script_play.specs.SoFar.{IsBefore, IsDoing, SoFar, Stored, state_of, session_from, session_at}
 use Rattle.script_play.specs.Step.{IsTaken, world_of}
@@ -113,20 +110,15 @@ other_state k name m (s ∷ ss) (y ∷ ys) at (suc i) x is place differs = pick 
     pick true later found = let same : k ≡ at = cc in absurd (omega (arith, same, place))
     pick false later found = go (bytes_eq s.name m) (later found)
 
--- columns of integers
-pub all_integers : (ts : List TableLine) → AllByRecursion (λ (t : TableLine). AllByRecursion (λ (c : ColumnDef). c.kind ≡ Integer) t.table.columns) ts →
-    AllByRecursion (λ (t : TableDef). AllByRecursion (λ (c : ColumnDef). c.kind ≡ Integer) t.columns) (map (λ t. t.table) ts)
-all_integers [] all = tt
-all_integers (t ∷ ts) all = (all.0, all_integers ts all.1)
-
 length-seen : (at : ℕ) (tables : List (List Age)) → length (seen at tables) ≡ length tables
 length-seen at [] = refl
 length-seen at (ages ∷ more) = let rest = length-seen at more in omega (arith, rest)
 
 -- the rows are ready for a line
-pub ready : (script : Script) (entries : List EntryLine) (taken : List (List GenidItem)) (ages : Ages) → Stored script entries taken ages → IsReady (tables_of script) (length entries) ages
-ready script entries taken ages stored = record {
+pub ready : (script : Script) (entries : List EntryLine) (taken : List (List GenidItem)) (ages : Ages) → AllByRecursion HasDistinctColumns (tables_of script) → Stored script entries taken ages → IsReady (tables_of script) (length entries) ages
+ready script entries taken ages apart stored = record {
   opened = stored.opened;
+  apart = apart;
   many = sym (length-seen (length entries) ages.tables) ∙ sound_length (tables_of script) ages.next _ (stored.sound (length entries) stored.opened (omega arith));
   up_to = stored.up_to;
   sound = stored.sound;
@@ -135,33 +127,31 @@ ready script entries taken ages stored = record {
 
 doing_ready : (script : Script) (entries : List EntryLine) (next : ℕ) (p : Place) (q : Option (List (List ℕ))) (d : InTransaction) (mine : List ReplyLine) → IsDoing script entries next p q d mine → IsReadyToGo (tables_of script) (length entries) next d
 doing_ready script entries next p None doing.No mine is = tt
-doing_ready script entries next p None (doing.Open begin ops) mine is = absurd is
+doing_ready script entries next p None (doing.Open begin ops uses) mine is = absurd is
 doing_ready script entries next p None doing.Aborted mine is = tt
 doing_ready script entries next p (Some texts) doing.No mine is = tt
-doing_ready script entries next p (Some texts) (doing.Open begin ops) mine is = (is.first, is.within, is.sound)
+doing_ready script entries next p (Some texts) (doing.Open begin ops uses) mine is = (is.first, is.within, is.sound)
 doing_ready script entries next p (Some texts) doing.Aborted mine is = tt
 
 -- the run before a line of a session
 pub record Turn (script : Script) (name text : List ℕ) (lines : List Line) (entries : List EntryLine) (ages : Ages) (states : List SessionState) : Type 0 where
   pub ready : IsReady (tables_of script) (length entries) ages
   pub to_go : (at : ℕ) (x : SessionState) → session_at name script.sessions ≡ Some at → slice_get states at ≡ Some x → IsReadyToGo (tables_of script) (length entries) ages.next x.doing
-  pub on : IsOn (tables_of script) (statement_of text)
   pub is_declared : session_at name script.sessions ≡ None → ⊥
   pub inside : (at : ℕ) → session_at name script.sessions ≡ Some at → at < length states
 
 pub turn_is : (script : Script) (left : List BodyLine) (l : BodyLine) (lines : List Line) (entries : List EntryLine) (taken : List (List GenidItem)) (ages : Ages) (states : List SessionState) (name text : List ℕ) →
     IsBefore script (l ∷ left) lines entries taken ages states → l.act ≡ Say name text → Turn script name text lines entries ages states
 turn_is script left l lines entries taken ages states name text before is_act = record {
-  ready = ready script entries taken ages before.so_far.stored;
+  ready = ready script entries taken ages (distinct [] (tables_of script) before.can_run.tables_lawful) before.so_far.stored;
   to_go = λ at x found has. subst (λ (y : SessionState). IsReadyToGo (tables_of script) (length entries) ages.next y.doing) (found_state 0 name script.sessions states at at x found (omega arith) has)
-      (doing_ready script entries ages.next (place_after statement_language name before.done) (place_after statement_language name before.done).pending (state_of name script.sessions states).doing _ (before.so_far.standing name).doing);
-  on = said.1;
-  is_declared = declared 0 name script.sessions said.0;
+      (doing_ready script entries ages.next (place_after sql_language name before.done) (place_after sql_language name before.done).pending (state_of name script.sessions states).doing _ (before.so_far.standing name).doing);
+  is_declared = declared 0 name script.sessions said;
   inside = λ at found. let w = within 0 name script.sessions at found in let same = before.same in omega (arith, w, same);
 }
   where
-    said : IsDeclared name script.sessions × IsOn (tables_of script) (statement_of text)
-    said = subst (λ (a : Act). IsSaid script.sessions (tables_of script) a) is_act before.said.0
+    said : IsDeclared name script.sessions
+    said = (subst (λ (a : Act). IsSaid script.sessions a) is_act before.said.0).0
 
 -- a line that was taken keeps the run so far
 pub turn_taken : (script : Script) (left : List BodyLine) (l : BodyLine) (lines lines' : List Line) (entries entries' : List EntryLine) (taken taken' : List (List GenidItem)) (ages ages' : Ages) (states : List SessionState) (name text : List ℕ) (at : ℕ) (x after : SessionState) →
@@ -182,9 +172,6 @@ turn_taken script left l lines lines' entries entries' taken taken' ages ages' s
     inside : at < length states
     inside = let w = within 0 name script.sessions at found in let same = before.same in omega (arith, w, same)
 
-    on : IsOn (tables_of script) (statement_of text)
-    on = (subst (λ (a : Act). IsSaid script.sessions (tables_of script) a) is_act before.said.0).1
-
     own : state_of name script.sessions (slice_set states at after) ≡ after
     own = set_state 0 name script.sessions states at at after found (omega arith) inside
 
@@ -193,9 +180,9 @@ turn_taken script left l lines lines' entries entries' taken taken' ages ages' s
 
     go : IsTaken (world_of (tables_of script) ages taken (length entries)) name (state_of name script.sessions states) text after lines lines' entries entries' taken' ages' →
         SoFar script (before.done ++ l ∷ []) left lines' entries' taken' ages' (slice_set states at after)
-    go (inl (done, there)) = turned_keeps script before.done left l lines entries taken ages states (slice_set states at after) name text before.so_far is_act before.can_run on (all_integers script.tables before.can_run.integers)
+    go (inl (done, there)) = turned_keeps script before.done left l lines entries taken ages states (slice_set states at after) name text before.so_far is_act (distinct [] (tables_of script) before.can_run.tables_lawful)
         lines' entries' taken' ages' done (own ∙ there) others
-    go (inr (c, is, short, there)) = cut_keeps script before.done left l lines entries taken ages states (slice_set states at after) name text before.so_far is_act before.can_run on (all_integers script.tables before.can_run.integers)
+    go (inr (c, is, short, there)) = cut_keeps script before.done left l lines entries taken ages states (slice_set states at after) name text before.so_far is_act (distinct [] (tables_of script) before.can_run.tables_lawful)
         lines' entries' taken' ages' c is short (own ∙ there) others
 
 -- what is put at a place twice is what was put there last

@@ -3,6 +3,7 @@ use Rattle.std.proofs.Common.{◌≡◌, ℕ, ◌≤◌, List, [], ◌∷◌, �
 use Rattle.std.proofs.lemmas.List.{length-append, append-nil}
 use Rattle.cdb_values.specs.Rows.{Rows}
 use Rattle.cdb_values.specs.declared.rows.Level.{Level}
+use Rattle.cdb_values.specs.declared.items.GenidItem.{GenidItem}
 use Rattle.cdb_values.specs.declared.rows.RowOp.{RowOp}
 use Rattle.script_form.specs.declared.scripts.Script.{Script}
 use Rattle.report_text.specs.declared.reports.EntryLine.{EntryLine}
@@ -13,11 +14,12 @@ use Rattle.report_laws.specs.History.{rows_at, view_of}
 use Rattle.report_laws.specs.Language.{Answered, alone}
 use Rattle.report_laws.specs.Told.{Along, Numbered, IsTold, numbered}
 use Rattle.report_laws.specs.Work.{Item, Place, Nowhere, transaction, with_open, number_of}
-use Rattle.transaction_answers.specs.Answer.{from_nothing, statement_language}
+use Rattle.script_play.specs.Basis.{from_nothing}
+use Rattle.sql_answer.specs.Language.{sql_language}
 use Rattle.report_laws.proofs.GrowLaws.{told_stays, cut_stays}
 use Rattle.report_laws.proofs.HistoryLaws.{rows_stay}
 use Rattle.report_laws.proofs.ToldLaws.{along_append, along_one, along_map}
-use Rattle.transaction_answers.proofs.SoundLaws.{ops_later}
+use Rattle.script_play.proofs.SoundLaws.{ops_later}
 use Rattle.script_play.specs.SoFar.{IsOpen, IsDoing, Standing}
 use Rattle.script_play.specs.Step.{state}
 use Rattle.script_play.specs.declared.states.SessionState.{SessionState}
@@ -36,24 +38,25 @@ module _ (script : Script) (entries : List EntryLine) (e : EntryLine) where
   longer = omega (arith, length-append entries (e ∷ []))
 
   pub alone_stays : (texts : List (List ℕ)) (begin : ℕ) → begin ≤ length entries →
-      alone statement_language (tables_of script) (rows_at (from_nothing script) grown begin) texts ≡ alone statement_language (tables_of script) (rows_at (from_nothing script) entries begin) texts
-  alone_stays texts begin within = ap (λ (r : Rows). alone statement_language (tables_of script) r texts) (rows_stay (from_nothing script) entries e begin (omega (arith, within)))
+      alone sql_language (tables_of script) (rows_at (from_nothing script) grown begin) texts ≡ alone sql_language (tables_of script) (rows_at (from_nothing script) entries begin) texts
+  alone_stays texts begin within = ap (λ (r : Rows). alone sql_language (tables_of script) r texts) (rows_stay (from_nothing script) entries e begin (omega (arith, within)))
 
-  open_stays : (next next' : ℕ) (texts : List (List ℕ)) (begin : ℕ) (ops : List RowOp) (mine : List ReplyLine) → next ≤ next' → IsOpen script entries next texts begin ops mine → IsOpen script grown next' texts begin ops mine
-  open_stays next next' texts begin ops mine le is = record {
+  open_stays : (next next' : ℕ) (texts : List (List ℕ)) (begin : ℕ) (ops : List RowOp) (uses : List GenidItem) (mine : List ReplyLine) → next ≤ next' → IsOpen script entries next texts begin ops uses mine → IsOpen script grown next' texts begin ops uses mine
+  open_stays next next' texts begin ops uses mine le is = record {
     first = is.first;
     within = let w = is.within in omega (arith, w, longer);
     says = is.says ∙ ap (λ (a : Answered). reply.Begin begin ∷ a.replies) (sym (alone_stays texts begin is.within));
     ops_are = is.ops_are ∙ ap (λ (a : Answered). a.ops) (sym (alone_stays texts begin is.within));
+    uses_are = is.uses_are ∙ ap (λ (a : Answered). a.uses) (sym (alone_stays texts begin is.within));
     sound = ops_later (tables_of script) next next' ops le is.sound;
   }
 
   doing_stays : (next next' : ℕ) (p : Place) (q : Option (List (List ℕ))) (d : InTransaction) (mine : List ReplyLine) → next ≤ next' → IsDoing script entries next p q d mine → IsDoing script grown next' p q d mine
   doing_stays next next' p None doing.No mine le is = is
-  doing_stays next next' p None (doing.Open begin ops) mine le is = absurd is
+  doing_stays next next' p None (doing.Open begin ops uses) mine le is = absurd is
   doing_stays next next' p None doing.Aborted mine le is = absurd is
   doing_stays next next' p (Some texts) doing.No mine le is = absurd is
-  doing_stays next next' p (Some texts) (doing.Open begin ops) mine le is = open_stays next next' texts begin ops mine le is
+  doing_stays next next' p (Some texts) (doing.Open begin ops uses) mine le is = open_stays next next' texts begin ops uses mine le is
   doing_stays next next' p (Some texts) doing.Aborted mine le is = cut_stays (from_nothing script) entries e (transaction p.number texts p.level Nowhere) mine is
 
   grown_stands : (next next' : ℕ) (name : List ℕ) (p : Place) (lines : List Numbered) (at : SessionState) → next ≤ next' → Standing script entries next name p lines at → Standing script grown next' name p lines at
@@ -70,14 +73,15 @@ module _ (script : Script) (entries : List EntryLine) (e : EntryLine) where
 -- the same open transaction, below a greater next genid
 open_later : (script : Script) (entries : List EntryLine) (next next' : ℕ) (p : Place) (q : Option (List (List ℕ))) (d : InTransaction) (mine : List ReplyLine) → next ≤ next' → IsDoing script entries next p q d mine → IsDoing script entries next' p q d mine
 open_later script entries next next' p None doing.No mine le is = is
-open_later script entries next next' p None (doing.Open begin ops) mine le is = absurd is
+open_later script entries next next' p None (doing.Open begin ops uses) mine le is = absurd is
 open_later script entries next next' p None doing.Aborted mine le is = absurd is
 open_later script entries next next' p (Some texts) doing.No mine le is = absurd is
-open_later script entries next next' p (Some texts) (doing.Open begin ops) mine le is = record {
+open_later script entries next next' p (Some texts) (doing.Open begin ops uses) mine le is = record {
   first = is.first;
   within = is.within;
   says = is.says;
   ops_are = is.ops_are;
+  uses_are = is.uses_are;
   sound = ops_later (tables_of script) next next' ops le is.sound;
 }
 open_later script entries next next' p (Some texts) doing.Aborted mine le is = is
@@ -102,9 +106,9 @@ overs_on script entries entries' name items lines (inl same) was = subst (λ es.
 overs_on script entries entries' name items lines (inr (e, grows)) was = subst (λ es. Along (IsTold (from_nothing script) (view_of (from_nothing script) es) name) items lines) (sym grows) (along_map (IsTold (from_nothing script) (view_of (from_nothing script) entries) name) (IsTold (from_nothing script) (view_of (from_nothing script) (entries ++ e ∷ [])) name) (told_stays (from_nothing script) entries e name) items lines was)
 
 pub alone_on : (script : Script) (entries entries' : List EntryLine) (texts : List (List ℕ)) (begin : ℕ) → Grows entries entries' → begin ≤ length entries →
-    alone statement_language (tables_of script) (rows_at (from_nothing script) entries' begin) texts ≡ alone statement_language (tables_of script) (rows_at (from_nothing script) entries begin) texts
-alone_on script entries entries' texts begin (inl same) within = ap (λ es. alone statement_language (tables_of script) (rows_at (from_nothing script) es begin) texts) same
-alone_on script entries entries' texts begin (inr (e, grows)) within = ap (λ es. alone statement_language (tables_of script) (rows_at (from_nothing script) es begin) texts) grows ∙ alone_stays script entries e texts begin within
+    alone sql_language (tables_of script) (rows_at (from_nothing script) entries' begin) texts ≡ alone sql_language (tables_of script) (rows_at (from_nothing script) entries begin) texts
+alone_on script entries entries' texts begin (inl same) within = ap (λ es. alone sql_language (tables_of script) (rows_at (from_nothing script) es begin) texts) same
+alone_on script entries entries' texts begin (inr (e, grows)) within = ap (λ es. alone sql_language (tables_of script) (rows_at (from_nothing script) es begin) texts) grows ∙ alone_stays script entries e texts begin within
 
 pub grows_length : (entries entries' : List EntryLine) → Grows entries entries' → length entries ≤ length entries'
 grows_length entries entries' (inl same) = let n = ap (λ es. length es) same in omega (arith, n)

@@ -21,15 +21,15 @@ use Rattle.report_laws.specs.Outcome.{IsRight, IsEntered}
 use Rattle.report_laws.specs.Told.{alone_at}
 use Rattle.script_form.specs.CanRun.{tables_of}
 use Rattle.report_laws.specs.Work.{Transaction, transaction_of}
-use Rattle.transaction_answers.specs.Answer.{from_nothing, statement_language}
-use Rattle.transaction_answers.proofs.LanguageLaws.{used_alone}
+use Rattle.script_play.specs.Basis.{from_nothing}
+use Rattle.sql_answer.specs.Language.{sql_language}
 use Rattle.cdb_values.specs.declared.items.GenidItem.{GenidItem}
-use Rattle.report_laws.proofs.EachLaws.{each_append, get_front, get_next}
+use Rattle.report_laws.proofs.EachLaws.{all_append, each_append, get_front, get_next}
 use Rattle.report_laws.proofs.HistoryLaws.{none_stands, rows_stay, rows_new, entry_new, taken_stays, taken_new, untouched_stays}
-use Rattle.transaction_answers.specs.Decisions.{first_conflict}
-use Rattle.transaction_answers.specs.Sound.{AreSound, IsSoundOp}
-use Rattle.transaction_answers.proofs.ConflictLaws.{none_since}
-use Rattle.transaction_answers.proofs.SoundLaws.{sound_later}
+use Rattle.commit_decisions.specs.Decisions.{first_conflict}
+use Rattle.sql_run.specs.Sound.{AreSound, IsSoundOp}
+use Rattle.commit_decisions.proofs.ConflictLaws.{none_since}
+use Rattle.script_play.proofs.SoundLaws.{all_named, sound_later}
 use Rattle.script_play.specs.SoFar.{Stored}
 use Rattle.script_play.specs.Step.{World, world_of, IsKept}
 
@@ -41,12 +41,13 @@ abbrev pub world : Script → List EntryLine → List (List GenidItem) → Ages 
 world script entries taken ages = world_of (tables_of script) ages taken (length entries)
 
 -- a transaction comes to its commit
-pub record Commits (script : Script) (entries : List EntryLine) (taken : List (List GenidItem)) (ages : Ages) (name : List ℕ) (t : Transaction) (begin : ℕ) (ops : List RowOp) : Type 0 where
+pub record Commits (script : Script) (entries : List EntryLine) (taken : List (List GenidItem)) (ages : Ages) (name : List ℕ) (t : Transaction) (begin : ℕ) (uses : List GenidItem) (ops : List RowOp) : Type 0 where
   pub stored : Stored script entries taken ages
   pub first : 1 ≤ begin
   pub within : begin ≤ length entries
-  pub is_its : transaction_of statement_language name t.number script.body ≡ Some t
+  pub is_its : transaction_of sql_language name t.number script.body ≡ Some t
   pub ops_are : ops ≡ (alone_at (from_nothing script) (view_of (from_nothing script) entries) t begin).ops
+  pub uses_are : uses ≡ (alone_at (from_nothing script) (view_of (from_nothing script) entries) t begin).uses
   pub sound : AllByRecursion (IsSoundOp (tables_of script) ages.next) ops
   pub once : AllByRecursion (λ e. is_entry_of name t.number e ≡ false) entries
   -- applied now, the operations leave sound rows, which fit
@@ -54,19 +55,25 @@ pub record Commits (script : Script) (entries : List EntryLine) (taken : List (L
   pub grows : ages.next ≤ (apply_all (rows_seen ages (length entries)) ops).next
   pub fits : AllFit (tables_of script) (apply_all (rows_seen ages (length entries)) ops).tables
 
-module _ (script : Script) (entries : List EntryLine) (taken : List (List GenidItem)) (ages : Ages) (name : List ℕ) (t : Transaction) (begin : ℕ) (ops : List RowOp) (c : Commits script entries taken ages name t begin ops) where
+module _ (script : Script) (entries : List EntryLine) (taken : List (List GenidItem)) (ages : Ages) (name : List ℕ) (t : Transaction) (begin : ℕ) (uses : List GenidItem) (ops : List RowOp) (c : Commits script entries taken ages name t begin uses ops) where
   abbrev pub now : ℕ
   now = length entries
 
-  -- what no entry since the begin touches, by the versions that were kept for each entry
-  pub untouched_now : first_conflict begin (drop begin taken) (taken_by ops) ≡ None → IsUntouched (view_of (from_nothing script) entries) begin (now + 1) (taken_by ops)
-  untouched_now none j after before =
-      ap (λ (items : List GenidItem). first_touched items (taken_by ops)) (sym (c.stored.taken_are j (omega (arith, after)) (omega (arith, before))))
-      ∙ none_since begin taken (taken_by ops) none j after (let same = c.stored.taken_length in omega (arith, before, same))
+  -- what it uses: what its texts used, and what its operations take away
+  abbrev pub used : List GenidItem
+  used = uses ++ taken_by ops
 
-  -- what it uses is what its operations take away
-  used_is : used_by (alone_at (from_nothing script) (view_of (from_nothing script) entries) t begin) ≡ taken_by ops
-  used_is = used_alone (tables_of script) (rows_at (from_nothing script) entries begin) t.texts ∙ ap (λ (o : List RowOp). taken_by o) (sym c.ops_are)
+  -- what no entry since the begin touches, by the versions that were kept for each entry
+  pub untouched_now : first_conflict begin (drop begin taken) used ≡ None → IsUntouched (view_of (from_nothing script) entries) begin (now + 1) used
+  untouched_now none j after before =
+      ap (λ (items : List GenidItem). first_touched items used) (sym (c.stored.taken_are j (omega (arith, after)) (omega (arith, before))))
+      ∙ none_since begin taken used none j after (let same = c.stored.taken_length in omega (arith, before, same))
+
+  -- these are what it uses when it is run alone
+  used_is : used_by (alone_at (from_nothing script) (view_of (from_nothing script) entries) t begin) ≡ used
+  used_is =
+      ap (λ (us : List GenidItem). us ++ taken_by (alone_at (from_nothing script) (view_of (from_nothing script) entries) t begin).ops) (sym c.uses_are)
+      ∙ ap (λ (o : List RowOp). uses ++ taken_by o) (sym c.ops_are)
 
   abbrev pub e : EntryLine
   e = entry_of name t.number begin t.level now
@@ -94,7 +101,7 @@ module _ (script : Script) (entries : List EntryLine) (taken : List (List GenidI
   pub rows_then : rows_at (from_nothing script) more (now + 1) ≡ apply_all (rows_seen ages now) ops
   rows_then = ap (λ k. rows_at (from_nothing script) more k) next_at ∙ rows_new (from_nothing script) entries e ∙ rows_there
 
-  module _ (ages' : Ages) (kept : IsKept now ages ages' (ops ∷ [])) (unbroken : first_broken (tables_of script) (apply_all (rows_seen ages now) ops).tables ≡ None) (some : ops ≢ []) (clear : first_conflict begin (drop begin taken) (taken_by ops) ≡ None) where
+  module _ (ages' : Ages) (kept : IsKept now ages ages' (ops ∷ [])) (unbroken : first_broken (tables_of script) (apply_all (rows_seen ages now) ops).tables ≡ None) (some : ops ≢ []) (clear : first_conflict begin (drop begin taken) used ≡ None) where
     good : IsGood (tables_of script) (apply_all (rows_seen ages now) ops).tables
     good = record { rows_fit = c.fits; keys_kept = unbroken }
 
@@ -169,16 +176,17 @@ module _ (script : Script) (entries : List EntryLine) (taken : List (List GenidI
           (sound_later (tables_of script) ages.next ages'.next (seen at ages.tables) (let g = c.grows in let n = next_is in omega (arith, g, n)) (c.stored.sound at first within)))
           (subst (λ (vs : List (List Version)). AreSound (tables_of script) ages'.next vs) (sym tables_are) (subst (λ k. AreSound (tables_of script) k (apply_all (rows_seen ages now) ops).tables) (sym next_is) c.applied));
       kept = subst (λ k. first_broken (tables_of script) (seen k ages'.tables) ≡ None) (sym count) (ap (λ (vs : List (List Version)). first_broken (tables_of script) vs) tables_are ∙ unbroken);
+      named = all_append _ taken (taken_by ops ∷ []) c.stored.named (all_named (tables_of script) ages.next ops c.sound, tt);
     }
 
     -- and the outcome is right
-    pub committed_right : (o : RowOp) (os : List RowOp) → ops ≡ o ∷ os → IsRight (from_nothing script) (view_of (from_nothing script) more) name t begin (taken_by ops) ops (reply.Committed (now + 1))
-    committed_right o os is = subst (λ (all : List RowOp). IsRight (from_nothing script) (view_of (from_nothing script) more) name t begin (taken_by ops) all (reply.Committed (now + 1))) (sym is) entered
+    pub committed_right : (o : RowOp) (os : List RowOp) → ops ≡ o ∷ os → IsRight (from_nothing script) (view_of (from_nothing script) more) name t begin used ops (reply.Committed (now + 1))
+    committed_right o os is = subst (λ (all : List RowOp). IsRight (from_nothing script) (view_of (from_nothing script) more) name t begin used all (reply.Committed (now + 1))) (sym is) entered
       where
-        entered : IsEntered (from_nothing script) (view_of (from_nothing script) more) name t begin (now + 1) (taken_by ops)
+        entered : IsEntered (from_nothing script) (view_of (from_nothing script) more) name t begin (now + 1) used
         entered = record {
           later = let w = c.within in omega (arith, w);
           stands = ap (λ k. entry_at (from_nothing script).origin more k) next_at ∙ entry_new (from_nothing script) entries e;
-          untouched = untouched_stays (from_nothing script) entries e begin (now + 1) (taken_by ops) (omega arith) (omega arith) (untouched_now clear);
+          untouched = untouched_stays (from_nothing script) entries e begin (now + 1) used (omega arith) (omega arith) (untouched_now clear);
           is_good = subst (λ (r : Rows). IsGood (tables_of script) r.tables) (sym rows_then) good;
         }

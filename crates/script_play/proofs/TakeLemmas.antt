@@ -1,43 +1,45 @@
 -- A line that is planned, done or cut short: what each step needs and leaves.
-use Rattle.std.proofs.Common.{◌≡◌, ℕ, List, [], ◌∷◌, ◌++◌, length, map, refl, sym, subst, ap, arith, Option, Some, ◌∙◌, Result, Ok, Err, IfOk, IfSome, inr}
+use Rattle.std.proofs.Common.{◌≡◌, ℕ, List, [], ◌∷◌, ◌++◌, length, map, refl, sym, subst, ap, arith, Option, Some, ◌∙◌, Result, Ok, Err, IfOk, IfSome, inl, inr}
 use Rattle.std.specs.List.{AllByRecursion}
 use Rattle.cdb_values.specs.declared.rows.Level.{Level}
 use Rattle.cdb_values.specs.declared.rows.RowOp.{RowOp}
 use Rattle.cdb_values.specs.declared.tables.TableDef.{TableDef}
 use Rattle.cdb_values.specs.Views.{IsBased}
 use Rattle.snapshot_rows.specs.Ages.{Ages, seen}
-use Rattle.statement_read.specs.OnTables.{IsOn}
-use Rattle.statement_read.specs.Statements.{statement_of, kind_of}
-use Rattle.statement_read.specs.declared.statements.TextKind.{TextKind}
-use Rattle.statement_read.specs.declared.statements.TextKind.TheVariants as kind
+use Rattle.sql_answer.specs.Answers.{Meaning}
+use Rattle.sql_answer.specs.Language.{meaning, bound_in}
+use Rattle.sql_answer.specs.Reading.{kind_of_text}
+use Rattle.sql_run.specs.Texts.{answer_to}
 use Rattle.report_text.specs.declared.reports.EntryLine.{EntryLine}
 use Rattle.report_text.specs.declared.reports.Line.{Line}
 use Rattle.report_text.specs.declared.reports.ReplyLine.{ReplyLine}
 use Rattle.report_text.specs.declared.reports.ReplyLine.TheVariants as reply
-use Rattle.transaction_answers.specs.Answer.{answer}
 use Rattle.cdb_values.specs.Changes.{taken_by}
+use Rattle.report_laws.specs.Language.{Kind, BeginText, CommitText, RollbackText, LevelText, OtherText}
 use Rattle.report_laws.specs.Told.{lines_of}
 use Rattle.cdb_values.specs.declared.items.GenidItem.{GenidItem}
-use Rattle.transaction_answers.specs.Decisions.{added_by}
-use Rattle.transaction_answers.specs.Sound.{IsSoundOp}
-use Rattle.transaction_answers.proofs.AnswerLaws.{sound_answer}
-use Rattle.transaction_answers.proofs.SoundLaws.{sound_based}
+use Rattle.commit_decisions.specs.Decisions.{added_by}
+use Rattle.sql_run.specs.Sound.{IsSoundOp}
+use Rattle.script_play.proofs.SqlLaws.{sound_answer}
+use Rattle.script_play.proofs.SoundLaws.{sound_based}
 use Rattle.script_play.specs.Effects.{IsEffect, IsEffectDone, added_in, cut_in, entries_of}
 use Rattle.script_play.specs.Ready.{IsReady, IsReadyToGo}
-use Rattle.script_play.specs.Step.{World, Turned, IsTaken, IsKept, answer_at, outcome, turn_by, cut_by, world_of}
+use Rattle.script_play.specs.RunViews.{IsOfText}
+use Rattle.script_play.specs.Step.{World, Turned, IsTaken, IsKept, answer_of, outcome, turn_of, cut_by, world_of}
 use Rattle.script_play.specs.declared.effects.LineEffect.{LineEffect}
 use Rattle.script_play.specs.declared.states.SessionState.{SessionState}
 use Rattle.script_play.specs.declared.states.InTransaction.{InTransaction}
 use Rattle.script_play.specs.declared.states.InTransaction.TheVariants as doing
 
 -- the operations of a transaction of one line are sound
-pub own_sound : (tables : List TableDef) (now begin : ℕ) (ages : Ages) (text : List ℕ) (ops done : List RowOp) → IsReady tables now ages → IsOn tables (statement_of text) → begin ≡ now → done ≡ [] →
-    ops ≡ (answer tables (seen begin ages.tables) done text).ops → AllByRecursion (IsSoundOp tables ages.next) ops
-own_sound tables now begin ages text ops done ready on at none are =
+pub own_sound : (tables : List TableDef) (now begin : ℕ) (ages : Ages) (meant : Meaning) (ops done : List RowOp) → IsReady tables now ages → IsOfText tables meant → begin ≡ now → done ≡ [] →
+    ops ≡ (answer_to tables (seen begin ages.tables) done meant).ops → AllByRecursion (IsSoundOp tables ages.next) ops
+own_sound tables now begin ages meant ops done ready of_text at none are =
     subst (λ (o : List RowOp). AllByRecursion (IsSoundOp tables ages.next) o) (sym are)
-    (subst (λ b. AllByRecursion (IsSoundOp tables ages.next) (answer tables (seen b ages.tables) done text).ops) (sym at)
-    (sound_answer tables (seen now ages.tables) done text ages.next (ready.sound now ready.opened (omega arith)) on
-    (subst (λ (o : List RowOp). AllByRecursion (IsSoundOp tables ages.next) o) (sym none) tt)))
+    (subst (λ (m : Meaning). AllByRecursion (IsSoundOp tables ages.next) (answer_to tables (seen begin ages.tables) done m).ops) (sym of_text.1)
+    (subst (λ b. AllByRecursion (IsSoundOp tables ages.next) (answer_to tables (seen b ages.tables) done (meaning bound_in tables of_text.0)).ops) (sym at)
+    (sound_answer tables (seen now ages.tables) done of_text.0 ages.next ready.apart (ready.sound now ready.opened (omega arith))
+    (subst (λ (o : List RowOp). AllByRecursion (IsSoundOp tables ages.next) o) (sym none) tt))))
 
 -- operations that are committed are based where all are
 added_based : (n : ℕ) (o : ReplyLine) (ops : List RowOp) → AllByRecursion (IsBased n) ops → AllByRecursion (AllByRecursion (IsBased n)) (added_by o ops)
@@ -57,7 +59,7 @@ added_based n (reply.Lost node down) ops all = tt
 added_based n (reply.NoMajority up nodes) ops all = tt
 added_based n reply.NoMemory ops all = tt
 
-module _ (tables : List TableDef) (now : ℕ) (ages : Ages) (taken : List (List GenidItem)) (text : List ℕ) (ready : IsReady tables now ages) (on : IsOn tables (statement_of text)) where
+module _ (tables : List TableDef) (now : ℕ) (ages : Ages) (taken : List (List GenidItem)) (meant : Meaning) (ready : IsReady tables now ages) (of_text : IsOfText tables meant) where
   abbrev pub here : World
   here = world_of tables ages taken now
 
@@ -65,27 +67,27 @@ module _ (tables : List TableDef) (now : ℕ) (ages : Ages) (taken : List (List 
   sound_are_based ops all = subst (λ n. AllByRecursion (IsBased n) ops) (sym ready.many) (sound_based tables ages.next ops all)
 
   -- what a line commits is based
-  pub turn_based : (number : ℕ) (level : Level) (k : TextKind) (d : InTransaction) → IsReadyToGo tables now ages.next d → AllByRecursion (AllByRecursion (IsBased (length ages.tables))) (turn_by here number level text k d).added
-  turn_based number level kind.Begin doing.No go = tt
-  turn_based number level kind.Commit doing.No go = tt
-  turn_based number level kind.Rollback doing.No go = tt
-  turn_based number level kind.SetSnapshot doing.No go = tt
-  turn_based number level kind.Other doing.No go =
-      added_based (length ages.tables) (outcome here now (answer_at here now [] text).ops) (answer_at here now [] text).ops
-      (sound_are_based (answer_at here now [] text).ops (own_sound tables now now ages text (answer_at here now [] text).ops [] ready on refl refl refl))
-  turn_based number level kind.Begin (doing.Open begin ops) go = tt
-  turn_based number level kind.Commit (doing.Open begin ops) go = added_based (length ages.tables) (outcome here begin ops) ops (sound_are_based ops go.2)
-  turn_based number level kind.Rollback (doing.Open begin ops) go = tt
-  turn_based number level kind.SetSnapshot (doing.Open begin ops) go = tt
-  turn_based number level kind.Other (doing.Open begin ops) go = tt
-  turn_based number level kind.Begin doing.Aborted go = tt
-  turn_based number level kind.Commit doing.Aborted go = tt
-  turn_based number level kind.Rollback doing.Aborted go = tt
-  turn_based number level kind.SetSnapshot doing.Aborted go = tt
-  turn_based number level kind.Other doing.Aborted go = tt
+  pub turn_based : (number : ℕ) (level : Level) (k : Kind) (d : InTransaction) → IsReadyToGo tables now ages.next d → AllByRecursion (AllByRecursion (IsBased (length ages.tables))) (turn_of here number level meant k d).added
+  turn_based number level BeginText doing.No go = tt
+  turn_based number level CommitText doing.No go = tt
+  turn_based number level RollbackText doing.No go = tt
+  turn_based number level (LevelText later) doing.No go = tt
+  turn_based number level OtherText doing.No go =
+      added_based (length ages.tables) (outcome here now (answer_of here now [] meant).uses (answer_of here now [] meant).ops) (answer_of here now [] meant).ops
+      (sound_are_based (answer_of here now [] meant).ops (own_sound tables now now ages meant (answer_of here now [] meant).ops [] ready of_text refl refl refl))
+  turn_based number level BeginText (doing.Open begin ops uses) go = tt
+  turn_based number level CommitText (doing.Open begin ops uses) go = added_based (length ages.tables) (outcome here begin uses ops) ops (sound_are_based ops go.2)
+  turn_based number level RollbackText (doing.Open begin ops uses) go = tt
+  turn_based number level (LevelText later) (doing.Open begin ops uses) go = tt
+  turn_based number level OtherText (doing.Open begin ops uses) go = tt
+  turn_based number level BeginText doing.Aborted go = tt
+  turn_based number level CommitText doing.Aborted go = tt
+  turn_based number level RollbackText doing.Aborted go = tt
+  turn_based number level (LevelText later) doing.Aborted go = tt
+  turn_based number level OtherText doing.Aborted go = tt
 
   -- and so is what a plan commits
-  pub effect_based : (number : ℕ) (level : Level) (k : TextKind) (d : InTransaction) (p : LineEffect) → IsReadyToGo tables now ages.next d → IsEffect p (turn_by here number level text k d) → AllByRecursion (AllByRecursion (IsBased (length ages.tables))) (added_in p.added)
+  pub effect_based : (number : ℕ) (level : Level) (k : Kind) (d : InTransaction) (p : LineEffect) → IsReadyToGo tables now ages.next d → IsEffect p (turn_of here number level meant k d) → AllByRecursion (AllByRecursion (IsBased (length ages.tables))) (added_in p.added)
   effect_based number level k d p go is = subst (λ (a : List (List RowOp)). AllByRecursion (AllByRecursion (IsBased (length ages.tables))) a) (sym is.added) (turn_based number level k d go)
 
 -- a plan that was done is what the line does
@@ -105,10 +107,18 @@ effect_done w name p t after lines lines' entries entries' taken' ages' now is t
 )
 
 -- a line that was cut short
-pub cut_taken : {E : Type 0} (w : World) (name : List ℕ) (before : SessionState) (text : List ℕ) (k : TextKind) (cut : Option SessionState) (result : Result SessionState E) (lines lines' : List Line) (entries entries' : List EntryLine) (taken' : List (List GenidItem)) (ages' : Ages) →
-    k ≡ kind_of (statement_of text) → IfSome cut (λ after. cut_by before.number before.level k before.doing ≡ cut_in after) → IfOk result (λ after. cut ≡ Some after) → IfOk result (λ after. lines' ≡ lines ++ lines_of name after.number (reply.NoMemory ∷ [])) →
+pub cut_taken : {E : Type 0} (w : World) (name : List ℕ) (before : SessionState) (text : List ℕ) (k : Kind) (cut : Option SessionState) (result : Result SessionState E) (lines lines' : List Line) (entries entries' : List EntryLine) (taken' : List (List GenidItem)) (ages' : Ages) →
+    k ≡ kind_of_text text → IfSome cut (λ after. cut_by before.number before.level k before.doing ≡ cut_in after) → IfOk result (λ after. cut ≡ Some after) → IfOk result (λ after. lines' ≡ lines ++ lines_of name after.number (reply.NoMemory ∷ [])) →
     entries' ≡ entries → taken' ≡ w.taken → ages' ≡ w.ages → IfOk result (λ after. IsTaken w name before text after lines lines' entries entries' taken' ages')
 cut_taken w name before text k cut (Err e) lines lines' entries entries' taken' ages' is its there told es ts as_ = tt
 cut_taken w name before text k cut (Ok after) lines lines' entries entries' taken' ages' is its there told es ts as_ =
     let mine : IfSome (Some after) (λ (x : SessionState). cut_by before.number before.level k before.doing ≡ cut_in x) = subst (λ (o : Option SessionState). IfSome o (λ (x : SessionState). cut_by before.number before.level k before.doing ≡ cut_in x)) there its in
-    inr (record { number = after.number; after = after }, ap (λ (x : TextKind). cut_by before.number before.level x before.doing) (sym is) ∙ mine, record { lines_are = told; entries_are = es; taken_are = ts; rows_are = as_ }, refl)
+    inr (record { number = after.number; after = after }, ap (λ (x : Kind). cut_by before.number before.level x before.doing) (sym is) ∙ mine, record { lines_are = told; entries_are = es; taken_are = ts; rows_are = as_ }, refl)
+
+-- a line that was done, by its prepared text
+pub done_taken : (w : World) (name : List ℕ) (before : SessionState) (text : List ℕ) (meant : Meaning) (k : Kind) (after : SessionState) (lines lines' : List Line) (entries entries' : List EntryLine) (taken' : List (List GenidItem)) (ages' : Ages) →
+    k ≡ kind_of_text text → meant ≡ meaning bound_in w.tables text → IsEffectDone w name (turn_of w before.number before.level meant k before.doing) after lines lines' entries entries' taken' ages' →
+    IsTaken w name before text after lines lines' entries entries' taken' ages'
+done_taken w name before text meant k after lines lines' entries entries' taken' ages' is means done =
+    inl (subst (λ (m : Meaning). IsEffectDone w name (turn_of w before.number before.level m (kind_of_text text) before.doing) after lines lines' entries entries' taken' ages') means
+    (subst (λ (x : Kind). IsEffectDone w name (turn_of w before.number before.level meant x before.doing) after lines lines' entries entries' taken' ages') is done))

@@ -5,27 +5,20 @@ use Rattle.std.proofs.lemmas.Bool.{ne_eqb}
 use Rattle.std.specs.List.{AllByRecursion}
 use Rattle.std.specs.Str.{bytes_eq}
 use Rattle.cdb_values.specs.declared.rows.Level.{Level}
-use Rattle.cdb_values.specs.declared.rows.Level.TheVariants.{Snapshot}
 use Rattle.cdb_values.specs.Rows.{apply_all}
 use Rattle.cdb_values.specs.declared.rows.RowOp.{RowOp}
 use Rattle.cdb_values.specs.declared.rows.StatementError.TheVariants.{State}
 use Rattle.cdb_values.specs.declared.rows.Version.{Version}
-use Rattle.cdb_values.specs.declared.tables.TableDef.{TableDef}
-use Rattle.cdb_values.specs.declared.tables.ColumnDef.{ColumnDef}
-use Rattle.cdb_values.specs.declared.tables.ColumnType.TheVariants.{Integer}
 use Rattle.snapshot_rows.specs.Ages.{Ages, rows_seen, seen}
-use Rattle.statement_read.specs.OnTables.{IsOn}
-use Rattle.statement_read.specs.Statements.{statement_of}
-use Rattle.statement_read.specs.declared.statements.TextKind.{TextKind}
-use Rattle.statement_read.specs.declared.statements.TextKind.TheVariants as kind
-use Rattle.script_form.specs.CanRun.{AreTaken, tables_of}
+use Rattle.script_form.specs.CanRun.{tables_of}
 use Rattle.script_form.specs.declared.scripts.Script.{Script}
 use Rattle.report_text.specs.declared.reports.EntryLine.{EntryLine}
 use Rattle.report_text.specs.declared.reports.EntryLine.TheVariants.{Setup, Commit}
 use Rattle.report_text.specs.declared.reports.ReplyLine.{ReplyLine}
 use Rattle.report_text.specs.declared.reports.ReplyLine.TheVariants as reply
-use Rattle.report_laws.specs.Language.{Answered, alone}
-use Rattle.transaction_answers.specs.Answer.{answer, kind_by, from_nothing, statement_language}
+use Rattle.report_laws.specs.Language.{Answered, alone, Kind, BeginText, CommitText, RollbackText, LevelText, OtherText}
+use Rattle.script_play.specs.Basis.{from_nothing}
+use Rattle.sql_answer.specs.Language.{sql_language}
 use Rattle.report_laws.specs.Each.{StandsIn}
 use Rattle.cdb_values.specs.Changes.{taken_by}
 use Rattle.report_laws.specs.History.{rows_at, is_entry_of, view_of}
@@ -41,13 +34,12 @@ use Rattle.report_laws.proofs.PieceLaws.{up_to_last, up_to_one, plain_all_quiet}
 use Rattle.report_laws.proofs.TurnedLaws.{loud, no_row}
 use Rattle.report_laws.specs.Answers.{ArePlain}
 use Rattle.report_laws.proofs.PlainLaws.{plain_then, plain_paced}
-use Rattle.transaction_answers.proofs.LanguageLaws.{statements_answer, used_alone}
 use Rattle.report_laws.proofs.ToldLaws.{numbered_append}
-use Rattle.transaction_answers.specs.Decisions.{added_by}
-use Rattle.transaction_answers.specs.Sound.{AreSound, IsSoundOp}
-use Rattle.transaction_answers.proofs.AnswerLaws.{sound_answer}
-use Rattle.transaction_answers.proofs.AppliedLaws.{sound_applied}
-use Rattle.transaction_answers.proofs.FitLaws.{sound_fits}
+use Rattle.commit_decisions.specs.Decisions.{added_by}
+use Rattle.sql_run.specs.Sound.{AreSound, HasDistinctColumns, IsSoundOp}
+use Rattle.script_play.proofs.SqlLaws.{sql_is_answered, sound_answer, uses_more}
+use Rattle.script_play.proofs.AppliedLaws.{sound_applied}
+use Rattle.script_play.proofs.FitLaws.{sound_fits}
 use Rattle.script_play.specs.SoFar.{Stored, IsOpen, IsDoing, IsPast, Standing}
 use Rattle.script_play.specs.Step.{World, Turned, state, turned, turn_by, outcome, answer_at, own_line, committed, goes_on, entries_added, IsKept}
 use Rattle.script_play.specs.declared.states.SessionState.{SessionState}
@@ -65,7 +57,7 @@ IsPastOf name number pending (Commit position session txn begin level) = bytes_e
 -- the session's transaction of that number, begun there, was told whole by the last of these lines, up to this reply
 pub record WasTold (script : Script) (entries : List EntryLine) (name : List ℕ) (number begin : ℕ) (outcome : ReplyLine) (lines : List Numbered) : Type 0 where
   pub transaction : Transaction
-  pub is_its : transaction_of statement_language name number script.body ≡ Some transaction
+  pub is_its : transaction_of sql_language name number script.body ≡ Some transaction
   pub within : begin ≤ length entries
   pub before : List Numbered
   pub says : lines ≡ before ++ numbered number (reply.Begin begin ∷ ((alone_at (from_nothing script) (view_of (from_nothing script) entries) transaction begin).replies ++ outcome ∷ []))
@@ -93,11 +85,9 @@ pub record Turns (script : Script) (entries entries' : List EntryLine) (taken' :
   pub news : IsNews script name lines entries entries' after t
 
 -- a session before a line of its own
-pub record Comes (script : Script) (entries : List EntryLine) (taken : List (List GenidItem)) (ages : Ages) (name : List ℕ) (p : Place) (pending : Option (List (List ℕ))) (what : InTransaction) (text : List ℕ) (k : TextKind) (lines : List Numbered) : Type 0 where
-  pub lawful : AreTaken [] (tables_of script)
-  pub integers : AllByRecursion (λ (t : TableDef). AllByRecursion (λ (c : ColumnDef). c.kind ≡ Integer) t.columns) (tables_of script)
+pub record Comes (script : Script) (entries : List EntryLine) (taken : List (List GenidItem)) (ages : Ages) (name : List ℕ) (p : Place) (pending : Option (List (List ℕ))) (what : InTransaction) (text : List ℕ) (k : Kind) (lines : List Numbered) : Type 0 where
+  pub apart : AllByRecursion HasDistinctColumns (tables_of script)
   pub stored : Stored script entries taken ages
-  pub on : IsOn (tables_of script) (statement_of text)
   pub before : List Numbered
   pub mine : List ReplyLine
   pub is : lines ≡ before ++ numbered p.number mine
@@ -105,7 +95,7 @@ pub record Comes (script : Script) (entries : List EntryLine) (taken : List (Lis
   pub doing : IsDoing script entries ages.next p pending what mine
   pub entered : AllByRecursion (IsPastOf name p.number pending) entries
   -- a transaction that this line ends is the session's of its number
-  pub its : (t : Transaction) → (next_by p text (kind_by k) pending).over ≡ p.over ++ Does t ∷ [] → t.number ≡ (next_by p text (kind_by k) pending).number → transaction_of statement_language name t.number script.body ≡ Some t
+  pub its : (t : Transaction) → (next_by p text k pending).over ≡ p.over ++ Does t ∷ [] → t.number ≡ (next_by p text k pending).number → transaction_of sql_language name t.number script.body ≡ Some t
 
 -- no entry of a session is of a transaction that is not over
 none_past : (name : List ℕ) (number n : ℕ) (pending : Option (List (List ℕ))) → ((txn : ℕ) → IsPast number pending txn → txn < n) → (es : List EntryLine) → AllByRecursion (IsPastOf name number pending) es → AllByRecursion (λ e. is_entry_of name n e ≡ false) es
@@ -127,7 +117,7 @@ module _ (script : Script) (entries : List EntryLine) (taken : List (List GenidI
   w = world script entries taken ages
 
   -- a line that adds nothing to the history
-  quiet : (k : TextKind) (pending : Option (List (List ℕ))) (what : InTransaction) → Comes script entries taken ages name p pending what text k lines → (after : Place) (told number : ℕ) (own : Bool) (replies : List ReplyLine) (at : SessionState) → ages' ≡ ages →
+  quiet : (k : Kind) (pending : Option (List (List ℕ))) (what : InTransaction) → Comes script entries taken ages name p pending what text k lines → (after : Place) (told number : ℕ) (own : Bool) (replies : List ReplyLine) (at : SessionState) → ages' ≡ ages →
       Standing script entries ages.next name after (lines ++ numbered number replies) at → Paced (length entries) (length entries) replies → number ≡ told → (are_up_to (is_last_of own) replies ≡ true) ⊎ ((replies ≡ []) × WasCutUnder lines told) →
       Turns script entries (entries ++ []) (taken ++ []) ages ages' name after lines told own (turned number replies at)
   quiet k pending what c after told number own replies at same stands paced number_is up_to =
@@ -145,47 +135,48 @@ module _ (script : Script) (entries : List EntryLine) (taken : List (List GenidI
       })))
 
   -- the answer to a line, at a position of the history
-  answer_is : (k : TextKind) (pending : Option (List (List ℕ))) (what : InTransaction) → Comes script entries taken ages name p pending what text k lines → (begin : ℕ) → 1 ≤ begin → begin ≤ length entries → (ops : List RowOp) →
-      answer_at w begin ops text ≡ answer (tables_of script) (rows_at (from_nothing script) entries begin).tables ops text
-  answer_is k pending what c begin first within ops = ap (λ (vs : List (List Version)). answer (tables_of script) vs ops text) (c.stored.rows_are begin first within)
+  answer_is : (k : Kind) (pending : Option (List (List ℕ))) (what : InTransaction) → Comes script entries taken ages name p pending what text k lines → (begin : ℕ) → 1 ≤ begin → begin ≤ length entries → (ops : List RowOp) →
+      answer_at w begin ops text ≡ sql_language.answer (tables_of script) (rows_at (from_nothing script) entries begin).tables ops text
+  answer_is k pending what c begin first within ops = ap (λ (vs : List (List Version)). sql_language.answer (tables_of script) vs ops text) (c.stored.rows_are begin first within)
 
-  answer_sound : (k : TextKind) (pending : Option (List (List ℕ))) (what : InTransaction) → Comes script entries taken ages name p pending what text k lines → (begin : ℕ) → 1 ≤ begin → begin ≤ length entries → (ops : List RowOp) →
+  answer_sound : (k : Kind) (pending : Option (List (List ℕ))) (what : InTransaction) → Comes script entries taken ages name p pending what text k lines → (begin : ℕ) → 1 ≤ begin → begin ≤ length entries → (ops : List RowOp) →
       AllByRecursion (IsSoundOp (tables_of script) ages.next) ops → AllByRecursion (IsSoundOp (tables_of script) ages.next) (answer_at w begin ops text).ops
   answer_sound k pending what c begin first within ops all =
-      sound_answer (tables_of script) (seen begin ages.tables) ops text ages.next (c.stored.sound begin first within) c.on all
+      sound_answer (tables_of script) (seen begin ages.tables) ops text ages.next c.apart (c.stored.sound begin first within) all
 
   -- a transaction that a line ends comes to its commit
-  comes_to : (k : TextKind) (pending : Option (List (List ℕ))) (what : InTransaction) → Comes script entries taken ages name p pending what text k lines → (t : Transaction) (begin : ℕ) (ops : List RowOp) → 1 ≤ begin → begin ≤ length entries →
-      transaction_of statement_language name t.number script.body ≡ Some t → ops ≡ (alone_at (from_nothing script) (view_of (from_nothing script) entries) t begin).ops → AllByRecursion (IsSoundOp (tables_of script) ages.next) ops →
-      AllByRecursion (λ e. is_entry_of name t.number e ≡ false) entries → Commits script entries taken ages name t begin ops
-  comes_to k pending what c t begin ops first within its are sound once = record {
+  comes_to : (k : Kind) (pending : Option (List (List ℕ))) (what : InTransaction) → Comes script entries taken ages name p pending what text k lines → (t : Transaction) (begin : ℕ) (uses : List GenidItem) (ops : List RowOp) → 1 ≤ begin → begin ≤ length entries →
+      transaction_of sql_language name t.number script.body ≡ Some t → ops ≡ (alone_at (from_nothing script) (view_of (from_nothing script) entries) t begin).ops → uses ≡ (alone_at (from_nothing script) (view_of (from_nothing script) entries) t begin).uses →
+      AllByRecursion (IsSoundOp (tables_of script) ages.next) ops → AllByRecursion (λ e. is_entry_of name t.number e ≡ false) entries → Commits script entries taken ages name t begin uses ops
+  comes_to k pending what c t begin uses ops first within its are uses_are sound once = record {
     stored = c.stored;
     first = first;
     within = within;
     is_its = its;
     ops_are = are;
+    uses_are = uses_are;
     sound = sound;
     once = once;
     applied = applied.0;
     grows = applied.1;
-    fits = sound_fits (tables_of script) (apply_all (rows_seen ages (length entries)) ops).next (apply_all (rows_seen ages (length entries)) ops).tables c.lawful c.integers applied.0;
+    fits = sound_fits (tables_of script) (apply_all (rows_seen ages (length entries)) ops).next (apply_all (rows_seen ages (length entries)) ops).tables applied.0;
   }
     where
       applied : AreSound (tables_of script) (apply_all (rows_seen ages (length entries)) ops).next (apply_all (rows_seen ages (length entries)) ops).tables × (ages.next ≤ (apply_all (rows_seen ages (length entries)) ops).next)
       applied = sound_applied (tables_of script) (rows_seen ages (length entries)) ops (c.stored.sound (length entries) c.stored.opened (omega arith)) sound
 
   -- a decision on a transaction that the line ends, behind these replies of it
-  decided_turn : (t : Transaction) (begin : ℕ) (ops : List RowOp) (o : ReplyLine) (added : List (List RowOp)) → begin ≤ length entries → 1 ≤ begin →
-      Decided script entries taken ages ages' name t begin ops o added → Grows entries (entries_after entries name t.number begin t.level added)
-  decided_turn t begin ops o added within first d = go d.told
+  decided_turn : (t : Transaction) (begin : ℕ) (uses : List GenidItem) (ops : List RowOp) (o : ReplyLine) (added : List (List RowOp)) → begin ≤ length entries → 1 ≤ begin →
+      Decided script entries taken ages ages' name t begin uses ops o added → Grows entries (entries_after entries name t.number begin t.level added)
+  decided_turn t begin uses ops o added within first d = go d.told
     where
       go : (added ≡ []) ⊎ ((x : List RowOp) × (added ≡ x ∷ []) × (o ≡ reply.Committed (length entries + 1))) → Grows entries (entries_after entries name t.number begin t.level added)
       go (inl none) = inl (ap (λ (l : List (List RowOp)). entries_after entries name t.number begin t.level l) none ∙ append-nil entries)
       go (inr (x, one, is)) = inr (entry_of name t.number begin t.level (length entries), ap (λ (l : List (List RowOp)). entries_after entries name t.number begin t.level l) one)
 
-  news_of : (t : Transaction) (begin : ℕ) (ops : List RowOp) (o : ReplyLine) (added : List (List RowOp)) (after : Place) (turn : Turned) → turn.number ≡ t.number → turn.begin ≡ begin → turn.after.level ≡ t.level → StandsIn turn.replies o → IsPast after.number after.pending t.number → WasTold script entries name turn.number turn.begin o (lines ++ numbered turn.number turn.replies) →
-      Decided script entries taken ages ages' name t begin ops o added → IsNews script name lines entries (entries_after entries name t.number begin t.level added) after turn
-  news_of t begin ops o added after turn number at level stands past begins d = go d.told
+  news_of : (t : Transaction) (begin : ℕ) (uses : List GenidItem) (ops : List RowOp) (o : ReplyLine) (added : List (List RowOp)) (after : Place) (turn : Turned) → turn.number ≡ t.number → turn.begin ≡ begin → turn.after.level ≡ t.level → StandsIn turn.replies o → IsPast after.number after.pending t.number → WasTold script entries name turn.number turn.begin o (lines ++ numbered turn.number turn.replies) →
+      Decided script entries taken ages ages' name t begin uses ops o added → IsNews script name lines entries (entries_after entries name t.number begin t.level added) after turn
+  news_of t begin uses ops o added after turn number at level stands past begins d = go d.told
     where
       go : (added ≡ []) ⊎ ((x : List RowOp) × (added ≡ x ∷ []) × (o ≡ reply.Committed (length entries + 1))) → IsNews script name lines entries (entries_after entries name t.number begin t.level added) after turn
       go (inl none) = inl (ap (λ (l : List (List RowOp)). entries_after entries name t.number begin t.level l) none ∙ append-nil entries)
@@ -206,18 +197,18 @@ module _ (script : Script) (entries : List EntryLine) (taken : List (List GenidI
   Goal after told own t = Kept t → Turns script entries (entries ++ entries_added name (length entries) t) (taken ++ map taken_by t.added) ages ages' name after lines told own t
 
   -- outside a transaction nothing of one was told
-  pub idle_lines : (k : TextKind) (c : Comes script entries taken ages name p None doing.No text k lines) → lines ≡ c.before
+  pub idle_lines : (k : Kind) (c : Comes script entries taken ages name p None doing.No text k lines) → lines ≡ c.before
   idle_lines k c = c.is ∙ ap (λ rs. c.before ++ numbered p.number rs) c.doing ∙ append-nil c.before
 
-  begun : (c : Comes script entries taken ages name p None doing.No text kind.Begin lines) → Goal (next_by p text (kind_by kind.Begin) None) (number_by p.number (kind_by kind.Begin) None) false (turn_by w p.number p.level text kind.Begin doing.No)
-  begun c kept = quiet kind.Begin None doing.No c (with_open p (Some []) (p.number + 1)) (p.number + 1) (p.number + 1) false (reply.Begin (length entries) ∷ []) (state (p.number + 1) p.level (doing.Open (length entries) [])) kept
-      (in_transaction script entries entries (inl refl) name p c.before c.past [] (reply.Begin (length entries) ∷ []) (lines ++ numbered (p.number + 1) (reply.Begin (length entries) ∷ [])) ages.next (p.number + 1) (doing.Open (length entries) [])
-      (record { first = c.stored.opened; within = omega arith; says = refl; ops_are = refl; sound = tt })
-      (ap (λ ls. ls ++ numbered (p.number + 1) (reply.Begin (length entries) ∷ [])) (idle_lines kind.Begin c)))
+  begun : (c : Comes script entries taken ages name p None doing.No text BeginText lines) → Goal (next_by p text BeginText None) (number_by p.number BeginText None) false (turn_by w p.number p.level text BeginText doing.No)
+  begun c kept = quiet BeginText None doing.No c (with_open p (Some []) (p.number + 1)) (p.number + 1) (p.number + 1) false (reply.Begin (length entries) ∷ []) (state (p.number + 1) p.level (doing.Open (length entries) [] [])) kept
+      (in_transaction script entries entries (inl refl) name p c.before c.past [] (reply.Begin (length entries) ∷ []) (lines ++ numbered (p.number + 1) (reply.Begin (length entries) ∷ [])) ages.next (p.number + 1) (doing.Open (length entries) [] [])
+      (record { first = c.stored.opened; within = omega arith; says = refl; ops_are = refl; uses_are = refl; sound = tt })
+      (ap (λ ls. ls ++ numbered (p.number + 1) (reply.Begin (length entries) ∷ [])) (idle_lines BeginText c)))
       (refl, refl) refl (inl refl)
 
   -- a line outside a transaction has its one reply
-  lone : (k : TextKind) (c : Comes script entries taken ages name p None doing.No text k lines) (answered : ReplyLine) (level : Level) → Paced (length entries) (length entries) (answered ∷ []) → are_up_to (is_last_of false) (answered ∷ []) ≡ true →
+  lone : (k : Kind) (c : Comes script entries taken ages name p None doing.No text k lines) (answered : ReplyLine) (level : Level) → Paced (length entries) (length entries) (answered ∷ []) → are_up_to (is_last_of false) (answered ∷ []) ≡ true →
       Goal (record { over = p.over ++ Lone answered ∷ []; number = p.number; level = level; pending = None }) 0 false (turned 0 (answered ∷ []) (state p.number level doing.No))
   lone k c answered level paced up_to kept = quiet k None doing.No c (record { over = p.over ++ Lone answered ∷ []; number = p.number; level = level; pending = None }) 0 0 false (answered ∷ []) (state p.number level doing.No) kept
       (idle_after script entries entries (inl refl) name p c.before c.past (Lone answered) (answered ∷ []) (lines ++ numbered 0 (answered ∷ [])) ages.next p.number level refl
@@ -225,10 +216,11 @@ module _ (script : Script) (entries : List EntryLine) (taken : List (List GenidI
       paced refl (inl up_to)
 
   -- a transaction was told up to its decision
-  ends_with : (t : Transaction) (begin : ℕ) (ops : List RowOp) (front : List ReplyLine) (o : ReplyLine) (added : List (List RowOp)) → 1 ≤ begin → begin ≤ length entries → (IsDecided o → Ends t.end (o ∷ [])) →
-      front ≡ reply.Begin begin ∷ (alone_at (from_nothing script) (view_of (from_nothing script) entries) t begin).replies → ops ≡ (alone_at (from_nothing script) (view_of (from_nothing script) entries) t begin).ops → Decided script entries taken ages ages' name t begin ops o added →
+  ends_with : (t : Transaction) (begin : ℕ) (uses : List GenidItem) (ops : List RowOp) (front : List ReplyLine) (o : ReplyLine) (added : List (List RowOp)) → 1 ≤ begin → begin ≤ length entries → (IsDecided o → Ends t.end (o ∷ [])) →
+      front ≡ reply.Begin begin ∷ (alone_at (from_nothing script) (view_of (from_nothing script) entries) t begin).replies → ops ≡ (alone_at (from_nothing script) (view_of (from_nothing script) entries) t begin).ops →
+      uses ≡ (alone_at (from_nothing script) (view_of (from_nothing script) entries) t begin).uses → Decided script entries taken ages ages' name t begin uses ops o added →
       IsWhole (from_nothing script) (view_of (from_nothing script) (entries_after entries name t.number begin t.level added)) name t (front ++ o ∷ [])
-  ends_with t begin ops front o added first within ends says are d = record {
+  ends_with t begin uses ops front o added first within ends says are uses_are d = record {
     begin = begin;
     base = omega arith;
     within = let le = grows_length entries longer grows in omega (arith, le, within);
@@ -237,8 +229,8 @@ module _ (script : Script) (entries : List EntryLine) (taken : List (List GenidI
     last = o ∷ [];
     ends = ends d.decided;
     right = (
-      subst (λ (items : List GenidItem). IsRight (from_nothing script) (view_of (from_nothing script) longer) name t begin items (alone_at (from_nothing script) (view_of (from_nothing script) longer) t begin).ops o) (sym (used_alone (tables_of script) (rows_at (from_nothing script) longer begin) t.texts))
-          (subst (λ (x : List RowOp). IsRight (from_nothing script) (view_of (from_nothing script) longer) name t begin (taken_by x) x o) (are ∙ ap (λ (a : Answered). a.ops) (sym same)) d.right),
+      subst (λ (us : List GenidItem). IsRight (from_nothing script) (view_of (from_nothing script) longer) name t begin (us ++ taken_by its_ops) its_ops o) (uses_are ∙ ap (λ (a : Answered). a.uses) (sym same))
+          (subst (λ (x : List RowOp). IsRight (from_nothing script) (view_of (from_nothing script) longer) name t begin (uses ++ taken_by x) x o) (are ∙ ap (λ (a : Answered). a.ops) (sym same)) d.right),
       tt,
     );
     says = ap (λ rs. rs ++ o ∷ []) says ∙ ap (λ (a : Answered). reply.Begin begin ∷ (a.replies ++ o ∷ [])) (sym same);
@@ -248,7 +240,10 @@ module _ (script : Script) (entries : List EntryLine) (taken : List (List GenidI
       longer = entries_after entries name t.number begin t.level added
 
       grows : Grows entries longer
-      grows = decided_turn t begin ops o added within first d
+      grows = decided_turn t begin uses ops o added within first d
+
+      its_ops : List RowOp
+      its_ops = (alone_at (from_nothing script) (view_of (from_nothing script) longer) t begin).ops
 
       same : alone_at (from_nothing script) (view_of (from_nothing script) longer) t begin ≡ alone_at (from_nothing script) (view_of (from_nothing script) entries) t begin
       same = alone_on script entries longer t.texts begin grows within
@@ -258,7 +253,7 @@ module _ (script : Script) (entries : List EntryLine) (taken : List (List GenidI
   own_txn = transaction (p.number + 1) (text ∷ []) p.level WithItsLine
 
   abbrev pub own_outcome : Answered → ReplyLine
-  own_outcome a = outcome w (length entries) a.ops
+  own_outcome a = outcome w (length entries) a.uses a.ops
 
   abbrev pub own_added : Answered → List (List RowOp)
   own_added a = added_by (own_outcome a) a.ops
@@ -269,21 +264,22 @@ module _ (script : Script) (entries : List EntryLine) (taken : List (List GenidI
   abbrev pub own_entries : Answered → List EntryLine
   own_entries a = entries_after entries name (p.number + 1) (length entries) p.level (own_added a)
 
-  own_by : (c : Comes script entries taken ages name p None doing.No text kind.Other lines) (a : Answered) → ArePlain a.replies →
+  own_by : (c : Comes script entries taken ages name p None doing.No text OtherText lines) (a : Answered) → ArePlain a.replies →
       own_front a ≡ reply.Begin (length entries) ∷ (alone_at (from_nothing script) (view_of (from_nothing script) entries) own_txn (length entries)).replies → a.ops ≡ (alone_at (from_nothing script) (view_of (from_nothing script) entries) own_txn (length entries)).ops →
-      Decided script entries taken ages ages' name own_txn (length entries) a.ops (own_outcome a) (own_added a) →
+      a.uses ≡ (alone_at (from_nothing script) (view_of (from_nothing script) entries) own_txn (length entries)).uses →
+      Decided script entries taken ages ages' name own_txn (length entries) a.uses a.ops (own_outcome a) (own_added a) →
       Turns script entries (own_entries a) (taken_after taken (own_added a)) ages ages' name (with_own_line p text) lines (p.number + 1) true (own_line w (p.number + 1) p.level a)
-  own_by c a plain says are d = record {
+  own_by c a plain says are uses_are d = record {
     stored = d.stored;
-    grows = decided_turn own_txn (length entries) a.ops (own_outcome a) (own_added a) (omega arith) c.stored.opened d;
+    grows = decided_turn own_txn (length entries) a.uses a.ops (own_outcome a) (own_added a) (omega arith) c.stored.opened d;
     next = d.grows;
-    stands = idle_after script entries (own_entries a) (decided_turn own_txn (length entries) a.ops (own_outcome a) (own_added a) (omega arith) c.stored.opened d) name p c.before c.past (Does own_txn) (own_front a ++ own_outcome a ∷ []) (lines ++ numbered (p.number + 1) (own_front a ++ own_outcome a ∷ [])) ages'.next (p.number + 1) p.level
-        (inl (ends_with own_txn (length entries) a.ops (own_front a) (own_outcome a) (own_added a) c.stored.opened (omega arith) (λ x. x) says are d))
-        (ap (λ ls. ls ++ numbered (p.number + 1) (own_front a ++ own_outcome a ∷ [])) (idle_lines kind.Other c));
+    stands = idle_after script entries (own_entries a) (decided_turn own_txn (length entries) a.uses a.ops (own_outcome a) (own_added a) (omega arith) c.stored.opened d) name p c.before c.past (Does own_txn) (own_front a ++ own_outcome a ∷ []) (lines ++ numbered (p.number + 1) (own_front a ++ own_outcome a ∷ [])) ages'.next (p.number + 1) p.level
+        (inl (ends_with own_txn (length entries) a.uses a.ops (own_front a) (own_outcome a) (own_added a) c.stored.opened (omega arith) (λ x. x) says are uses_are d))
+        (ap (λ ls. ls ++ numbered (p.number + 1) (own_front a ++ own_outcome a ∷ [])) (idle_lines OtherText c));
     paced = (refl, plain_then (length entries) (length (own_entries a)) a.replies (own_outcome a ∷ []) plain d.paced);
     number = refl;
     up_to = inl (up_to_last (is_last_of true) (own_front a) (own_outcome a) (refl, plain_all_quiet a.replies plain) (loud (own_outcome a) d.decided));
-    news = news_of own_txn (length entries) a.ops (own_outcome a) (own_added a) (with_own_line p text) (own_line w (p.number + 1) p.level a) refl refl refl (own_front a, [], refl) (omega arith) was_told d;
+    news = news_of own_txn (length entries) a.uses a.ops (own_outcome a) (own_added a) (with_own_line p text) (own_line w (p.number + 1) p.level a) refl refl refl (own_front a, [], refl) (omega arith) was_told d;
   }
     where
       was_told : WasTold script entries name (p.number + 1) (length entries) (own_outcome a) (lines ++ numbered (p.number + 1) (own_front a ++ own_outcome a ∷ []))
@@ -295,49 +291,55 @@ module _ (script : Script) (entries : List EntryLine) (taken : List (List GenidI
         says = ap (λ (rs : List ReplyLine). lines ++ numbered (p.number + 1) (rs ++ own_outcome a ∷ [])) says;
       }
 
-  own : (c : Comes script entries taken ages name p None doing.No text kind.Other lines) → Goal (next_by p text (kind_by kind.Other) None) (number_by p.number (kind_by kind.Other) None) true (turn_by w p.number p.level text kind.Other doing.No)
-  own c kept = own_by c (answer_at w (length entries) [] text) (statements_answer.plain (tables_of script) (seen (length entries) ages.tables) [] text) says are
-      (decides script entries taken ages ages' name own_txn (length entries) (answer_at w (length entries) [] text).ops commits kept)
+  own : (c : Comes script entries taken ages name p None doing.No text OtherText lines) → Goal (next_by p text OtherText None) (number_by p.number OtherText None) true (turn_by w p.number p.level text OtherText doing.No)
+  own c kept = own_by c (answer_at w (length entries) [] text) (sql_is_answered.plain (tables_of script) (seen (length entries) ages.tables) [] text) says are uses_are
+      (decides script entries taken ages ages' name own_txn (length entries) (answer_at w (length entries) [] text).uses (answer_at w (length entries) [] text).ops commits kept)
     where
-      its : answer_at w (length entries) [] text ≡ answer (tables_of script) (rows_at (from_nothing script) entries (length entries)).tables [] text
-      its = answer_is kind.Other None doing.No c (length entries) c.stored.opened (omega arith) []
+      its : answer_at w (length entries) [] text ≡ sql_language.answer (tables_of script) (rows_at (from_nothing script) entries (length entries)).tables [] text
+      its = answer_is OtherText None doing.No c (length entries) c.stored.opened (omega arith) []
 
       says : own_front (answer_at w (length entries) [] text) ≡ reply.Begin (length entries) ∷ (alone_at (from_nothing script) (view_of (from_nothing script) entries) own_txn (length entries)).replies
-      says = ap (λ (x : Answered). reply.Begin (length entries) ∷ x.replies) its ∙ ap (λ rs. reply.Begin (length entries) ∷ rs) (sym (append-nil (answer (tables_of script) (rows_at (from_nothing script) entries (length entries)).tables [] text).replies))
+      says = ap (λ (x : Answered). reply.Begin (length entries) ∷ x.replies) its ∙ ap (λ rs. reply.Begin (length entries) ∷ rs) (sym (append-nil (sql_language.answer (tables_of script) (rows_at (from_nothing script) entries (length entries)).tables [] text).replies))
 
       are : (answer_at w (length entries) [] text).ops ≡ (alone_at (from_nothing script) (view_of (from_nothing script) entries) own_txn (length entries)).ops
       are = ap (λ (x : Answered). x.ops) its
 
-      commits : Commits script entries taken ages name own_txn (length entries) (answer_at w (length entries) [] text).ops
-      commits = comes_to kind.Other None doing.No c own_txn (length entries) (answer_at w (length entries) [] text).ops c.stored.opened (omega arith) (c.its own_txn refl refl) are
-          (answer_sound kind.Other None doing.No c (length entries) c.stored.opened (omega arith) [] tt)
+      uses_are : (answer_at w (length entries) [] text).uses ≡ (alone_at (from_nothing script) (view_of (from_nothing script) entries) own_txn (length entries)).uses
+      uses_are = ap (λ (x : Answered). x.uses) its ∙ sym (append-nil (sql_language.answer (tables_of script) (rows_at (from_nothing script) entries (length entries)).tables [] text).uses)
+
+      commits : Commits script entries taken ages name own_txn (length entries) (answer_at w (length entries) [] text).uses (answer_at w (length entries) [] text).ops
+      commits = comes_to OtherText None doing.No c own_txn (length entries) (answer_at w (length entries) [] text).uses (answer_at w (length entries) [] text).ops c.stored.opened (omega arith) (c.its own_txn refl refl) are uses_are
+          (answer_sound OtherText None doing.No c (length entries) c.stored.opened (omega arith) [] tt)
           (none_past name p.number (p.number + 1) None (λ txn le. omega (arith, le)) entries c.entered)
 
   -- what was told of an open transaction, and one statement more
-  module _ (texts : List (List ℕ)) (begin : ℕ) (ops : List RowOp) (k : TextKind) (c : Comes script entries taken ages name p (Some texts) (doing.Open begin ops) text k lines) where
-    more_open : IsOpen script entries ages.next (texts ++ text ∷ []) begin (answer_at w begin ops text).ops (c.mine ++ (answer_at w begin ops text).replies)
+  module _ (texts : List (List ℕ)) (begin : ℕ) (ops : List RowOp) (uses : List GenidItem) (k : Kind) (c : Comes script entries taken ages name p (Some texts) (doing.Open begin ops uses) text k lines) where
+    more_open : IsOpen script entries ages.next (texts ++ text ∷ []) begin (answer_at w begin ops text).ops (uses ++ (answer_at w begin ops text).uses) (c.mine ++ (answer_at w begin ops text).replies)
     more_open = record {
       first = c.doing.first;
       within = c.doing.within;
       says = ap (λ rs. rs ++ (answer_at w begin ops text).replies) c.doing.says
-          ∙ ap (λ (a : Answered). reply.Begin begin ∷ ((alone statement_language (tables_of script) (rows_at (from_nothing script) entries begin) texts).replies ++ a.replies)) its
-          ∙ ap (λ rs. reply.Begin begin ∷ rs) (sym (replies_more statement_language (tables_of script) (rows_at (from_nothing script) entries begin).tables [] texts text));
-      ops_are = ap (λ (a : Answered). a.ops) its ∙ sym (ops_more statement_language (tables_of script) (rows_at (from_nothing script) entries begin).tables [] texts text);
-      sound = answer_sound k (Some texts) (doing.Open begin ops) c begin c.doing.first c.doing.within ops c.doing.sound;
+          ∙ ap (λ (a : Answered). reply.Begin begin ∷ ((alone sql_language (tables_of script) (rows_at (from_nothing script) entries begin) texts).replies ++ a.replies)) its
+          ∙ ap (λ rs. reply.Begin begin ∷ rs) (sym (replies_more sql_language (tables_of script) (rows_at (from_nothing script) entries begin).tables [] texts text));
+      ops_are = ap (λ (a : Answered). a.ops) its ∙ sym (ops_more sql_language (tables_of script) (rows_at (from_nothing script) entries begin).tables [] texts text);
+      uses_are = ap (λ (us : List GenidItem). us ++ (answer_at w begin ops text).uses) c.doing.uses_are
+          ∙ ap (λ (a : Answered). (alone sql_language (tables_of script) (rows_at (from_nothing script) entries begin) texts).uses ++ a.uses) its
+          ∙ sym (uses_more sql_language (tables_of script) (rows_at (from_nothing script) entries begin).tables [] texts text);
+      sound = answer_sound k (Some texts) (doing.Open begin ops uses) c begin c.doing.first c.doing.within ops c.doing.sound;
     }
       where
-        its : answer_at w begin ops text ≡ answer (tables_of script) (rows_at (from_nothing script) entries begin).tables (alone statement_language (tables_of script) (rows_at (from_nothing script) entries begin) texts).ops text
-        its = answer_is k (Some texts) (doing.Open begin ops) c begin c.doing.first c.doing.within ops
-            ∙ ap (λ (o : List RowOp). answer (tables_of script) (rows_at (from_nothing script) entries begin).tables o text) c.doing.ops_are
+        its : answer_at w begin ops text ≡ sql_language.answer (tables_of script) (rows_at (from_nothing script) entries begin).tables (alone sql_language (tables_of script) (rows_at (from_nothing script) entries begin) texts).ops text
+        its = answer_is k (Some texts) (doing.Open begin ops uses) c begin c.doing.first c.doing.within ops
+            ∙ ap (λ (o : List RowOp). sql_language.answer (tables_of script) (rows_at (from_nothing script) entries begin).tables o text) c.doing.ops_are
 
-    goes : Goal (with_open p (Some (texts ++ text ∷ [])) p.number) p.number false (goes_on p.number p.level begin (answer_at w begin ops text))
-    goes kept = quiet k (Some texts) (doing.Open begin ops) c (with_open p (Some (texts ++ text ∷ [])) p.number) p.number p.number false (answer_at w begin ops text).replies (state p.number p.level (doing.Open begin (answer_at w begin ops text).ops)) kept
-        (in_transaction script entries entries (inl refl) name p c.before c.past (texts ++ text ∷ []) (c.mine ++ (answer_at w begin ops text).replies) (lines ++ numbered p.number (answer_at w begin ops text).replies) ages.next p.number (doing.Open begin (answer_at w begin ops text).ops)
+    goes : Goal (with_open p (Some (texts ++ text ∷ [])) p.number) p.number false (goes_on p.number p.level begin uses (answer_at w begin ops text))
+    goes kept = quiet k (Some texts) (doing.Open begin ops uses) c (with_open p (Some (texts ++ text ∷ [])) p.number) p.number p.number false (answer_at w begin ops text).replies (state p.number p.level (doing.Open begin (answer_at w begin ops text).ops (uses ++ (answer_at w begin ops text).uses))) kept
+        (in_transaction script entries entries (inl refl) name p c.before c.past (texts ++ text ∷ []) (c.mine ++ (answer_at w begin ops text).replies) (lines ++ numbered p.number (answer_at w begin ops text).replies) ages.next p.number (doing.Open begin (answer_at w begin ops text).ops (uses ++ (answer_at w begin ops text).uses))
         more_open (piece lines c.before p.number c.mine (answer_at w begin ops text).replies c.is))
-        (plain_paced (length entries) (answer_at w begin ops text).replies (statements_answer.plain (tables_of script) (seen begin ages.tables) ops text)) refl (inl (statements_answer.closed (tables_of script) (seen begin ages.tables) ops text))
+        (plain_paced (length entries) (answer_at w begin ops text).replies (sql_is_answered.plain (tables_of script) (seen begin ages.tables) ops text)) refl (inl (sql_is_answered.closed (tables_of script) (seen begin ages.tables) ops text))
 
     rolled : Goal (closed p texts ByRollback) p.number false (turned p.number (reply.RolledBack ∷ []) (state p.number p.level doing.No))
-    rolled kept = quiet k (Some texts) (doing.Open begin ops) c (closed p texts ByRollback) p.number p.number false (reply.RolledBack ∷ []) (state p.number p.level doing.No) kept
+    rolled kept = quiet k (Some texts) (doing.Open begin ops uses) c (closed p texts ByRollback) p.number p.number false (reply.RolledBack ∷ []) (state p.number p.level doing.No) kept
         (idle_after script entries entries (inl refl) name p c.before c.past (Does (transaction p.number texts p.level ByRollback)) (c.mine ++ reply.RolledBack ∷ []) (lines ++ numbered p.number (reply.RolledBack ∷ [])) ages.next p.number p.level
         (inl (record { begin = begin; base = omega arith; within = (let w = c.doing.within in omega (arith, w)); ran = alone_at (from_nothing script) (view_of (from_nothing script) entries) (transaction p.number texts p.level ByRollback) begin; is_ran = refl; last = reply.RolledBack ∷ []; ends = refl; right = (refl, tt); says = ap (λ rs. rs ++ reply.RolledBack ∷ []) c.doing.says }))
         (piece lines c.before p.number c.mine (reply.RolledBack ∷ []) c.is))
@@ -347,21 +349,21 @@ module _ (script : Script) (entries : List EntryLine) (taken : List (List GenidI
     ending = transaction p.number texts p.level ByCommit
 
     abbrev pub last : ReplyLine
-    last = outcome w begin ops
+    last = outcome w begin uses ops
 
-    commits_by : transaction_of statement_language name p.number script.body ≡ Some ending → Decided script entries taken ages ages' name ending begin ops last (added_by last ops) →
-        Turns script entries (entries_after entries name p.number begin p.level (added_by last ops)) (taken_after taken (added_by last ops)) ages ages' name (closed p texts ByCommit) lines p.number false (committed w p.number p.level begin ops)
+    commits_by : transaction_of sql_language name p.number script.body ≡ Some ending → Decided script entries taken ages ages' name ending begin uses ops last (added_by last ops) →
+        Turns script entries (entries_after entries name p.number begin p.level (added_by last ops)) (taken_after taken (added_by last ops)) ages ages' name (closed p texts ByCommit) lines p.number false (committed w p.number p.level begin uses ops)
     commits_by its d = record {
       stored = d.stored;
-      grows = decided_turn ending begin ops last (added_by last ops) c.doing.within c.doing.first d;
+      grows = decided_turn ending begin uses ops last (added_by last ops) c.doing.within c.doing.first d;
       next = d.grows;
-      stands = idle_after script entries (entries_after entries name p.number begin p.level (added_by last ops)) (decided_turn ending begin ops last (added_by last ops) c.doing.within c.doing.first d) name p c.before c.past (Does ending) (c.mine ++ last ∷ []) (lines ++ numbered p.number (last ∷ [])) ages'.next p.number p.level
-          (inl (ends_with ending begin ops c.mine last (added_by last ops) c.doing.first c.doing.within (λ x. x) c.doing.says c.doing.ops_are d))
+      stands = idle_after script entries (entries_after entries name p.number begin p.level (added_by last ops)) (decided_turn ending begin uses ops last (added_by last ops) c.doing.within c.doing.first d) name p c.before c.past (Does ending) (c.mine ++ last ∷ []) (lines ++ numbered p.number (last ∷ [])) ages'.next p.number p.level
+          (inl (ends_with ending begin uses ops c.mine last (added_by last ops) c.doing.first c.doing.within (λ x. x) c.doing.says c.doing.ops_are c.doing.uses_are d))
           (piece lines c.before p.number c.mine (last ∷ []) c.is);
       paced = d.paced;
       number = refl;
       up_to = inl (up_to_one (is_last_of false) last (no_row last d.decided));
-      news = news_of ending begin ops last (added_by last ops) (closed p texts ByCommit) (committed w p.number p.level begin ops) refl refl refl ([], [], refl) (omega arith) was_told d;
+      news = news_of ending begin uses ops last (added_by last ops) (closed p texts ByCommit) (committed w p.number p.level begin uses ops) refl refl refl ([], [], refl) (omega arith) was_told d;
     }
       where
         was_told : WasTold script entries name p.number begin last (lines ++ numbered p.number (last ∷ []))
@@ -373,14 +375,14 @@ module _ (script : Script) (entries : List EntryLine) (taken : List (List GenidI
           says = piece lines c.before p.number c.mine (last ∷ []) c.is ∙ ap (λ (rs : List ReplyLine). c.before ++ numbered p.number (rs ++ last ∷ [])) c.doing.says;
         }
 
-  comes_to_commit : (texts : List (List ℕ)) (begin : ℕ) (ops : List RowOp) (c : Comes script entries taken ages name p (Some texts) (doing.Open begin ops) text kind.Commit lines) → Goal (closed p texts ByCommit) p.number false (committed w p.number p.level begin ops)
-  comes_to_commit texts begin ops c kept = commits_by texts begin ops kind.Commit c (c.its (transaction p.number texts p.level ByCommit) refl refl)
-      (decides script entries taken ages ages' name (transaction p.number texts p.level ByCommit) begin ops
-      (comes_to kind.Commit (Some texts) (doing.Open begin ops) c (transaction p.number texts p.level ByCommit) begin ops c.doing.first c.doing.within (c.its (transaction p.number texts p.level ByCommit) refl refl) c.doing.ops_are c.doing.sound
+  comes_to_commit : (texts : List (List ℕ)) (begin : ℕ) (ops : List RowOp) (uses : List GenidItem) (c : Comes script entries taken ages name p (Some texts) (doing.Open begin ops uses) text CommitText lines) → Goal (closed p texts ByCommit) p.number false (committed w p.number p.level begin uses ops)
+  comes_to_commit texts begin ops uses c kept = commits_by texts begin ops uses CommitText c (c.its (transaction p.number texts p.level ByCommit) refl refl)
+      (decides script entries taken ages ages' name (transaction p.number texts p.level ByCommit) begin uses ops
+      (comes_to CommitText (Some texts) (doing.Open begin ops uses) c (transaction p.number texts p.level ByCommit) begin uses ops c.doing.first c.doing.within (c.its (transaction p.number texts p.level ByCommit) refl refl) c.doing.ops_are c.doing.uses_are c.doing.sound
       (none_past name p.number p.number (Some texts) (λ txn less. less) entries c.entered)) kept)
 
   -- lines of a transaction that want of memory ended are skipped
-  module _ (texts : List (List ℕ)) (k : TextKind) (c : Comes script entries taken ages name p (Some texts) doing.Aborted text k lines) where
+  module _ (texts : List (List ℕ)) (k : Kind) (c : Comes script entries taken ages name p (Some texts) doing.Aborted text k lines) where
     skipped_lines : lines ++ numbered p.number [] ≡ c.before ++ numbered p.number c.mine
     skipped_lines = append-nil lines ∙ c.is
 
@@ -397,12 +399,12 @@ module _ (script : Script) (entries : List EntryLine) (taken : List (List GenidI
       is_cause = c.doing.is_cause;
       fits = sym (append_assoc c.doing.front c.doing.rest more) ∙ ap (λ rs. rs ++ more) c.doing.fits
           ∙ ap (λ (a : Answered). (reply.Begin c.doing.begin ∷ a.replies) ++ more) c.doing.is_ran
-          ∙ ap (λ rs. reply.Begin c.doing.begin ∷ rs) (sym (replies_more statement_language (tables_of script) (rows_at (from_nothing script) entries c.doing.begin).tables [] texts text));
+          ∙ ap (λ rs. reply.Begin c.doing.begin ∷ rs) (sym (replies_more sql_language (tables_of script) (rows_at (from_nothing script) entries c.doing.begin).tables [] texts text));
       says = c.doing.says;
     }
       where
         more : List ReplyLine
-        more = (answer (tables_of script) (rows_at (from_nothing script) entries c.doing.begin).tables (alone statement_language (tables_of script) (rows_at (from_nothing script) entries c.doing.begin) texts).ops text).replies
+        more = (sql_language.answer (tables_of script) (rows_at (from_nothing script) entries c.doing.begin).tables (alone sql_language (tables_of script) (rows_at (from_nothing script) entries c.doing.begin) texts).ops text).replies
 
     was_cut : WasCutUnder lines p.number
     was_cut = (
@@ -428,23 +430,23 @@ module _ (script : Script) (entries : List EntryLine) (taken : List (List GenidI
         refl refl (inr (refl, was_cut))
 
   -- whatever the line is, and wherever the session is
-  pub turns : (k : TextKind) (pending : Option (List (List ℕ))) (what : InTransaction) → Comes script entries taken ages name p pending what text k lines →
-      Goal (next_by p text (kind_by k) pending) (number_by p.number (kind_by k) pending) (is_own_by (kind_by k) pending) (turn_by w p.number p.level text k what)
-  turns kind.Begin None doing.No c = begun c
-  turns kind.Commit None doing.No c = lone kind.Commit c (reply.Error State) p.level refl refl
-  turns kind.Rollback None doing.No c = lone kind.Rollback c (reply.Error State) p.level refl refl
-  turns kind.SetSnapshot None doing.No c = lone kind.SetSnapshot c (reply.Level Snapshot) Snapshot refl refl
-  turns kind.Other None doing.No c = own c
-  turns kind.Begin (Some texts) (doing.Open begin ops) c = goes texts begin ops kind.Begin c
-  turns kind.Commit (Some texts) (doing.Open begin ops) c = comes_to_commit texts begin ops c
-  turns kind.Rollback (Some texts) (doing.Open begin ops) c = rolled texts begin ops kind.Rollback c
-  turns kind.SetSnapshot (Some texts) (doing.Open begin ops) c = goes texts begin ops kind.SetSnapshot c
-  turns kind.Other (Some texts) (doing.Open begin ops) c = goes texts begin ops kind.Other c
-  turns kind.Begin (Some texts) doing.Aborted c = skips texts kind.Begin c
-  turns kind.Commit (Some texts) doing.Aborted c = skips_end texts kind.Commit c ByCommit
-  turns kind.Rollback (Some texts) doing.Aborted c = skips_end texts kind.Rollback c ByRollback
-  turns kind.SetSnapshot (Some texts) doing.Aborted c = skips texts kind.SetSnapshot c
-  turns kind.Other (Some texts) doing.Aborted c = skips texts kind.Other c
-  turns k None (doing.Open begin ops) c = absurd c.doing
+  pub turns : (k : Kind) (pending : Option (List (List ℕ))) (what : InTransaction) → Comes script entries taken ages name p pending what text k lines →
+      Goal (next_by p text k pending) (number_by p.number k pending) (is_own_by k pending) (turn_by w p.number p.level text k what)
+  turns BeginText None doing.No c = begun c
+  turns CommitText None doing.No c = lone CommitText c (reply.Error State) p.level refl refl
+  turns RollbackText None doing.No c = lone RollbackText c (reply.Error State) p.level refl refl
+  turns (LevelText later) None doing.No c = lone (LevelText later) c (reply.Level later) later refl refl
+  turns OtherText None doing.No c = own c
+  turns BeginText (Some texts) (doing.Open begin ops uses) c = goes texts begin ops uses BeginText c
+  turns CommitText (Some texts) (doing.Open begin ops uses) c = comes_to_commit texts begin ops uses c
+  turns RollbackText (Some texts) (doing.Open begin ops uses) c = rolled texts begin ops uses RollbackText c
+  turns (LevelText later) (Some texts) (doing.Open begin ops uses) c = goes texts begin ops uses (LevelText later) c
+  turns OtherText (Some texts) (doing.Open begin ops uses) c = goes texts begin ops uses OtherText c
+  turns BeginText (Some texts) doing.Aborted c = skips texts BeginText c
+  turns CommitText (Some texts) doing.Aborted c = skips_end texts CommitText c ByCommit
+  turns RollbackText (Some texts) doing.Aborted c = skips_end texts RollbackText c ByRollback
+  turns (LevelText later) (Some texts) doing.Aborted c = skips texts (LevelText later) c
+  turns OtherText (Some texts) doing.Aborted c = skips texts OtherText c
+  turns k None (doing.Open begin ops uses) c = absurd c.doing
   turns k None doing.Aborted c = absurd c.doing
   turns k (Some texts) doing.No c = absurd c.doing

@@ -18,7 +18,8 @@ use Rattle.report_text.specs.declared.reports.ReplyLine.TheVariants as reply
 use Rattle.script_form.specs.CanRun.{tables_of}
 use Rattle.report_laws.specs.History.{rows_at, view_of}
 use Rattle.report_laws.specs.Language.{alone}
-use Rattle.transaction_answers.specs.Answer.{from_nothing, statement_language}
+use Rattle.script_play.specs.Basis.{from_nothing}
+use Rattle.sql_answer.specs.Language.{sql_language}
 use Rattle.report_laws.specs.Lawful.{Lawful}
 use Rattle.report_laws.specs.Outcome.{Ends}
 use Rattle.report_laws.specs.Play.{InPlayOrder, InTurns}
@@ -26,8 +27,8 @@ use Rattle.report_laws.specs.Told.{Along, Numbered, IsTold, IsCut, told, numbere
 use Rattle.report_laws.specs.Work.{Transaction, Item, Does, Place, Nowhere, transaction, work, place_after, items_at, open_item, start}
 use Rattle.cdb_values.specs.declared.items.GenidItem.{GenidItem}
 use Rattle.report_laws.proofs.ToldLaws.{along_append, along_one, along_map}
-use Rattle.transaction_answers.specs.Sound.{AreSound}
-use Rattle.transaction_answers.proofs.SoundLaws.{sound_none, fits_none}
+use Rattle.sql_run.specs.Sound.{AreSound}
+use Rattle.script_play.proofs.SoundLaws.{sound_none, fits_none}
 use Rattle.script_play.specs.SoFar.{SoFar, Standing, IsOpen, IsDoing, at_start, state_of, report_of}
 use Rattle.script_play.specs.declared.states.SessionState.{SessionState}
 use Rattle.script_play.specs.declared.states.InTransaction.{InTransaction}
@@ -71,6 +72,7 @@ begins_so script = record {
     taken_are = only_one _ refl;
     sound = λ at first within. subst (λ (vs : List (List Version)). AreSound (tables_of script) 1 vs) (sym (seen_none at (tables_of script))) (sound_none (tables_of script) 1);
     kept = ap (λ (vs : List (List Version)). first_broken (tables_of script) vs) (seen_none 1 (tables_of script)) ∙ fits_none (tables_of script);
+    named = (tt, tt);
   };
   standing = λ name. subst (λ (x : SessionState). Standing script opening 1 name start [] x) (sym (starts name script.sessions)) (record { before = []; mine = []; is = refl; past = refl; number = refl; level = refl; doing = refl });
   fresh = tt;
@@ -84,9 +86,9 @@ begins_so script = record {
 }
 
 -- the open transaction, as it was told so far
-open_told : (script : Script) (entries : List EntryLine) (name : List ℕ) (next : ℕ) (texts : List (List ℕ)) (begin : ℕ) (ops : List RowOp) (mine : List ReplyLine) (t : Transaction) → t.texts ≡ texts → t.end ≡ Nowhere → IsOpen script entries next texts begin ops mine →
+open_told : (script : Script) (entries : List EntryLine) (name : List ℕ) (next : ℕ) (texts : List (List ℕ)) (begin : ℕ) (ops : List RowOp) (uses : List GenidItem) (mine : List ReplyLine) (t : Transaction) → t.texts ≡ texts → t.end ≡ Nowhere → IsOpen script entries next texts begin ops uses mine →
     IsTold (from_nothing script) (view_of (from_nothing script) entries) name (Does t) mine
-open_told script entries name next texts begin ops mine t same end is = inl (record {
+open_told script entries name next texts begin ops uses mine t same end is = inl (record {
   begin = begin;
   base = omega arith;
   within = let w = is.within in omega (arith, w);
@@ -95,25 +97,25 @@ open_told script entries name next texts begin ops mine t same end is = inl (rec
   last = [];
   ends = subst (λ e. Ends e []) (sym end) refl;
   right = tt;
-  says = is.says ∙ ap (λ (x : List (List ℕ)). reply.Begin begin ∷ (alone statement_language (tables_of script) (rows_at (from_nothing script) entries begin) x).replies) (sym same)
+  says = is.says ∙ ap (λ (x : List (List ℕ)). reply.Begin begin ∷ (alone sql_language (tables_of script) (rows_at (from_nothing script) entries begin) x).replies) (sym same)
       ∙ ap (λ rs. reply.Begin begin ∷ rs) (sym (append-nil (alone_at (from_nothing script) (view_of (from_nothing script) entries) t begin).replies));
 })
 
 -- along all that a session did up to a place of its work
 along_place : (P : Item → List ReplyLine → Type 0) (script : Script) (entries : List EntryLine) (next : ℕ) (name : List ℕ) (p : Place) (pending : Option (List (List ℕ))) (d : InTransaction) (before : List Numbered) (mine : List ReplyLine) →
     ((item : Item) (rs : List ReplyLine) → IsTold (from_nothing script) (view_of (from_nothing script) entries) name item rs → P item rs) →
-    ((texts : List (List ℕ)) (begin : ℕ) (ops : List RowOp) → IsOpen script entries next texts begin ops mine → P (Does (transaction p.number texts p.level Nowhere)) mine) →
+    ((texts : List (List ℕ)) (begin : ℕ) (ops : List RowOp) (uses : List GenidItem) → IsOpen script entries next texts begin ops uses mine → P (Does (transaction p.number texts p.level Nowhere)) mine) →
     ((texts : List (List ℕ)) → IsCut (from_nothing script) (view_of (from_nothing script) entries) (transaction p.number texts p.level Nowhere) mine → P (Does (transaction p.number texts p.level Nowhere)) mine) →
     Along (IsTold (from_nothing script) (view_of (from_nothing script) entries) name) p.over before → IsDoing script entries next p pending d mine → Along P (p.over ++ open_item p pending) (before ++ numbered p.number mine)
 along_place P script entries next name p None doing.No before mine over open_ cut past is =
     subst (λ rs. Along P (p.over ++ []) (before ++ numbered p.number rs)) (sym is)
     (along_append P p.over [] before [] (along_map (IsTold (from_nothing script) (view_of (from_nothing script) entries) name) P over p.over before past) refl)
-along_place P script entries next name p None (doing.Open begin ops) before mine over open_ cut past is = absurd is
+along_place P script entries next name p None (doing.Open begin ops uses) before mine over open_ cut past is = absurd is
 along_place P script entries next name p None doing.Aborted before mine over open_ cut past is = absurd is
 along_place P script entries next name p (Some texts) doing.No before mine over open_ cut past is = absurd is
-along_place P script entries next name p (Some texts) (doing.Open begin ops) before mine over open_ cut past is =
+along_place P script entries next name p (Some texts) (doing.Open begin ops uses) before mine over open_ cut past is =
     along_append P p.over (Does (transaction p.number texts p.level Nowhere) ∷ []) before (numbered p.number mine) (along_map (IsTold (from_nothing script) (view_of (from_nothing script) entries) name) P over p.over before past)
-    (along_one P (Does (transaction p.number texts p.level Nowhere)) mine (open_ texts begin ops is))
+    (along_one P (Does (transaction p.number texts p.level Nowhere)) mine (open_ texts begin ops uses is))
 along_place P script entries next name p (Some texts) doing.Aborted before mine over open_ cut past is =
     along_append P p.over (Does (transaction p.number texts p.level Nowhere) ∷ []) before (numbered p.number mine) (along_map (IsTold (from_nothing script) (view_of (from_nothing script) entries) name) P over p.over before past)
     (along_one P (Does (transaction p.number texts p.level Nowhere)) mine (cut texts is))
@@ -122,16 +124,16 @@ module _ (script : Script) (done : List BodyLine) (lines : List Line) (entries :
   all_done : script.body ≡ done
   all_done = was.body ∙ append-nil done
 
-  told_along : (name : List ℕ) → Along (IsTold (from_nothing script) (view_of (from_nothing script) entries) name) (work statement_language name script.body) (told name lines)
+  told_along : (name : List ℕ) → Along (IsTold (from_nothing script) (view_of (from_nothing script) entries) name) (work sql_language name script.body) (told name lines)
   told_along name =
-      subst (λ (b : List BodyLine). Along (IsTold (from_nothing script) (view_of (from_nothing script) entries) name) (work statement_language name b) (told name lines)) (sym all_done)
-      (subst (λ ls. Along (IsTold (from_nothing script) (view_of (from_nothing script) entries) name) (items_at (place_after statement_language name done)) ls) (sym stands.is)
-      (along_place (IsTold (from_nothing script) (view_of (from_nothing script) entries) name) script entries ages.next name (place_after statement_language name done) (place_after statement_language name done).pending (state_of name script.sessions states).doing stands.before stands.mine
+      subst (λ (b : List BodyLine). Along (IsTold (from_nothing script) (view_of (from_nothing script) entries) name) (work sql_language name b) (told name lines)) (sym all_done)
+      (subst (λ ls. Along (IsTold (from_nothing script) (view_of (from_nothing script) entries) name) (items_at (place_after sql_language name done)) ls) (sym stands.is)
+      (along_place (IsTold (from_nothing script) (view_of (from_nothing script) entries) name) script entries ages.next name (place_after sql_language name done) (place_after sql_language name done).pending (state_of name script.sessions states).doing stands.before stands.mine
       (λ item rs is. is)
-      (λ texts begin ops is. open_told script entries name ages.next texts begin ops stands.mine (transaction (place_after statement_language name done).number texts (place_after statement_language name done).level Nowhere) refl refl is)
+      (λ texts begin ops uses is. open_told script entries name ages.next texts begin ops uses stands.mine (transaction (place_after sql_language name done).number texts (place_after sql_language name done).level Nowhere) refl refl is)
       (λ texts cut. inr cut) stands.past stands.doing))
     where
-      stands : Standing script entries ages.next name (place_after statement_language name done) (told name lines) (state_of name script.sessions states)
+      stands : Standing script entries ages.next name (place_after sql_language name done) (told name lines) (state_of name script.sessions states)
       stands = was.standing name
 
   -- the run at its end gives a lawful report

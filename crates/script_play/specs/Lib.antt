@@ -1,3 +1,4 @@
+pub mod Basis
 pub mod RunViews
 pub mod Effects
 pub mod Ready

@@ -5,13 +5,14 @@ use Rattle.std.specs.List.{AllByRecursion}
 use Rattle.cdb_values.specs.Good.{first_broken}
 use Rattle.cdb_values.specs.declared.tables.TableDef.{TableDef}
 use Rattle.snapshot_rows.specs.Ages.{Ages, IsUpTo, seen}
-use Rattle.transaction_answers.specs.Sound.{AreSound, IsSoundOp}
+use Rattle.sql_run.specs.Sound.{AreSound, HasDistinctColumns, IsSoundOp}
 use Rattle.script_play.specs.declared.states.InTransaction.{InTransaction}
 use Rattle.script_play.specs.declared.states.InTransaction.TheVariants as doing
 
 -- the rows up to a last position
 pub record IsReady (tables : List TableDef) (now : ℕ) (ages : Ages) : Type 0 where
   pub opened : 1 ≤ now
+  pub apart : AllByRecursion HasDistinctColumns tables
   pub many : length ages.tables ≡ length tables
   pub up_to : IsUpTo now ages
   pub sound : (at : ℕ) → 1 ≤ at → at ≤ now → AreSound tables ages.next (seen at ages.tables)
@@ -20,5 +21,5 @@ pub record IsReady (tables : List TableDef) (now : ℕ) (ages : Ages) : Type 0 w
 -- what a session is doing: its open transaction began at a position of the history, with sound operations
 abbrev pub IsReadyToGo : List TableDef → ℕ → ℕ → InTransaction → Type 0
 IsReadyToGo tables now next doing.No = Unit {0}
-IsReadyToGo tables now next (doing.Open begin ops) = (1 ≤ begin) × (begin ≤ now) × AllByRecursion (IsSoundOp tables next) ops
+IsReadyToGo tables now next (doing.Open begin ops uses) = (1 ≤ begin) × (begin ≤ now) × AllByRecursion (IsSoundOp tables next) ops
 IsReadyToGo tables now next doing.Aborted = Unit {0}

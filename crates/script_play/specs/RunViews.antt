@@ -3,6 +3,8 @@ use Rattle.std.specs.Prelude.{◌≡◌, ℕ, List, length}
 use Rattle.cdb_values.specs.declared.tables.TableDef.{TableDef}
 use Rattle.script_form.specs.declared.scripts.BodyLine.{BodyLine}
 use Rattle.script_form.specs.declared.scripts.Script.{Script}
+use Rattle.sql_answer.specs.Answers.{Meaning}
+use Rattle.sql_answer.specs.Language.{meaning, bound_in}
 use Rattle.script_play.specs.Effects.{IsEffectDone}
 use Rattle.script_play.specs.Ready.{IsReady}
 use Rattle.script_play.specs.SoFar.{IsBefore}
@@ -17,6 +19,10 @@ world tables run = world_of tables run.rows run.taken.items (length run.entries.
 -- the rows are ready for a line
 abbrev pub IsReadyFor : List TableDef → RunSoFar → Type 0
 IsReadyFor tables run = IsReady tables (length run.entries.items) run.rows
+
+-- what some text means in the schema
+abbrev pub IsOfText : List TableDef → Meaning → Type 0
+IsOfText tables meant = (text : List ℕ) × (meant ≡ meaning bound_in tables text)
 
 -- the history and the rows are the same
 abbrev pub IsSameHistory : RunSoFar → RunSoFar → Type 0

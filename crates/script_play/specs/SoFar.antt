@@ -18,7 +18,8 @@ use Rattle.report_text.specs.declared.reports.Report.{Report}
 use Rattle.report_text.specs.declared.reports.ReplyLine.{ReplyLine}
 use Rattle.report_text.specs.declared.reports.ReplyLine.TheVariants as reply
 use Rattle.report_laws.specs.Language.{alone}
-use Rattle.transaction_answers.specs.Answer.{from_nothing, statement_language}
+use Rattle.sql_answer.specs.Language.{sql_language}
+use Rattle.script_play.specs.Basis.{from_nothing}
 use Rattle.report_laws.specs.Each.{EachAfter}
 use Rattle.report_laws.specs.History.{rows_at, taken_at, IsEntryAfter, view_of}
 use Rattle.report_laws.specs.Lawful.{IsFreshLine, NameUpTo}
@@ -27,7 +28,8 @@ use Rattle.report_laws.specs.Play.{InTurns}
 use Rattle.report_laws.specs.Told.{Along, Numbered, IsCut, IsTold, IsEntryTold, told, numbered}
 use Rattle.report_laws.specs.Work.{Place, Nowhere, transaction, place_after}
 use Rattle.cdb_values.specs.declared.items.GenidItem.{GenidItem}
-use Rattle.transaction_answers.specs.Sound.{AreSound, IsSoundOp}
+use Rattle.commit_decisions.specs.Decisions.{HasName}
+use Rattle.sql_run.specs.Sound.{AreSound, IsSoundOp}
 use Rattle.script_play.specs.declared.states.SessionState.{SessionState}
 use Rattle.script_play.specs.declared.states.InTransaction.{InTransaction}
 use Rattle.script_play.specs.declared.states.InTransaction.TheVariants as doing
@@ -43,21 +45,22 @@ state_of name [] states = at_start
 state_of name (s ∷ ss) [] = at_start
 state_of name (s ∷ ss) (x ∷ xs) = if bytes_eq s.name name then x else state_of name ss xs
 
--- the open transaction was told so far, and has these operations
-pub record IsOpen (script : Script) (entries : List EntryLine) (next : ℕ) (texts : List (List ℕ)) (begin : ℕ) (ops : List RowOp) (mine : List ReplyLine) : Type 0 where
+-- the open transaction was told so far, has these operations, and its texts used these versions
+pub record IsOpen (script : Script) (entries : List EntryLine) (next : ℕ) (texts : List (List ℕ)) (begin : ℕ) (ops : List RowOp) (uses : List GenidItem) (mine : List ReplyLine) : Type 0 where
   pub first : 1 ≤ begin
   pub within : begin ≤ length entries
-  pub says : mine ≡ reply.Begin begin ∷ (alone statement_language (tables_of script) (rows_at (from_nothing script) entries begin) texts).replies
-  pub ops_are : ops ≡ (alone statement_language (tables_of script) (rows_at (from_nothing script) entries begin) texts).ops
+  pub says : mine ≡ reply.Begin begin ∷ (alone sql_language (tables_of script) (rows_at (from_nothing script) entries begin) texts).replies
+  pub ops_are : ops ≡ (alone sql_language (tables_of script) (rows_at (from_nothing script) entries begin) texts).ops
+  pub uses_are : uses ≡ (alone sql_language (tables_of script) (rows_at (from_nothing script) entries begin) texts).uses
   pub sound : AllByRecursion (IsSoundOp (tables_of script) next) ops
 
 -- what a session is doing, by the transaction that is open in its work
 abbrev pub IsDoing : Script → List EntryLine → ℕ → Place → Option (List (List ℕ)) → InTransaction → List ReplyLine → Type 0
 IsDoing script entries next p None doing.No mine = mine ≡ []
-IsDoing script entries next p None (doing.Open begin ops) mine = ⊥
+IsDoing script entries next p None (doing.Open begin ops uses) mine = ⊥
 IsDoing script entries next p None doing.Aborted mine = ⊥
 IsDoing script entries next p (Some texts) doing.No mine = ⊥
-IsDoing script entries next p (Some texts) (doing.Open begin ops) mine = IsOpen script entries next texts begin ops mine
+IsDoing script entries next p (Some texts) (doing.Open begin ops uses) mine = IsOpen script entries next texts begin ops uses mine
 IsDoing script entries next p (Some texts) doing.Aborted mine = IsCut (from_nothing script) (view_of (from_nothing script) entries) (transaction p.number texts p.level Nowhere) mine
 
 -- a session's lines are those of its work so far, and it is where its work is
@@ -78,7 +81,7 @@ IsPast number (Some texts) txn = txn < number
 -- an entry is of a transaction that is over
 abbrev pub IsEnded : List BodyLine → EntryLine → Type 0
 IsEnded done (Setup position) = Unit {0}
-IsEnded done (Commit position session txn begin level) = IsPast (place_after statement_language session done).number (place_after statement_language session done).pending txn
+IsEnded done (Commit position session txn begin level) = IsPast (place_after sql_language session done).number (place_after sql_language session done).pending txn
 
 -- the history so far, the versions that each entry took away, and the rows at each position
 pub record Stored (script : Script) (entries : List EntryLine) (taken : List (List GenidItem)) (ages : Ages) : Type 0 where
@@ -91,12 +94,14 @@ pub record Stored (script : Script) (entries : List EntryLine) (taken : List (Li
   pub taken_are : (k : ℕ) → 1 ≤ k → k ≤ length entries → unwrap_or (slice_get taken (k - 1)) [] ≡ taken_at (from_nothing script) entries k
   pub sound : (at : ℕ) → 1 ≤ at → at ≤ length entries → AreSound (tables_of script) ages.next (seen at ages.tables)
   pub kept : first_broken (tables_of script) (seen (length entries) ages.tables) ≡ None
+  -- each version that an entry took away is one of a table that has a name
+  pub named : AllByRecursion (AllByRecursion (HasName (tables_of script))) taken
 
 -- after the script's lines `done`, with the lines `left` still to do
 pub record SoFar (script : Script) (done left : List BodyLine) (lines : List Line) (entries : List EntryLine) (taken : List (List GenidItem)) (ages : Ages) (states : List SessionState) : Type 0 where
   pub body : script.body ≡ done ++ left
   pub stored : Stored script entries taken ages
-  pub standing : (name : List ℕ) → Standing script entries ages.next name (place_after statement_language name done) (told name lines) (state_of name script.sessions states)
+  pub standing : (name : List ℕ) → Standing script entries ages.next name (place_after sql_language name done) (told name lines) (state_of name script.sessions states)
   pub fresh : EachAfter (IsFreshLine (from_nothing script).origin) [] lines
   pub later : List EntryLine
   pub begins : entries ≡ Setup 1 ∷ later
@@ -109,7 +114,7 @@ pub record SoFar (script : Script) (done left : List BodyLine) (lines : List Lin
 -- the run before a line, with the lines `left` still to do: every line of the script can be run
 pub record IsBefore (script : Script) (left : List BodyLine) (lines : List Line) (entries : List EntryLine) (taken : List (List GenidItem)) (ages : Ages) (states : List SessionState) : Type 0 where
   pub can_run : CanRun script
-  pub said : AllByRecursion (λ l. IsSaid script.sessions (tables_of script) l.act) left
+  pub said : AllByRecursion (λ l. IsSaid script.sessions l.act) left
   pub same : length states ≡ length script.sessions
   pub done : List BodyLine
   pub so_far : SoFar script done left lines entries taken ages states

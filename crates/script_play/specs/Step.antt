@@ -7,25 +7,24 @@
 use Rattle.std.specs.Prelude.{◌≡◌, ℕ, ◌+◌, ◌<◌, ◌++◌, ◌∷◌, [], List, Option, Some, None, map, length, ◌⊎◌}
 use Rattle.cdb_values.specs.Rows.{apply_all}
 use Rattle.cdb_values.specs.declared.rows.Level.{Level}
-use Rattle.cdb_values.specs.declared.rows.Level.TheVariants.{Snapshot}
 use Rattle.cdb_values.specs.declared.rows.RowOp.{RowOp}
 use Rattle.cdb_values.specs.declared.rows.StatementError.TheVariants.{State}
 use Rattle.cdb_values.specs.declared.tables.TableDef.{TableDef}
 use Rattle.snapshot_rows.specs.Ages.{Ages, IsUpTo, seen, rows_seen}
-use Rattle.statement_read.specs.Statements.{statement_of, kind_of}
-use Rattle.statement_read.specs.declared.statements.TextKind.{TextKind}
-use Rattle.statement_read.specs.declared.statements.TextKind.TheVariants as kind
 use Rattle.report_text.specs.declared.reports.EntryLine.{EntryLine}
 use Rattle.report_text.specs.declared.reports.EntryLine.TheVariants.{Commit}
 use Rattle.report_text.specs.declared.reports.Line.{Line}
 use Rattle.report_text.specs.declared.reports.ReplyLine.{ReplyLine}
 use Rattle.report_text.specs.declared.reports.ReplyLine.TheVariants as reply
-use Rattle.report_laws.specs.Language.{Answered}
-use Rattle.transaction_answers.specs.Answer.{answer}
+use Rattle.report_laws.specs.Language.{Answered, Kind, BeginText, CommitText, RollbackText, LevelText, OtherText}
+use Rattle.sql_answer.specs.Answers.{Meaning}
+use Rattle.sql_answer.specs.Language.{meaning, bound_in}
+use Rattle.sql_answer.specs.Reading.{kind_of_text}
+use Rattle.sql_run.specs.Texts.{answer_to}
 use Rattle.cdb_values.specs.Changes.{taken_by}
 use Rattle.report_laws.specs.Told.{lines_of}
 use Rattle.cdb_values.specs.declared.items.GenidItem.{GenidItem}
-use Rattle.transaction_answers.specs.Decisions.{decision, added_by}
+use Rattle.commit_decisions.specs.Decisions.{decision, added_by}
 use Rattle.script_play.specs.declared.states.SessionState.{SessionState}
 use Rattle.script_play.specs.declared.states.InTransaction.{InTransaction}
 use Rattle.script_play.specs.declared.states.InTransaction.TheVariants as doing
@@ -56,57 +55,67 @@ pub record World : Type 0 where
 abbrev pub world_of : List TableDef → Ages → List (List GenidItem) → ℕ → World
 world_of tables ages taken now = record { tables = tables; ages = ages; taken = taken; now = now }
 
--- a transaction that began at a position comes to its commit with these operations
-abbrev pub outcome : World → ℕ → List RowOp → ReplyLine
-outcome w begin ops = decision w.tables w.taken (rows_seen w.ages w.now) begin w.now ops
+-- a transaction that began at a position comes to its commit with these operations, its texts having used these
+-- versions
+abbrev pub outcome : World → ℕ → List GenidItem → List RowOp → ReplyLine
+outcome w begin uses ops = decision w.tables w.taken (rows_seen w.ages w.now) begin w.now uses ops
 
--- an answer in a transaction that began there
+-- an answer in a transaction that began there, by what the text means
+abbrev pub answer_of : World → ℕ → List RowOp → Meaning → Answered
+answer_of w begin ops meant = answer_to w.tables (seen begin w.ages.tables) ops meant
+
+-- the same by the text
 abbrev pub answer_at : World → ℕ → List RowOp → List ℕ → Answered
-answer_at w begin ops text = answer w.tables (seen begin w.ages.tables) ops text
+answer_at w begin ops text = answer_of w begin ops (meaning bound_in w.tables text)
 
 -- a transaction of one line
 abbrev pub own_line : World → ℕ → Level → Answered → Turned
 own_line w number level a = record {
   number = number;
-  replies = reply.Begin w.now ∷ (a.replies ++ outcome w w.now a.ops ∷ []);
+  replies = reply.Begin w.now ∷ (a.replies ++ outcome w w.now a.uses a.ops ∷ []);
   after = state number level doing.No;
   begin = w.now;
-  added = added_by (outcome w w.now a.ops) a.ops;
+  added = added_by (outcome w w.now a.uses a.ops) a.ops;
 }
 
 -- a transaction comes to its commit
-abbrev pub committed : World → ℕ → Level → ℕ → List RowOp → Turned
-committed w number level begin ops = record {
+abbrev pub committed : World → ℕ → Level → ℕ → List GenidItem → List RowOp → Turned
+committed w number level begin uses ops = record {
   number = number;
-  replies = outcome w begin ops ∷ [];
+  replies = outcome w begin uses ops ∷ [];
   after = state number level doing.No;
   begin = begin;
-  added = added_by (outcome w begin ops) ops;
+  added = added_by (outcome w begin uses ops) ops;
 }
 
--- a statement is answered in an open transaction
-abbrev pub goes_on : ℕ → Level → ℕ → Answered → Turned
-goes_on number level begin a = turned number a.replies (state number level (doing.Open begin a.ops))
+-- a statement is answered in an open transaction, whose texts used these versions so far
+abbrev pub goes_on : ℕ → Level → ℕ → List GenidItem → Answered → Turned
+goes_on number level begin uses a = turned number a.replies (state number level (doing.Open begin a.ops (uses ++ a.uses)))
 
-abbrev pub turn_by : World → ℕ → Level → List ℕ → TextKind → InTransaction → Turned
-turn_by w number level text kind.Begin doing.No = turned (number + 1) (reply.Begin w.now ∷ []) (state (number + 1) level (doing.Open w.now []))
-turn_by w number level text kind.Commit doing.No = turned 0 (reply.Error State ∷ []) (state number level doing.No)
-turn_by w number level text kind.Rollback doing.No = turned 0 (reply.Error State ∷ []) (state number level doing.No)
-turn_by w number level text kind.SetSnapshot doing.No = turned 0 (reply.Level Snapshot ∷ []) (state number Snapshot doing.No)
-turn_by w number level text kind.Other doing.No = own_line w (number + 1) level (answer_at w w.now [] text)
-turn_by w number level text kind.Begin (doing.Open begin ops) = goes_on number level begin (answer_at w begin ops text)
-turn_by w number level text kind.Commit (doing.Open begin ops) = committed w number level begin ops
-turn_by w number level text kind.Rollback (doing.Open begin ops) = turned number (reply.RolledBack ∷ []) (state number level doing.No)
-turn_by w number level text kind.SetSnapshot (doing.Open begin ops) = goes_on number level begin (answer_at w begin ops text)
-turn_by w number level text kind.Other (doing.Open begin ops) = goes_on number level begin (answer_at w begin ops text)
-turn_by w number level text kind.Begin doing.Aborted = turned number [] (state number level doing.Aborted)
-turn_by w number level text kind.Commit doing.Aborted = turned number [] (state number level doing.No)
-turn_by w number level text kind.Rollback doing.Aborted = turned number [] (state number level doing.No)
-turn_by w number level text kind.SetSnapshot doing.Aborted = turned number [] (state number level doing.Aborted)
-turn_by w number level text kind.Other doing.Aborted = turned number [] (state number level doing.Aborted)
+-- what a line does, by what its text means and is to transactions
+abbrev pub turn_of : World → ℕ → Level → Meaning → Kind → InTransaction → Turned
+turn_of w number level meant BeginText doing.No = turned (number + 1) (reply.Begin w.now ∷ []) (state (number + 1) level (doing.Open w.now [] []))
+turn_of w number level meant CommitText doing.No = turned 0 (reply.Error State ∷ []) (state number level doing.No)
+turn_of w number level meant RollbackText doing.No = turned 0 (reply.Error State ∷ []) (state number level doing.No)
+turn_of w number level meant (LevelText later) doing.No = turned 0 (reply.Level later ∷ []) (state number later doing.No)
+turn_of w number level meant OtherText doing.No = own_line w (number + 1) level (answer_of w w.now [] meant)
+turn_of w number level meant BeginText (doing.Open begin ops uses) = goes_on number level begin uses (answer_of w begin ops meant)
+turn_of w number level meant CommitText (doing.Open begin ops uses) = committed w number level begin uses ops
+turn_of w number level meant RollbackText (doing.Open begin ops uses) = turned number (reply.RolledBack ∷ []) (state number level doing.No)
+turn_of w number level meant (LevelText later) (doing.Open begin ops uses) = goes_on number level begin uses (answer_of w begin ops meant)
+turn_of w number level meant OtherText (doing.Open begin ops uses) = goes_on number level begin uses (answer_of w begin ops meant)
+turn_of w number level meant BeginText doing.Aborted = turned number [] (state number level doing.Aborted)
+turn_of w number level meant CommitText doing.Aborted = turned number [] (state number level doing.No)
+turn_of w number level meant RollbackText doing.Aborted = turned number [] (state number level doing.No)
+turn_of w number level meant (LevelText later) doing.Aborted = turned number [] (state number level doing.Aborted)
+turn_of w number level meant OtherText doing.Aborted = turned number [] (state number level doing.Aborted)
+
+-- the same by the text
+abbrev pub turn_by : World → ℕ → Level → List ℕ → Kind → InTransaction → Turned
+turn_by w number level text k what = turn_of w number level (meaning bound_in w.tables text) k what
 
 abbrev pub turn : World → SessionState → List ℕ → Turned
-turn w before text = turn_by w before.number before.level text (kind_of (statement_of text)) before.doing
+turn w before text = turn_by w before.number before.level text (kind_of_text text) before.doing
 
 -- the entry of the transaction that a line commits
 abbrev pub entries_added : List ℕ → ℕ → Turned → List EntryLine
@@ -137,17 +146,17 @@ pub record Cut : Type 0 where
 abbrev pub cut : ℕ → SessionState → Option Cut
 cut number after = Some (record { number = number; after = after })
 
-abbrev pub cut_by : ℕ → Level → TextKind → InTransaction → Option Cut
-cut_by number level kind.Begin doing.No = cut (number + 1) (state (number + 1) level doing.Aborted)
-cut_by number level kind.Commit doing.No = None
-cut_by number level kind.Rollback doing.No = None
-cut_by number level kind.SetSnapshot doing.No = None
-cut_by number level kind.Other doing.No = cut (number + 1) (state (number + 1) level doing.No)
-cut_by number level kind.Begin (doing.Open begin ops) = cut number (state number level doing.Aborted)
-cut_by number level kind.Commit (doing.Open begin ops) = cut number (state number level doing.No)
-cut_by number level kind.Rollback (doing.Open begin ops) = cut number (state number level doing.No)
-cut_by number level kind.SetSnapshot (doing.Open begin ops) = cut number (state number level doing.Aborted)
-cut_by number level kind.Other (doing.Open begin ops) = cut number (state number level doing.Aborted)
+abbrev pub cut_by : ℕ → Level → Kind → InTransaction → Option Cut
+cut_by number level BeginText doing.No = cut (number + 1) (state (number + 1) level doing.Aborted)
+cut_by number level CommitText doing.No = None
+cut_by number level RollbackText doing.No = None
+cut_by number level (LevelText later) doing.No = None
+cut_by number level OtherText doing.No = cut (number + 1) (state (number + 1) level doing.No)
+cut_by number level BeginText (doing.Open begin ops uses) = cut number (state number level doing.Aborted)
+cut_by number level CommitText (doing.Open begin ops uses) = cut number (state number level doing.No)
+cut_by number level RollbackText (doing.Open begin ops uses) = cut number (state number level doing.No)
+cut_by number level (LevelText later) (doing.Open begin ops uses) = cut number (state number level doing.Aborted)
+cut_by number level OtherText (doing.Open begin ops uses) = cut number (state number level doing.Aborted)
 cut_by number level _ doing.Aborted = None
 
 -- a line was cut short by want of memory, which is all that was told and done
@@ -158,11 +167,11 @@ pub record IsCutShort (w : World) (name : List ℕ) (c : Cut) (lines lines' : Li
   pub rows_are : ages' ≡ w.ages
 
 -- a line did what it does, or was cut short; and the session is there behind it
-abbrev pub IsTakenBy : World → List ℕ → ℕ → Level → List ℕ → TextKind → InTransaction → SessionState → List Line → List Line → List EntryLine → List EntryLine → List (List GenidItem) → Ages → Type 0
+abbrev pub IsTakenBy : World → List ℕ → ℕ → Level → List ℕ → Kind → InTransaction → SessionState → List Line → List Line → List EntryLine → List EntryLine → List (List GenidItem) → Ages → Type 0
 IsTakenBy w name number level text k what after lines lines' entries entries' taken' ages' =
     (IsTurned w name (turn_by w number level text k what) lines lines' entries entries' taken' ages' × (after ≡ (turn_by w number level text k what).after))
     ⊎ ((c : Cut) × (cut_by number level k what ≡ Some c) × IsCutShort w name c lines lines' entries entries' taken' ages' × (after ≡ c.after))
 
 abbrev pub IsTaken : World → List ℕ → SessionState → List ℕ → SessionState → List Line → List Line → List EntryLine → List EntryLine → List (List GenidItem) → Ages → Type 0
 IsTaken w name before text after lines lines' entries entries' taken' ages' =
-    IsTakenBy w name before.number before.level text (kind_of (statement_of text)) before.doing after lines lines' entries entries' taken' ages'
+    IsTakenBy w name before.number before.level text (kind_of_text text) before.doing after lines lines' entries entries' taken' ages'

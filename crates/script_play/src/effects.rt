@@ -1,23 +1,25 @@
 //! What a line of a session is to do, by where the session is: nothing is told or kept yet.
 ghost use Rattle.std.specs.Prelude.{◌≡◌, ℕ, List, ◌+◌, ◌++◌, ◌∷◌, [], length, IfOk, IfSome};
 ghost use Rattle.std.specs.List.{AllByRecursion};
-ghost use Rattle.statement_read.specs.OnTables.{IsOn};
-ghost use Rattle.statement_read.specs.Statements.{statement_of};
-ghost use Rattle.transaction_answers.specs.Decisions.{added_by};
-ghost use Rattle.transaction_answers.specs.Sound.{IsSoundOp};
+ghost use Rattle.cdb_values.specs.declared.items.GenidItem.{GenidItem};
 ghost use Rattle.cdb_values.specs.declared.rows.RowOp.{RowOp};
-ghost use Rattle.script_play.specs.RunViews.{world, IsReadyFor};
+ghost use Rattle.commit_decisions.specs.Decisions.{added_by};
+ghost use Rattle.sql_run.specs.Sound.{IsSoundOp};
+ghost use Rattle.sql_answer.specs.Answers.{Meaning};
+ghost use Rattle.sql_run.specs.Texts.{plan_by};
+ghost use Rattle.sql_run.specs.Views.{kind_in, text_in};
+ghost use Rattle.script_play.specs.RunViews.{world, IsReadyFor, IsOfText};
 ghost use Rattle.script_play.specs.Effects.{IsEffect, added_in, cut_in};
 ghost use Rattle.script_play.specs.Ready.{IsReadyToGo};
-ghost use Rattle.script_play.specs.Step.{World, answer_at, committed, cut_by, goes_on, outcome, own_line, state, turn_by, turned};
+ghost use Rattle.script_play.specs.Step.{World, answer_of, committed, cut_by, goes_on, outcome, own_line, state, turn_of, turned};
 
 use super::run::RunSoFar;
 use super::states::{InTransaction, SessionState};
-use cdb_values::{Level, List, RowOp, Schema, StatementError};
+use cdb_values::{GenidItem, Level, List, RowOp, Schema, StatementError};
+use commit_decisions::decide;
 use report_text::ReplyLine;
-use statement_read::TextKind;
+use sql_run::{Prepared, TextKind, answer_prepared};
 use std::alloc::{AllocError, Global};
-use transaction_answers::{answer_text, decide};
 
 /// The last position that a history may have.
 const LAST_POSITION: u64 = (1 << 62) - 1;
@@ -36,19 +38,21 @@ pub(crate) struct LineEffect {
     pub added: Option<List<RowOp>>,
 }
 
-/// What a line of that kind is to do.
+/// What a line of that kind is to do, by its prepared text.
 pub(crate) fn effect_of(
     alloc: Global,
     schema: &Schema,
     run: &RunSoFar,
     state: SessionState,
     kind: TextKind,
-    text: &[u8],
+    prepared: &Prepared,
 ) -> Result<LineEffect, AllocError>
     requires ready { IsReadyFor schema.now run.now }
     requires ready_to_go { IsReadyToGo schema.now (length run.now.entries.items) run.now.rows.next state.doing }
-    requires on { IsOn schema.now (statement_of text.now) }
-    ensures { IfOk result (λ p. IsEffect p (turn_by (world schema.now run.now) state.number state.level text.now kind state.doing)) }
+    requires plan { (text_in prepared.now).plan ≡ plan_by schema.now (text_in prepared.now).meaning }
+    requires of_text { IsOfText schema.now (text_in prepared.now).meaning }
+    ensures { IfOk result (λ p. IsEffect p
+        (turn_of (world schema.now run.now) state.number state.level (text_in prepared.now).meaning (kind_in kind) state.doing)) }
 {
     let SessionState {
         number,
@@ -56,9 +60,16 @@ pub(crate) fn effect_of(
         doing,
     } = state;
     match doing {
-        InTransaction::No => outside(alloc, schema, run, number, level, kind, text),
-        InTransaction::Open { begin, ops } => {
-            inside(alloc, schema, run, number, level, begin, ops, kind, text)
+        InTransaction::No => outside(alloc, schema, run, number, level, kind, prepared),
+        InTransaction::Open { begin, ops, uses } => {
+            let open = OpenTransaction {
+                number,
+                level,
+                begin,
+                ops,
+                uses,
+            };
+            inside(alloc, schema, run, open, kind, prepared)
         }
         InTransaction::Aborted => Ok(skip(alloc, number, level, kind)),
     }
@@ -67,7 +78,7 @@ pub(crate) fn effect_of(
 /// Where the session is if want of memory cuts the line short; `None` where the line is in no
 /// transaction, or its number can't be counted.
 pub(crate) fn cut_state(state: &SessionState, kind: TextKind) -> Option<SessionState>
-    ensures { IfSome result (λ after. cut_by state.now.number state.now.level kind state.now.doing ≡ cut_in after) }
+    ensures { IfSome result (λ after. cut_by state.now.number state.now.level (kind_in kind) state.now.doing ≡ cut_in after) }
 {
     match state.doing {
         InTransaction::No => cut_outside(state.number, state.level, kind),
@@ -78,7 +89,7 @@ pub(crate) fn cut_state(state: &SessionState, kind: TextKind) -> Option<SessionS
 
 /// Where a session is behind a line outside a transaction that was cut short.
 fn cut_outside(number: u64, level: Level, kind: TextKind) -> Option<SessionState>
-    ensures { IfSome result (λ after. cut_by number level kind InTransaction.No ≡ cut_in after) }
+    ensures { IfSome result (λ after. cut_by number level (kind_in kind) InTransaction.No ≡ cut_in after) }
 {
     let next = number.checked_add(1)?;
     match kind {
@@ -94,19 +105,19 @@ fn cut_outside(number: u64, level: Level, kind: TextKind) -> Option<SessionState
         }),
         TextKind::Commit => None,
         TextKind::Rollback => None,
-        TextKind::SetSnapshot => None,
+        TextKind::SetLevel(_) => None,
     }
 }
 
 /// Where a session is behind a line in its transaction that was cut short.
 fn cut_inside(number: u64, level: Level, kind: TextKind) -> SessionState
-    ensures { (begin : ℕ) (ops : List RowOp) → cut_by number level kind (InTransaction.Open begin ops) ≡ cut_in result }
+    ensures { (begin : ℕ) (ops : List RowOp) (uses : List GenidItem) → cut_by number level (kind_in kind) (InTransaction.Open begin ops uses) ≡ cut_in result }
 {
     let doing = match kind {
         TextKind::Commit => InTransaction::No,
         TextKind::Rollback => InTransaction::No,
         TextKind::Begin => InTransaction::Aborted,
-        TextKind::SetSnapshot => InTransaction::Aborted,
+        TextKind::SetLevel(_) => InTransaction::Aborted,
         TextKind::Other => InTransaction::Aborted,
     };
     SessionState {
@@ -124,19 +135,32 @@ fn outside(
     number: u64,
     level: Level,
     kind: TextKind,
-    text: &[u8],
+    prepared: &Prepared,
 ) -> Result<LineEffect, AllocError>
     requires ready { IsReadyFor schema.now run.now }
-    requires on { IsOn schema.now (statement_of text.now) }
-    ensures { IfOk result (λ p. IsEffect p (turn_by (world schema.now run.now) number level text.now kind InTransaction.No)) }
+    requires plan { (text_in prepared.now).plan ≡ plan_by schema.now (text_in prepared.now).meaning }
+    requires of_text { IsOfText schema.now (text_in prepared.now).meaning }
+    ensures { IfOk result (λ p. IsEffect p
+        (turn_of (world schema.now run.now) number level (text_in prepared.now).meaning (kind_in kind) InTransaction.No)) }
 {
     match kind {
         TextKind::Begin => begin(alloc, run, number, level),
         TextKind::Commit => refused(alloc, number, level),
         TextKind::Rollback => refused(alloc, number, level),
-        TextKind::SetSnapshot => set_level(alloc, number, Level::Snapshot),
-        TextKind::Other => own_transaction(alloc, schema, run, number, level, text),
+        TextKind::SetLevel(level) => set_level(alloc, number, level),
+        TextKind::Other => own_transaction(alloc, schema, run, number, level, prepared),
     }
+}
+
+/// An open transaction of a session: its number and level, the position where it began, its operations so far, and
+/// the versions that its texts used besides.
+#[derive(Drop)]
+struct OpenTransaction {
+    number: u64,
+    level: Level,
+    begin: u64,
+    ops: List<RowOp>,
+    uses: List<GenidItem>,
 }
 
 /// What a line in an open transaction is to do.
@@ -144,36 +168,34 @@ fn inside(
     alloc: Global,
     schema: &Schema,
     run: &RunSoFar,
-    number: u64,
-    level: Level,
-    begin: u64,
-    ops: List<RowOp>,
+    open: OpenTransaction,
     kind: TextKind,
-    text: &[u8],
+    prepared: &Prepared,
 ) -> Result<LineEffect, AllocError>
     requires ready { IsReadyFor schema.now run.now }
-    requires sound { AllByRecursion (IsSoundOp schema.now run.now.rows.next) ops }
-    requires on { IsOn schema.now (statement_of text.now) }
-    ensures { IfOk result (λ p. IsEffect p (turn_by (world schema.now run.now) number level text.now kind (InTransaction.Open begin ops))) }
+    requires sound { AllByRecursion (IsSoundOp schema.now run.now.rows.next) open.ops }
+    requires plan { (text_in prepared.now).plan ≡ plan_by schema.now (text_in prepared.now).meaning }
+    ensures { IfOk result (λ p. IsEffect p
+        (turn_of (world schema.now run.now) open.number open.level (text_in prepared.now).meaning (kind_in kind) (InTransaction.Open open.begin open.ops open.uses))) }
 {
     match kind {
-        TextKind::Commit => commit(alloc, schema, run, number, level, begin, ops),
-        TextKind::Rollback => one(alloc, number, ReplyLine::RolledBack, idle(number, level)),
-        TextKind::Begin => go_on(alloc, schema, run, number, level, begin, ops, text),
-        TextKind::SetSnapshot => go_on(alloc, schema, run, number, level, begin, ops, text),
-        TextKind::Other => go_on(alloc, schema, run, number, level, begin, ops, text),
+        TextKind::Commit => commit(alloc, schema, run, open),
+        TextKind::Rollback => rolled_back(alloc, open.number, open.level),
+        TextKind::Begin => go_on(alloc, schema, run, open, prepared),
+        TextKind::SetLevel(_) => go_on(alloc, schema, run, open, prepared),
+        TextKind::Other => go_on(alloc, schema, run, open, prepared),
     }
 }
 
 /// What a line of a transaction that want of memory ended is to do: it is skipped.
 fn skip(alloc: Global, number: u64, level: Level, kind: TextKind) -> LineEffect
-    ensures { (w : World) (text : List ℕ) → IsEffect result (turn_by w number level text kind InTransaction.Aborted) }
+    ensures { (w : World) (meaning : Meaning) → IsEffect result (turn_of w number level meaning (kind_in kind) InTransaction.Aborted) }
 {
     let doing = match kind {
         TextKind::Commit => InTransaction::No,
         TextKind::Rollback => InTransaction::No,
         TextKind::Begin => InTransaction::Aborted,
-        TextKind::SetSnapshot => InTransaction::Aborted,
+        TextKind::SetLevel(_) => InTransaction::Aborted,
         TextKind::Other => InTransaction::Aborted,
     };
     let after = SessionState {
@@ -240,6 +262,13 @@ fn refused(alloc: Global, number: u64, level: Level) -> Result<LineEffect, Alloc
     )
 }
 
+/// A line that rolls its transaction back.
+fn rolled_back(alloc: Global, number: u64, level: Level) -> Result<LineEffect, AllocError>
+    ensures { IfOk result (λ p. IsEffect p (turned number (ReplyLine.RolledBack ∷ []) (state number level InTransaction.No))) }
+{
+    one(alloc, number, ReplyLine::RolledBack, idle(number, level))
+}
+
 /// A line that sets the level of later transactions.
 fn set_level(alloc: Global, number: u64, level: Level) -> Result<LineEffect, AllocError>
     ensures { IfOk result (λ p. IsEffect p (turned 0 (ReplyLine.Level level ∷ []) (state number level InTransaction.No))) }
@@ -259,7 +288,7 @@ fn counted(number: u64) -> Result<u64, AllocError>
 
 /// A transaction begins at the last position.
 fn begin(alloc: Global, run: &RunSoFar, number: u64, level: Level) -> Result<LineEffect, AllocError>
-    ensures { IfOk result (λ p. IsEffect p (turned (number + 1) (ReplyLine.Begin (length run.now.entries.items) ∷ []) (state (number + 1) level (InTransaction.Open (length run.now.entries.items) [])))) }
+    ensures { IfOk result (λ p. IsEffect p (turned (number + 1) (ReplyLine.Begin (length run.now.entries.items) ∷ []) (state (number + 1) level (InTransaction.Open (length run.now.entries.items) [] [])))) }
 {
     let number = counted(number)?;
     let now = run.entries.len() as u64;
@@ -269,6 +298,7 @@ fn begin(alloc: Global, run: &RunSoFar, number: u64, level: Level) -> Result<Lin
         doing: InTransaction::Open {
             begin: now,
             ops: List::new(alloc),
+            uses: List::new(alloc),
         },
     };
     one(alloc, number, ReplyLine::Begin(now), after)
@@ -279,58 +309,69 @@ fn go_on(
     alloc: Global,
     schema: &Schema,
     run: &RunSoFar,
-    number: u64,
-    level: Level,
-    begin: u64,
-    ops: List<RowOp>,
-    text: &[u8],
+    open: OpenTransaction,
+    prepared: &Prepared,
 ) -> Result<LineEffect, AllocError>
-    requires ready { IsReadyFor schema.now run.now }
-    ensures { IfOk result (λ p. IsEffect p (goes_on number level begin (answer_at (world schema.now run.now) begin ops text.now))) }
+    requires plan { (text_in prepared.now).plan ≡ plan_by schema.now (text_in prepared.now).meaning }
+    ensures { IfOk result (λ p. IsEffect p
+        (goes_on open.number open.level open.begin open.uses (answer_of (world schema.now run.now) open.begin open.ops (text_in prepared.now).meaning))) }
 {
-    let answer = answer_text(alloc, schema, &run.rows, begin, ops, text)?;
-    let after = SessionState {
+    let OpenTransaction {
         number,
         level,
-        doing: InTransaction::Open {
-            begin,
-            ops: answer.ops,
-        },
+        begin,
+        ops,
+        uses,
+    } = open;
+    let found = answer_prepared(alloc, schema, &run.rows, begin, ops, prepared)?;
+    let doing = InTransaction::Open {
+        begin,
+        ops: found.ops,
+        uses: joined(uses, found.uses)?,
     };
     Ok(LineEffect {
         number,
-        replies: answer.replies,
-        after,
+        replies: found.replies.into_vec(),
+        after: SessionState {
+            number,
+            level,
+            doing,
+        },
         begin: 0,
         added: None,
     })
 }
 
-/// What is decided on a transaction at its commit.
+/// These versions, and then those.
+fn joined(first: List<GenidItem>, second: List<GenidItem>) -> Result<List<GenidItem>, AllocError>
+    ensures { IfOk result (λ all. all ≡ first ++ second) }
+{
+    let mut all = first.into_vec();
+    let mut more = second.into_vec();
+    all.append(&mut more)?;
+    Ok(List::from_vec(all))
+}
+
+/// What is decided on a transaction at its commit, by what its texts used and by its operations.
+#[tactic(auto, using(crate::proofs::SoundLaws::on_base))]
 fn decided(
     alloc: Global,
     schema: &Schema,
     run: &RunSoFar,
     begin: u64,
+    uses: &[GenidItem],
     ops: &[RowOp],
 ) -> Result<ReplyLine, AllocError>
     requires ready { IsReadyFor schema.now run.now }
     requires sound { AllByRecursion (IsSoundOp schema.now run.now.rows.next) ops.now }
-    ensures { IfOk result (λ o. o ≡ outcome (world schema.now run.now) begin ops.now) }
+    ensures { IfOk result (λ o. o ≡ outcome (world schema.now run.now) begin uses.now ops.now) }
 {
     let now = run.entries.len() as u64;
     if LAST_POSITION <= now {
         return Err(AllocError);
     }
-    decide(
-        alloc,
-        schema,
-        &run.rows,
-        run.taken.as_slice(),
-        begin,
-        now,
-        ops,
-    )
+    let taken = run.taken.as_slice();
+    decide(alloc, schema, &run.rows, taken, begin, now, uses, ops)
 }
 
 /// The operations that a decision commits.
@@ -358,16 +399,21 @@ fn commit(
     alloc: Global,
     schema: &Schema,
     run: &RunSoFar,
-    number: u64,
-    level: Level,
-    begin: u64,
-    ops: List<RowOp>,
+    open: OpenTransaction,
 ) -> Result<LineEffect, AllocError>
     requires ready { IsReadyFor schema.now run.now }
-    requires sound { AllByRecursion (IsSoundOp schema.now run.now.rows.next) ops }
-    ensures { IfOk result (λ p. IsEffect p (committed (world schema.now run.now) number level begin ops)) }
+    requires sound { AllByRecursion (IsSoundOp schema.now run.now.rows.next) open.ops }
+    ensures { IfOk result (λ p. IsEffect p
+        (committed (world schema.now run.now) open.number open.level open.begin open.uses open.ops)) }
 {
-    let outcome = decided(alloc, schema, run, begin, ops.as_slice())?;
+    let OpenTransaction {
+        number,
+        level,
+        begin,
+        ops,
+        uses,
+    } = open;
+    let outcome = decided(alloc, schema, run, begin, uses.as_slice(), ops.as_slice())?;
     let added = committing(&outcome, ops);
     let mut replies = Vec::new(alloc);
     replies.push(outcome)?;
@@ -387,18 +433,21 @@ fn own_transaction(
     run: &RunSoFar,
     number: u64,
     level: Level,
-    text: &[u8],
+    prepared: &Prepared,
 ) -> Result<LineEffect, AllocError>
     requires ready { IsReadyFor schema.now run.now }
-    requires on { IsOn schema.now (statement_of text.now) }
-    ensures { IfOk result (λ p. IsEffect p (own_line (world schema.now run.now) (number + 1) level (answer_at (world schema.now run.now) (length run.now.entries.items) [] text.now))) }
+    requires plan { (text_in prepared.now).plan ≡ plan_by schema.now (text_in prepared.now).meaning }
+    requires of_text { IsOfText schema.now (text_in prepared.now).meaning }
+    ensures { IfOk result (λ p. IsEffect p
+        (own_line (world schema.now run.now) (number + 1) level (answer_of (world schema.now run.now) (length run.now.entries.items) [] (text_in prepared.now).meaning))) }
 {
     let number = counted(number)?;
     let now = run.entries.len() as u64;
-    let answer = answer_text(alloc, schema, &run.rows, now, List::new(alloc), text)?;
-    let outcome = decided(alloc, schema, run, now, answer.ops.as_slice())?;
-    let added = committing(&outcome, answer.ops);
-    let replies = whole(alloc, now, answer.replies, outcome)?;
+    let found = answer_prepared(alloc, schema, &run.rows, now, List::new(alloc), prepared)?;
+    let uses = found.uses.as_slice();
+    let outcome = decided(alloc, schema, run, now, uses, found.ops.as_slice())?;
+    let added = committing(&outcome, found.ops);
+    let replies = whole(alloc, now, found.replies.into_vec(), outcome)?;
     Ok(LineEffect {
         number,
         replies,

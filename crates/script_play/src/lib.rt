@@ -2,11 +2,15 @@
 //!
 //! What a line does depends on where its session is:
 //!
-//! | The session is | `begin` | `commit` | `rollback` | `set transaction snapshot` | any other line |
+//! | The session is | `begin` | `commit` | `rollback` | `set transaction ..` | any other line |
 //! |---|---|---|---|---|---|
-//! | in no transaction | opens one at the last position | `error state` | `error state` | `level snapshot` | is a transaction of its own |
+//! | in no transaction | opens one at the last position | `error state` | `error state` | `level ..` | is a transaction of its own |
 //! | in one | `error state` | is decided on | `rolledback` | `error state` | is answered |
 //! | behind one that want of memory ended | is skipped | ends it | ends it | is skipped | is skipped |
+//!
+//! A line's text is read and bound once, by `prepare` of `sql_run`, whatever becomes of it. A text that is no statement, or
+//! has another error, is answered by that error, and the transaction goes on. Where the text can't be read for want of
+//! memory, nothing is known of the line, and the run ends.
 //!
 //! Two sessions that update one row, the second in a transaction that began before the first one's commit:
 //!
@@ -24,6 +28,7 @@
 //! | the run so far, as the code keeps it | `run` | `specs/RunViews.antt` |
 //! | what the rows keep from line to line | | `specs/Ready.antt` |
 //! | the run so far | `play` | `specs/SoFar.antt` |
+//! | what a report is judged by | | `specs/Basis.antt` |
 #![tactic(auto)]
 
 mod effects;

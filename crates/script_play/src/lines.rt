@@ -1,25 +1,30 @@
 //! One line of a session, told and kept, or cut short by want of memory.
 ghost use Rattle.std.specs.Prelude.{◌≡◌, ◌++◌, ◌∷◌, [], List, Some, length, OnErr, IfOk};
-ghost use Rattle.statement_read.specs.OnTables.{IsOn};
-ghost use Rattle.statement_read.specs.Statements.{statement_of};
 ghost use Rattle.report_laws.specs.Told.{lines_of};
 ghost use Rattle.report_text.specs.declared.reports.Line.{Line};
-ghost use Rattle.script_play.specs.RunViews.{world, IsReadyFor, IsSameHistory, IsTakenFrom, IsDoneFrom};
+ghost use Rattle.sql_answer.specs.Language.{meaning, bound_in};
+ghost use Rattle.sql_answer.specs.Reading.{kind_of_text};
+ghost use Rattle.sql_run.specs.Texts.{plan_by};
+ghost use Rattle.sql_run.specs.Views.{kind_in, text_in};
+ghost use Rattle.script_play.specs.RunViews.{world, IsReadyFor, IsSameHistory, IsTakenFrom, IsDoneFrom, IsOfText};
 ghost use Rattle.script_play.specs.Effects.{Grown};
 ghost use Rattle.script_play.specs.Ready.{IsReadyToGo};
-ghost use Rattle.script_play.specs.Step.{turn_by};
+ghost use Rattle.script_play.specs.Step.{turn_of};
 
 use super::effects::{cut_state, effect_of};
 use super::run::{RunSoFar, add_reply, apply_effect};
 use super::states::SessionState;
 use cdb_values::{Name, Schema};
 use report_text::ReplyLine;
-use statement_read::{TextKind, kind_of_text};
+use sql_run::{Prepared, TextKind, prepare};
 use std::alloc::{AllocError, Global};
 
+/// More bytes than any line has.
+const TEXT_LIMIT: usize = 1 << 32;
+
 /// Does a line of a session, and gives where the session is then. Where want of memory ends its
-/// transaction, only that is told. The error comes where that can't be told either, or where a line
-/// outside a transaction can't be answered.
+/// transaction, only that is told. The error comes where that can't be told either, where a line
+/// outside a transaction can't be answered, or where the text can't be read.
 pub(crate) fn run_session_line(
     alloc: Global,
     schema: &Schema,
@@ -30,15 +35,32 @@ pub(crate) fn run_session_line(
 ) -> Result<SessionState, AllocError>
     requires ready { IsReadyFor schema.now run.old }
     requires ready_to_go { IsReadyToGo schema.now (length run.old.entries.items) run.old.rows.next state.doing }
-    requires on { IsOn schema.now (statement_of text.now) }
     ensures { IfOk result (λ after. IsTakenFrom schema.now name.now state text.now after run.old run.new) }
 {
-    let kind = kind_of_text(text);
+    let prepared = read_text(alloc, schema, text)?;
+    let kind = prepared.kind();
     let cut = cut_state(&state, kind);
     let had = run.lines.len();
-    match run_whole(alloc, schema, name, state, kind, text, run) {
+    match run_whole(alloc, schema, name, state, kind, &prepared, run) {
         Ok(after) => Ok(after),
         Err(_) => cut_short(name, had, cut, run),
+    }
+}
+
+/// A text read and bound. Texts of a script that is read are UTF-8 and far shorter than the limit, so that memory
+/// is all that can be wanting here.
+#[tactic(auto, using(crate::proofs::TextLemmas::is_text))]
+fn read_text(alloc: Global, schema: &Schema, text: &[u8]) -> Result<Prepared, AllocError>
+    ensures kind { IfOk result (λ p. (text_in p).kind ≡ kind_of_text text.now) }
+    ensures meaning { IfOk result (λ p. (text_in p).meaning ≡ meaning bound_in schema.now text.now) }
+    ensures plan { IfOk result (λ p. (text_in p).plan ≡ plan_by schema.now (text_in p).meaning) }
+{
+    if TEXT_LIMIT <= text.len() {
+        return Err(AllocError);
+    }
+    match std::str::from_utf8(text) {
+        Ok(_) => prepare(alloc, schema, text),
+        Err(_) => Err(AllocError),
     }
 }
 
@@ -49,17 +71,18 @@ fn run_whole(
     name: &Name,
     state: SessionState,
     kind: TextKind,
-    text: &[u8],
+    prepared: &Prepared,
     run: &mut RunSoFar,
 ) -> Result<SessionState, AllocError>
     requires ready { IsReadyFor schema.now run.old }
     requires ready_to_go { IsReadyToGo schema.now (length run.old.entries.items) run.old.rows.next state.doing }
-    requires on { IsOn schema.now (statement_of text.now) }
-    ensures ok { IfOk result (λ after. IsDoneFrom schema.now name.now (turn_by (world schema.now run.old) state.number state.level text.now kind state.doing) after run.old run.new) }
+    requires plan { (text_in prepared.now).plan ≡ plan_by schema.now (text_in prepared.now).meaning }
+    requires of_text { IsOfText schema.now (text_in prepared.now).meaning }
+    ensures ok { IfOk result (λ after. IsDoneFrom schema.now name.now (turn_of (world schema.now run.old) state.number state.level (text_in prepared.now).meaning (kind_in kind) state.doing) after run.old run.new) }
     ensures err_lines { OnErr result (Grown run.old.lines.items run.new.lines.items) }
     ensures err_same { OnErr result (IsSameHistory run.old run.new) }
 {
-    let effect = effect_of(alloc, schema, run, state, kind, text)?;
+    let effect = effect_of(alloc, schema, run, state, kind, prepared)?;
     apply_effect(alloc, name, effect, run)
 }
 

@@ -4,7 +4,7 @@ ghost use Rattle.script_form.specs.CanRun.{CanRun, tables_of};
 ghost use Rattle.script_form.specs.declared.scripts.BodyLine.{BodyLine};
 ghost use Rattle.report_laws.specs.Lawful.{Lawful};
 ghost use Rattle.report_laws.specs.Play.{InPlayOrder};
-ghost use Rattle.transaction_answers.specs.Answer.{from_nothing};
+ghost use Rattle.script_play.specs.Basis.{from_nothing};
 ghost use Rattle.script_play.specs.RunViews.{IsBeforeLine};
 ghost use Rattle.script_play.specs.SoFar.{at_start, report_of, session_at};
 ghost use Rattle.snapshot_rows.specs.Ages.{no_ages};

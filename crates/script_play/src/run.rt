@@ -12,10 +12,10 @@ ghost use Rattle.script_play.specs.Step.{IsKept};
 use super::effects::LineEffect;
 use super::states::SessionState;
 use cdb_values::{GenidItem, Level, List, Name, RowOp};
+use commit_decisions::items_taken;
 use report_text::{EntryLine, Line, ReplyLine};
 use snapshot_rows::Snapshots;
 use std::alloc::{AllocError, Global};
-use transaction_answers::items_taken;
 
 /// The run so far: the lines and the history of its report, the versions that each entry of the
 /// history took away, and the rows at each position.

@@ -1,29 +1,27 @@
 -- Every script that is read is lawful, can run and has names that are names: each line that is read keeps what holds
 -- of those before it.
-use Rattle.std.proofs.Common.{◌≡◌, ℕ, ◌+◌, ◌<◌, ◌≤◌, List, [], ◌∷◌, ◌++◌, length, map, Bool, true, false, not, ◌&&◌, ◌||◌, ◌==◌, Option, Some, None, Result, Ok, Err, refl, sym, ◌∙◌, ap, subst, arith, if◌then◌else◌, nat_lt, nat_le, ◌⊎◌, inl, inr, append_assoc, length-append}
+use Rattle.std.proofs.Common.{◌≡◌, ◌≢◌, ℕ, ◌+◌, ◌<◌, ◌≤◌, List, [], ◌∷◌, ◌++◌, length, map, Bool, true, false, not, ◌&&◌, ◌||◌, ◌==◌, Option, Some, None, Result, Ok, Err, refl, sym, ◌∙◌, ap, subst, arith, if◌then◌else◌, nat_lt, nat_le, ◌⊎◌, inl, inr, append_assoc, length-append}
 use Rattle.std.specs.List.{AllByRecursion}
 use Rattle.std.specs.Str.{is_utf8}
 use Rattle.cdb_values.specs.Tables.{add_fault, place_of}
-use Rattle.cdb_values.specs.declared.tables.ColumnType.TheVariants.{Integer}
+use Rattle.cdb_values.specs.declared.tables.ColumnDef.{ColumnDef}
 use Rattle.cdb_values.specs.declared.tables.TableDef.{TableDef}
 use Rattle.byte_words.specs.Lines.{lines_of, text_of, is_skipped}
 use Rattle.byte_words.specs.Words.{after_piece, is_end, is_name}
-use Rattle.statement_read.proofs.IntegerLaws.{statement_has_integers}
-use Rattle.statement_read.specs.Statements.{statement_of}
 use Rattle.table_read.proofs.TableLaws.{lawful}
 use Rattle.table_read.specs.Verdict.{TableFault, Unlawful, Limit, table_of}
 use Rattle.script_read.proofs.LimitLemmas.{within_is_whole}
 use Rattle.script_read.proofs.NameLemmas.{well_formed, table_named, says_named}
-use Rattle.script_read.proofs.OnTableLemmas.{and_first, and_second, declared, table_has_integers, on_tables}
+use Rattle.script_read.proofs.TestLemmas.{and_first, and_second, declared}
 use Rattle.script_read.specs.Answers.{Refusal}
 use Rattle.script_read.specs.Bodies.{said_of, say_said, stop_said, start_said, arm_of, arm_said, barrier_said, feed_said}
-use Rattle.script_read.specs.Built.{is_built, has_integers}
+use Rattle.script_read.specs.Built.{is_built}
 use Rattle.script_form.specs.CanRun.{AreTaken, IsSaid, CanRun}
 use Rattle.script_form.specs.Named.{IsName, IsNamedTable, SaysNamed, IsNamed}
 use Rattle.script_read.specs.Heads.{only_number, only_fitting, is_declared, is_node, nodes_said, cluster_said, workers_said, session_of, session_said, tabled, table_said, watched, watch_said}
 use Rattle.script_read.specs.Kinds.{kind_of, keyword_part, part_of, may_come}
 use Rattle.script_read.specs.Lawful.{AreNew, IsNode, NamesDeclared, Rise, IsLawful}
-use Rattle.script_read.specs.ScriptText.{script_of, finished, script_with, and_then, read_lines, read_line, read_kind, read_placed, told, if_built, if_table_built, with_said, with_table, no_draft, most_bytes, most_line_bytes}
+use Rattle.script_read.specs.ScriptText.{script_of, finished, script_with, and_then, read_lines, read_line, read_kind, read_placed, told, if_built, tables_with, with_said, with_table, no_draft, most_bytes, most_line_bytes}
 use Rattle.script_read.specs.declared.drafts.Draft.{Draft}
 use Rattle.script_read.specs.declared.kinds.Keyword.{Keyword}
 use Rattle.script_read.specs.declared.kinds.Keyword.TheVariants as keywords
@@ -62,54 +60,54 @@ ok_of x = Ok x
 same_ok : {A : Type 0} (x y : A) → ok_of x ≡ ok_of y → x ≡ y
 same_ok x y e = ap (ok_or x) e
 
-built_ok : (draft : Draft) (line : ℕ) (x : Said) (next : Draft) → if_built draft line x ≡ Ok next → (is_built draft.schema x ≡ true) × (with_said draft line x ≡ next)
-built_ok draft line x next e = let k = then_ok (is_built draft.schema x) _ _ next e in (k.0, same_ok _ _ k.1)
+built_ok : (draft : Draft) (line : ℕ) (x : Said) (next : Draft) → if_built draft line x ≡ Ok next → (is_built x ≡ true) × (with_said draft line x ≡ next)
+built_ok draft line x next e = let k = then_ok (is_built x) _ _ next e in (k.0, same_ok _ _ k.1)
 
 -- what says nothing that runs today ends the reading
-never : (draft : Draft) (line : ℕ) (read : Result Said Refusal) (next : Draft) → ((x : Said) → read ≡ Ok x → is_built draft.schema x ≡ false) → and_then read (if_built draft line) ≡ Ok next → ⊥
+never : (draft : Draft) (line : ℕ) (read : Result Said Refusal) (next : Draft) → ((x : Said) → read ≡ Ok x → is_built x ≡ false) → and_then read (if_built draft line) ≡ Ok next → ⊥
 never draft line read next out e =
     let a = and_ok read (if_built draft line) next e in
-    let b : is_built draft.schema a.0 ≡ true = (built_ok draft line a.0 next a.1.1).0 in
-    let c : is_built draft.schema a.0 ≡ false = out a.0 a.1.0 in
+    let b : is_built a.0 ≡ true = (built_ok draft line a.0 next a.1.1).0 in
+    let c : is_built a.0 ≡ false = out a.0 a.1.0 in
     let d : true ≡ false = sym b ∙ c in
     cc
 
-is_out : (tables : List TableDef) (x y : Said) → is_built tables x ≡ false → ok_of x ≡ ok_of y → is_built tables y ≡ false
-is_out tables x y h e = subst (λ s. is_built tables s ≡ false) (same_ok x y e) h
+is_out : (x y : Said) → is_built x ≡ false → ok_of x ≡ ok_of y → is_built y ≡ false
+is_out x y h e = subst (λ s. is_built s ≡ false) (same_ok x y e) h
 
-cluster_out : (tables : List TableDef) (line : ℕ) (name : Option (List ℕ)) (x : Said) → cluster_said line name ≡ Ok x → is_built tables x ≡ false
-cluster_out tables line None x e = absurd cc
-cluster_out tables line (Some name) x e = is_out tables (said.Cluster name) x refl (then_ok (is_name name) _ _ x e).1
+cluster_out : (line : ℕ) (name : Option (List ℕ)) (x : Said) → cluster_said line name ≡ Ok x → is_built x ≡ false
+cluster_out line None x e = absurd cc
+cluster_out line (Some name) x e = is_out (said.Cluster name) x refl (then_ok (is_name name) _ _ x e).1
 
-workers_out : (tables : List TableDef) (line : ℕ) (workers : Option ℕ) (x : Said) → workers_said line workers ≡ Ok x → is_built tables x ≡ false
-workers_out tables line None x e = absurd cc
-workers_out tables line (Some workers) x e = is_out tables (said.Workers workers) x refl (else_ok ((workers == 0) || nat_lt 64 workers) _ _ x e).1
+workers_out : (line : ℕ) (workers : Option ℕ) (x : Said) → workers_said line workers ≡ Ok x → is_built x ≡ false
+workers_out line None x e = absurd cc
+workers_out line (Some workers) x e = is_out (said.Workers workers) x refl (else_ok ((workers == 0) || nat_lt 64 workers) _ _ x e).1
 
-watched_out : (draft : Draft) (line : ℕ) (place : Option ℕ) (x : Said) → watched draft line place ≡ Ok x → is_built draft.schema x ≡ false
+watched_out : (draft : Draft) (line : ℕ) (place : Option ℕ) (x : Said) → watched draft line place ≡ Ok x → is_built x ≡ false
 watched_out draft line None x e = absurd cc
-watched_out draft line (Some place) x e = is_out draft.schema (said.Watch place) x refl (else_ok (nat_le 8 (length draft.watches) || nat_le draft.consumers (length draft.watches)) _ _ x e).1
+watched_out draft line (Some place) x e = is_out (said.Watch place) x refl (else_ok (nat_le 8 (length draft.watches) || nat_le draft.consumers (length draft.watches)) _ _ x e).1
 
-watch_out : (draft : Draft) (line : ℕ) (name : Option (List ℕ)) (x : Said) → watch_said draft line name ≡ Ok x → is_built draft.schema x ≡ false
+watch_out : (draft : Draft) (line : ℕ) (name : Option (List ℕ)) (x : Said) → watch_said draft line name ≡ Ok x → is_built x ≡ false
 watch_out draft line None x e = absurd cc
 watch_out draft line (Some name) x e = watched_out draft line (place_of draft.schema name) x (then_ok (is_name name) _ _ x e).1
 
-stop_out : (draft : Draft) (line : ℕ) (node : Option ℕ) (x : Said) → stop_said draft line node ≡ Ok x → is_built draft.schema x ≡ false
+stop_out : (draft : Draft) (line : ℕ) (node : Option ℕ) (x : Said) → stop_said draft line node ≡ Ok x → is_built x ≡ false
 stop_out draft line None x e = absurd cc
-stop_out draft line (Some node) x e = is_out draft.schema (said.Runs (acts.Stop node)) x refl (then_ok (is_node draft.nodes node) _ _ x e).1
+stop_out draft line (Some node) x e = is_out (said.Runs (acts.Stop node)) x refl (then_ok (is_node draft.nodes node) _ _ x e).1
 
-start_out : (draft : Draft) (line : ℕ) (node : Option ℕ) (x : Said) → start_said draft line node ≡ Ok x → is_built draft.schema x ≡ false
+start_out : (draft : Draft) (line : ℕ) (node : Option ℕ) (x : Said) → start_said draft line node ≡ Ok x → is_built x ≡ false
 start_out draft line None x e = absurd cc
-start_out draft line (Some node) x e = is_out draft.schema (said.Runs (acts.Start node)) x refl (then_ok (is_node draft.nodes node) _ _ x e).1
+start_out draft line (Some node) x e = is_out (said.Runs (acts.Start node)) x refl (then_ok (is_node draft.nodes node) _ _ x e).1
 
-arm_out : (draft : Draft) (line : ℕ) (arm : Option (List ℕ × Moment)) (x : Said) → arm_said draft line arm ≡ Ok x → is_built draft.schema x ≡ false
+arm_out : (draft : Draft) (line : ℕ) (arm : Option (List ℕ × Moment)) (x : Said) → arm_said draft line arm ≡ Ok x → is_built x ≡ false
 arm_out draft line None x e = absurd cc
-arm_out draft line (Some (name, moment)) x e = is_out draft.schema (said.Runs (acts.Arm name moment)) x refl (then_ok (is_declared name draft.sessions) _ _ x e).1
+arm_out draft line (Some (name, moment)) x e = is_out (said.Runs (acts.Arm name moment)) x refl (then_ok (is_declared name draft.sessions) _ _ x e).1
 
-barrier_out : (tables : List TableDef) (line : ℕ) (rest : List ℕ) (x : Said) → barrier_said line rest ≡ Ok x → is_built tables x ≡ false
-barrier_out tables line rest x e = is_out tables (said.Runs acts.Barrier) x refl (then_ok (is_end rest) _ _ x e).1
+barrier_out : (line : ℕ) (rest : List ℕ) (x : Said) → barrier_said line rest ≡ Ok x → is_built x ≡ false
+barrier_out line rest x e = is_out (said.Runs acts.Barrier) x refl (then_ok (is_end rest) _ _ x e).1
 
-feed_out : (tables : List TableDef) (line : ℕ) (rest : List ℕ) (x : Said) → feed_said line rest ≡ Ok x → is_built tables x ≡ false
-feed_out tables line rest x e = is_out tables (said.Runs acts.Feed) x refl (then_ok (is_end rest) _ _ x e).1
+feed_out : (line : ℕ) (rest : List ℕ) (x : Said) → feed_said line rest ≡ Ok x → is_built x ≡ false
+feed_out line rest x e = is_out (said.Runs acts.Feed) x refl (then_ok (is_end rest) _ _ x e).1
 
 -- numbers of lines that rise, all of them before a line
 record Rising (numbers : List ℕ) (line : ℕ) : Type 0 where
@@ -199,8 +197,8 @@ record Going (draft : Draft) (line : ℕ) : Type 0 where
   schema : draft.schema ≡ map (λ t. t.table) draft.tables
   taken : AreTaken [] draft.schema
   table_names : AllByRecursion (λ t. IsNamedTable t.table) draft.tables
-  integers : AllByRecursion (λ t. AllByRecursion (λ c. c.kind ≡ Integer) t.table.columns) draft.tables
-  statements : AllByRecursion (λ l. IsSaid draft.sessions draft.schema l.act) draft.body
+  texts : AllByRecursion (λ l. IsSaid draft.sessions l.act) draft.body
+  columns : AllByRecursion (λ t. t.table.columns ≢ []) draft.tables
   tables_part : (draft.tables ≡ []) ⊎ (5 ≤ draft.part)
   body_part : (draft.body ≡ []) ⊎ (7 ≤ draft.part)
   lines : Rising (numbers_of draft.sessions draft.tables draft.body) line
@@ -211,7 +209,7 @@ data Stage (draft : Draft) (line : ℕ) : Type 0 where
 
 later : (draft : Draft) (line : ℕ) → Stage draft line → Stage draft (line + 1)
 later draft line (at_fresh f) = let h : 1 ≤ line = f.first in at_fresh (record { part = f.part; sessions = f.sessions; schema = f.schema; tables = f.tables; watches = f.watches; body = f.body; first = omega arith })
-later draft line (at_going g) = at_going (record { begun = g.begun; nodes = g.nodes; watches = g.watches; few = g.few; sessions = g.sessions; new = g.new; session_names = g.session_names; schema = g.schema; taken = g.taken; table_names = g.table_names; integers = g.integers; statements = g.statements; tables_part = g.tables_part; body_part = g.body_part; lines = rising_later _ line g.lines })
+later draft line (at_going g) = at_going (record { begun = g.begun; nodes = g.nodes; watches = g.watches; few = g.few; sessions = g.sessions; new = g.new; session_names = g.session_names; schema = g.schema; taken = g.taken; table_names = g.table_names; texts = g.texts; columns = g.columns; tables_part = g.tables_part; body_part = g.body_part; lines = rising_later _ line g.lines })
 
 -- which parts may come behind one
 come_later : (before part : ℕ) → (before == 0) ≡ false → may_come before part ≡ true → before ≤ part
@@ -264,8 +262,8 @@ nodes_keeps draft line (Some nodes) next f e =
       schema = f.schema ∙ ap (λ ts. map (λ t. t.table) ts) (sym f.tables);
       taken = subst (λ ts. AreTaken [] ts) (sym f.schema) tt;
       table_names = subst (λ ts. AllByRecursion (λ t. IsNamedTable t.table) ts) (sym f.tables) tt;
-      integers = subst (λ ts. AllByRecursion (λ t. AllByRecursion (λ c. c.kind ≡ Integer) t.table.columns) ts) (sym f.tables) tt;
-      statements = subst (λ b. AllByRecursion (λ l. IsSaid draft.sessions draft.schema l.act) b) (sym f.body) tt;
+      texts = subst (λ b. AllByRecursion (λ l. IsSaid draft.sessions l.act) b) (sym f.body) tt;
+      columns = subst (λ ts. AllByRecursion (λ t. t.table.columns ≢ []) ts) (sym f.tables) tt;
       tables_part = inl f.tables;
       body_part = inl f.body;
       lines = subst (λ b. Rising (numbers_of draft.sessions draft.tables b) (line + 1)) (sym f.body) (subst (λ t. Rising (numbers_of draft.sessions t []) (line + 1)) (sym f.tables) (subst (λ s. Rising (numbers_of s [] []) (line + 1)) (sym f.sessions) (none f.first)));
@@ -333,8 +331,8 @@ session_keeps draft line (Some ((name, node), hasql)) next g p e =
       schema = g.schema;
       taken = g.taken;
       table_names = g.table_names;
-      integers = g.integers;
-      statements = subst (λ b. AllByRecursion (λ l. IsSaid (draft.sessions ++ session ∷ []) draft.schema l.act) b) (sym body) tt;
+      texts = subst (λ b. AllByRecursion (λ l. IsSaid (draft.sessions ++ session ∷ []) l.act) b) (sym body) tt;
+      columns = g.columns;
       tables_part = inl tables;
       body_part = inl body;
       lines = more tables body g.lines;
@@ -365,10 +363,14 @@ tabled_ok tables line text table e = go (table_of tables text) refl (then_ok (is
     go (Err Unlawful) h e = absurd cc
     go (Err Limit) h e = absurd cc
 
-table_keeps : (draft : Draft) (line : ℕ) (text : List ℕ) (next : Draft) → Going draft line → draft.part ≤ 5 → and_then (table_said draft.schema line text) (if_table_built draft line) ≡ Ok next → Stage next (line + 1)
+some_columns : (columns : List ColumnDef) → (length columns == 0) ≡ false → columns ≢ []
+some_columns [] some is = absurd cc
+some_columns (column ∷ columns) some is = absurd cc
+
+table_keeps : (draft : Draft) (line : ℕ) (text : List ℕ) (next : Draft) → Going draft line → draft.part ≤ 5 → and_then (table_said draft.schema line text) (tables_with draft line) ≡ Ok next → Stage next (line + 1)
 table_keeps draft line text next g p e =
-    let a = and_ok (table_said draft.schema line text) (if_table_built draft line) next e in
-    let b = then_ok (has_integers a.0) _ _ next a.1.1 in
+    let a = and_ok (table_said draft.schema line text) (tables_with draft line) next e in
+    let b = else_ok (length a.0.columns == 0) _ _ next a.1.1 in
     let same : with_table draft line a.0 ≡ next = same_ok _ _ b.1 in
     let table : TableLine = record { line = line; table = a.0 } in
     let body : draft.body ≡ [] = no_body draft g.body_part p in
@@ -384,8 +386,8 @@ table_keeps draft line text next g p e =
       schema = ap (λ ts. ts ++ a.0 ∷ []) g.schema ∙ sym (tables_more draft.tables table);
       taken = taken_more [] draft.schema a.0 g.taken (lawful draft.schema text a.0 of_text);
       table_names = all_more (λ t. IsNamedTable t.table) draft.tables table g.table_names (table_named draft.schema text a.0 of_text);
-      integers = all_more (λ t. AllByRecursion (λ c. c.kind ≡ Integer) t.table.columns) draft.tables table g.integers (table_has_integers a.0 b.0);
-      statements = subst (λ b. AllByRecursion (λ l. IsSaid draft.sessions (draft.schema ++ a.0 ∷ []) l.act) b) (sym body) tt;
+      texts = subst (λ b. AllByRecursion (λ l. IsSaid draft.sessions l.act) b) (sym body) tt;
+      columns = all_more (λ t. t.table.columns ≢ []) draft.tables table g.columns (some_columns a.0.columns b.0);
       tables_part = inr (omega arith);
       body_part = inl body;
       lines = more a.0 body g.lines;
@@ -418,8 +420,8 @@ say_keeps draft line (Some (name, text)) next g e =
       schema = g.schema;
       taken = g.taken;
       table_names = g.table_names;
-      integers = g.integers;
-      statements = all_more (λ l. IsSaid draft.sessions draft.schema l.act) draft.body added g.statements (declared name draft.sessions b.0, on_tables draft.schema (statement_of text) (statement_has_integers text) k.0);
+      texts = all_more (λ l. IsSaid draft.sessions l.act) draft.body added g.texts (declared name draft.sessions b.0, and_first (is_utf8 text) _ k.0);
+      columns = g.columns;
       tables_part = inr (omega arith);
       body_part = inr (omega arith);
       lines = subst (λ ns. Rising ns (line + 1)) (sym (body_numbers draft.sessions draft.tables draft.body added)) (rising_more (numbers_of draft.sessions draft.tables draft.body) line g.lines);
@@ -428,16 +430,16 @@ say_keeps draft line (Some (name, text)) next g e =
 told_keeps : (draft : Draft) (line : ℕ) (rest : List ℕ) (keyword : Keyword) (next : Draft) → Stage draft line → may_come draft.part (keyword_part keyword) ≡ true → and_then (told draft line rest keyword) (if_built draft line) ≡ Ok next → Stage next (line + 1)
 told_keeps draft line rest keywords.Nodes next (at_fresh f) m e = nodes_keeps draft line (only_number rest) next f e
 told_keeps draft line rest keywords.Nodes next (at_going g) m e = absurd (no_nodes draft.part g.begun m)
-told_keeps draft line rest keywords.Cluster next stage m e = absurd (never draft line (cluster_said line (only_fitting rest)) next (cluster_out draft.schema line (only_fitting rest)) e)
-told_keeps draft line rest keywords.Workers next stage m e = absurd (never draft line (workers_said line (only_number rest)) next (workers_out draft.schema line (only_number rest)) e)
+told_keeps draft line rest keywords.Cluster next stage m e = absurd (never draft line (cluster_said line (only_fitting rest)) next (cluster_out line (only_fitting rest)) e)
+told_keeps draft line rest keywords.Workers next stage m e = absurd (never draft line (workers_said line (only_number rest)) next (workers_out line (only_number rest)) e)
 told_keeps draft line rest keywords.Session next (at_fresh f) m e = absurd (not_first 4 refl draft.part f.part m)
 told_keeps draft line rest keywords.Session next (at_going g) m e = session_keeps draft line (session_of rest) next g (come_later draft.part 4 g.begun m) e
 told_keeps draft line rest keywords.Watch next stage m e = absurd (never draft line (watch_said draft line (only_fitting rest)) next (watch_out draft line (only_fitting rest)) e)
 told_keeps draft line rest keywords.Stop next stage m e = absurd (never draft line (stop_said draft line (only_number rest)) next (stop_out draft line (only_number rest)) e)
 told_keeps draft line rest keywords.Start next stage m e = absurd (never draft line (start_said draft line (only_number rest)) next (start_out draft line (only_number rest)) e)
 told_keeps draft line rest keywords.Arm next stage m e = absurd (never draft line (arm_said draft line (arm_of rest)) next (arm_out draft line (arm_of rest)) e)
-told_keeps draft line rest keywords.Barrier next stage m e = absurd (never draft line (barrier_said line rest) next (barrier_out draft.schema line rest) e)
-told_keeps draft line rest keywords.Feed next stage m e = absurd (never draft line (feed_said line rest) next (feed_out draft.schema line rest) e)
+told_keeps draft line rest keywords.Barrier next stage m e = absurd (never draft line (barrier_said line rest) next (barrier_out line rest) e)
+told_keeps draft line rest keywords.Feed next stage m e = absurd (never draft line (feed_said line rest) next (feed_out line rest) e)
 
 placed_keeps : (draft : Draft) (line : ℕ) (text : List ℕ) (kind : LineKind) (next : Draft) → Stage draft line → may_come draft.part (part_of kind) ≡ true → read_placed draft line text kind ≡ Ok next → Stage next (line + 1)
 placed_keeps draft line text (lines.Told keyword) next stage m e = told_keeps draft line (after_piece text) keyword next stage m e
@@ -493,8 +495,8 @@ going_can_run draft line g = record {
   few_sessions = g.few;
   no_hasql = g.sessions;
   tables_lawful = subst (λ ts. AreTaken [] ts) g.schema g.taken;
-  integers = g.integers;
-  statements = subst (λ ts. AllByRecursion (λ l. IsSaid draft.sessions ts l.act) draft.body) g.schema g.statements;
+  columns = g.columns;
+  said = g.texts;
 }
 
 pub scripts_run : (stores consumers : ℕ) (bytes : List ℕ) (script : Script) → script_of stores consumers bytes ≡ Ok script → CanRun script
@@ -507,13 +509,13 @@ all_map P Q (x ∷ xs) f all = (f x all.0, all_map P Q xs f all.1)
 at_node : (nodes node : ℕ) → nodes ≡ 1 → node ≡ 1 → IsNode nodes node
 at_node nodes node a b = (omega arith, omega arith)
 
-names_declared : (nodes : ℕ) (sessions : List SessionLine) (tables : List TableDef) (act : Act) → IsSaid sessions tables act → NamesDeclared nodes sessions act
-names_declared nodes sessions tables (acts.Say name text) h = h.0
-names_declared nodes sessions tables (acts.Stop node) h = absurd h
-names_declared nodes sessions tables (acts.Start node) h = absurd h
-names_declared nodes sessions tables (acts.Arm name moment) h = absurd h
-names_declared nodes sessions tables acts.Barrier h = tt
-names_declared nodes sessions tables acts.Feed h = tt
+names_declared : (nodes : ℕ) (sessions : List SessionLine) (act : Act) → IsSaid sessions act → NamesDeclared nodes sessions act
+names_declared nodes sessions (acts.Say name text) h = h.0
+names_declared nodes sessions (acts.Stop node) h = absurd h
+names_declared nodes sessions (acts.Start node) h = absurd h
+names_declared nodes sessions (acts.Arm name moment) h = absurd h
+names_declared nodes sessions acts.Barrier h = tt
+names_declared nodes sessions acts.Feed h = tt
 
 going_is_lawful : (draft : Draft) (line : ℕ) → Going draft line → IsLawful (script_with draft)
 going_is_lawful draft line g = record {
@@ -521,7 +523,7 @@ going_is_lawful draft line g = record {
   at_nodes = all_map (λ s. (s.node ≡ 1) × (s.hasql ≡ false)) (λ s. IsNode draft.nodes s.node) draft.sessions (λ s h. at_node draft.nodes s.node g.nodes h.0) g.sessions;
   tables = subst (λ ts. AreTaken [] ts) g.schema g.taken;
   watches = subst (λ ws. AllByRecursion (λ place. place < length draft.tables) ws) (sym g.watches) tt;
-  body = all_map (λ l. IsSaid draft.sessions draft.schema l.act) (λ l. NamesDeclared draft.nodes draft.sessions l.act) draft.body (λ l h. names_declared draft.nodes draft.sessions draft.schema l.act h) g.statements;
+  body = all_map (λ l. IsSaid draft.sessions l.act) (λ l. NamesDeclared draft.nodes draft.sessions l.act) draft.body (λ l h. names_declared draft.nodes draft.sessions l.act h) g.texts;
   rising = g.lines.rise;
 }
 
@@ -532,7 +534,7 @@ going_is_named : (draft : Draft) (line : ℕ) → Going draft line → IsNamed (
 going_is_named draft line g = record {
   sessions = g.session_names;
   tables = g.table_names;
-  body = all_map (λ l. IsSaid draft.sessions draft.schema l.act) (λ l. SaysNamed l.act) draft.body (λ l h. says_named draft.sessions draft.schema l.act g.session_names h) g.statements;
+  body = all_map (λ l. IsSaid draft.sessions l.act) (λ l. SaysNamed l.act) draft.body (λ l h. says_named draft.sessions l.act g.session_names h) g.texts;
 }
 
 pub scripts_named : (stores consumers : ℕ) (bytes : List ℕ) (script : Script) → script_of stores consumers bytes ≡ Ok script → IsNamed script

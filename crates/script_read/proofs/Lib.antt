@@ -1,8 +1,9 @@
 pub mod KindLemmas
+pub mod LaterLemmas
 pub mod LawLemmas
 pub mod LimitLemmas
 pub mod NameLemmas
-pub mod OnTableLemmas
 pub mod ReadLemmas
+pub mod TestLemmas
 pub mod TextLemmas
 pub mod WorkedLemmas

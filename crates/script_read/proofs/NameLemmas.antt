@@ -12,7 +12,7 @@ use Rattle.script_form.specs.Named.{is_name_byte, is_begun, IsName, IsFreeKey, I
 use Rattle.script_form.specs.declared.scripts.Act.{Act}
 use Rattle.script_form.specs.declared.scripts.Act.TheVariants as acts
 use Rattle.script_form.specs.declared.scripts.SessionLine.{SessionLine}
-use Rattle.script_read.proofs.OnTableLemmas.{and_first, and_second}
+use Rattle.script_read.proofs.TestLemmas.{and_first, and_second}
 
 none_first : (a b : Bool) → (a || b) ≡ false → a ≡ false
 none_first true b e = absurd cc
@@ -79,10 +79,10 @@ declared_named name (session ∷ sessions) all (inl e) = subst IsName e all.0
 declared_named name (session ∷ sessions) all (inr h) = declared_named name sessions all.1 h
 
 -- a line of the body that runs speaks of a declared session
-pub says_named : (sessions : List SessionLine) (tables : List TableDef) (act : Act) → AllByRecursion (λ s. IsName s.name) sessions → IsSaid sessions tables act → SaysNamed act
-says_named sessions tables (acts.Say name text) all h = declared_named name sessions all h.0
-says_named sessions tables (acts.Stop node) all h = tt
-says_named sessions tables (acts.Start node) all h = tt
-says_named sessions tables (acts.Arm name moment) all h = absurd h
-says_named sessions tables acts.Barrier all h = tt
-says_named sessions tables acts.Feed all h = tt
+pub says_named : (sessions : List SessionLine) (act : Act) → AllByRecursion (λ s. IsName s.name) sessions → IsSaid sessions act → SaysNamed act
+says_named sessions (acts.Say name text) all h = declared_named name sessions all h.0
+says_named sessions (acts.Stop node) all h = tt
+says_named sessions (acts.Start node) all h = tt
+says_named sessions (acts.Arm name moment) all h = absurd h
+says_named sessions acts.Barrier all h = tt
+says_named sessions acts.Feed all h = tt

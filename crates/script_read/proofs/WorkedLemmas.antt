@@ -1,6 +1,10 @@
 -- A worked example and the reasons of small scripts, computed by the definitions.
 use Rattle.std.proofs.Common.{◌≡◌, ℕ, List, [], ◌∷◌, ◌++◌, false, Ok, Err, codes, refl}
 use Rattle.std.specs.Str.{is_utf8, chars}
+use Rattle.sql_answer.specs.Reading.{reading, spots_of}
+use Rattle.sql_grammar.specs.Readers.{statement_r, one_r, simple_r}
+use Rattle.sql_grammar.specs.Words.{keyword, sign_is}
+use Rattle.sql_tokens.specs.Reading.{next, word_found, keyword_of}
 use Rattle.script_read.specs.Answers.{refusal}
 use Rattle.script_read.specs.Heads.{session_of}
 use Rattle.script_read.specs.ScriptText.{script_of, read_lines, read_line}
@@ -20,7 +24,7 @@ pub is_read : script_of 1 0 (lines (codes "nodes 1" ∷ codes "session a 1" ∷ 
   watches = [];
   body = record { line = 4; act = Say (codes "a") (codes "begin") } ∷ [];
 })
-unfolding read_lines read_line session_of is_utf8 chars lib.Utf8.encode
+unfolding read_lines read_line session_of is_utf8 chars lib.Utf8.encode reading spots_of next word_found keyword_of keyword statement_r one_r simple_r sign_is
 is_read = refl
 
 pub empty_is_refused : script_of 1 0 [] ≡ Err (refusal 1 4)

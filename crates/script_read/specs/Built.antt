@@ -1,88 +1,52 @@
 -- What runs today. A line that has no other reason against it and does not run has reason 10.
 --
--- Run are scripts of one node, whose sessions do not survive it, whose tables have integer columns
--- alone, and whose lines are statements on the declared tables and columns, an insert with one value
--- for each column.
-use Rattle.std.specs.Prelude.{ℕ, ◌==◌, List, length, Bool, true, false, not, ◌&&◌, Option, Some, None, slice_get}
-use Rattle.std.specs.List.{list_all}
-use Rattle.cdb_values.specs.Tables.{place_of}
-use Rattle.cdb_values.specs.declared.tables.ColumnType.{ColumnType}
-use Rattle.cdb_values.specs.declared.tables.ColumnType.TheVariants as types
-use Rattle.cdb_values.specs.declared.tables.TableDef.{TableDef}
-use Rattle.byte_words.specs.Words.{◌>>=◌}
-use Rattle.cdb_values.specs.Columns.{column_at}
-use Rattle.statement_read.specs.Statements.{statement_of}
-use Rattle.statement_read.specs.declared.statements.Filter.{Filter}
-use Rattle.statement_read.specs.declared.statements.Statement.{Statement}
-use Rattle.statement_read.specs.declared.statements.Statement.TheVariants as statements
+-- Run are scripts of one node, whose sessions do not survive it, with any tables, and whose lines are texts of
+-- sessions. Of the statements two run later: `set transaction serializable`, and a query with SELECTV. A text that
+-- is no statement runs: it is answered so.
+use Rattle.std.specs.Prelude.{ℕ, ◌==◌, List, Bool, true, false, not, ◌&&◌, Result, Ok, Err}
+use Rattle.std.specs.Str.{is_utf8}
+use Rattle.sql_answer.specs.Reading.{reading}
+use Rattle.sql_grammar.specs.Trees.{Statement, BeginIt, CommitIt, RollbackIt, SnapshotIt, SerializableIt, InsertInto, UpdateOf, DeleteFrom, SelectOf}
 use Rattle.script_read.specs.declared.said.Said.{Said}
 use Rattle.script_read.specs.declared.said.Said.TheVariants as said
 use Rattle.script_form.specs.declared.scripts.Act.{Act}
 use Rattle.script_form.specs.declared.scripts.Act.TheVariants as acts
 
-abbrev pub is_integer : ColumnType → Bool
-is_integer types.Integer = true
-is_integer types.Text = false
-is_integer types.Blob = false
+-- whether a statement runs later
+abbrev pub is_later : Statement → Bool
+is_later BeginIt = false
+is_later CommitIt = false
+is_later RollbackIt = false
+is_later SnapshotIt = false
+is_later SerializableIt = true
+is_later (InsertInto table columns rows) = false
+is_later (UpdateOf table settings filter) = false
+is_later (DeleteFrom table filter) = false
+is_later (SelectOf query) = query.selectv
 
--- whether a table runs
-abbrev pub has_integers : TableDef → Bool
-has_integers table = list_all (λ column. is_integer column.kind) table.columns
+-- the same of what a text reads as: a statement, or the place where it is refused
+abbrev pub reads_later : Result Statement ℕ → Bool
+reads_later (Ok statement) = is_later statement
+reads_later (Err at) = false
 
--- whether there is a place
-abbrev pub is_there : Option ℕ → Bool
-is_there None = false
-is_there (Some at) = true
-
-abbrev pub has_column : TableDef → List ℕ → Bool
-has_column table column = is_there (column_at column table.columns)
-
-abbrev pub is_filter_on : TableDef → Option Filter → Bool
-is_filter_on table None = true
-is_filter_on table (Some filter) = has_column table filter.column
-
--- the table with that name
-abbrev pub table_named : List TableDef → List ℕ → Option TableDef
-table_named tables name = place_of tables name >>= slice_get tables
-
-abbrev pub takes_row : ℕ → Option TableDef → Bool
-takes_row values None = false
-takes_row values (Some table) = values == length table.columns
-
-abbrev pub takes_filter : Option Filter → Option TableDef → Bool
-takes_filter filter None = false
-takes_filter filter (Some table) = is_filter_on table filter
-
-abbrev pub takes_change : List ℕ → Option Filter → Option TableDef → Bool
-takes_change column filter None = false
-takes_change column filter (Some table) = has_column table column && is_filter_on table filter
-
--- whether a statement is one on these tables
-abbrev pub is_on : List TableDef → Option Statement → Bool
-is_on tables None = false
-is_on tables (Some statements.Begin) = true
-is_on tables (Some statements.Commit) = true
-is_on tables (Some statements.Rollback) = true
-is_on tables (Some statements.SetSnapshot) = true
-is_on tables (Some (statements.Insert name row)) = takes_row (length row) (table_named tables name)
-is_on tables (Some (statements.Select name filter)) = takes_filter filter (table_named tables name)
-is_on tables (Some (statements.Update name column value filter)) = takes_change column filter (table_named tables name)
-is_on tables (Some (statements.Delete name filter)) = takes_filter filter (table_named tables name)
+-- whether a text runs (the text of a line that is UTF-8 is UTF-8 too)
+abbrev pub text_runs : List ℕ → Bool
+text_runs text = is_utf8 text && not (reads_later (reading text))
 
 -- whether a line to be run runs
-abbrev pub runs : List TableDef → Act → Bool
-runs tables (acts.Say session text) = is_on tables (statement_of text)
-runs tables (acts.Stop node) = false
-runs tables (acts.Start node) = false
-runs tables (acts.Arm session moment) = false
-runs tables acts.Barrier = false
-runs tables acts.Feed = false
+abbrev pub runs : Act → Bool
+runs (acts.Say session text) = text_runs text
+runs (acts.Stop node) = false
+runs (acts.Start node) = false
+runs (acts.Arm session moment) = false
+runs acts.Barrier = false
+runs acts.Feed = false
 
--- whether what a line says runs, behind these tables
-abbrev pub is_built : List TableDef → Said → Bool
-is_built tables (said.Nodes nodes) = nodes == 1
-is_built tables (said.Cluster name) = false
-is_built tables (said.Workers workers) = false
-is_built tables (said.Session session) = not session.hasql
-is_built tables (said.Watch place) = false
-is_built tables (said.Runs act) = runs tables act
+-- whether what a line says runs
+abbrev pub is_built : Said → Bool
+is_built (said.Nodes nodes) = nodes == 1
+is_built (said.Cluster name) = false
+is_built (said.Workers workers) = false
+is_built (said.Session session) = not session.hasql
+is_built (said.Watch place) = false
+is_built (said.Runs act) = runs act

@@ -24,7 +24,7 @@ use Rattle.byte_words.specs.Lines.{lines_of, but_last, text_of, is_skipped}
 use Rattle.byte_words.specs.Words.{after_piece}
 use Rattle.script_read.specs.Answers.{Refusal, refusal}
 use Rattle.script_read.specs.Bodies.{said_of, say_said, stop_said, start_said, arm_of, arm_said, barrier_said, feed_said}
-use Rattle.script_read.specs.Built.{is_built, has_integers}
+use Rattle.script_read.specs.Built.{is_built}
 use Rattle.script_read.specs.Heads.{only_number, only_fitting, nodes_said, cluster_said, workers_said, session_of, session_said, table_said, watch_said}
 use Rattle.script_read.specs.Kinds.{kind_of, part_of, may_come}
 use Rattle.script_read.specs.declared.drafts.Draft.{Draft}
@@ -76,15 +76,16 @@ with_table draft line table = record draft { part = 5; schema = draft.schema ++ 
 
 -- the same for a line without any other reason against it
 abbrev pub if_built : Draft → ℕ → Said → Result Draft Refusal
-if_built draft line said = if is_built draft.schema said then Ok (with_said draft line said) else Err (refusal line 10)
+if_built draft line said = if is_built said then Ok (with_said draft line said) else Err (refusal line 10)
 
-abbrev pub if_table_built : Draft → ℕ → TableDef → Result Draft Refusal
-if_table_built draft line table = if has_integers table then Ok (with_table draft line table) else Err (refusal line 10)
+-- a line that says a table; one without columns may not be (and none is spelled)
+abbrev pub tables_with : Draft → ℕ → TableDef → Result Draft Refusal
+tables_with draft line table = if length table.columns == 0 then Err (refusal line 7) else Ok (with_table draft line table)
 
 -- a line of that kind, where it may come
 abbrev pub read_placed : Draft → ℕ → List ℕ → LineKind → Result Draft Refusal
 read_placed draft line text (lines.Told keyword) = and_then (told draft line (after_piece text) keyword) (if_built draft line)
-read_placed draft line text lines.Create = and_then (table_said draft.schema line text) (if_table_built draft line)
+read_placed draft line text lines.Create = and_then (table_said draft.schema line text) (tables_with draft line)
 read_placed draft line text lines.Say = and_then (say_said draft line (said_of text)) (if_built draft line)
 
 -- a text of that kind, behind what was read before it

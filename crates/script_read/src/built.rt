@@ -1,17 +1,20 @@
-ghost use Rattle.std.specs.Prelude.{◌≡◌, ◌==◌, IfOk, length, option_map, slice_get};
-ghost use Rattle.std.specs.Option.{option_copied};
-ghost use Rattle.statement_read.specs.Statements.{statement_of};
-ghost use Rattle.script_read.specs.Built.{is_integer, has_integers, has_column, is_filter_on, table_named, takes_row, takes_filter, takes_change, is_on, runs, is_built};
+ghost use Rattle.std.specs.Prelude.{◌≡◌, ◌==◌, ◌<◌, ◌^◌, IfOk, length, not};
+ghost use Rattle.sql_answer.specs.Reading.{reading};
+ghost use Rattle.sql_grammar.specs.Views.{statement_in};
+ghost use Rattle.script_read.specs.Built.{is_later, reads_later, text_runs as text_runs_of, runs, is_built};
 
+use super::drafts::as_text;
 use super::said::Said;
-use cdb_values::{ColumnDef, ColumnType, Name, Schema, TableDef};
 use script_form::Act;
-use statement_read::{Filter, Statement, read_statement};
+use sql_reader::{ReadStop, Stmt, read};
 use std::alloc::{AllocError, Global};
 
-/// Whether what a line says runs today, behind the tables of a schema.
-pub fn runs_today(alloc: Global, schema: &Schema, said: &Said) -> Result<bool, AllocError>
-    ensures { IfOk result (λ built. built ≡ is_built schema.now said.now) }
+/// More bytes than any line has.
+const TEXT_LIMIT: usize = 1 << 32;
+
+/// Whether what a line says runs today.
+pub fn runs_today(alloc: Global, said: &Said) -> Result<bool, AllocError>
+    ensures { IfOk result (λ built. built ≡ is_built said.now) }
 {
     match said {
         Said::Nodes(nodes) => Ok(*nodes == 1),
@@ -19,19 +22,16 @@ pub fn runs_today(alloc: Global, schema: &Schema, said: &Said) -> Result<bool, A
         Said::Workers(_) => Ok(false),
         Said::Session(session) => Ok(!session.hasql),
         Said::Watch(_) => Ok(false),
-        Said::Runs(act) => act_runs(alloc, schema, act),
+        Said::Runs(act) => act_runs(alloc, act),
     }
 }
 
 /// Whether a line to be run runs today.
-fn act_runs(alloc: Global, schema: &Schema, act: &Act) -> Result<bool, AllocError>
-    ensures { IfOk result (λ built. built ≡ runs schema.now act.now) }
+fn act_runs(alloc: Global, act: &Act) -> Result<bool, AllocError>
+    ensures { IfOk result (λ built. built ≡ runs act.now) }
 {
     match act {
-        Act::Say { text, .. } => {
-            let statement = read_statement(alloc, text.as_bytes())?;
-            Ok(is_on_tables(schema, &statement))
-        }
+        Act::Say { text, .. } => text_runs(alloc, text.as_bytes()),
         Act::Stop(_) => Ok(false),
         Act::Start(_) => Ok(false),
         Act::Arm { .. } => Ok(false),
@@ -40,105 +40,47 @@ fn act_runs(alloc: Global, schema: &Schema, act: &Act) -> Result<bool, AllocErro
     }
 }
 
-/// Whether all columns of a table are integers.
-pub fn has_integers_alone(table: &TableDef) -> bool
-    ensures { result ≡ has_integers table.now }
+/// Whether a text runs today. A line is far shorter than the limit here, so that memory is all that can be
+/// wanting.
+#[tactic(auto, using(crate::proofs::LaterLemmas::no_text_runs, crate::proofs::LaterLemmas::text_runs_as))]
+fn text_runs(alloc: Global, text: &[u8]) -> Result<bool, AllocError>
+    ensures { IfOk result (λ built. built ≡ text_runs_of text.now) }
 {
-    table
-        .columns
-        .as_slice()
-        .iter()
-        .all(|column| is_integer_column(column))
+    let Some(text) = as_text(text) else {
+        return Ok(false);
+    };
+    if TEXT_LIMIT <= text.len() {
+        return Err(AllocError);
+    }
+    Ok(statement_runs(alloc, text)?)
 }
 
-/// Whether a column holds integers.
-fn is_integer_column(column: &ColumnDef) -> bool
-    ensures { result ≡ is_integer column.now.kind }
+/// Whether the statement that a text reads as runs today; a text that reads as none is answered so.
+#[tactic(auto, using(crate::proofs::LaterLemmas::statement_read, crate::proofs::LaterLemmas::refusal_read))]
+fn statement_runs(alloc: Global, text: &str) -> Result<bool, AllocError>
+    requires { length text.now < 2 ^ 32 }
+    ensures { IfOk result (λ built. built ≡ not (reads_later (reading text.now))) }
 {
-    match column.kind {
-        ColumnType::Integer => true,
-        ColumnType::Text => false,
-        ColumnType::Blob => false,
+    match read(alloc, text) {
+        Ok(statement) => Ok(!runs_later(&statement)),
+        Err(ReadStop::Syntax { at: _ }) => Ok(true),
+        Err(ReadStop::NoMemory) => Err(AllocError),
     }
 }
 
-/// Whether a statement is one on these tables.
-fn is_on_tables(schema: &Schema, statement: &Option<Statement>) -> bool
-    ensures { result ≡ is_on schema.now statement.now }
+/// Whether a statement runs later.
+fn runs_later(statement: &Stmt) -> bool
+    ensures { result ≡ is_later (statement_in statement.now) }
 {
     match statement {
-        None => false,
-        Some(Statement::Begin) => true,
-        Some(Statement::Commit) => true,
-        Some(Statement::Rollback) => true,
-        Some(Statement::SetSnapshot) => true,
-        Some(Statement::Insert { table, row }) => row_fits(row.len(), named(schema, table)),
-        Some(Statement::Select { table, filter }) => filter_fits(filter, named(schema, table)),
-        Some(
-            Statement::Update {
-                table,
-                column,
-                filter,
-                ..
-            },
-        ) => change_fits(column, filter, named(schema, table)),
-        Some(Statement::Delete { table, filter }) => filter_fits(filter, named(schema, table)),
+        Stmt::Begin => false,
+        Stmt::Commit => false,
+        Stmt::Rollback => false,
+        Stmt::SetSnapshot => false,
+        Stmt::SetSerializable => true,
+        Stmt::Insert { .. } => false,
+        Stmt::Update { .. } => false,
+        Stmt::Delete { .. } => false,
+        Stmt::Select(query) => query.selectv,
     }
-}
-
-/// The table with that name.
-fn named<'a>(schema: &'a Schema, name: &Name) -> Option<&'a TableDef>
-    ensures { option_copied result ≡ table_named schema.now name.now }
-{
-    match schema.table(name) {
-        None => None,
-        Some(place) => schema.at(place),
-    }
-}
-
-/// Whether a table takes a row of so many values.
-fn row_fits(values: usize, table: Option<&TableDef>) -> bool
-    ensures { result ≡ takes_row values (option_copied table.entry) }
-{
-    match table {
-        None => false,
-        Some(table) => values == table.columns.len(),
-    }
-}
-
-/// Whether the column of a filter is one of a table.
-fn filter_fits(filter: &Option<Filter>, table: Option<&TableDef>) -> bool
-    ensures { result ≡ takes_filter filter.now (option_copied table.entry) }
-{
-    match table {
-        None => false,
-        Some(table) => is_filter_of(table, filter),
-    }
-}
-
-/// Whether a column, and that of a filter, are columns of a table.
-fn change_fits(column: &Name, filter: &Option<Filter>, table: Option<&TableDef>) -> bool
-    ensures { result ≡ takes_change column.now filter.now (option_copied table.entry) }
-{
-    match table {
-        None => false,
-        Some(table) => is_column_of(table, column) && is_filter_of(table, filter),
-    }
-}
-
-/// Whether a filter, if there is one, names a column of the table.
-fn is_filter_of(table: &TableDef, filter: &Option<Filter>) -> bool
-    ensures { result ≡ is_filter_on table.now filter.now }
-{
-    match filter {
-        None => true,
-        Some(filter) => is_column_of(table, &filter.column),
-    }
-}
-
-/// Whether the table has a column of that name.
-fn is_column_of(table: &TableDef, column: &Name) -> bool
-    ensures { result ≡ has_column table.now column.now }
-{
-    table.column(column.as_bytes()).is_some()
 }

@@ -4,12 +4,12 @@ ghost use Rattle.byte_words.specs.Lines.{text_of};
 ghost use Rattle.byte_words.specs.Words.{after_piece};
 ghost use Rattle.table_read.specs.Verdict.{table_of};
 ghost use Rattle.script_read.specs.Answers.{Answers};
-ghost use Rattle.script_read.specs.Heads.{table_said, tabled};
+ghost use Rattle.script_read.specs.Heads.{table_said};
 ghost use Rattle.script_read.specs.Kinds.{kind_of, part_of};
-ghost use Rattle.script_read.specs.ScriptText.{no_draft, told, with_said, with_table, if_built, if_table_built, read_placed, read_kind, read_line, finished, cluster_name, and_then, most_line_bytes};
+ghost use Rattle.script_read.specs.ScriptText.{no_draft, told, with_said, with_table, if_built, tables_with, read_placed, read_kind, read_line, finished, cluster_name, and_then, most_line_bytes};
 
 use super::bodies::{arm_line, barrier_line, feed_line, say_line, start_line, stop_line};
-use super::built::{has_integers_alone, runs_today};
+use super::built::runs_today;
 use super::heads::{cluster_line, nodes_line, session_line, watch_line, workers_line};
 use super::kinds::{Keyword, LineKind, line_kind, line_part, may_follow};
 use super::reasons::{LIMIT, LONG_LINE, NO_LINE, NO_NODES, NOT_BUILT, NOT_TEXT, WRONG_TABLE};
@@ -93,7 +93,7 @@ pub fn line_after(alloc: Global, draft: Draft, line: u64, bytes: &[u8]) -> Resul
 
 /// Bytes as text; `None` exactly where they are not UTF-8.
 #[tactic(auto, using(crate::proofs::TextLemmas::is_text, crate::proofs::TextLemmas::is_no_text))]
-fn as_text(bytes: &[u8]) -> Option<&str>
+pub(super) fn as_text(bytes: &[u8]) -> Option<&str>
     ensures { MatchOption result (is_utf8 bytes.now ≡ false) (λ text. (is_utf8 bytes.now ≡ true) × (text.now ≡ bytes.now)) }
 {
     match std::str::from_utf8(bytes) {
@@ -168,7 +168,7 @@ fn keyword_line(
 fn said_after(alloc: Global, draft: Draft, line: u64, said: Said) -> Result<Draft, ScriptStop>
     ensures { Answers (λ d. d) result (if_built draft line said) }
 {
-    if runs_today(alloc, &draft.schema, &said)? {
+    if runs_today(alloc, &said)? {
         added(draft, line, said)
     } else {
         Err(ScriptStop::Refused {
@@ -217,17 +217,17 @@ fn added(draft: Draft, line: u64, said: Said) -> Result<Draft, ScriptStop>
     }
 }
 
-/// A table added to what was read, where it runs today.
+/// A table added to what was read. One without columns may not be, and none is spelled.
 fn table_after(alloc: Global, draft: Draft, line: u64, text: &[u8]) -> Result<Draft, ScriptStop>
     requires { length text.now < 2 ^ 32 }
-    ensures { Answers (λ d. d) result (and_then (table_said draft.schema line text.now) (if_table_built draft line)) }
+    ensures { Answers (λ d. d) result (and_then (table_said draft.schema line text.now) (tables_with draft line)) }
 {
     let mut draft = draft;
     let table = table_line(alloc, &mut draft.schema, line, text)?;
-    if !has_integers_alone(&table) {
+    if table.columns.is_empty() {
         return Err(ScriptStop::Refused {
             line,
-            why: NOT_BUILT,
+            why: WRONG_TABLE,
         });
     }
     draft.part = 5;

@@ -13,8 +13,8 @@ pub fn scripts_are_lawful()
     ensures { (stores consumers : ℕ) (bytes : List ℕ) (script : Script) → script_of stores consumers bytes ≡ Ok script → IsLawful script }
 {}
 
-/// A script that is read can run: it has one node and no watch, its tables have integer columns
-/// alone, and its body is statements of declared sessions on declared tables.
+/// A script that is read can run: it has one node and no watch, lawful tables, and its body is texts of
+/// declared sessions.
 pub fn scripts_can_run()
     ensures { (stores consumers : ℕ) (bytes : List ℕ) (script : Script) → script_of stores consumers bytes ≡ Ok script → CanRun script }
 {}

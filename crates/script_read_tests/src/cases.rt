@@ -39,6 +39,14 @@ fn is_fifth_refused(alloc: Global, line: &[u8], why: u8) -> bool {
     }
 }
 
+/// Whether the head with a fifth line is a script.
+fn is_fifth_read(alloc: Global, line: &[u8]) -> bool {
+    match behind_head(alloc, line) {
+        Ok(bytes) => is_script(alloc, bytes.as_slice()),
+        Err(_) => false,
+    }
+}
+
 /// A line of that many bytes, all `#`.
 fn comment(alloc: Global, length: usize) -> Result<Vec<u8>, AllocError> {
     let mut bytes = Vec::new(alloc);
@@ -171,12 +179,24 @@ fn arms_are_judged(rt: HostRuntime) {
 
 #[test]
 fn statements_are_judged(rt: HostRuntime) {
-    assert!(rt; is_fifth_refused(rt.alloc(), b"a: insert into t values(1)", 10));
-    assert!(rt; is_fifth_refused(rt.alloc(), b"a: insert into u values(1, 2)", 10));
-    assert!(rt; is_fifth_refused(rt.alloc(), b"a: update t set w = 1", 10));
-    assert!(rt; is_fifth_refused(rt.alloc(), b"a: delete from t where w = 1", 10));
-    assert!(rt; is_fifth_refused(rt.alloc(), b"a:", 10));
-    assert!(rt; is_fifth_refused(rt.alloc(), b"a: select * from t where v = 1;", 10));
+    assert!(rt; is_fifth_refused(rt.alloc(), b"a: set transaction serializable", 10));
+    assert!(rt; is_fifth_refused(rt.alloc(), b"a: SET Transaction SERIALIZABLE ;", 10));
+    assert!(rt; is_fifth_refused(rt.alloc(), b"a: selectv * from t", 10));
+    assert!(rt;
+        is_fifth_refused(
+            rt.alloc(),
+            b"a: SELECTV count(*) from nowhere group by x",
+            10
+        )
+    );
+    assert!(rt; is_fifth_read(rt.alloc(), b"a: set transaction snapshot"));
+    assert!(rt; is_fifth_read(rt.alloc(), b"a: select * from t"));
+    assert!(rt; is_fifth_read(rt.alloc(), b"a: insert into t values('selectv')"));
+    assert!(rt; is_fifth_read(rt.alloc(), b"a: selectv from t"));
+    assert!(rt; is_fifth_read(rt.alloc(), b"a: set transaction serializable now"));
+    assert!(rt; is_fifth_read(rt.alloc(), b"a: update nowhere set w = 1"));
+    assert!(rt; is_fifth_read(rt.alloc(), b"a: hello"));
+    assert!(rt; is_fifth_read(rt.alloc(), b"a:"));
 }
 
 #[test]
@@ -232,7 +252,7 @@ fn tables_are_judged(rt: HostRuntime) {
         )
     );
     assert!(rt; is_fifth_refused(rt.alloc(), b"create table t(id integer)", 7));
-    assert!(rt; is_fifth_refused(rt.alloc(), b"create table u(a text)", 10));
+    assert!(rt; is_fifth_read(rt.alloc(), b"create table u(a text, b blob)"));
     assert!(rt; is_fifth_refused(rt.alloc(), b"create(", 7));
     assert!(rt;
         is_fifth_refused(

@@ -150,7 +150,7 @@ static COLUMNS: [Many; 5] = [
         count: 62,
         after: b" int",
         behind: b",b text)",
-        told: Some((2, 10)),
+        told: None,
     },
 ];
 

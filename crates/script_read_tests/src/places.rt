@@ -15,8 +15,9 @@ static NAMES: [&[u8]; 3] = [
 ];
 
 /// Scripts whose last line has a name at each `@`, where `&` is the name of 32 bytes; and the reason
-/// of that line for each name, 0 for none. In `create` lines, letters are of either case.
-static OF_NAMES: [(&[u8], &[u8]); 21] = [
+/// of that line for each name, 0 for none. In `create` lines and statements, letters are of either case. A
+/// statement that does not read is none with SELECTV.
+static OF_NAMES: [(&[u8], &[u8]); 16] = [
     (b"nodes 1\ncluster @", &[10, 3, 3]),
     (b"nodes 1\nsession @ 1", &[0, 5, 5]),
     (b"nodes 1\ncreate table @(a int)", &[0, 7, 0]),
@@ -33,37 +34,11 @@ static OF_NAMES: [(&[u8], &[u8]); 21] = [
     (b"nodes 1\nsession & 1\narm @ row 1", &[10, 5, 5]),
     (b"nodes 1\nsession & 1\narm @ append", &[10, 5, 5]),
     (b"nodes 1\nsession & 1\narm @ ship", &[10, 5, 5]),
+    (b"nodes 1\nsession a 1\na:selectv * from @", &[10, 0, 10]),
+    (b"nodes 1\nsession a 1\na:selectv @ from t", &[10, 0, 10]),
     (
-        b"nodes 1\nsession a 1\ncreate table &(a int)\na:insert into @ values(1)",
-        &[0, 10, 10],
-    ),
-    (
-        b"nodes 1\nsession a 1\ncreate table &(a int)\na:select * from @",
-        &[0, 10, 10],
-    ),
-    (
-        b"nodes 1\nsession a 1\ncreate table &(a int)\na:update @ set a=1",
-        &[0, 10, 10],
-    ),
-    (
-        b"nodes 1\nsession a 1\ncreate table &(a int)\na:delete from @",
-        &[0, 10, 10],
-    ),
-    (
-        b"nodes 1\nsession a 1\ncreate table t(& int)\na:select * from t where @=1",
-        &[0, 10, 10],
-    ),
-    (
-        b"nodes 1\nsession a 1\ncreate table t(& int)\na:update t set @=1",
-        &[0, 10, 10],
-    ),
-    (
-        b"nodes 1\nsession a 1\ncreate table t(& int)\na:update t set &=1 where @=1",
-        &[0, 10, 10],
-    ),
-    (
-        b"nodes 1\nsession a 1\ncreate table t(& int)\na:delete from t where @=1",
-        &[0, 10, 10],
+        b"nodes 1\nsession a 1\na:selectv * from t where @=1",
+        &[10, 0, 10],
     ),
 ];
 
@@ -77,8 +52,8 @@ static NUMBERS: [&[u8]; 4] = [
 ];
 
 /// Scripts whose last line has a number at `@`, and the reason of that line for each number. In a
-/// statement stands a literal: at most 9223372036854775807, with zeros in front or not.
-static OF_NUMBERS: [(&[u8], &[u8]); 12] = [
+/// statement stands a literal: at most 9223372036854775807, with zeros in front or not; else it does not read.
+static OF_NUMBERS: [(&[u8], &[u8]); 8] = [
     (b"nodes @", &[4, 3, 3, 3]),
     (b"nodes 1\nworkers @", &[8, 3, 3, 3]),
     (b"nodes 1\nsession a @", &[6, 3, 3, 3]),
@@ -86,28 +61,12 @@ static OF_NUMBERS: [(&[u8], &[u8]); 12] = [
     (b"nodes 1\nstart @", &[6, 3, 3, 3]),
     (b"nodes 1\nsession a 1\narm a row @", &[10, 3, 3, 3]),
     (
-        b"nodes 1\nsession a 1\ncreate table t(v int)\na:insert into t values(@)",
-        &[10, 10, 10, 0],
+        b"nodes 1\nsession a 1\na:selectv * from t where v=@",
+        &[0, 0, 0, 10],
     ),
     (
-        b"nodes 1\nsession a 1\ncreate table t(v int)\na:insert into t values(-@)",
-        &[10, 10, 10, 0],
-    ),
-    (
-        b"nodes 1\nsession a 1\ncreate table t(v int)\na:select * from t where v=@",
-        &[10, 10, 10, 0],
-    ),
-    (
-        b"nodes 1\nsession a 1\ncreate table t(v int)\na:update t set v=@",
-        &[10, 10, 10, 0],
-    ),
-    (
-        b"nodes 1\nsession a 1\ncreate table t(v int)\na:update t set v=1 where v=@",
-        &[10, 10, 10, 0],
-    ),
-    (
-        b"nodes 1\nsession a 1\ncreate table t(v int)\na:delete from t where v=@",
-        &[10, 10, 10, 0],
+        b"nodes 1\nsession a 1\na:selectv * from t limit @",
+        &[0, 0, 0, 10],
     ),
 ];
 

@@ -1,21 +1,20 @@
 //! A second reader, slow and with nothing of the first: it writes each line anew as pieces with blanks
-//! between them, and lists every statement that the tables allow. It knows no limit but that of stores.
+//! between them. It knows no limit but that of stores, and of statements only the two that run later.
 
 use crate::tables::table_of;
-use crate::tokens::{is_name, is_well_formed, number, shape, tokens, without_tabs};
+use crate::tokens::{is_free, is_literal, is_name, is_well_formed, number, tokens, without_tabs};
 use std::alloc::{AllocError, Global};
 
 /// The stores that there are.
 pub(crate) const STORES: u64 = 1;
 
-/// What the lines so far have told; the statements that run have `1` for each literal.
+/// What the lines so far have told.
 #[derive(Drop)]
 struct Told {
     part: u8,
     nodes: u64,
     sessions: Vec<String>,
     tables: Vec<String>,
-    shapes: Vec<String>,
 }
 
 fn has_text(texts: &[String], wanted: &str) -> bool {
@@ -109,19 +108,44 @@ fn is_armable(pieces: &[&str]) -> bool {
     }
 }
 
-impl Told {
-    fn nothing(alloc: Global) -> Result<Told, AllocError> {
-        let mut shapes = Vec::new(alloc);
-        for word in ["begin", "commit", "rollback", "set transaction snapshot"] {
-            shapes.push(String::from_str(alloc, word)?)?;
+/// Tokens without a semicolon at their end.
+fn without_end<'a>(pieces: &'a [&'a str]) -> &'a [&'a str] {
+    match pieces {
+        [rest @ .., ";"] => rest,
+        _ => pieces,
+    }
+}
+
+/// Whether tokens are a statement that runs later. Of queries with SELECTV it knows those that stand in the cases: of one
+/// table, with one item, and a test for equality or a limit.
+fn is_later(pieces: &[&str]) -> bool {
+    match pieces {
+        ["set", "transaction", "serializable"] => true,
+        ["selectv", item, "from", table, rest @ ..] => {
+            (*item == "*" || is_free(item)) && is_free(table) && is_tail(rest)
         }
-        Ok(Told {
+        _ => false,
+    }
+}
+
+/// Whether tokens are what may stand behind the table of a query.
+fn is_tail(pieces: &[&str]) -> bool {
+    match pieces {
+        [] => true,
+        ["where", column, "=", value] => is_free(column) && is_literal(value),
+        ["limit", most] => is_literal(most),
+        _ => false,
+    }
+}
+
+impl Told {
+    fn nothing(alloc: Global) -> Told {
+        Told {
             part: 0,
             nodes: 0,
             sessions: Vec::new(alloc),
             tables: Vec::new(alloc),
-            shapes,
-        })
+        }
     }
 
     fn admits(&self, part: u8) -> bool {
@@ -192,14 +216,9 @@ impl Told {
         if has_text(self.tables.as_slice(), table.name.as_str()) {
             return Ok(Some(7));
         }
-        table.push_shapes(alloc, &mut self.shapes)?;
         self.tables
             .push(String::from_str(alloc, table.name.as_str())?)?;
-        Ok(if table.is_of_integers() {
-            None
-        } else {
-            Some(10)
-        })
+        Ok(None)
     }
 
     fn watch(&self, pieces: &[&str]) -> u8 {
@@ -244,11 +263,12 @@ impl Told {
         if !has_text(self.sessions.as_slice(), name) {
             return Ok(Some(5));
         }
-        let said = shape(alloc, said)?;
-        Ok(if has_text(self.shapes.as_slice(), said.as_str()) {
-            None
-        } else {
+        let words = tokens(alloc, said)?.as_str().to_ascii_lowercase(alloc)?;
+        let pieces = pieces_of(alloc, words.as_str())?;
+        Ok(if is_later(without_end(pieces.as_slice())) {
             Some(10)
+        } else {
+            None
         })
     }
 
@@ -298,7 +318,7 @@ pub(crate) fn second_refusal(alloc: Global, bytes: &[u8]) -> Result<Option<(u64,
     if bytes.is_empty() {
         return Ok(Some((1, 4)));
     }
-    let mut told = Told::nothing(alloc)?;
+    let mut told = Told::nothing(alloc);
     let mut number = 0u64;
     let whole = bytes.strip_suffix(b"\n").unwrap_or(bytes);
     for line in whole.split(|byte| *byte == b'\n') {

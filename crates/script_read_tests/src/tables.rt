@@ -1,4 +1,4 @@
-//! The table that a `create` line defines, read by its tokens, and every statement that runs on it.
+//! The table that a `create` line defines, read by its tokens.
 
 use crate::tokens::is_free;
 use std::alloc::{AllocError, Global};
@@ -6,7 +6,6 @@ use std::alloc::{AllocError, Global};
 #[derive(Drop)]
 pub(crate) struct Column {
     name: String,
-    integer: bool,
     nullable: bool,
 }
 
@@ -165,19 +164,15 @@ impl Table {
         let Some((kind, marks)) = rest.split_once(' ') else {
             return Ok(false);
         };
-        let integer = kind == "int" || kind == "integer";
-        if !is_free(name) || !(integer || kind == "text" || kind == "blob") {
+        let is_kind = matches!(kind, "int" | "integer" | "text" | "blob");
+        if !is_free(name) || !is_kind {
             return Ok(false);
         }
         let Some(nullable) = self.add_marks(alloc, name, marks)? else {
             return Ok(false);
         };
         let name = String::from_str(alloc, name)?;
-        self.columns.push(Column {
-            name,
-            integer,
-            nullable,
-        })?;
+        self.columns.push(Column { name, nullable })?;
         Ok(true)
     }
 
@@ -257,65 +252,6 @@ impl Table {
             }
         }
         true
-    }
-
-    pub(crate) fn is_of_integers(&self) -> bool {
-        for column in self.columns.as_slice() {
-            if !column.integer {
-                return false;
-            }
-        }
-        true
-    }
-
-    /// Nothing, and the test of each column.
-    fn filters(&self, alloc: Global) -> Result<Vec<String>, AllocError> {
-        let mut filters = Vec::new(alloc);
-        filters.push(String::new(alloc))?;
-        for column in self.columns.as_slice() {
-            let name = column.name.as_str();
-            filters.push(format!(in alloc; " where {name} = 1")?)?;
-        }
-        Ok(filters)
-    }
-
-    fn insert(&self, alloc: Global) -> Result<String, AllocError> {
-        let table = self.name.as_str();
-        let mut text = format!(in alloc; "insert into {table} values (")?;
-        for index in 0..self.columns.len() {
-            text.push_str(if index == 0 { " 1" } else { " , 1" })?;
-        }
-        text.push_str(" )")?;
-        Ok(text)
-    }
-
-    fn push_filtered(
-        &self,
-        alloc: Global,
-        filter: &str,
-        shapes: &mut Vec<String>,
-    ) -> Result<(), AllocError> {
-        let table = self.name.as_str();
-        shapes.push(format!(in alloc; "select * from {table}{filter}")?)?;
-        shapes.push(format!(in alloc; "delete from {table}{filter}")?)?;
-        for column in self.columns.as_slice() {
-            let name = column.name.as_str();
-            shapes.push(format!(in alloc; "update {table} set {name} = 1{filter}")?)?;
-        }
-        Ok(())
-    }
-
-    /// Adds every statement that runs on this table, with `1` for each literal.
-    pub(crate) fn push_shapes(
-        &self,
-        alloc: Global,
-        shapes: &mut Vec<String>,
-    ) -> Result<(), AllocError> {
-        shapes.push(self.insert(alloc)?)?;
-        for filter in self.filters(alloc)?.as_slice() {
-            self.push_filtered(alloc, filter.as_str(), shapes)?;
-        }
-        Ok(())
     }
 }
 

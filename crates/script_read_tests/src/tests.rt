@@ -37,7 +37,7 @@ static HEADS: [&[u8]; 7] = [
 ];
 
 /// Scripts with the other lines of a body.
-static BODIES: [&[u8]; 7] = [
+static BODIES: [&[u8]; 9] = [
     b"nodes 1\nsession a 1\narm a row 1",
     b"nodes 1\nsession a 1\narm a append",
     b"nodes 1\nsession a 1\narm a ship",
@@ -45,6 +45,8 @@ static BODIES: [&[u8]; 7] = [
     b"nodes 1\nstart 1",
     b"nodes 1\nbarrier",
     b"nodes 1\nfeed",
+    b"nodes 1\nsession a 1\na: set transaction serializable",
+    b"nodes 1\nsession a 1\na: selectv * from t",
 ];
 
 /// The bytes that each byte is changed to.

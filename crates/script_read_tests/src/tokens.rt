@@ -50,13 +50,13 @@ pub(crate) fn number(text: &str) -> Option<u64> {
     text.parse::<u64>().ok()
 }
 
-/// Whether a token is the digits of a literal, behind a minus or not.
-fn is_literal(token: &str, minus: bool) -> bool {
+/// Whether a token is the digits of a literal.
+pub(crate) fn is_literal(token: &str) -> bool {
     if !is_digits(token) {
         return false;
     }
     match token.parse::<u64>() {
-        Ok(value) => value < 1 << 63 || (minus && value == 1 << 63),
+        Ok(value) => value < 1 << 63,
         Err(_) => false,
     }
 }
@@ -131,29 +131,6 @@ pub(crate) fn tokens(alloc: Global, text: &str) -> Result<String, AllocError> {
         if !piece.is_empty() {
             append(&mut whole, piece)?;
         }
-    }
-    Ok(whole)
-}
-
-/// The tokens of a statement, with `1` for each literal.
-pub(crate) fn shape(alloc: Global, text: &str) -> Result<String, AllocError> {
-    let words = tokens(alloc, text)?;
-    let mut whole = String::new(alloc);
-    let mut minus = false;
-    for token in words.as_str().split(' ') {
-        let literal = is_literal(token, minus);
-        if minus && !literal {
-            append(&mut whole, "-")?;
-        }
-        minus = token == "-";
-        if literal {
-            append(&mut whole, "1")?;
-        } else if !minus {
-            append(&mut whole, token)?;
-        }
-    }
-    if minus {
-        append(&mut whole, "-")?;
     }
     Ok(whole)
 }

@@ -11,7 +11,7 @@ use Rattle.cdb_values.specs.declared.tables.ColumnDef.{ColumnDef}
 use Rattle.cdb_values.specs.declared.tables.TableDef.{TableDef}
 use Rattle.cdb_values.specs.declared.values.Value.{Value}
 use Rattle.report_laws.proofs.EachLaws.{all_found}
-use Rattle.report_text.specs.Grammar.{IsValue, IsRow}
+use Rattle.report_laws.specs.Spelled.{IsToldValue, IsToldRow}
 use Rattle.sql_bind.specs.Binding.{binding}
 use Rattle.sql_bind.specs.Bound.{BoundStatement, BeginIt, CommitIt, RollbackIt, SetIt, InsertInto, UpdateOf, DeleteFrom, SelectOf}
 use Rattle.sql_bind.specs.Faults.{Kind, UnknownTable, UnknownColumn, AmbiguousName, WrongType, WrongCount, has_unknown_table, has_unknown_column, has_ambiguous_name, has_wrong_type, has_wrong_count, width}
@@ -28,7 +28,7 @@ use Rattle.sql_run.proofs.GrammarLemmas.{IsConstant, HasValue, HasOne, HasItems,
 
 -- an operand that is such a value, or a column
 abbrev pub IsOperand : BoundOperand → Type 0
-IsOperand (operand.Value value) = IsValue value
+IsOperand (operand.Value value) = IsToldValue value
 IsOperand (operand.Column column) = Unit {0}
 
 abbrev pub GivesValue : BoundAssign → Type 0
@@ -39,7 +39,7 @@ IsBoundWell BeginIt = Unit {0}
 IsBoundWell CommitIt = Unit {0}
 IsBoundWell RollbackIt = Unit {0}
 IsBoundWell (SetIt level) = Unit {0}
-IsBoundWell (InsertInto table rows) = AllByRecursion IsRow rows
+IsBoundWell (InsertInto table rows) = AllByRecursion IsToldRow rows
 IsBoundWell (UpdateOf table assigns filter) = AllByRecursion GivesValue assigns
 IsBoundWell (DeleteFrom table filter) = Unit {0}
 IsBoundWell (SelectOf query) = HasOne query.items
@@ -112,24 +112,24 @@ has_columns tables name called all known = go (table_named tables name) refl kno
 
 -- ---- INSERT
 
-values_are : (literals : List Constant) → AllByRecursion IsConstant literals → AllByRecursion IsValue (map value_of literals)
+values_are : (literals : List Constant) → AllByRecursion IsConstant literals → AllByRecursion IsToldValue (map value_of literals)
 values_are [] all = tt
 values_are (l ∷ ls) all = (all.0, values_are ls all.1)
 
-listed_is : (names : List Name) (literals : List Constant) (column : Name) → AllByRecursion IsConstant literals → IsValue (listed_value names literals column)
+listed_is : (names : List Name) (literals : List Constant) (column : Name) → AllByRecursion IsConstant literals → IsToldValue (listed_value names literals column)
 listed_is [] literals column all = tt
 listed_is (name ∷ names) [] column all = tt
 listed_is (name ∷ names) (literal ∷ literals) column all = pick (bytes_eq name column) (listed_is names literals column all.1)
   where
-    pick : (b : Bool) → IsValue (listed_value names literals column) → IsValue (cond b (value_of literal) (listed_value names literals column))
+    pick : (b : Bool) → IsToldValue (listed_value names literals column) → IsToldValue (cond b (value_of literal) (listed_value names literals column))
     pick true later = all.0
     pick false later = later
 
-all_listed : (names : List Name) (literals : List Constant) (columns : List ColumnDef) → AllByRecursion IsConstant literals → AllByRecursion IsValue (map (λ column. listed_value names literals column.name) columns)
+all_listed : (names : List Name) (literals : List Constant) (columns : List ColumnDef) → AllByRecursion IsConstant literals → AllByRecursion IsToldValue (map (λ column. listed_value names literals column.name) columns)
 all_listed names literals [] all = tt
 all_listed names literals (column ∷ columns) all = (listed_is names literals column.name all, all_listed names literals columns all)
 
-pub row_from : (row : List Value) → HasOne row → AllByRecursion IsValue row → IsRow row
+pub row_from : (row : List Value) → HasOne row → AllByRecursion IsToldValue row → IsToldRow row
 row_from [] has all = absurd has
 row_from (v ∷ vs) has all = all
 
@@ -143,7 +143,7 @@ as_many [] (y ∷ ys) same has = absurd (omega arith)
 as_many (x ∷ xs) ys same has = tt
 
 row_is : (table : Visible) (names : Option (List Name)) (literals : List Constant) → HasOne table.columns → AllByRecursion IsConstant literals
-    → not (length literals == width table names) ≡ false → IsRow (bound_row table names literals)
+    → not (length literals == width table names) ≡ false → IsToldRow (bound_row table names literals)
 row_is table None literals has all counted =
     let same : length literals ≡ length table.columns = eqb-true (length literals) (length table.columns) (not-false (length literals == length table.columns) counted) in
     row_from (map value_of literals) (mapped_has value_of literals (as_many literals table.columns same has)) (values_are literals all)
@@ -152,7 +152,7 @@ row_is table (Some names) literals has all counted =
     (mapped_has (λ (column : ColumnDef). listed_value names literals column.name) table.columns has) (all_listed names literals table.columns all)
 
 rows_are : (table : Visible) (names : Option (List Name)) (rows : List (List Constant)) → HasOne table.columns → AllByRecursion (AllByRecursion IsConstant) rows
-    → list_any (λ row. not (length row == width table names)) rows ≡ false → AllByRecursion IsRow (map (bound_row table names) rows)
+    → list_any (λ row. not (length row == width table names)) rows ≡ false → AllByRecursion IsToldRow (map (bound_row table names) rows)
 rows_are table names [] has all counted = tt
 rows_are table names (row ∷ rows) has all counted =
     let parts = or_parts (not (length row == width table names)) (list_any (λ (r : List Constant). not (length r == width table names)) rows) counted in

@@ -4,12 +4,11 @@ use Rattle.std.proofs.Common.{◌≡◌, ℕ, zero, suc, ◌≤◌, ◌^◌, Lis
 use Rattle.std.specs.Prelude.{neg_ℤ}
 use Rattle.std.specs.List.{AllByRecursion}
 use Rattle.std.specs.Str.{is_utf8}
-use Rattle.std.proofs.lemmas.Bool.{ltb-true, leb-true}
 use Rattle.std.proofs.lemmas.Option.{same_Some}
 use Rattle.std.proofs.lemmas.Str.{IsUtf8-from_is_utf8}
 use Rattle.grammar_forms.specs.Forms.{Spelling, One, Both, Either, As, Many}
 use Rattle.grammar_forms.specs.Parts.{Word, After, Before, Optional, Separated, first_of_two, second_of_two, list_of}
-use Rattle.report_text.specs.Grammar.{IsValue}
+use Rattle.report_laws.specs.Spelled.{IsToldValue}
 use Rattle.sql_bind.specs.Meaning.{value_of}
 use Rattle.sql_grammar.specs.Grammar.{pair, setting, insert_into, update_of, query, Tail, LiteralS, OperandS, ChangeS, SettingS, TupleS, InsertS, UpdateS, DeleteS, SourceS, FromS, ItemS, ItemsS, TailS, QueryS, LevelS, OneS, StatementS, WhereS, NameS, NamesS, ColumnS}
 use Rattle.sql_grammar.specs.Trees.{Name, Constant, NullValue, IntValue, TextValue, BlobValue, Side, OfLiteral, OfColumn, Cond, Item, Source, Change, Setting, Statement, BeginIt, CommitIt, RollbackIt, SnapshotIt, SerializableIt, InsertInto, UpdateOf, DeleteFrom, SelectOf}
@@ -22,7 +21,7 @@ use Rattle.sql_tokens.specs.declared.kinds.Token.TheVariants as token
 
 -- a literal whose value is one of the grammar
 abbrev pub IsConstant : Constant → Type 0
-IsConstant constant = IsValue (value_of constant)
+IsConstant constant = IsToldValue (value_of constant)
 
 -- an operand that is such a literal, or a column
 abbrev pub HasValue : Side → Type 0
@@ -105,7 +104,7 @@ number_is : (n : ℕ) (x : Constant) → cond (ltb n (2 ^ 63)) (Some (IntValue (
 number_is n x means = go (ltb n (2 ^ 63)) refl means
   where
     go : (b : Bool) → ltb n (2 ^ 63) ≡ b → cond b (Some (IntValue (pos n))) None ≡ Some x → IsConstant x
-    go true small same = subst IsConstant (same_Some (IntValue (pos n)) x same) (ltb-true n (2 ^ 63) small)
+    go true small same = subst IsConstant (same_Some (IntValue (pos n)) x same) tt
     go false large same = absurd cc
 
 constant_is : (t : Token) (x : Constant) → IsFine t → constant_of t ≡ Some x → IsConstant x
@@ -117,15 +116,11 @@ constant_is (token.Blob bs) x fine means = subst IsConstant (same_Some (BlobValu
 constant_is (token.Sign s) x fine means = absurd cc
 constant_is token.Unknown x fine means = absurd cc
 
-minus_is : (n : ℕ) → n ≤ 2 ^ 63 → IsConstant (IntValue (neg_ℤ (pos n)))
-minus_is zero small = omega arith
-minus_is (suc n) small = omega arith
-
 minus_number_is : (n : ℕ) (x : Constant) → cond (leb n (2 ^ 63)) (Some (IntValue (neg_ℤ (pos n)))) None ≡ Some x → IsConstant x
 minus_number_is n x means = go (leb n (2 ^ 63)) refl means
   where
     go : (b : Bool) → leb n (2 ^ 63) ≡ b → cond b (Some (IntValue (neg_ℤ (pos n)))) None ≡ Some x → IsConstant x
-    go true small same = subst IsConstant (same_Some (IntValue (neg_ℤ (pos n))) x same) (minus_is n (leb-true n (2 ^ 63) small))
+    go true small same = subst IsConstant (same_Some (IntValue (neg_ℤ (pos n))) x same) tt
     go false large same = absurd cc
 
 negated_is : (t : Token) (x : Constant) → IsFine t → negated t ≡ Some x → IsConstant x

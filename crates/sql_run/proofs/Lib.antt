@@ -2,7 +2,6 @@ pub mod BoundLemmas
 pub mod CombinationLemmas
 pub mod GrammarLemmas
 pub mod HeldLemmas
-pub mod NeedLaws
 pub mod NetLemmas
 pub mod ReadLemmas
 pub mod RowLaws

@@ -9,8 +9,7 @@ use Rattle.cdb_values.specs.declared.values.Value.{Value}
 use Rattle.net_writes.specs.Net.{held_at, taken_out, rewritten, undone, held_with, held_after, standing, net_of}
 use Rattle.report_laws.proofs.EachLaws.{all_append}
 use Rattle.report_laws.proofs.SpelledLaws.{all_exchanged}
-use Rattle.report_laws.specs.Spelled.{WritesRow}
-use Rattle.report_text.specs.Grammar.{IsRow}
+use Rattle.report_laws.specs.Spelled.{IsToldRow, WritesRow}
 
 abbrev Holds : Option RowOp → Type 0
 Holds None = Unit {0}
@@ -27,7 +26,7 @@ taken_holds held write all = go (write == 0)
     go true = all
     go false = all_exchanged Holds held (write - 1) None all tt
 
-rewritten_holds : (held : Option RowOp) (row : List Value) → IsRow row → Holds (rewritten held row)
+rewritten_holds : (held : Option RowOp) (row : List Value) → IsToldRow row → Holds (rewritten held row)
 rewritten_holds None row is = tt
 rewritten_holds (Some (Insert table written)) row is = is
 rewritten_holds (Some (Update table target old written)) row is = is

@@ -19,8 +19,7 @@ use Rattle.cdb_values.specs.declared.values.Value.TheVariants.{Null, Int, Text, 
 use Rattle.net_writes.specs.Net.{net_of}
 use Rattle.report_laws.proofs.EachLaws.{all_append}
 use Rattle.report_laws.proofs.SpelledLaws.{all_got, all_exchanged, all_filtered}
-use Rattle.report_laws.specs.Spelled.{SpellsReply, WritesRow, HaveRows}
-use Rattle.report_text.specs.Grammar.{IsValue, IsRow}
+use Rattle.report_laws.specs.Spelled.{IsToldValue, IsToldRow, SpellsReply, WritesRow, HaveRows}
 use Rattle.report_text.specs.declared.reports.ReplyLine.{ReplyLine}
 use Rattle.report_text.specs.declared.reports.ReplyLine.TheVariants as reply
 use Rattle.sql_answer.specs.Answers.{Meaning, Outcome, Fails, Gives, told_only, most_net_ops, net_given, given_unless, rows_met, updating, deleting, items_used, rows_given, finished, finish, found, tables_read}
@@ -47,15 +46,15 @@ use Rattle.sql_run.proofs.NetLemmas.{net_writes_rows}
 use Rattle.sql_run.proofs.ShapeLemmas.{column_is, int_is, shaped}
 
 abbrev IsSeen : Seen → Type 0
-IsSeen s = IsRow s.row
+IsSeen s = IsToldRow s.row
 
 -- ---- the rows that a transaction sees
 
-versions_seen : (versions : List Version) → AllByRecursion (λ v. IsRow v.row) versions → AllByRecursion IsSeen (map seen_version versions)
+versions_seen : (versions : List Version) → AllByRecursion (λ v. IsToldRow v.row) versions → AllByRecursion IsSeen (map seen_version versions)
 versions_seen [] all = tt
 versions_seen (v ∷ vs) all = (all.0, versions_seen vs all.1)
 
-one_seen : (number : ℕ) (row : List Value) (is_here : Bool) (later : List Seen) → IsRow row → AllByRecursion IsSeen later → AllByRecursion IsSeen (own_or number row is_here later)
+one_seen : (number : ℕ) (row : List Value) (is_here : Bool) (later : List Seen) → IsToldRow row → AllByRecursion IsSeen later → AllByRecursion IsSeen (own_or number row is_here later)
 one_seen number row true later is all = (is, all)
 one_seen number row false later is all = all
 
@@ -69,7 +68,7 @@ all_seen : (versions : List (List Version)) (ops : List RowOp) (table : ℕ) →
 all_seen versions ops table have all =
     all_append IsSeen (map seen_version (filter (is_left ops table) (of_table versions table))) (own_from 1 table ops)
     (versions_seen (filter (is_left ops table) (of_table versions table))
-    (all_filtered (λ (v : Version). IsRow v.row) (is_left ops table) (of_table versions table) (all_got (AllByRecursion (λ (v : Version). IsRow v.row)) versions table [] have tt)))
+    (all_filtered (λ (v : Version). IsToldRow v.row) (is_left ops table) (of_table versions table) (all_got (AllByRecursion (λ (v : Version). IsToldRow v.row)) versions table [] have tt)))
     (own_seen 1 table ops all)
 
 -- ---- combinations
@@ -77,40 +76,40 @@ all_seen versions ops table have all =
 all_found_are : (versions : List (List Version)) (ops : List RowOp) (s : Meaning) → HaveRows versions → AllByRecursion WritesRow ops → AllByRecursion (AllByRecursion IsSeen) (found versions ops s)
 all_found_are versions ops s have all = all_found IsSeen versions ops s (each_of (λ table. AllByRecursion IsSeen (seen versions ops table)) (λ table. all_seen versions ops table have all) (tables_read s))
 
-rows_are : (combination : List Seen) → AllByRecursion IsSeen combination → AllByRecursion IsRow (rows_of combination)
+rows_are : (combination : List Seen) → AllByRecursion IsSeen combination → AllByRecursion IsToldRow (rows_of combination)
 rows_are [] all = tt
 rows_are (s ∷ ss) all = (all.0, rows_are ss all.1)
 
-all_rows_are : (combos : List (List Seen)) → AllByRecursion (AllByRecursion IsSeen) combos → AllByRecursion (AllByRecursion IsRow) (map rows_of combos)
+all_rows_are : (combos : List (List Seen)) → AllByRecursion (AllByRecursion IsSeen) combos → AllByRecursion (AllByRecursion IsToldRow) (map rows_of combos)
 all_rows_are [] all = tt
 all_rows_are (c ∷ cs) all = (rows_are c all.0, all_rows_are cs all.1)
 
 -- ---- SET
 
-changed_is : (minus : Bool) (x y v : Value) → changed minus x y ≡ Some v → IsValue v
-changed_is true Null y v is = subst IsValue (same_Some Null v is) tt
-changed_is true (Int x) Null v is = subst IsValue (same_Some Null v is) tt
+changed_is : (minus : Bool) (x y v : Value) → changed minus x y ≡ Some v → IsToldValue v
+changed_is true Null y v is = subst IsToldValue (same_Some Null v is) tt
+changed_is true (Int x) Null v is = subst IsToldValue (same_Some Null v is) tt
 changed_is true (Int x) (Int y) v is = int_is (x -ℤ y) v is
-changed_is true (Int x) (Text y) v is = subst IsValue (same_Some Null v is) tt
-changed_is true (Int x) (Blob y) v is = subst IsValue (same_Some Null v is) tt
-changed_is true (Text x) y v is = subst IsValue (same_Some Null v is) tt
-changed_is true (Blob x) y v is = subst IsValue (same_Some Null v is) tt
-changed_is false Null y v is = subst IsValue (same_Some Null v is) tt
-changed_is false (Int x) Null v is = subst IsValue (same_Some Null v is) tt
+changed_is true (Int x) (Text y) v is = subst IsToldValue (same_Some Null v is) tt
+changed_is true (Int x) (Blob y) v is = subst IsToldValue (same_Some Null v is) tt
+changed_is true (Text x) y v is = subst IsToldValue (same_Some Null v is) tt
+changed_is true (Blob x) y v is = subst IsToldValue (same_Some Null v is) tt
+changed_is false Null y v is = subst IsToldValue (same_Some Null v is) tt
+changed_is false (Int x) Null v is = subst IsToldValue (same_Some Null v is) tt
 changed_is false (Int x) (Int y) v is = int_is (x +ℤ y) v is
-changed_is false (Int x) (Text y) v is = subst IsValue (same_Some Null v is) tt
-changed_is false (Int x) (Blob y) v is = subst IsValue (same_Some Null v is) tt
-changed_is false (Text x) y v is = subst IsValue (same_Some Null v is) tt
-changed_is false (Blob x) y v is = subst IsValue (same_Some Null v is) tt
+changed_is false (Int x) (Text y) v is = subst IsToldValue (same_Some Null v is) tt
+changed_is false (Int x) (Blob y) v is = subst IsToldValue (same_Some Null v is) tt
+changed_is false (Text x) y v is = subst IsToldValue (same_Some Null v is) tt
+changed_is false (Blob x) y v is = subst IsToldValue (same_Some Null v is) tt
 
 -- a value of the grammar, where there is one
 abbrev GivenIs : Option Value → Type 0
 GivenIs None = Unit {0}
-GivenIs (Some v) = IsValue v
+GivenIs (Some v) = IsToldValue v
 
-given_is : (o : Option Value) (v : Value) → GivenIs o → o ≡ Some v → IsValue v
+given_is : (o : Option Value) (v : Value) → GivenIs o → o ≡ Some v → IsToldValue v
 given_is None v is same = absurd cc
-given_is (Some u) v is same = subst IsValue (same_Some u v same) is
+given_is (Some u) v is same = subst IsToldValue (same_Some u v same) is
 
 changed_given : (minus : Bool) (x y : Value) → GivenIs (changed minus x y)
 changed_given minus x y = go (changed minus x y) refl
@@ -127,32 +126,32 @@ stepped_is : (old : List (List Value)) (o : Option Value) (steps : List BoundSte
 stepped_is old o [] is = is
 stepped_is old o (step ∷ steps) is = stepped_is old (option_and_then (λ v. changed step.minus v (operand_value old step.operand)) o) steps (one_step step.minus (operand_value old step.operand) o)
 
-operand_is : (old : List (List Value)) (x : BoundOperand) → AllByRecursion IsRow old → IsOperand x → IsValue (operand_value old x)
+operand_is : (old : List (List Value)) (x : BoundOperand) → AllByRecursion IsToldRow old → IsOperand x → IsToldValue (operand_value old x)
 operand_is old (operand.Value value) all is = is
 operand_is old (operand.Column column) all is = column_is old column all
 
-row_exchanged : (row : List Value) (column : ℕ) (value : Value) → IsRow row → IsValue value → IsRow (slice_set row column value)
+row_exchanged : (row : List Value) (column : ℕ) (value : Value) → IsToldRow row → IsToldValue value → IsToldRow (slice_set row column value)
 row_exchanged [] column value is good = absurd is
 row_exchanged (v ∷ vs) zero value is good = (good, is.1)
-row_exchanged (v ∷ vs) (suc column) value is good = (is.0, all_exchanged IsValue vs column value is.1 good)
+row_exchanged (v ∷ vs) (suc column) value is good = (is.0, all_exchanged IsToldValue vs column value is.1 good)
 
 abbrev RowIs : Option (List Value) → Type 0
 RowIs None = Unit {0}
-RowIs (Some row) = IsRow row
+RowIs (Some row) = IsToldRow row
 
-set_is : (old : List (List Value)) (assigns : List BoundAssign) (row : List Value) → AllByRecursion IsRow old → AllByRecursion GivesValue assigns → IsRow row → RowIs (set_from old assigns row)
+set_is : (old : List (List Value)) (assigns : List BoundAssign) (row : List Value) → AllByRecursion IsToldRow old → AllByRecursion GivesValue assigns → IsToldRow row → RowIs (set_from old assigns row)
 set_is old [] row all are is = is
 set_is old (assign ∷ assigns) row all are is =
     go (assigned old assign) (stepped_is old (Some (operand_value old assign.first)) assign.rest (operand_is old assign.first all are.0)) (λ value good. set_is old assigns (slice_set row assign.column value) all are.1 (row_exchanged row assign.column value is good))
   where
-    go : (o : Option Value) → GivenIs o → ((value : Value) → IsValue value → RowIs (set_from old assigns (slice_set row assign.column value)))
+    go : (o : Option Value) → GivenIs o → ((value : Value) → IsToldValue value → RowIs (set_from old assigns (slice_set row assign.column value)))
         → RowIs (option_and_then (λ value. set_from old assigns (slice_set row assign.column value)) o)
     go None good later = tt
     go (Some value) good later = later value good
 
 -- ---- writes
 
-inserts_are : (table : ℕ) (rows : List (List Value)) → AllByRecursion IsRow rows → AllByRecursion WritesRow (map (op.Insert table) rows)
+inserts_are : (table : ℕ) (rows : List (List Value)) → AllByRecursion IsToldRow rows → AllByRecursion WritesRow (map (op.Insert table) rows)
 inserts_are table [] all = tt
 inserts_are table (row ∷ rows) all = (all.0, inserts_are table rows all.1)
 
@@ -225,34 +224,32 @@ unless_tells : (cause : Option StatementError) (ops writes : List RowOp) → Tel
 unless_tells (Some cause) ops writes = (tt, tt)
 unless_tells None ops writes = net_tells ops writes
 
-replies_tell : (rows : List (List Value)) (last : List ReplyLine) → AllByRecursion IsRow rows → AllByRecursion SpellsReply last → AllByRecursion SpellsReply (map (λ row. reply.Row row) rows ++ last)
+replies_tell : (rows : List (List Value)) (last : List ReplyLine) → AllByRecursion IsToldRow rows → AllByRecursion SpellsReply last → AllByRecursion SpellsReply (map (λ row. reply.Row row) rows ++ last)
 replies_tell [] last all is = is
 replies_tell (row ∷ rows) last all is = (all.0, replies_tell rows last all.1 is)
 
-rows_tell : (uses : List GenidItem) (ops : List RowOp) (o : Option (List (List Value))) → ((rows : List (List Value)) → o ≡ Some rows → AllByRecursion IsRow rows) → TellsRows ops (rows_given uses ops o)
+rows_tell : (uses : List GenidItem) (ops : List RowOp) (o : Option (List (List Value))) → ((rows : List (List Value)) → o ≡ Some rows → AllByRecursion IsToldRow rows) → TellsRows ops (rows_given uses ops o)
 rows_tell uses ops None each = (tt, tt)
 rows_tell uses ops (Some rows) each = replies_tell rows (reply.Done (length rows) ∷ []) (each rows refl) (tt, tt)
 
-finished_tells : (tables : List TableDef) (s : BoundStatement) (ops : List RowOp) (combos : List (List Seen)) → IsBoundWell s → length combos < 2 ^ 63 → AllByRecursion (AllByRecursion IsSeen) combos
+finished_tells : (tables : List TableDef) (s : BoundStatement) (ops : List RowOp) (combos : List (List Seen)) → IsBoundWell s → AllByRecursion (AllByRecursion IsSeen) combos
     → TellsRows ops (finished tables s ops combos)
-finished_tells tables BeginIt ops combos well few are = (tt, tt)
-finished_tells tables CommitIt ops combos well few are = (tt, tt)
-finished_tells tables RollbackIt ops combos well few are = (tt, tt)
-finished_tells tables (SetIt level) ops combos well few are = (tt, tt)
-finished_tells tables (InsertInto table rows) ops combos well few are = unless_tells (rows_error (slice_get tables table) (map (λ row. Some row) rows)) ops (map (op.Insert table) rows)
-finished_tells tables (UpdateOf table assigns condition) ops combos well few are =
+finished_tells tables BeginIt ops combos well are = (tt, tt)
+finished_tells tables CommitIt ops combos well are = (tt, tt)
+finished_tells tables RollbackIt ops combos well are = (tt, tt)
+finished_tells tables (SetIt level) ops combos well are = (tt, tt)
+finished_tells tables (InsertInto table rows) ops combos well are = unless_tells (rows_error (slice_get tables table) (map (λ row. Some row) rows)) ops (map (op.Insert table) rows)
+finished_tells tables (UpdateOf table assigns condition) ops combos well are =
     unless_tells (rows_error (slice_get tables table) (map (λ s. set_row assigns s.row) (rows_met combos))) ops (filter_map (updating table assigns) (rows_met combos))
-finished_tells tables (DeleteFrom table condition) ops combos well few are = net_tells ops (map (deleting table) (rows_met combos))
-finished_tells tables (SelectOf query) ops combos well few are =
-    let same : length (map rows_of combos) ≡ length combos = length-map combos rows_of in
-    let small : length (map rows_of combos) < 2 ^ 63 = subst (λ (n : ℕ). n < 2 ^ 63) (sym same) few in
-    rows_tell (items_used query combos) ops (shape query (map rows_of combos)) (λ rows given. shaped query (map rows_of combos) rows well small (all_rows_are combos are) given)
+finished_tells tables (DeleteFrom table condition) ops combos well are = net_tells ops (map (deleting table) (rows_met combos))
+finished_tells tables (SelectOf query) ops combos well are =
+    rows_tell (items_used query combos) ops (shape query (map rows_of combos)) (λ rows given. shaped query (map rows_of combos) rows well (all_rows_are combos are) given)
 
-finish_tells : (tables : List TableDef) (s : Meaning) (ops : List RowOp) (combos : List (List Seen)) → IsWell s → length combos < 2 ^ 63 → AllByRecursion (AllByRecursion IsSeen) combos
+finish_tells : (tables : List TableDef) (s : Meaning) (ops : List RowOp) (combos : List (List Seen)) → IsWell s → AllByRecursion (AllByRecursion IsSeen) combos
     → TellsRows ops (finish tables s ops combos)
 unfolding finish
-finish_tells tables (Ok s) ops combos well few are = finished_tells tables s ops combos well few are
-finish_tells tables (Err cause) ops combos well few are = (tt, tt)
+finish_tells tables (Ok s) ops combos well are = finished_tells tables s ops combos well are
+finish_tells tables (Err cause) ops combos well are = (tt, tt)
 
 -- ---- what a text means
 
@@ -272,8 +269,8 @@ means_well tables text has utf8 = go (reading text) refl
     go (Err at) read = tt
 
 pub replies_by_such_rows : RepliesBySuchRows
-replies_by_such_rows tables versions done text has utf8 few have all =
-    finish_tells tables (meaning bound_in tables text) done (found versions done (meaning bound_in tables text)) (means_well tables text has utf8) few (all_found_are versions done (meaning bound_in tables text) have all)
+replies_by_such_rows tables versions done text has utf8 have all =
+    finish_tells tables (meaning bound_in tables text) done (found versions done (meaning bound_in tables text)) (means_well tables text has utf8) (all_found_are versions done (meaning bound_in tables text) have all)
 
 pub leaves_such_rows : LeavesSuchRows
 leaves_such_rows tables versions done text has utf8 have all =

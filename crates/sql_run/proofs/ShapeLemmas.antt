@@ -14,7 +14,7 @@ use Rattle.cdb_values.specs.declared.values.Value.{Value}
 use Rattle.cdb_values.specs.declared.values.Value.TheVariants.{Null, Int}
 use Rattle.report_laws.proofs.EachLaws.{all_append}
 use Rattle.report_laws.proofs.SpelledLaws.{all_filtered}
-use Rattle.report_text.specs.Grammar.{IsValue, IsRow}
+use Rattle.report_laws.specs.Spelled.{IsToldValue, IsToldRow}
 use Rattle.sql_answer.specs.Aggregates.{is_64_bits, int_value, integers, total, sum_of, known, least_from, least, greatest_from, greatest, values_in, first_of, item_value, all_there, item_values}
 use Rattle.sql_answer.specs.Conditions.{cell, cell_of, column_value}
 use Rattle.sql_answer.specs.Shapes.{Group, group, Keyed, keyed, is_below, is_grouped, key_items, grouped_with, values_at, grouped_from, grouped, groups_by, groups_of, projected, placed, sorted, ordered, limited, projections, arranged, shape}
@@ -30,82 +30,81 @@ Rows = List (List Value)
 
 -- ---- values
 
-row_values : (row : List Value) → IsRow row → AllByRecursion IsValue row
+row_values : (row : List Value) → IsToldRow row → AllByRecursion IsToldValue row
 row_values [] is = absurd is
 row_values (v ∷ vs) is = is
 
-cell_is : (row : List Value) (column : ℕ) → AllByRecursion IsValue row → IsValue (cell row column)
+cell_is : (row : List Value) (column : ℕ) → AllByRecursion IsToldValue row → IsToldValue (cell row column)
 cell_is [] column all = tt
 cell_is (v ∷ vs) zero all = all.0
 cell_is (v ∷ vs) (suc column) all = cell_is vs column all.1
 
 -- the value of a column in rows of the grammar
-pub column_is : (rows : Rows) (column : BoundColumn) → AllByRecursion IsRow rows → IsValue (column_value rows column)
+pub column_is : (rows : Rows) (column : BoundColumn) → AllByRecursion IsToldRow rows → IsToldValue (column_value rows column)
 column_is rows column all = go rows column.place all
   where
-    go : (rest : Rows) (place : ℕ) → AllByRecursion IsRow rest → IsValue (cell_of (slice_get rest place) column.column)
+    go : (rest : Rows) (place : ℕ) → AllByRecursion IsToldRow rest → IsToldValue (cell_of (slice_get rest place) column.column)
     go [] place all = tt
     go (row ∷ rest) zero all = cell_is row column.column (row_values row all.0)
     go (row ∷ rest) (suc place) all = go rest place all.1
 
-values_are : (members : List Rows) (column : BoundColumn) → AllByRecursion (AllByRecursion IsRow) members → AllByRecursion IsValue (values_in members column)
+values_are : (members : List Rows) (column : BoundColumn) → AllByRecursion (AllByRecursion IsToldRow) members → AllByRecursion IsToldValue (values_in members column)
 values_are [] column all = tt
 values_are (rows ∷ members) column all = (column_is rows column all.0, values_are members column all.1)
 
-first_is : (values : List Value) → AllByRecursion IsValue values → IsValue (first_of values)
+first_is : (values : List Value) → AllByRecursion IsToldValue values → IsToldValue (first_of values)
 first_is [] all = tt
 first_is (v ∷ vs) all = all.0
 
 -- an integer that stays within 64 bits
-bits_are : (x : ℤ) → is_64_bits x ≡ true → IsValue (Int x)
-bits_are (pos n) is = ltb-true n (2 ^ 63) is
-bits_are (negsuc n) is = ltb-true n (2 ^ 63) is
+bits_are : (x : ℤ) → is_64_bits x ≡ true → IsToldValue (Int x)
+bits_are x is = tt
 
-pub int_is : (x : ℤ) (v : Value) → int_value x ≡ Some v → IsValue v
+pub int_is : (x : ℤ) (v : Value) → int_value x ≡ Some v → IsToldValue v
 int_is x v is = go (is_64_bits x) refl is
   where
-    go : (b : Bool) → is_64_bits x ≡ b → cond b (Some (Int x)) None ≡ Some v → IsValue v
-    go true within same = subst IsValue (same_Some (Int x) v same) (bits_are x within)
+    go : (b : Bool) → is_64_bits x ≡ b → cond b (Some (Int x)) None ≡ Some v → IsToldValue v
+    go true within same = subst IsToldValue (same_Some (Int x) v same) (bits_are x within)
     go false past same = absurd cc
 
-sum_is : (xs : List ℤ) (v : Value) → sum_of xs ≡ Some v → IsValue v
-sum_is [] v is = subst IsValue (same_Some Null v is) tt
+sum_is : (xs : List ℤ) (v : Value) → sum_of xs ≡ Some v → IsToldValue v
+sum_is [] v is = subst IsToldValue (same_Some Null v is) tt
 sum_is (x ∷ xs) v is = int_is (total (x ∷ xs)) v is
 
-one_of : (b : Bool) (x y : Value) → IsValue x → IsValue y → IsValue (cond b x y)
+one_of : (b : Bool) (x y : Value) → IsToldValue x → IsToldValue y → IsToldValue (cond b x y)
 one_of true x y first second = first
 one_of false x y first second = second
 
-least_from_is : (best : Value) (values : List Value) → IsValue best → AllByRecursion IsValue values → IsValue (least_from best values)
+least_from_is : (best : Value) (values : List Value) → IsToldValue best → AllByRecursion IsToldValue values → IsToldValue (least_from best values)
 least_from_is best [] is all = is
 least_from_is best (v ∷ vs) is all = least_from_is (cond (is_lt (value_order v best)) v best) vs (one_of (is_lt (value_order v best)) v best all.0 is) all.1
 
-least_is : (values : List Value) → AllByRecursion IsValue values → IsValue (least values)
+least_is : (values : List Value) → AllByRecursion IsToldValue values → IsToldValue (least values)
 least_is [] all = tt
 least_is (v ∷ vs) all = least_from_is v vs all.0 all.1
 
-greatest_from_is : (best : Value) (values : List Value) → IsValue best → AllByRecursion IsValue values → IsValue (greatest_from best values)
+greatest_from_is : (best : Value) (values : List Value) → IsToldValue best → AllByRecursion IsToldValue values → IsToldValue (greatest_from best values)
 greatest_from_is best [] is all = is
 greatest_from_is best (v ∷ vs) is all = greatest_from_is (cond (is_gt (value_order v best)) v best) vs (one_of (is_gt (value_order v best)) v best all.0 is) all.1
 
-greatest_is : (values : List Value) → AllByRecursion IsValue values → IsValue (greatest values)
+greatest_is : (values : List Value) → AllByRecursion IsToldValue values → IsToldValue (greatest values)
 greatest_is [] all = tt
 greatest_is (v ∷ vs) all = greatest_from_is v vs all.0 all.1
 
 -- ---- the items of a group
 
--- a group that COUNT can tell, of rows of the grammar
+-- a group of such rows
 abbrev IsGroup : List Rows → Type 0
-IsGroup members = (length members < 2 ^ 63) × AllByRecursion (AllByRecursion IsRow) members
+IsGroup members = AllByRecursion (AllByRecursion IsToldRow) members
 
-item_is : (members : List Rows) (i : BoundItem) (v : Value) → IsGroup members → item_value members i ≡ Some v → IsValue v
-item_is members (item.Column column) v is same = subst IsValue (same_Some (first_of (values_in members column)) v same) (first_is (values_in members column) (values_are members column is.1))
-item_is members item.Count v is same = subst IsValue (same_Some (Int (pos (length members))) v same) is.0
+item_is : (members : List Rows) (i : BoundItem) (v : Value) → IsGroup members → item_value members i ≡ Some v → IsToldValue v
+item_is members (item.Column column) v is same = subst IsToldValue (same_Some (first_of (values_in members column)) v same) (first_is (values_in members column) (values_are members column is))
+item_is members item.Count v is same = subst IsToldValue (same_Some (Int (pos (length members))) v same) tt
 item_is members (item.Sum column) v is same = sum_is (integers (values_in members column)) v same
 item_is members (item.Min column) v is same =
-    subst IsValue (same_Some (least (known (values_in members column))) v same) (least_is (known (values_in members column)) (all_filtered IsValue _ (values_in members column) (values_are members column is.1)))
+    subst IsToldValue (same_Some (least (known (values_in members column))) v same) (least_is (known (values_in members column)) (all_filtered IsToldValue _ (values_in members column) (values_are members column is)))
 item_is members (item.Max column) v is same =
-    subst IsValue (same_Some (greatest (known (values_in members column))) v same) (greatest_is (known (values_in members column)) (all_filtered IsValue _ (values_in members column) (values_are members column is.1)))
+    subst IsToldValue (same_Some (greatest (known (values_in members column))) v same) (greatest_is (known (values_in members column)) (all_filtered IsToldValue _ (values_in members column) (values_are members column is)))
 
 -- each that is there has what each has
 all_there_are : {A B : Type 0} (f : A → Option B) (P : A → Type 0) (Q : B → Type 0) → ((x : A) (y : B) → P x → f x ≡ Some y → Q y)
@@ -138,70 +137,55 @@ mapped_has : {A B : Type 0} (f : A → B) (xs : List A) → HasOne xs → HasOne
 mapped_has f [] has = absurd has
 mapped_has f (x ∷ xs) has = tt
 
-row_is : (members : List Rows) (items : List BoundItem) (row : List Value) → HasOne items → IsGroup members → item_values members items ≡ Some row → IsRow row
+row_is : (members : List Rows) (items : List BoundItem) (row : List Value) → HasOne items → IsGroup members → item_values members items ≡ Some row → IsToldRow row
 row_is members items row has is same =
     row_from row (there_has (map (item_value members) items) row (mapped_has (item_value members) items has) same)
-    (all_there_are (item_value members) (λ (i : BoundItem). Unit {0}) IsValue (λ i v any given. item_is members i v is given) items row (free items) same)
+    (all_there_are (item_value members) (λ (i : BoundItem). Unit {0}) IsToldValue (λ i v any given. item_is members i v is given) items row (free items) same)
 
 -- ---- groups
 
--- a group of so many combinations at most, of rows of the grammar
-abbrev IsGroupOf : ℕ → Group → Type 0
-IsGroupOf most g = (length g.members ≤ most) × AllByRecursion (AllByRecursion IsRow) g.members
+abbrev IsGroupIn : Group → Type 0
+IsGroupIn g = IsGroup g.members
 
-wider : (n m : ℕ) → n ≤ m → (groups : List Group) → AllByRecursion (IsGroupOf n) groups → AllByRecursion (IsGroupOf m) groups
-wider n m fits [] all = tt
-wider n m fits (g ∷ gs) all = let few : length g.members ≤ n = all.0.0 in ((omega arith, all.0.1), wider n m fits gs all.1)
-
-with_one : (n : ℕ) (values : List Value) (rows : Rows) (groups : List Group) → AllByRecursion IsRow rows → AllByRecursion (IsGroupOf n) groups → AllByRecursion (IsGroupOf (n + 1)) (grouped_with values rows groups)
-with_one n values rows [] is all = ((omega arith, (is, tt)), tt)
-with_one n values rows (g ∷ gs) is all = pick (same_values g.values values) (with_one n values rows gs is all.1)
+with_one : (values : List Value) (rows : Rows) (groups : List Group) → AllByRecursion IsToldRow rows → AllByRecursion IsGroupIn groups → AllByRecursion IsGroupIn (grouped_with values rows groups)
+with_one values rows [] is all = ((is, tt), tt)
+with_one values rows (g ∷ gs) is all = pick (same_values g.values values) (with_one values rows gs is all.1)
   where
-    pick : (b : Bool) → AllByRecursion (IsGroupOf (n + 1)) (grouped_with values rows gs)
-        → AllByRecursion (IsGroupOf (n + 1)) (cond b (group g.values (g.members ++ rows ∷ []) ∷ gs) (g ∷ grouped_with values rows gs))
-    pick true later =
-        let few : length g.members ≤ n = all.0.0 in
-        let more : length (g.members ++ rows ∷ []) ≡ length g.members + length (rows ∷ []) = length-append g.members (rows ∷ []) in
-        let within : length (g.members ++ rows ∷ []) ≤ n + 1 = omega arith in
-        let next : n ≤ n + 1 = omega arith in
-        ((within, all_append (AllByRecursion IsRow) g.members (rows ∷ []) all.0.1 (is, tt)), wider n (n + 1) next gs all.1)
-    pick false later =
-        let few : length g.members ≤ n = all.0.0 in
-        let within : length g.members ≤ n + 1 = omega arith in
-        ((within, all.0.1), later)
+    pick : (b : Bool) → AllByRecursion IsGroupIn (grouped_with values rows gs)
+        → AllByRecursion IsGroupIn (cond b (group g.values (g.members ++ rows ∷ []) ∷ gs) (g ∷ grouped_with values rows gs))
+    pick true later = (all_append (AllByRecursion IsToldRow) g.members (rows ∷ []) all.0 (is, tt), all.1)
+    pick false later = (all.0, later)
 
-with_all : (n most : ℕ) (columns : List BoundColumn) (groups : List Group) (combinations : List Rows) → n + length combinations ≤ most → AllByRecursion (AllByRecursion IsRow) combinations
-    → AllByRecursion (IsGroupOf n) groups → AllByRecursion (IsGroupOf most) (grouped_from columns groups combinations)
-with_all n most columns groups [] fits are all = let within : n ≤ most = omega arith in wider n most within groups all
-with_all n most columns groups (rows ∷ combinations) fits are all =
-    let later : (n + 1) + length combinations ≤ most = omega arith in
-    with_all (n + 1) most columns (grouped_with (values_at columns rows) rows groups) combinations later are.1 (with_one n (values_at columns rows) rows groups are.0 all)
+with_all : (columns : List BoundColumn) (groups : List Group) (combinations : List Rows) → AllByRecursion (AllByRecursion IsToldRow) combinations
+    → AllByRecursion IsGroupIn groups → AllByRecursion IsGroupIn (grouped_from columns groups combinations)
+with_all columns groups [] are all = all
+with_all columns groups (rows ∷ combinations) are all =
+    with_all columns (grouped_with (values_at columns rows) rows groups) combinations are.1 (with_one (values_at columns rows) rows groups are.0 all)
 
-members_are : (most : ℕ) (groups : List Group) → most < 2 ^ 63 → AllByRecursion (IsGroupOf most) groups → AllByRecursion IsGroup (map (λ g. g.members) groups)
-members_are most [] few all = tt
-members_are most (g ∷ gs) few all = let within : length g.members ≤ most = all.0.0 in ((omega arith, all.0.1), members_are most gs few all.1)
+members_are : (groups : List Group) → AllByRecursion IsGroupIn groups → AllByRecursion IsGroup (map (λ g. g.members) groups)
+members_are [] all = tt
+members_are (g ∷ gs) all = (all.0, members_are gs all.1)
 
-singles_are : (combinations : List Rows) → AllByRecursion (AllByRecursion IsRow) combinations → AllByRecursion IsGroup (map (λ rows. rows ∷ []) combinations)
+singles_are : (combinations : List Rows) → AllByRecursion (AllByRecursion IsToldRow) combinations → AllByRecursion IsGroup (map (λ rows. rows ∷ []) combinations)
 singles_are [] all = tt
-singles_are (rows ∷ combinations) all = let one : length (rows ∷ []) ≡ 1 = refl in ((omega arith, (all.0, tt)), singles_are combinations all.1)
+singles_are (rows ∷ combinations) all = ((all.0, tt), singles_are combinations all.1)
 
-groups_are : (is_grouped : Bool) (columns : List BoundColumn) (combinations : List Rows) → length combinations < 2 ^ 63 → AllByRecursion (AllByRecursion IsRow) combinations
+groups_are : (is_grouped : Bool) (columns : List BoundColumn) (combinations : List Rows) → AllByRecursion (AllByRecursion IsToldRow) combinations
     → AllByRecursion IsGroup (groups_by is_grouped columns combinations)
-groups_are false columns combinations few all = singles_are combinations all
-groups_are true [] combinations few all = ((few, all), tt)
-groups_are true (column ∷ columns) combinations few all =
-    let whole : 0 + length combinations ≤ length combinations = omega arith in
-    members_are (length combinations) (grouped (column ∷ columns) combinations) few (with_all 0 (length combinations) (column ∷ columns) [] combinations whole all tt)
+groups_are false columns combinations all = singles_are combinations all
+groups_are true [] combinations all = (all, tt)
+groups_are true (column ∷ columns) combinations all =
+    members_are (grouped (column ∷ columns) combinations) (with_all (column ∷ columns) [] combinations all tt)
 
 -- ---- rows with their keys
 
 abbrev IsKeyed : Keyed → Type 0
-IsKeyed k = IsRow k.row
+IsKeyed k = IsToldRow k.row
 
 projected_is : (query : BoundQuery) (members : List Rows) (k : Keyed) → HasOne query.items → IsGroup members → projected query members ≡ Some k → IsKeyed k
 projected_is query members k has is same = go (item_values members query.items) refl same
   where
-    with_keys : (row : List Value) → IsRow row → (o : Option (List Value)) → option_map (keyed row) o ≡ Some k → IsKeyed k
+    with_keys : (row : List Value) → IsToldRow row → (o : Option (List Value)) → option_map (keyed row) o ≡ Some k → IsKeyed k
     with_keys row good None same = absurd cc
     with_keys row good (Some keys) same = subst IsKeyed (same_Some (keyed row keys) k same) good
 
@@ -221,32 +205,32 @@ sorted_are : (below : Keyed → Keyed → Bool) (ks : List Keyed) → AllByRecur
 sorted_are below [] all = tt
 sorted_are below (k ∷ ks) all = placed_are below k (sorted below ks) all.0 (sorted_are below ks all.1)
 
-told_are : (ks : List Keyed) → AllByRecursion IsKeyed ks → AllByRecursion IsRow (map (λ k. k.row) ks)
+told_are : (ks : List Keyed) → AllByRecursion IsKeyed ks → AllByRecursion IsToldRow (map (λ k. k.row) ks)
 told_are [] all = tt
 told_are (k ∷ ks) all = (all.0, told_are ks all.1)
 
-taken_are : (most : ℕ) (rows : Rows) → AllByRecursion IsRow rows → AllByRecursion IsRow (take most rows)
+taken_are : (most : ℕ) (rows : Rows) → AllByRecursion IsToldRow rows → AllByRecursion IsToldRow (take most rows)
 taken_are zero rows all = tt
 taken_are (suc most) [] all = tt
 taken_are (suc most) (row ∷ rows) all = (all.0, taken_are most rows all.1)
 
-limited_are : (limit : Option ℕ) (rows : Rows) → AllByRecursion IsRow rows → AllByRecursion IsRow (limited limit rows)
+limited_are : (limit : Option ℕ) (rows : Rows) → AllByRecursion IsToldRow rows → AllByRecursion IsToldRow (limited limit rows)
 limited_are None rows all = all
 limited_are (Some most) rows all = taken_are most rows all
 
-arranged_are : (query : BoundQuery) (ks : List Keyed) → AllByRecursion IsKeyed ks → AllByRecursion IsRow (arranged query ks)
+arranged_are : (query : BoundQuery) (ks : List Keyed) → AllByRecursion IsKeyed ks → AllByRecursion IsToldRow (arranged query ks)
 arranged_are query ks all = limited_are query.limit (map (λ k. k.row) (ordered query.order ks)) (told_are (ordered query.order ks) (sorted_are (is_below query.order) ks all))
 
 -- the rows of a query
-pub shaped : (query : BoundQuery) (combinations : List Rows) (rows : Rows) → HasOne query.items → length combinations < 2 ^ 63 → AllByRecursion (AllByRecursion IsRow) combinations
-    → shape query combinations ≡ Some rows → AllByRecursion IsRow rows
+pub shaped : (query : BoundQuery) (combinations : List Rows) (rows : Rows) → HasOne query.items → AllByRecursion (AllByRecursion IsToldRow) combinations
+    → shape query combinations ≡ Some rows → AllByRecursion IsToldRow rows
 unfolding shape
-shaped query combinations rows has few all same = go (projections query combinations) refl same
+shaped query combinations rows has all same = go (projections query combinations) refl same
   where
-    go : (o : Option (List Keyed)) → projections query combinations ≡ o → option_map (arranged query) o ≡ Some rows → AllByRecursion IsRow rows
+    go : (o : Option (List Keyed)) → projections query combinations ≡ o → option_map (arranged query) o ≡ Some rows → AllByRecursion IsToldRow rows
     go None given same = absurd cc
     go (Some ks) given same =
-        subst (AllByRecursion IsRow) (same_Some (arranged query ks) rows same)
+        subst (AllByRecursion IsToldRow) (same_Some (arranged query ks) rows same)
         (arranged_are query ks
         (all_there_are (projected query) IsGroup IsKeyed (λ members k is given. projected_is query members k has is given) (groups_of query combinations) ks
-        (groups_are (is_grouped query) query.group combinations few all) given))
+        (groups_are (is_grouped query) query.group combinations all) given))

@@ -1,4 +1,3 @@
-pub mod Needs
 pub mod Sound
 pub mod Spelled
 pub mod Texts

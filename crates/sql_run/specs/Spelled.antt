@@ -1,10 +1,8 @@
--- What a text of SQL has to be given, so that it is answered by rows of the grammar of reports and leaves operations that
--- write such rows: tables with a column or more, a text that is UTF-8, and fewer combinations than an integer of 64 bits
--- counts.
+-- What a text of SQL has to be given, so that it is answered by rows of the grammar of reports, but for the sizes of
+-- integers, and leaves operations that write such rows: tables with a column or more, and a text that is UTF-8.
 --
--- Without the first, `*` is no item, and a row without values is told. Without the second, a literal is no text. Without the
--- third, `count(*)` is no integer of 64 bits.
-use Rattle.std.specs.Prelude.{◌≡◌, ◌^◌, ◌<◌, ℕ, List, [], ◌∷◌, length, true}
+-- Without the first, `*` is no item, and a row without values is told. Without the second, a literal is no text.
+use Rattle.std.specs.Prelude.{◌≡◌, ℕ, List, [], ◌∷◌, true}
 use Rattle.std.specs.List.{AllByRecursion}
 use Rattle.std.specs.Str.{is_utf8}
 use Rattle.cdb_values.specs.declared.rows.RowOp.{RowOp}
@@ -12,8 +10,7 @@ use Rattle.cdb_values.specs.declared.rows.Version.{Version}
 use Rattle.cdb_values.specs.declared.tables.ColumnDef.{ColumnDef}
 use Rattle.cdb_values.specs.declared.tables.TableDef.{TableDef}
 use Rattle.report_laws.specs.Spelled.{SpellsReply, WritesRow, HaveRows}
-use Rattle.sql_answer.specs.Answers.{found}
-use Rattle.sql_answer.specs.Language.{bound_in, meaning, sql_language}
+use Rattle.sql_answer.specs.Language.{sql_language}
 
 abbrev pub HasColumn : List ColumnDef → Type 0
 HasColumn [] = ⊥
@@ -23,14 +20,10 @@ HasColumn (column ∷ columns) = Unit {0}
 abbrev pub HasColumns : TableDef → Type 0
 HasColumns table = HasColumn table.columns
 
--- a text finds fewer combinations than an integer of 64 bits counts
-abbrev pub FindsFew : List TableDef → List (List Version) → List RowOp → List ℕ → Type 0
-FindsFew tables versions done text = length (found versions done (meaning bound_in tables text)) < 2 ^ 63
-
 -- what holds of each text over such tables and rows, behind such operations
 abbrev pub RepliesBySuchRows : Type 0
 RepliesBySuchRows = (tables : List TableDef) (versions : List (List Version)) (done : List RowOp) (text : List ℕ)
-    → AllByRecursion HasColumns tables → is_utf8 text ≡ true → FindsFew tables versions done text
+    → AllByRecursion HasColumns tables → is_utf8 text ≡ true
     → HaveRows versions → AllByRecursion WritesRow done → AllByRecursion SpellsReply (sql_language.answer tables versions done text).replies
 
 abbrev pub LeavesSuchRows : Type 0

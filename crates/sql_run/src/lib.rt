@@ -31,6 +31,6 @@ mod sources;
 
 pub use answers::{Answer, answer_prepared};
 pub use kinds::TextKind;
-pub use laws::{sql_keeps_rows, sql_keeps_rows_no_further, sql_leaves_sound_operations};
+pub use laws::{sql_keeps_rows, sql_leaves_sound_operations};
 pub use prepares::{Prepared, prepare};
 pub use sources::RowsAt;

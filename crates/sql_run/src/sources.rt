@@ -6,9 +6,9 @@ ghost use Rattle.query_laws.specs.Intervals.{lies as lies_of};
 ghost use Rattle.snapshot_rows.specs.Ages.{seen, seen_in, is_seen as is_seen_at};
 ghost use Rattle.sql_answer.specs.Combinations.{of_table as of_table_of};
 
-use cdb_values::{List, Schema, TableDef, Version};
+use cdb_values::{Interval, List, Schema, TableDef, Version};
 use plan_run::{RowFault, RowSource, lies};
-use query_plan::Interval;
+
 use snapshot_rows::{Age, Snapshots};
 use std::alloc::{AllocError, Global};
 

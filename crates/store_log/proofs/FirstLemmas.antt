@@ -8,8 +8,8 @@ use Rattle.frame_code.specs.Fronts.{IsFront}
 use Rattle.frame_code.specs.Spelled.{IsSpelled}
 use Rattle.frame_code.specs.declared.frames.Frame.{Frame}
 use Rattle.frame_code.specs.declared.frames.Frame.TheVariants as frame
-use Rattle.frame_code.proofs.FrameLemmas.{frames_are_told}
-use Rattle.frame_code.proofs.FrontLemmas.{no_frames, frames_have_fronts}
+use Rattle.frame_code.proofs.FrameLaws.{frames_are_told}
+use Rattle.frame_code.proofs.FrontLaws.{no_frames, frames_have_fronts}
 use Rattle.log_format.specs.Readings.{IsWhole, IsBad}
 use Rattle.log_format.proofs.CountLemmas.{AreBytes, sixteen_begin}
 use Rattle.store_log.specs.declared.readings.First.{First}

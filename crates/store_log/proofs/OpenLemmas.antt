@@ -6,7 +6,7 @@ use Rattle.std.specs.Io.{StartsWith}
 use Rattle.frame_code.specs.Codes.{frame_code}
 use Rattle.frame_code.specs.Spelled.{IsSpelled}
 use Rattle.frame_code.specs.declared.frames.Frame.TheVariants as frame
-use Rattle.frame_code.proofs.FrontLemmas.{longer_front}
+use Rattle.frame_code.proofs.FrontLaws.{longer_front}
 use Rattle.store_log.specs.declared.readings.First.{First}
 use Rattle.store_log.specs.declared.readings.First.TheVariants.{Ours, Foreign, Unbegun, Bad}
 use Rattle.store_log.specs.Firsts.{IsFirst}

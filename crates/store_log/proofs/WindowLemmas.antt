@@ -6,7 +6,7 @@ use Rattle.frame_code.specs.Codes.{number, payload, kind_of, frame_code}
 use Rattle.frame_code.specs.Fronts.{IsKind, IsUnfinished, IsFront}
 use Rattle.frame_code.specs.Spelled.{IsSpelled}
 use Rattle.frame_code.specs.declared.frames.Frame.{Frame}
-use Rattle.frame_code.proofs.FrontLemmas.{longer_front, frames_have_fronts}
+use Rattle.frame_code.proofs.FrontLaws.{longer_front, frames_have_fronts}
 use Rattle.store_log.specs.Held.{Held, May}
 use Rattle.store_log.specs.Steps.{IsMore, IsWrong}
 

@@ -1,6 +1,6 @@
 use Rattle.std.proofs.Common.{◌∙◌, sym, ap}
 use Rattle.report_text.specs.declared.reports.ReplyLine.{ReplyLine}
-use Rattle.transaction_answers.specs.Decisions.{added_by}
+use Rattle.commit_decisions.specs.Decisions.{added_by}
 use Rattle.script_play.proofs.effects.committing.Goals as goal
 
 pub returns-in-Committed : goal.returns-in-Committed

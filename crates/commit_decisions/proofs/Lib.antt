@@ -1,0 +1,2 @@
+pub mod ConflictLaws
+pub mod DecisionLemmas

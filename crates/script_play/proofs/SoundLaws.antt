@@ -1,0 +1,135 @@
+-- Soundness: what is sound stays so later, and is as the layers below want it.
+use Rattle.std.proofs.Common.{◌≡◌, ℕ, ◌<◌, ◌≤◌, ◌||◌, ◌++◌, ◌∷◌, [], List, nat_le, refl, sym, subst, arith, length, map, zero, suc, Bool, true, false}
+use Rattle.std.specs.Prelude.{slice_get, Some, None, if◌then◌else◌}
+use Rattle.std.specs.List.{AllByRecursion}
+use Rattle.cdb_values.specs.Good.{IsGood, first_broken, AllFit}
+use Rattle.cdb_values.specs.Rows.{no_rows}
+use Rattle.cdb_values.specs.declared.rows.RowOp.{RowOp}
+use Rattle.cdb_values.specs.declared.rows.RowOp.TheVariants.{Insert, Update, Delete}
+use Rattle.cdb_values.specs.declared.rows.RowRef.{RowRef}
+use Rattle.cdb_values.specs.declared.rows.RowRef.TheVariants.{Base, Own}
+use Rattle.cdb_values.specs.declared.rows.Version.{Version}
+use Rattle.cdb_values.specs.declared.tables.TableDef.{TableDef}
+use Rattle.cdb_values.specs.Views.{IsOnBase}
+use Rattle.cdb_values.specs.Changes.{taken_by}
+use Rattle.cdb_values.specs.Tables.{add_fault, are_bad_keys, has_twice, is_named, is_past_limits, is_unlawful}
+use Rattle.cdb_values.specs.declared.schemas.AddFault.TheVariants.{Taken, Unlawful, Limit}
+use Rattle.cdb_values.specs.declared.tables.ColumnDef.{ColumnDef}
+use Rattle.cdb_values.specs.declared.tables.KeyDef.{KeyDef}
+use Rattle.script_form.specs.CanRun.{AreTaken}
+use Rattle.report_laws.specs.Outcome.{name_of_table}
+use Rattle.cdb_values.specs.declared.items.GenidItem.{GenidItem}
+use Rattle.cdb_values.specs.Views.{IsBased}
+use Rattle.snapshot_rows.proofs.BasedLaws.{on_base_is_based, none_broken}
+use Rattle.commit_decisions.specs.Decisions.{HasName}
+use Rattle.sql_run.specs.Sound.{AreSound, HasDistinctColumns, IsSoundOp, IsSoundVersion, IsBelow}
+
+-- versions below a next genid are below a later one
+versions_later : (table : TableDef) (next next' : ℕ) (versions : List Version) → next ≤ next' → AllByRecursion (IsSoundVersion table next) versions → AllByRecursion (IsSoundVersion table next') versions
+versions_later table next next' [] later all = tt
+versions_later table next next' (v ∷ vs) later all =
+    let below : v.genid < next = all.0.1 in
+    let now : v.genid < next' = omega arith in
+    ((all.0.0, now), versions_later table next next' vs later all.1)
+
+pub sound_later : (tables : List TableDef) (next next' : ℕ) (versions : List (List Version)) → next ≤ next' → AreSound tables next versions → AreSound tables next' versions
+sound_later [] next next' [] later sound = tt
+sound_later [] next next' (vs ∷ others) later sound = absurd sound
+sound_later (table ∷ tables) next next' [] later sound = absurd sound
+sound_later (table ∷ tables) next next' (vs ∷ others) later sound = (versions_later table next next' vs later sound.0, sound_later tables next next' others later sound.1)
+
+below_later : (next next' : ℕ) (target : RowRef) → next ≤ next' → IsBelow next target → IsBelow next' target
+below_later next next' (Base genid) later below = omega arith
+below_later next next' (Own write) later below = absurd below
+
+pub op_later : (tables : List TableDef) (next next' : ℕ) (op : RowOp) → next ≤ next' → IsSoundOp tables next op → IsSoundOp tables next' op
+op_later tables next next' (Insert place row) later sound = sound
+op_later tables next next' (Update place target old row) later (table, at, fits, below) = (table, at, fits, below_later next next' target later below)
+op_later tables next next' (Delete place target old) later (table, at, below) = (table, at, below_later next next' target later below)
+
+pub ops_later : (tables : List TableDef) (next next' : ℕ) (ops : List RowOp) → next ≤ next' → AllByRecursion (IsSoundOp tables next) ops → AllByRecursion (IsSoundOp tables next') ops
+ops_later tables next next' [] later all = tt
+ops_later tables next next' (op ∷ ops) later all = (op_later tables next next' op later all.0, ops_later tables next next' ops later all.1)
+
+-- tables without rows are sound
+pub sound_none : (tables : List TableDef) (next : ℕ) → AreSound tables next (map (λ _. []) tables)
+sound_none [] next = tt
+sound_none (table ∷ tables) next = (tt, sound_none tables next)
+
+-- as many lists of versions as tables
+pub sound_length : (tables : List TableDef) (next : ℕ) (versions : List (List Version)) → AreSound tables next versions → length versions ≡ length tables
+sound_length [] next [] sound = refl
+sound_length [] next (vs ∷ others) sound = absurd sound
+sound_length (table ∷ tables) next [] sound = absurd sound
+sound_length (table ∷ tables) next (vs ∷ others) sound = let more : length others ≡ length tables = sound_length tables next others sound.1 in omega arith
+
+-- a table's place is within the tables
+pub place_within : (tables : List TableDef) (place : ℕ) (table : TableDef) → slice_get tables place ≡ Some table → place < length tables
+place_within [] place table at = absurd cc
+place_within (first ∷ tables) zero table at = omega arith
+place_within (first ∷ tables) (suc place) table at = let within : place < length tables = place_within tables place table at in omega arith
+
+-- sound operations are on a base
+pub sound_on_base : (tables : List TableDef) (next : ℕ) (ops : List RowOp) → AllByRecursion (IsSoundOp tables next) ops → AllByRecursion (IsOnBase (length tables) next) ops
+sound_on_base tables next [] all = tt
+sound_on_base tables next (Insert place row ∷ ops) ((table, at, fits), all) = (place_within tables place table at, sound_on_base tables next ops all)
+sound_on_base tables next (Update place (Base genid) old row ∷ ops) ((table, at, fits, below), all) = ((place_within tables place table at, below), sound_on_base tables next ops all)
+sound_on_base tables next (Update place (Own write) old row ∷ ops) ((table, at, fits, below), all) = absurd below
+sound_on_base tables next (Delete place (Base genid) old ∷ ops) ((table, at, below), all) = ((place_within tables place table at, below), sound_on_base tables next ops all)
+sound_on_base tables next (Delete place (Own write) old ∷ ops) ((table, at, below), all) = absurd below
+
+pub sound_based : (tables : List TableDef) (next : ℕ) (ops : List RowOp) → AllByRecursion (IsSoundOp tables next) ops → AllByRecursion (IsBased (length tables)) ops
+sound_based tables next ops all = on_base_is_based (length tables) next ops (sound_on_base tables next ops all)
+
+name_at : (tables : List TableDef) (place : ℕ) (table : TableDef) → slice_get tables place ≡ Some table → (name : List ℕ) × (name_of_table tables place ≡ Some name)
+name_at tables place table at = (table.name, rw at refl)
+
+pub all_named : (tables : List TableDef) (next : ℕ) (ops : List RowOp) → AllByRecursion (IsSoundOp tables next) ops → AllByRecursion (HasName tables) (taken_by ops)
+all_named tables next [] all = tt
+all_named tables next (Insert place row ∷ ops) all = all_named tables next ops all.1
+all_named tables next (Update place (Base genid) old row ∷ ops) ((table, at, fits, below), all) = (name_at tables place table at, all_named tables next ops all)
+all_named tables next (Update place (Own write) old row ∷ ops) all = all_named tables next ops all.1
+all_named tables next (Delete place (Base genid) old ∷ ops) ((table, at, below), all) = (name_at tables place table at, all_named tables next ops all)
+all_named tables next (Delete place (Own write) old ∷ ops) all = all_named tables next ops all.1
+
+-- sound operations are on a base with as many tables
+pub on_base : (tables : List TableDef) (count next : ℕ) (ops : List RowOp) → count ≡ length tables → AllByRecursion (IsSoundOp tables next) ops → AllByRecursion (IsOnBase count next) ops
+on_base tables count next ops many sound = subst (λ n. AllByRecursion (IsOnBase n next) ops) (sym many) (sound_on_base tables next ops sound)
+
+-- a table that may be added has distinct names of columns
+distinct_one : (before : List TableDef) (table : TableDef) → add_fault before table ≡ None → HasDistinctColumns table
+distinct_one before table none = first columns keys (first (columns || keys) (are_bad_keys table.columns table.keys) (unlawful (is_named table.name (map (λ (t : TableDef). t.name) before)) (is_unlawful table) none))
+  where
+    columns : Bool
+    columns = has_twice (map (λ (c : ColumnDef). c.name) table.columns)
+
+    keys : Bool
+    keys = has_twice (map (λ (k : KeyDef). k.name) table.keys)
+
+    full : Bool
+    full = nat_le 64 (length before) || is_past_limits table
+
+    unlawful : (taken wrong : Bool) → (if taken then Some Taken else if wrong then Some Unlawful else if full then Some Limit else None) ≡ None → wrong ≡ false
+    unlawful true wrong is = absurd cc
+    unlawful false true is = absurd cc
+    unlawful false false is = refl
+
+    first : (a b : Bool) → (a || b) ≡ false → a ≡ false
+    first true b is = absurd cc
+    first false b is = refl
+
+pub distinct : (before tables : List TableDef) → AreTaken before tables → AllByRecursion HasDistinctColumns tables
+distinct before [] taken = tt
+distinct before (table ∷ tables) taken = (distinct_one before table taken.0, distinct (before ++ table ∷ []) tables taken.1)
+
+-- tables without rows break no key
+pub fits_none : (tables : List TableDef) → first_broken tables (map (λ _. []) tables) ≡ None
+fits_none tables = none_broken tables
+
+all_fit_none : (tables : List TableDef) → AllFit tables (map (λ _. []) tables)
+all_fit_none [] = tt
+all_fit_none (table ∷ tables) = (tt, all_fit_none tables)
+
+-- tables without rows are good
+pub good_none : (tables : List TableDef) → IsGood tables (no_rows tables).tables
+good_none tables = record { rows_fit = all_fit_none tables; keys_kept = none_broken tables }

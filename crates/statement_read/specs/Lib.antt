@@ -1,3 +1,0 @@
-pub mod OnTables
-pub mod Statements
-pub mod Words

@@ -1,9 +1,0 @@
-pub mod AnswerLaws
-pub mod AppliedLaws
-pub mod ChosenLemmas
-pub mod ConflictLaws
-pub mod DecisionLemmas
-pub mod FitLaws
-pub mod LanguageLaws
-pub mod RowLaws
-pub mod SoundLaws

@@ -1,4 +1,0 @@
-pub mod Answer
-pub mod Decisions
-pub mod Sound
-pub mod Views
