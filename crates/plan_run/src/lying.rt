@@ -8,8 +8,7 @@ ghost use Rattle.sql_answer.specs.Truth.{is_yes as is_yes_of, compared};
 ghost use Rattle.sql_answer.specs.Writes.{keys_of};
 ghost use Rattle.sql_eval.specs.Views.{truth_in};
 
-use cdb_values::{KeyDef, TableDef, Value};
-use cdb_values::{Edge, Interval};
+use cdb_values::{Edge, Interval, KeyDef, TableDef, Value};
 use sql_bind::Cmp;
 use sql_eval::{Truth, compare};
 

@@ -8,8 +8,7 @@ ghost use Rattle.plan_run.specs.Sources.{IsExcused, lying_in};
 ghost use Rattle.plan_run.specs.declared.sources.RowFault.TheVariants.{NoMemory};
 
 use crate::lying::lies;
-use cdb_values::{List, TableDef, Version};
-use cdb_values::Interval;
+use cdb_values::{Interval, List, TableDef, Version};
 use std::alloc::{AllocError, AllocFailed, Global};
 use thiserror::Error;
 

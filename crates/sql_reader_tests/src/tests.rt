@@ -219,11 +219,7 @@ fn is_wanted_row(found: &Stmt) -> bool {
             Literal::Text(text),
             Literal::Blob(blob),
             Literal::Null,
-        ] => {
-            *least == i64::MIN
-                && text.is(b"it's")
-                && blob.is(&[0, 255])
-        }
+        ] => { *least == i64::MIN && text.is(b"it's") && blob.is(&[0, 255]) }
         _ => false,
     }
 }

@@ -8,7 +8,6 @@ ghost use Rattle.sql_answer.specs.Combinations.{of_table as of_table_of};
 
 use cdb_values::{Interval, List, Schema, TableDef, Version};
 use plan_run::{RowFault, RowSource, lies};
-
 use snapshot_rows::{Age, Snapshots};
 use std::alloc::{AllocError, Global};
 
