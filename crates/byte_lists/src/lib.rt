@@ -24,15 +24,15 @@ pub struct BytesOf<Kind> {
 
 /// That bytes are a name.
 #[derive(Clone, Copy, Debug)]
-pub enum NameKind {}
+pub struct NameKind;
 
 /// That bytes are a text.
 #[derive(Clone, Copy, Debug)]
-pub enum TextKind {}
+pub struct TextKind;
 
 /// That bytes are any bytes.
 #[derive(Clone, Copy, Debug)]
-pub enum AnyKind {}
+pub struct AnyKind;
 
 /// A name: of a session, a table, a column or a key.
 pub type Name = BytesOf<NameKind>;
