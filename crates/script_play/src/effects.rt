@@ -62,14 +62,14 @@ pub(crate) fn effect_of(
     match doing {
         InTransaction::No => outside(alloc, schema, run, number, level, kind, prepared),
         InTransaction::Open { begin, ops, uses } => {
-            let open = OpenTransaction {
+            let held = OpenTransaction {
                 number,
                 level,
                 begin,
                 ops,
                 uses,
             };
-            inside(alloc, schema, run, open, kind, prepared)
+            inside(alloc, schema, run, held, kind, prepared)
         }
         InTransaction::Aborted => Ok(skip(alloc, number, level, kind)),
     }
@@ -168,22 +168,22 @@ fn inside(
     alloc: Global,
     schema: &Schema,
     run: &RunSoFar,
-    open: OpenTransaction,
+    held: OpenTransaction,
     kind: TextKind,
     prepared: &Prepared,
 ) -> Result<LineEffect, AllocError>
     requires ready { IsReadyFor schema.now run.now }
-    requires sound { AllByRecursion (IsSoundOp schema.now run.now.rows.next) open.ops }
+    requires sound { AllByRecursion (IsSoundOp schema.now run.now.rows.next) held.ops }
     requires plan { (text_in prepared.now).plan ≡ plan_by schema.now (text_in prepared.now).meaning }
     ensures { IfOk result (λ p. IsEffect p
-        (turn_of (world schema.now run.now) open.number open.level (text_in prepared.now).meaning (kind_in kind) (InTransaction.Open open.begin open.ops open.uses))) }
+        (turn_of (world schema.now run.now) held.number held.level (text_in prepared.now).meaning (kind_in kind) (InTransaction.Open held.begin held.ops held.uses))) }
 {
     match kind {
-        TextKind::Commit => commit(alloc, schema, run, open),
-        TextKind::Rollback => rolled_back(alloc, open.number, open.level),
-        TextKind::Begin => go_on(alloc, schema, run, open, prepared),
-        TextKind::SetLevel(_) => go_on(alloc, schema, run, open, prepared),
-        TextKind::Other => go_on(alloc, schema, run, open, prepared),
+        TextKind::Commit => commit(alloc, schema, run, held),
+        TextKind::Rollback => rolled_back(alloc, held.number, held.level),
+        TextKind::Begin => go_on(alloc, schema, run, held, prepared),
+        TextKind::SetLevel(_) => go_on(alloc, schema, run, held, prepared),
+        TextKind::Other => go_on(alloc, schema, run, held, prepared),
     }
 }
 
@@ -309,12 +309,12 @@ fn go_on(
     alloc: Global,
     schema: &Schema,
     run: &RunSoFar,
-    open: OpenTransaction,
+    held: OpenTransaction,
     prepared: &Prepared,
 ) -> Result<LineEffect, AllocError>
     requires plan { (text_in prepared.now).plan ≡ plan_by schema.now (text_in prepared.now).meaning }
     ensures { IfOk result (λ p. IsEffect p
-        (goes_on open.number open.level open.begin open.uses (answer_of (world schema.now run.now) open.begin open.ops (text_in prepared.now).meaning))) }
+        (goes_on held.number held.level held.begin held.uses (answer_of (world schema.now run.now) held.begin held.ops (text_in prepared.now).meaning))) }
 {
     let OpenTransaction {
         number,
@@ -322,7 +322,7 @@ fn go_on(
         begin,
         ops,
         uses,
-    } = open;
+    } = held;
     let found = answer_prepared(alloc, schema, &run.rows, begin, ops, prepared)?;
     let doing = InTransaction::Open {
         begin,
@@ -399,12 +399,12 @@ fn commit(
     alloc: Global,
     schema: &Schema,
     run: &RunSoFar,
-    open: OpenTransaction,
+    held: OpenTransaction,
 ) -> Result<LineEffect, AllocError>
     requires ready { IsReadyFor schema.now run.now }
-    requires sound { AllByRecursion (IsSoundOp schema.now run.now.rows.next) open.ops }
+    requires sound { AllByRecursion (IsSoundOp schema.now run.now.rows.next) held.ops }
     ensures { IfOk result (λ p. IsEffect p
-        (committed (world schema.now run.now) open.number open.level open.begin open.uses open.ops)) }
+        (committed (world schema.now run.now) held.number held.level held.begin held.uses held.ops)) }
 {
     let OpenTransaction {
         number,
@@ -412,7 +412,7 @@ fn commit(
         begin,
         ops,
         uses,
-    } = open;
+    } = held;
     let outcome = decided(alloc, schema, run, begin, uses.as_slice(), ops.as_slice())?;
     let added = committing(&outcome, ops);
     let mut replies = Vec::new(alloc);
