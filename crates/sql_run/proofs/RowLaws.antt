@@ -8,6 +8,7 @@ use Rattle.std.proofs.lemmas.Bool.{cond_both}
 use Rattle.std.proofs.lemmas.List.{length-map}
 use Rattle.std.proofs.lemmas.Option.{same_Some}
 use Rattle.cdb_values.specs.declared.items.GenidItem.{GenidItem}
+use Rattle.cdb_values.specs.declared.limits.TheConstants.{MOST_NET_OPERATIONS}
 use Rattle.cdb_values.specs.declared.rows.RowOp.{RowOp}
 use Rattle.cdb_values.specs.declared.rows.RowOp.TheVariants as op
 use Rattle.cdb_values.specs.declared.rows.StatementError.{StatementError}
@@ -22,7 +23,7 @@ use Rattle.report_laws.proofs.SpelledLaws.{all_got, all_exchanged, all_filtered}
 use Rattle.report_laws.specs.Spelled.{IsToldValue, IsToldRow, SpellsReply, WritesRow, HaveRows}
 use Rattle.report_text.specs.declared.reports.ReplyLine.{ReplyLine}
 use Rattle.report_text.specs.declared.reports.ReplyLine.TheVariants as reply
-use Rattle.sql_answer.specs.Answers.{Meaning, Outcome, Fails, Gives, told_only, most_net_ops, net_given, given_unless, rows_met, updating, deleting, items_used, rows_given, finished, finish, found, tables_read}
+use Rattle.sql_answer.specs.Answers.{Meaning, Outcome, Fails, Gives, told_only, net_given, given_unless, rows_met, updating, deleting, items_used, rows_given, finished, finish, found, tables_read}
 use Rattle.sql_answer.specs.Combinations.{Seen, seen_version, own_or, own_from, is_left, of_table, seen, rows_of}
 use Rattle.sql_answer.specs.Conditions.{operand_value}
 use Rattle.sql_answer.specs.Language.{answered, bound_in, meaning, meant_by, meant_as}
@@ -175,7 +176,7 @@ LeavesRows ops outcome = AllByRecursion WritesRow (answered ops outcome).ops
 
 net_leaves : (ops writes : List RowOp) → AllByRecursion WritesRow ops → AllByRecursion WritesRow writes → LeavesRows ops (net_given ops writes)
 net_leaves ops writes all are =
-    cond_both (ltb most_net_ops (length (net_of (ops ++ writes)))) (Fails error.TooLong) (Gives (told_only (reply.Changed (length writes))) (net_of (ops ++ writes)))
+    cond_both (ltb MOST_NET_OPERATIONS (length (net_of (ops ++ writes)))) (Fails error.TooLong) (Gives (told_only (reply.Changed (length writes))) (net_of (ops ++ writes)))
     (LeavesRows ops) (λ past. all) (λ fits. net_writes_rows (ops ++ writes) (all_append WritesRow ops writes all are))
 
 unless_leaves : (cause : Option StatementError) (ops writes : List RowOp) → AllByRecursion WritesRow ops → AllByRecursion WritesRow writes → LeavesRows ops (given_unless cause ops writes)
@@ -217,7 +218,7 @@ TellsRows ops outcome = AllByRecursion SpellsReply (answered ops outcome).replie
 
 net_tells : (ops writes : List RowOp) → TellsRows ops (net_given ops writes)
 net_tells ops writes =
-    cond_both (ltb most_net_ops (length (net_of (ops ++ writes)))) (Fails error.TooLong) (Gives (told_only (reply.Changed (length writes))) (net_of (ops ++ writes)))
+    cond_both (ltb MOST_NET_OPERATIONS (length (net_of (ops ++ writes)))) (Fails error.TooLong) (Gives (told_only (reply.Changed (length writes))) (net_of (ops ++ writes)))
     (TellsRows ops) (λ past. (tt, tt)) (λ fits. (tt, tt))
 
 unless_tells : (cause : Option StatementError) (ops writes : List RowOp) → TellsRows ops (given_unless cause ops writes)

@@ -10,6 +10,7 @@ use Rattle.cdb_values.specs.Good.{FitsColumn, FitsColumns, FitsTable, bytes_of_r
 use Rattle.cdb_values.specs.Named.{Place, table_named}
 use Rattle.cdb_values.specs.Tables.{has_twice}
 use Rattle.cdb_values.specs.declared.items.GenidItem.{GenidItem}
+use Rattle.cdb_values.specs.declared.limits.TheConstants.{MOST_NET_OPERATIONS, MOST_ROW_BYTES, MOST_KEY_BYTES}
 use Rattle.cdb_values.specs.declared.rows.RowOp.{RowOp}
 use Rattle.cdb_values.specs.declared.rows.RowOp.TheVariants.{Insert, Update, Delete}
 use Rattle.cdb_values.specs.declared.rows.StatementError.{StatementError}
@@ -25,13 +26,13 @@ use Rattle.net_writes.specs.Net.{held_of, net_of}
 use Rattle.report_laws.proofs.EachLaws.{all_append, all_found as found_in_all}
 use Rattle.report_laws.proofs.SpelledLaws.{all_filtered}
 use Rattle.report_text.specs.declared.reports.ReplyLine.TheVariants as reply
-use Rattle.sql_answer.specs.Answers.{Meaning, Outcome, Fails, Gives, told_only, most_net_ops, net_given, given_unless, rows_met, updating, deleting, items_used, rows_given, finished, finish, found, tables_read}
+use Rattle.sql_answer.specs.Answers.{Meaning, Outcome, Fails, Gives, told_only, net_given, given_unless, rows_met, updating, deleting, items_used, rows_given, finished, finish, found, tables_read}
 use Rattle.sql_answer.specs.Combinations.{Seen, seen_version, own_or, own_from, is_left, of_table, seen, rows_of}
 use Rattle.sql_answer.specs.Language.{answered, bound_in, meaning, meant_by, meant_as}
 use Rattle.sql_answer.specs.Reading.{reading}
 use Rattle.sql_answer.specs.Shapes.{shape}
 use Rattle.sql_answer.specs.Truth.{is_null}
-use Rattle.sql_answer.specs.Writes.{set_row, has_null, is_too_long, row_error, or_later, rows_error, most_row_bytes, most_key_bytes}
+use Rattle.sql_answer.specs.Writes.{set_row, has_null, is_too_long, row_error, or_later, rows_error}
 use Rattle.sql_bind.specs.Binding.{binding}
 use Rattle.sql_bind.specs.Bound.{BoundStatement, BeginIt, CommitIt, RollbackIt, SetIt, InsertInto, UpdateOf, DeleteFrom, SelectOf}
 use Rattle.sql_bind.specs.Faults.{Kind, own_column, own_columns, setting_columns, setting_differs, tuple_kinds, tuple_differs, width, filter_columns, filter_differs, has_unknown_table, has_unknown_column, has_wrong_type, has_wrong_count}
@@ -78,11 +79,11 @@ columns_fit (c ∷ cs) (v ∷ vs) fits filled =
     let parts = or_parts (not c.nullable && is_null v) (has_null cs vs) filled in
     (column_fits c v fits.0 parts.0, columns_fit cs vs fits.1 parts.1)
 
-keys_fit : (keys : List KeyDef) (row : List Value) → list_any (λ key. ltb most_key_bytes (bytes_of_key (key_of key row))) keys ≡ false → AllByRecursion (λ key. bytes_of_key (key_of key row) ≤ 512) keys
+keys_fit : (keys : List KeyDef) (row : List Value) → list_any (λ key. ltb MOST_KEY_BYTES (bytes_of_key (key_of key row))) keys ≡ false → AllByRecursion (λ key. bytes_of_key (key_of key row) ≤ MOST_KEY_BYTES) keys
 keys_fit [] row short = tt
 keys_fit (key ∷ keys) row short =
-    let parts = or_parts (ltb most_key_bytes (bytes_of_key (key_of key row))) (list_any (λ (k : KeyDef). ltb most_key_bytes (bytes_of_key (key_of k row))) keys) short in
-    (ltb-false most_key_bytes (bytes_of_key (key_of key row)) parts.0, keys_fit keys row parts.1)
+    let parts = or_parts (ltb MOST_KEY_BYTES (bytes_of_key (key_of key row))) (list_any (λ (k : KeyDef). ltb MOST_KEY_BYTES (bytes_of_key (key_of k row))) keys) short in
+    (ltb-false MOST_KEY_BYTES (bytes_of_key (key_of key row)) parts.0, keys_fit keys row parts.1)
 
 none_when : (b : Bool) (e : StatementError) (rest : Option StatementError) → cond b (Some e) rest ≡ None → (b ≡ false) × (rest ≡ None)
 none_when true e rest is = absurd cc
@@ -94,10 +95,10 @@ row_fits table row kinds free =
     let long : Bool = is_too_long table.keys row in
     let a = none_when (has_null table.columns row) error.NotNull (cond long (Some error.TooLong) None) free in
     let c = none_when long error.TooLong None a.1 in
-    let parts = or_parts (ltb most_row_bytes (bytes_of_row row)) (list_any (λ (key : KeyDef). ltb most_key_bytes (bytes_of_key (key_of key row))) table.keys) c.0 in
+    let parts = or_parts (ltb MOST_ROW_BYTES (bytes_of_row row)) (list_any (λ (key : KeyDef). ltb MOST_KEY_BYTES (bytes_of_key (key_of key row))) table.keys) c.0 in
     record {
       columns = columns_fit table.columns row kinds a.0;
-      size = ltb-false most_row_bytes (bytes_of_row row) parts.0;
+      size = ltb-false MOST_ROW_BYTES (bytes_of_row row) parts.0;
       keys = keys_fit table.keys row parts.1;
     }
 
@@ -219,7 +220,7 @@ LeavesSound tables next ops outcome = AllByRecursion (IsSoundOp tables next) (an
 net_leaves : (tables : List TableDef) (next : ℕ) (ops writes : List RowOp) → AllByRecursion (IsSoundOp tables next) ops → AllByRecursion (IsSoundWrite tables next (map (λ op. Some op) ops)) writes
     → LeavesSound tables next ops (net_given ops writes)
 net_leaves tables next ops writes all are =
-    cond_both (ltb most_net_ops (length (net_of (ops ++ writes)))) (Fails error.TooLong) (Gives (told_only (reply.Changed (length writes))) (net_of (ops ++ writes)))
+    cond_both (ltb MOST_NET_OPERATIONS (length (net_of (ops ++ writes)))) (Fails error.TooLong) (Gives (told_only (reply.Changed (length writes))) (net_of (ops ++ writes)))
     (LeavesSound tables next ops) (λ past. all) (λ fits. net_is_sound tables next ops writes all are)
 
 unless_leaves : (tables : List TableDef) (next : ℕ) (cause : Option StatementError) (ops writes : List RowOp) → AllByRecursion (IsSoundOp tables next) ops
