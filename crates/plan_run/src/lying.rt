@@ -25,7 +25,7 @@ fn lies_at(table: Option<&TableDef>, interval: &Interval, row: &[Value]) -> bool
 {
     match interval.key {
         None => true,
-        Some(key) => lies_by(key_at(table, key), interval, row),
+        Some(key) => lies_by(key_at(table, key as usize), interval, row),
     }
 }
 
