@@ -122,7 +122,7 @@ fn names(alloc: Global, names: &[Name]) -> Result<List<Name>, AllocError>
     let mut copies = List::new(alloc);
     let mut rest = names;
     'names: while let Some((name, after)) = rest.split_first() {
-        copies.push(name.clone()?)?;
+        copies.push(Name::copied(alloc, name.as_bytes())?)?;
         rest = after;
     }
     Ok(copies)

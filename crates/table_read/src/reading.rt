@@ -10,7 +10,7 @@ ghost use Rattle.table_read.specs.Answers.{Answers, Reads};
 use crate::columns::columns;
 use crate::keys::written_keys;
 use crate::places::keys;
-use cdb_values::{AddFault, Schema, TableDef};
+use cdb_values::{AddFault, Name, Schema, TableDef};
 use sql_grammar::CreateTable;
 use sql_reader::{ReadStop, read_create};
 use std::alloc::{AllocError, Global};
@@ -67,7 +67,7 @@ fn table(alloc: Global, definition: &CreateTable) -> Result<TableDef, AllocError
     let columns = columns(alloc, written.as_slice(), parts)?;
     let keys = keys(alloc, columns.as_slice(), written.as_slice())?;
     Ok(TableDef {
-        name: definition.name.clone()?,
+        name: Name::copied(alloc, definition.name.as_bytes())?,
         columns,
         keys,
     })
