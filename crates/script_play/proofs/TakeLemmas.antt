@@ -41,6 +41,17 @@ own_sound tables now begin ages meant ops done ready of_text at none are =
     (sound_answer tables (seen now ages.tables) done of_text.0 ages.next ready.apart (ready.sound now ready.opened (omega arith))
     (subst (λ (o : List RowOp). AllByRecursion (IsSoundOp tables ages.next) o) (sym none) tt))))
 
+-- what a transaction of one line is told, and what it commits, where it was answered step by step
+pub own_told : (w : World) (meant : Meaning) (begin : ℕ) (done ops : List RowOp) (uses : List GenidItem) (given all : List ReplyLine) (told : ReplyLine) → begin ≡ w.now → done ≡ [] →
+    given ≡ (answer_of w begin done meant).replies → ops ≡ (answer_of w begin done meant).ops → uses ≡ (answer_of w begin done meant).uses → told ≡ outcome w begin uses ops → all ≡ reply.Begin begin ∷ (given ++ told ∷ []) →
+    all ≡ reply.Begin w.now ∷ ((answer_of w w.now [] meant).replies ++ outcome w w.now (answer_of w w.now [] meant).uses (answer_of w w.now [] meant).ops ∷ [])
+own_told w meant begin done ops uses given all told at none gives leaves takes decides is = rw (gives, decides, takes, leaves, none, at) at is
+
+pub own_added : (w : World) (meant : Meaning) (begin : ℕ) (done ops : List RowOp) (uses : List GenidItem) (told : ReplyLine) (added : List (List RowOp)) → begin ≡ w.now → done ≡ [] →
+    ops ≡ (answer_of w begin done meant).ops → uses ≡ (answer_of w begin done meant).uses → told ≡ outcome w begin uses ops → added ≡ added_by told ops →
+    added ≡ added_by (outcome w w.now (answer_of w w.now [] meant).uses (answer_of w w.now [] meant).ops) (answer_of w w.now [] meant).ops
+own_added w meant begin done ops uses told added at none leaves takes decides is = rw (decides, takes, leaves, none, at) at is
+
 -- operations that are committed are based where all are
 added_based : (n : ℕ) (o : ReplyLine) (ops : List RowOp) → AllByRecursion (IsBased n) ops → AllByRecursion (AllByRecursion (IsBased n)) (added_by o ops)
 added_based n (reply.Begin position) ops all = tt

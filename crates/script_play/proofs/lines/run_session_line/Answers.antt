@@ -5,8 +5,8 @@ use Rattle.sql_run.specs.Views.{kind_in, text_in}
 use Rattle.script_play.proofs.TakeLemmas.{cut_taken, done_taken}
 use Rattle.script_play.proofs.lines.run_session_line.Goals as goal
 
-pub returns-in-Err : goal.returns-in-Err
-returns-in-Err c =
+pub returns : goal.returns
+returns c =
     cut_taken (world_of c.args.schema.now c.args.run.now.rows c.args.run.now.taken.items (length c.args.run.now.entries.items)) c.args.name.now c.args.state c.args.text.now (kind_in c.kind-kind.result) c.cut_state-cut.result c.cut_short.result
     c.args.run.now.lines.items c.cut_short.new.run.lines.items c.args.run.now.entries.items c.cut_short.new.run.entries.items c.cut_short.new.run.taken.items c.cut_short.new.run.rows
     (c.kind-kind.ensures ∙ c.in_ok-prepared.ensures.kind) c.cut_state-cut.ensures c.cut_short.ensures.state
