@@ -4,7 +4,7 @@ use crate::shown::{error_text, shown};
 use cdb_values::{List, RowOp, Schema, StatementError, Version};
 use sql_answer_plain::{Outcome, answer};
 use sql_bind::{BindFault, Bound, bind};
-use sql_reader::read;
+use sql_reader::{Stmt, read};
 use std::alloc::{AllocError, Global};
 use std::test::Fail;
 use table_read::read_table;
@@ -79,11 +79,16 @@ pub(crate) fn told(alloc: Global, session: &mut Session, text: &str) -> Result<S
         return Err(Fail::from(AllocError));
     }
     let statement = read(alloc, text)?;
-    let meaning = match bind(alloc, &statement, &session.schema) {
+    Ok(answered(alloc, session, &statement)?)
+}
+
+/// What a statement of the transaction is answered, by its meaning in the schema.
+fn answered(alloc: Global, session: &mut Session, statement: &Stmt) -> Result<String, AllocError> {
+    let meaning = match bind(alloc, statement, &session.schema) {
         Ok(bound) => Ok(bound),
         Err(fault) => Err(cause(fault)?),
     };
-    Ok(after(alloc, session, &meaning)?)
+    after(alloc, session, &meaning)
 }
 
 /// The error of a statement that means nothing in the schema.
