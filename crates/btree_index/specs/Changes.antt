@@ -7,7 +7,7 @@ use Rattle.page_workspace.specs.Spare.{IsIn, AreFree, next_genid, count_of}
 use Rattle.btree_index.specs.Keys.{Key}
 use Rattle.btree_index.specs.Trees.{Holds, top, pages_of, leaves, pair_of}
 use Rattle.btree_index.specs.Ways.{IsAt}
-use Rattle.btree_index.specs.Pairs.{value_at, with_pair}
+use Rattle.btree_index.specs.Pairs.{HasKeyAt, choice, value_at, with_pair}
 use Rattle.btree_index.specs.Fits.{HasSpare, IsFullUntil}
 use Rattle.btree_index.specs.declared.paths.Way.{Way}
 use Rattle.btree_index.specs.declared.inserts.InsertFault.{InsertFault}
@@ -62,6 +62,24 @@ IsPutAbsent old new root own free key value list false = is_some (value_at key l
 abbrev pub IsPassed : (ℕ → Image) → (ℕ → Image) → ℕ → List ℕ → List ℕ → Key → List ℕ → List (Key × List ℕ) → Pass → Type 0
 IsPassed old new root own free key value list Done = Becomes old new root own free (with_pair key value list)
 IsPassed old new root own free key value list Again = Becomes old new root own free list
+
+-- over any pages, the page so many steps below a root, where each step goes to the child below which the key may stand
+abbrev pub way_down : (ℕ → Image) → ℕ → Key → ℕ → ℕ
+way_down pages root key zero = root
+way_down pages root key (suc steps) = choice key (pages (way_down pages root key steps)).cells
+
+-- over any pages, a page is some steps below a root on the way to a key
+pub record IsBelow (pages : ℕ → Image) (root : ℕ) (key : Key) (page : ℕ) : Type 0 where
+  pub steps : ℕ
+  pub is : way_down pages root key steps ≡ page
+
+-- over any pages, the way from a root to a key ends at a leaf that has the key
+pub record IsHeld (pages : ℕ → Image) (root : ℕ) (key : Key) : Type 0 where
+  pub leaf : ℕ
+  pub below : IsBelow pages root key leaf
+  pub kind : (pages leaf).head.kind ≡ Leaf
+  pub at : ℕ
+  pub has : HasKeyAt key (pages leaf).cells at
 
 -- an answer of an insert against the counts of losses before and after, which never fall: `Gone` comes only where they rose
 abbrev pub IsExcusedInsert : {T : Type 0} → Result T InsertFault → ℕ → ℕ → Type 0

@@ -1,4 +1,4 @@
-ghost use Rattle.std.specs.Prelude.{ℕ, ◌≡◌, ◌↔◌, ◌+◌, ◌≤◌, false, List, None, IfOk, IsErrOf, IsTrue, OnOk, is_some, length};
+ghost use Rattle.std.specs.Prelude.{ℕ, ◌≡◌, ◌↔◌, ◌+◌, ◌≤◌, false, true, List, None, IfOk, IsErrOf, IsTrue, OnOk, is_some, length};
 ghost use Rattle.page_workspace.specs.Drafts.{meant, IsExcused, IsNotUnfit};
 ghost use Rattle.std.specs.List.{insert};
 ghost use Rattle.page_store.specs.Image.{HasRoom, room, taken};
@@ -8,7 +8,7 @@ ghost use Rattle.btree_index.specs.Steps.{Alters};
 ghost use Rattle.btree_index.specs.Pairs.{place_in, value_at, with_pair};
 ghost use Rattle.btree_index.specs.Fits.{IsFullUnder};
 ghost use Rattle.btree_index.specs.Trees.{TreeList};
-ghost use Rattle.btree_index.specs.Changes.{Stands, Becomes, LeadsOver, IsInserted, IsPutAbsent, IsPassed, IsExcusedInsert};
+ghost use Rattle.btree_index.specs.Changes.{Stands, Becomes, LeadsOver, IsHeld, IsInserted, IsPutAbsent, IsPassed, IsExcusedInsert};
 
 use crate::cells::{key_in, make_leaf_cell};
 use crate::keys::is_before;
@@ -47,7 +47,8 @@ pub(crate) enum Pass {
 const PAIR_SIZE: usize = 6;
 
 /// Puts a pair into the tree below a root. `Duplicate` comes exactly where the key is there, and leaves the workspace's
-/// edits as before; `Gone` comes only where the source lost its pages; the other error is want of memory, where a tree
+/// edits as before; over pages where no tree stands it comes only where the way from the root to the key ends at a leaf
+/// that has it. `Gone` comes only where the source lost its pages; the other error is want of memory, where a tree
 /// stands at the root. After `Gone` or want of memory the workspace may only be dropped.
 pub fn insert<P: PageSource>(
     alloc: Global,
@@ -61,6 +62,7 @@ pub fn insert<P: PageSource>(
     ensures inserted { (own free : List ℕ) (list : List (Key × List ℕ)) → Stands (meant P.pages space.old) root own free list →
         IsInserted (meant P.pages space.old) (meant P.pages space.new) root own free key.now value.now list result }
     ensures duplicate { IsErrOf result InsertFault.Duplicate → space.new.edits ≡ space.old.edits }
+    ensures held { IsErrOf result InsertFault.Duplicate → IsHeld (meant P.pages space.old) root key.now }
     ensures base { P.pages space.new.base ≡ P.pages space.old.base }
     ensures excused { IsExcusedInsert result (P.losses space.old.base) (P.losses space.new.base) }
 {
@@ -97,6 +99,7 @@ fn put_absent<P: PageSource>(
     ensures fit { (own free : List ℕ) (list : List (Key × List ℕ)) →
         Stands (meant P.pages space.old) root own free list → IsNotUnfit result }
     ensures there { IfOk result (λ put. put ≡ false → space.new.edits ≡ space.old.edits) }
+    ensures held { IfOk result (λ put. put ≡ false → IsHeld (meant P.pages space.old) root key.now) }
     ensures base { P.pages space.new.base ≡ P.pages space.old.base }
     ensures excused { IsExcused result (P.losses space.old.base) (P.losses space.new.base) }
 {
@@ -117,6 +120,7 @@ fn is_there<P: PageSource>(
 ) -> Result<bool, EditFault>
     ensures there { (own free : List ℕ) (list : List (Key × List ℕ)) → Stands (meant P.pages space.old) root own free list →
         IfOk result (λ there. there ≡ is_some (value_at key.now list)) }
+    ensures held { IfOk result (λ there. there ≡ true → IsHeld (meant P.pages space.old) root key.now) }
     ensures fit { (list : List (Key × List ℕ)) → TreeList (meant P.pages space.old) root list → IsNotUnfit result }
     ensures edits { space.new.edits ≡ space.old.edits }
     ensures pages { meant P.pages space.new ≡ meant P.pages space.old }

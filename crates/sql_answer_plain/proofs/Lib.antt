@@ -1,4 +1,5 @@
 pub mod CombinationLaws
+pub mod LaidLemmas
 pub mod SeenLemmas
 pub mod SizeLemmas
 pub mod StepLemmas

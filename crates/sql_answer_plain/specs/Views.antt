@@ -1,6 +1,7 @@
 -- What values of the code say.
 use Rattle.std.specs.Prelude.{filter, ℕ, List, [], ◌∷◌, map, Option, Some, None, Result, Ok, Err}
 use Rattle.cdb_values.specs.declared.values.Value.{Value}
+use Rattle.cdb_values.specs.declared.rows.RowOp.{RowOp}
 use Rattle.cdb_values.specs.declared.rows.RowRef.{RowRef}
 use Rattle.cdb_values.specs.declared.rows.StatementError.{StatementError}
 use Rattle.sql_bind.specs.declared.types.Bound.{Bound}
@@ -11,7 +12,7 @@ use Rattle.sql_answer.specs.Answers.{Meaning}
 use Rattle.sql_answer.specs.Combinations as laws_of_rows
 use Rattle.sql_answer.specs.Conditions.{meets}
 use Rattle.sql_answer_plain.specs.declared.outcomes.Outcome.{Outcome}
-use Rattle.sql_answer_plain.specs.declared.outcomes.Outcome.TheVariants.{Fails, Gives}
+use Rattle.sql_answer_plain.specs.declared.outcomes.Outcome.TheVariants.{Fails, Tells, Writes}
 use Rattle.sql_answer_plain.specs.declared.seen.Seen.{Seen}
 
 -- a row that a transaction sees
@@ -37,9 +38,11 @@ combinations_in combinations = map all_seen_in combinations
 abbrev pub all_kept : Option Condition → List (List laws_of_rows.Seen) → List (List laws_of_rows.Seen)
 all_kept condition combinations = filter (λ c. meets (filter_in condition) (laws_of_rows.rows_of c)) combinations
 
-abbrev pub outcome_in : Outcome → laws.Outcome
-outcome_in (Fails cause) = laws.Fails cause
-outcome_in (Gives replies uses ops) = laws.Gives (record { replies = replies; uses = uses }) ops
+-- what an outcome comes to behind these operations
+abbrev pub outcome_in : List RowOp → Outcome → laws.Outcome
+outcome_in ops (Fails cause) = laws.Fails cause
+outcome_in ops (Tells replies uses) = laws.Gives (record { replies = replies; uses = uses }) ops
+outcome_in ops (Writes writes) = laws.net_given ops writes
 
 -- what a statement means in the schema, or the error that it has there
 abbrev pub meaning_in : Result Bound StatementError → Meaning

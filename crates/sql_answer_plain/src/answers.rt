@@ -1,4 +1,5 @@
-ghost use Rattle.std.specs.Prelude.{◌≡◌, IfOk, Err};
+ghost use Rattle.std.specs.Prelude.{◌≡◌, List as Many, IfOk, Err};
+ghost use Rattle.cdb_values.specs.declared.rows.RowOp.{RowOp as OneOp};
 ghost use Rattle.sql_answer.specs.Answers.{answer as answer_of, finished, refused as refused_of, tables_of, filter_of};
 ghost use Rattle.sql_answer.specs.Combinations.{seen as seen_of, met};
 ghost use Rattle.sql_bind.specs.Views.{bound_in};
@@ -8,13 +9,13 @@ use crate::combinations::{found, rows_met};
 use crate::outcomes::Outcome;
 use crate::queries::selected;
 use crate::seen::Seen;
-use crate::writes::{add_ops, deleted, inserted, one, updated};
+use crate::writes::{deleted, inserted, one, updated};
 use cdb_values::{List, RowOp, StatementError, TableDef, Version};
 use report_text::ReplyLine;
 use sql_bind::Bound;
 use std::alloc::{AllocError, Global};
 
-/// The answer of a statement.
+/// The answer of a statement, as it comes to behind the operations so far (`answered_by`).
 ///
 /// `meaning` is what it means in the schema of these tables, or its error there; `versions` are those of each table at
 /// the transaction's begin position, by rising genid; `ops` are the transaction's net operations so far. Nothing is
@@ -29,19 +30,19 @@ pub fn answer(
     ops: &[RowOp],
     meaning: &Result<Bound, StatementError>,
 ) -> Result<Outcome, AllocError>
-    ensures { IfOk result (λ outcome. outcome_in outcome
+    ensures { IfOk result (λ outcome. outcome_in ops.now outcome
         ≡ answer_of tables.now versions.now ops.now (meaning_in meaning.now)) }
 {
     match meaning {
         Ok(statement) => {
             let all = all_found(alloc, versions, ops, statement)?;
-            finish(alloc, tables, statement, ops, all.as_slice())
+            finish(alloc, tables, statement, all.as_slice())
         }
-        Err(cause) => refused(alloc, *cause, ops),
+        Err(cause) => refused(alloc, *cause),
     }
 }
 
-/// What a statement makes of the operations so far and of the combinations that it finds, however they were found.
+/// What a statement makes of the combinations that it finds, however they were found, behind any operations.
 ///
 /// `combinations` are those of the rows of its tables for which its WHERE is true. A statement without tables makes
 /// nothing of them.
@@ -51,33 +52,25 @@ pub fn finish(
     alloc: Global,
     tables: &[TableDef],
     statement: &Bound,
-    ops: &[RowOp],
     combinations: &[List<Seen>],
 ) -> Result<Outcome, AllocError>
-    ensures { IfOk result (λ outcome. outcome_in outcome
-        ≡ finished tables.now (bound_in statement.now) ops.now (combinations_in combinations.now)) }
+    ensures { IfOk result (λ outcome. (ops : Many OneOp) → outcome_in ops outcome
+        ≡ finished tables.now (bound_in statement.now) ops (combinations_in combinations.now)) }
 {
     match statement {
         Bound::Begin | Bound::Commit | Bound::Rollback | Bound::SetLevel(_) => {
-            refused(alloc, StatementError::State, ops)
+            refused(alloc, StatementError::State)
         }
-        Bound::Insert { table, rows } => inserted(alloc, tables, *table, rows.as_slice(), ops),
+        Bound::Insert { table, rows } => inserted(alloc, tables, *table, rows.as_slice()),
         Bound::Update { table, assigns, .. } => {
             let rows = rows_met(alloc, combinations)?;
-            updated(
-                alloc,
-                tables,
-                *table,
-                assigns.as_slice(),
-                ops,
-                rows.as_slice(),
-            )
+            updated(alloc, tables, *table, assigns.as_slice(), rows.as_slice())
         }
         Bound::Delete { table, .. } => {
             let rows = rows_met(alloc, combinations)?;
-            deleted(alloc, *table, ops, rows.as_slice())
+            deleted(alloc, *table, rows.as_slice())
         }
-        Bound::Select(query) => selected(alloc, query, ops, combinations),
+        Bound::Select(query) => selected(alloc, query, combinations),
     }
 }
 
@@ -103,16 +96,13 @@ fn all_found(
     }
 }
 
-/// An answer by an error that no row is looked at for.
-fn refused(alloc: Global, cause: StatementError, ops: &[RowOp]) -> Result<Outcome, AllocError>
-    ensures { IfOk result (λ outcome. outcome_in outcome ≡ refused_of cause ops.now) }
+/// What an error comes to that no row is looked at for.
+fn refused(alloc: Global, cause: StatementError) -> Result<Outcome, AllocError>
+    ensures { IfOk result (λ outcome. (ops : Many OneOp) → outcome_in ops outcome ≡ refused_of cause ops) }
 {
     let replies = one(alloc, ReplyLine::Error(cause))?;
-    let mut kept = List::new(alloc);
-    add_ops(&mut kept, ops)?;
-    Ok(Outcome::Gives {
+    Ok(Outcome::Tells {
         replies,
         uses: List::new(alloc),
-        ops: kept,
     })
 }

@@ -10,12 +10,14 @@
 //! | the rows of a table that the transaction sees | `seen` | `Combinations` |
 //! | the combinations for which WHERE is true | `combinations` | `Combinations` |
 //! | the rows that INSERT and UPDATE write, and their errors | `writes` | `Writes` |
-//! | the answer | `answers` | `Answers` |
+//! | the outcome | `answers` | `Answers` |
+//! | the answer behind the operations so far | `laying` | `Language` |
 #![tactic(auto)]
 
 mod answers;
 mod combinations;
 mod copies;
+mod laying;
 mod outcomes;
 mod queries;
 mod seen;
@@ -25,5 +27,6 @@ mod writes;
 
 pub use answers::{answer, finish};
 pub use combinations::{add_extended, copied_combination, kept, versions_of};
+pub use laying::{Answer, answered_by, refused};
 pub use outcomes::Outcome;
-pub use seen::{Seen, add_left, add_own, copied};
+pub use seen::{Seen, add_left};

@@ -1,16 +1,17 @@
 use cdb_values::{GenidItem, List, RowOp, StatementError};
 use report_text::ReplyLine;
 
-/// What a statement is answered.
+/// What a statement comes to, whatever the operations before it: what is to be made of these is said, and not done.
 #[derive(Drop)]
 pub enum Outcome {
     /// It fails by the rows that it met, and leaves the operations as they were.
     Fails(StatementError),
-    /// What the session is told, the versions that are used besides those that operations take away, and the
-    /// transaction's operations after it.
-    Gives {
+    /// It leaves the operations as they were: what the session is told, and the versions that are used besides those
+    /// that operations take away.
+    Tells {
         replies: List<ReplyLine>,
         uses: List<GenidItem>,
-        ops: List<RowOp>,
     },
+    /// Its writes, one a row, which are to be laid over the operations.
+    Writes(List<RowOp>),
 }

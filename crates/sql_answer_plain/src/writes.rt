@@ -1,37 +1,35 @@
-//! INSERT, UPDATE and DELETE: what they write, and the net operations after them.
-ghost use Rattle.std.specs.Prelude.{◌≡◌, ◌++◌, ◌∷◌, [], map, IfOk, OnOk, Some};
+//! INSERT, UPDATE and DELETE: what they write.
+ghost use Rattle.std.specs.Prelude.{◌≡◌, ◌++◌, ◌∷◌, [], List as Many, map, IfOk, OnOk, Some};
 ghost use Rattle.std.specs.List.{filter_map};
+ghost use Rattle.cdb_values.specs.declared.rows.RowOp.{RowOp as OneOp};
 ghost use Rattle.cdb_values.specs.declared.rows.RowOp.TheVariants as op;
-ghost use Rattle.sql_answer.specs.Answers.{net_given as net_given_of, inserted as inserted_of, updated as updated_of, deleted as deleted_of, updating, deleting};
+ghost use Rattle.sql_answer.specs.Answers.{inserted as inserted_of, updated as updated_of, deleted as deleted_of, updating, deleting};
 ghost use Rattle.sql_answer.specs.Writes.{set_row as set_row_of};
 ghost use Rattle.sql_answer_plain.specs.Views.{all_seen_in, seen_in, outcome_in};
 
-use crate::copies::{copied_op, copied_row};
+use crate::copies::copied_row;
 use crate::outcomes::Outcome;
 use crate::seen::Seen;
 use crate::sizes::rows_error;
 use crate::steps::set_row;
-use cdb_values::limits::MOST_NET_OPERATIONS;
-use cdb_values::{List, Row, RowOp, StatementError, TableDef};
-use net_writes::net;
+use cdb_values::{List, Row, RowOp, TableDef};
 use report_text::ReplyLine;
 use sql_bind::BoundAssign;
 use std::alloc::{AllocError, Global};
 
-/// The answer of an INSERT of these rows.
+/// What an INSERT of these rows comes to.
 pub(crate) fn inserted(
     alloc: Global,
     tables: &[TableDef],
     table: u16,
     rows: &[Row],
-    ops: &[RowOp],
 ) -> Result<Outcome, AllocError>
-    ensures { IfOk result (λ outcome. outcome_in outcome ≡ inserted_of tables.now table rows.now ops.now) }
+    ensures { IfOk result (λ outcome. (ops : Many OneOp) → outcome_in ops outcome ≡ inserted_of tables.now table rows.now ops) }
 {
     let made = each_made(alloc, rows)?;
     match rows_error(alloc, tables.get(table as usize), made.as_slice())? {
         Some(cause) => Ok(Outcome::Fails(cause)),
-        None => net_given(alloc, ops, inserts(alloc, table, rows)?),
+        None => Ok(Outcome::Writes(inserts(alloc, table, rows)?)),
     }
 }
 
@@ -69,22 +67,21 @@ fn insert_of(table: u16, row: &Row) -> Result<RowOp, AllocError>
     Ok(RowOp::Insert { table, row })
 }
 
-/// The answer of an UPDATE of these rows.
+/// What an UPDATE of these rows comes to.
 pub(crate) fn updated(
     alloc: Global,
     tables: &[TableDef],
     table: u16,
     assigns: &[BoundAssign],
-    ops: &[RowOp],
     rows: &[Seen],
 ) -> Result<Outcome, AllocError>
-    ensures { IfOk result (λ outcome. outcome_in outcome
-        ≡ updated_of tables.now table assigns.now ops.now (all_seen_in rows.now)) }
+    ensures { IfOk result (λ outcome. (ops : Many OneOp) → outcome_in ops outcome
+        ≡ updated_of tables.now table assigns.now ops (all_seen_in rows.now)) }
 {
     let made = each_set(alloc, assigns, rows)?;
     match rows_error(alloc, tables.get(table as usize), made.as_slice())? {
         Some(cause) => Ok(Outcome::Fails(cause)),
-        None => net_given(alloc, ops, updates(alloc, table, assigns, rows)?),
+        None => Ok(Outcome::Writes(updates(alloc, table, assigns, rows)?)),
     }
 }
 
@@ -143,16 +140,11 @@ fn add_update(
     }
 }
 
-/// The answer of a DELETE of these rows.
-pub(crate) fn deleted(
-    alloc: Global,
-    table: u16,
-    ops: &[RowOp],
-    rows: &[Seen],
-) -> Result<Outcome, AllocError>
-    ensures { IfOk result (λ outcome. outcome_in outcome ≡ deleted_of table ops.now (all_seen_in rows.now)) }
+/// What a DELETE of these rows comes to.
+pub(crate) fn deleted(alloc: Global, table: u16, rows: &[Seen]) -> Result<Outcome, AllocError>
+    ensures { IfOk result (λ outcome. (ops : Many OneOp) → outcome_in ops outcome ≡ deleted_of table ops (all_seen_in rows.now)) }
 {
-    net_given(alloc, ops, deletes(alloc, table, rows)?)
+    Ok(Outcome::Writes(deletes(alloc, table, rows)?))
 }
 
 /// The deletes of rows.
@@ -178,42 +170,6 @@ fn delete_of(table: u16, seen: &Seen) -> Result<RowOp, AllocError>
         target: seen.source,
         old,
     })
-}
-
-/// The answer of writes, where no row has an error: how many there are, with the net operations after them.
-fn net_given(alloc: Global, ops: &[RowOp], writes: List<RowOp>) -> Result<Outcome, AllocError>
-    ensures { IfOk result (λ outcome. outcome_in outcome ≡ net_given_of ops.now writes) }
-{
-    let all = joined(alloc, ops, writes.as_slice())?;
-    let ops = net(alloc, all.as_slice())?;
-    if ops.len() > MOST_NET_OPERATIONS {
-        return Ok(Outcome::Fails(StatementError::TooLong));
-    }
-    let replies = one(alloc, ReplyLine::Changed(writes.len() as u64))?;
-    let uses = List::new(alloc);
-    Ok(Outcome::Gives { replies, uses, ops })
-}
-
-/// Copies of operations, and of these more behind them.
-fn joined(alloc: Global, ops: &[RowOp], more: &[RowOp]) -> Result<List<RowOp>, AllocError>
-    ensures { IfOk result (λ all. all ≡ ops.now ++ more.now) }
-{
-    let mut all = List::new(alloc);
-    add_ops(&mut all, ops)?;
-    add_ops(&mut all, more)?;
-    Ok(all)
-}
-
-/// Adds copies of operations.
-pub(crate) fn add_ops(all: &mut List<RowOp>, ops: &[RowOp]) -> Result<(), AllocError>
-    ensures { OnOk result (all.new ≡ all.old ++ ops.now) }
-{
-    let mut rest = ops;
-    'ops: while let Some((op, others)) = rest.split_first() {
-        all.push(copied_op(op)?)?;
-        rest = others;
-    }
-    Ok(())
 }
 
 /// One line alone.

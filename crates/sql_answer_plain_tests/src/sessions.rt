@@ -2,10 +2,11 @@
 
 use crate::shown::{error_text, shown};
 use cdb_values::{List, RowOp, Schema, StatementError, Version};
-use sql_answer_plain::{Outcome, answer};
+use sql_answer_plain::{Outcome, answer, answered_by};
 use sql_bind::{BindFault, Bound, bind};
 use sql_reader::{Stmt, read};
 use std::alloc::{AllocError, Global};
+use std::mem;
 use std::test::Fail;
 use table_read::read_table;
 
@@ -116,11 +117,16 @@ pub(crate) fn after(
         session.ops.as_slice(),
         meaning,
     )?;
-    match outcome {
-        Outcome::Fails(cause) => String::from_str(alloc, error_text(cause)),
-        Outcome::Gives { replies, uses, ops } => {
-            session.ops = ops;
-            shown(alloc, replies.as_slice(), uses.as_slice())
-        }
+    if let Outcome::Fails(cause) = &outcome {
+        return String::from_str(alloc, error_text(*cause));
     }
+    settle(alloc, session, outcome)
+}
+
+/// What an outcome is answered behind the transaction's operations, after which it has those that the answer gives.
+fn settle(alloc: Global, session: &mut Session, outcome: Outcome) -> Result<String, AllocError> {
+    let done = mem::replace(&mut session.ops, List::new(alloc));
+    let answer = answered_by(alloc, done, outcome)?;
+    session.ops = answer.ops;
+    shown(alloc, answer.replies.as_slice(), answer.uses.as_slice())
 }

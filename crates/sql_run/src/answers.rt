@@ -1,35 +1,20 @@
 //! The answer of a prepared text.
-ghost use Rattle.std.specs.Prelude.{◌≡◌, ◌∷◌, [], IfOk, Ok};
+ghost use Rattle.std.specs.Prelude.{◌≡◌, IfOk, Ok};
 ghost use Rattle.query_plan.specs.Planned.{plan_of};
-ghost use Rattle.report_text.specs.declared.reports.ReplyLine.TheVariants as reply;
 ghost use Rattle.snapshot_rows.specs.Ages.{seen};
-ghost use Rattle.sql_answer.specs.Language.{answered};
-ghost use Rattle.sql_answer_plain.specs.Views.{outcome_in};
 ghost use Rattle.sql_bind.specs.Views.{bound_in};
 ghost use Rattle.sql_run.specs.Texts.{plan_by, answer_to};
 ghost use Rattle.sql_run.specs.Views.{text_in};
 
 use crate::prepares::{Meaning, Prepared};
 use crate::sources::RowsAt;
-use cdb_values::{GenidItem, List, RowOp, Schema, StatementError};
+use cdb_values::{List, RowOp, Schema};
 use plan_run::execute;
 use query_plan::Plan;
-use report_text::ReplyLine;
 use snapshot_rows::Snapshots;
-use sql_answer_plain::Outcome;
+use sql_answer_plain::{Answer, answered_by, refused};
 use sql_bind::Bound;
 use std::alloc::{AllocError, Global};
-
-/// What a text is answered.
-#[derive(Drop)]
-pub struct Answer {
-    /// What the session is told.
-    pub replies: List<ReplyLine>,
-    /// The transaction's net operations after the text.
-    pub ops: List<RowOp>,
-    /// The versions that the text uses besides those that operations take away.
-    pub uses: List<GenidItem>,
-}
 
 /// The answer of a prepared text, over the rows at a position with a transaction's own operations on top.
 ///
@@ -87,35 +72,8 @@ fn run(
     };
     let tables = schema.tables();
     match execute(alloc, tables, statement, plan, &mut source, done.as_slice()) {
-        Ok(executed) => told(alloc, done, executed.outcome),
+        Ok(executed) => answered_by(alloc, done, executed.outcome),
         // No one can be gone from rows in memory, so this is want of memory.
         Err(_) => Err(AllocError),
     }
-}
-
-/// What an outcome comes to, behind these operations.
-fn told(alloc: Global, done: List<RowOp>, outcome: Outcome) -> Result<Answer, AllocError>
-    ensures replies { IfOk result (λ a. a.replies ≡ (answered done (outcome_in outcome)).replies) }
-    ensures ops { IfOk result (λ a. a.ops ≡ (answered done (outcome_in outcome)).ops) }
-    ensures uses { IfOk result (λ a. a.uses ≡ (answered done (outcome_in outcome)).uses) }
-{
-    match outcome {
-        Outcome::Fails(cause) => refused(alloc, done, cause),
-        Outcome::Gives { replies, uses, ops } => Ok(Answer { replies, ops, uses }),
-    }
-}
-
-/// The answer by an error: the operations stay as they were.
-fn refused(alloc: Global, done: List<RowOp>, cause: StatementError) -> Result<Answer, AllocError>
-    ensures replies { IfOk result (λ a. a.replies ≡ reply.Error cause ∷ []) }
-    ensures ops { IfOk result (λ a. a.ops ≡ done) }
-    ensures uses { IfOk result (λ a. a.uses ≡ []) }
-{
-    let mut replies = List::new(alloc);
-    replies.push(ReplyLine::Error(cause))?;
-    Ok(Answer {
-        replies,
-        ops: done,
-        uses: List::new(alloc),
-    })
 }

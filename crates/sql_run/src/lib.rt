@@ -29,8 +29,9 @@ mod laws;
 mod prepares;
 mod sources;
 
-pub use answers::{Answer, answer_prepared};
+pub use answers::answer_prepared;
 pub use kinds::TextKind;
 pub use laws::{sql_keeps_rows, sql_leaves_sound_operations};
 pub use prepares::{Prepared, prepare};
 pub use sources::RowsAt;
+pub use sql_answer_plain::Answer;

@@ -19,6 +19,22 @@ returns-in-Some-clause-there g c = λ own free list stands.
     let has : HasKeyAt c.args.key.now (old leaf).cells at = subst (λ (i : Image). HasKeyAt c.args.key.now i.cells at) is c.in-Some.ensures in
     sym (found_there old c.args.root c.args.key.now leaf at said.way.leaf said.way.kind has own free list stands)
 
+pub returns-in-Some-clause-held : goal.returns-in-Some-clause-held
+returns-in-Some-clause-held g c = λ _.
+    let old = meant g.P.PageSource.pages c.args.space.now in
+    let leaf = c.in_ok-way_for.field-0.leaf in
+    let said = c.in_ok-way_for.ensures in
+    let image = c.page.result.now in
+    let at = c.in-Some.field-0 in
+    let is : image ≡ old leaf = same_Some image (old leaf) (sym c.page.ensures ∙ said.loaded) in
+    record {
+      leaf = leaf;
+      below = said.below;
+      kind = said.way.kind;
+      at = at;
+      has = subst (λ (i : Image). HasKeyAt c.args.key.now i.cells at) is c.in-Some.ensures;
+    }
+
 pub returns-in-None-clause-there : goal.returns-in-None-clause-there
 returns-in-None-clause-there g c = λ own free list stands.
     let old = meant g.P.PageSource.pages c.args.space.now in

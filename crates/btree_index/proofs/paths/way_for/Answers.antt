@@ -1,5 +1,5 @@
 -- Each page that is loaded is the workspace's, so the way goes on over what the workspace means.
-use Rattle.std.proofs.Common.{◌≡◌, ◌⊎◌, Some, ℕ, ◌≤◌, ◌<◌, ◌+◌, ◌-◌, ◌^◌, sym, ap, ◌∙◌, subst, arith, add-one, rules}
+use Rattle.std.proofs.Common.{◌≡◌, ◌⊎◌, Some, ℕ, refl, suc, ◌≤◌, ◌<◌, ◌+◌, ◌-◌, ◌^◌, sym, ap, ◌∙◌, subst, arith, add-one, rules}
 use Rattle.std.proofs.Math.Logic.{⊎_elim}
 use Rattle.std.proofs.lemmas.Bool.{false≢true}
 use Rattle.std.proofs.lemmas.Option.{same_Some}
@@ -22,6 +22,7 @@ down-init g c = record {
   base = c.in_ok-load_to_edit.ensures.base;
   losses = c.in_ok-load_to_edit.ensures.excused;
   leads = path_begins (meant g.P.PageSource.pages c.args.space.now) c.args.root c.args.key.now;
+  below = record { steps = 0; is = refl };
   over = tt;
   small = c.ranges.root.fits;
   full = tt;
@@ -51,6 +52,10 @@ down-preserved g c =
       losses = omega arith;
       leads = subst (λ (n : ℕ). Leads pages c.args.root c.args.key.now n) (sym child)
           (path_on pages c.args.root c.args.key.now c.down.leaf kept.leads kind);
+      below = record {
+        steps = suc kept.below.steps;
+        is = ap (λ (n : ℕ). choice c.args.key.now (pages n).cells) kept.below.is ∙ sym child;
+      };
       over = leads_over pages c.args.root c.args.key.now c.down.leaf c.down.roomy roomy kept.leads kind kept.over roomier;
       small = search rules;
       full = subst (λ (n : ℕ). IsFullUntil pages c.args.key.now roomy n) (sym child)
