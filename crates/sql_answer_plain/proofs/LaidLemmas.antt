@@ -1,6 +1,6 @@
 -- Writes that are laid over operations.
-use Rattle.std.proofs.Common.{◌≡◌, ℕ, zero, suc, ◌+◌, ◌<◌, ◌≤◌, List, [], ◌∷◌, ◌++◌, map, Bool, true, false, length, refl, sym, ◌∙◌, ap, cc, arith, append_assoc, append-nil, length-append, nat_lt}
-use Rattle.std.specs.Prelude.{Option, Some, None}
+use Rattle.std.proofs.Common.{◌≡◌, ◌+◌, ◌≤◌, List, [], ◌∷◌, ◌++◌, map, Bool, true, false, length, refl, sym, ◌∙◌, ap, arith, ◌&&◌, append_assoc, append-nil, length-append}
+use Rattle.std.specs.Prelude.{Option, Some}
 use Rattle.std.specs.List.{list_all}
 use Rattle.std.proofs.lemmas.Bool.Decides.{nat_tests}
 use Rattle.cdb_values.specs.declared.rows.RowOp.{RowOp}
@@ -76,6 +76,6 @@ held_count held (op ∷ ops) =
 pub few_fit : (a b : List RowOp) → length a + length b ≤ 16384 → are_too_many a b ≡ false
 few_fit a b few =
     let short : length (net_of (a ++ b)) ≤ length (held_after [] (a ++ b)) = standing_short (held_after [] (a ++ b)) in
-    let count : length (held_after [] (a ++ b)) ≡ length (a ++ b) = held_count [] (a ++ b) in
+    let count : length (held_after [] (a ++ b)) ≡ 0 + length (a ++ b) = held_count [] (a ++ b) in
     let both : length (a ++ b) ≡ length a + length b = length-append a b in
     grind (arith, nat_tests)
