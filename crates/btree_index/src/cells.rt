@@ -6,8 +6,8 @@ use byteorder::{BigEndian, ByteOrder};
 use page_store::Cell;
 use std::alloc::{AllocError, Global};
 
-/// The key of a cell.
-pub(crate) fn key_in(cell: &[u8]) -> &[u8]
+/// The key of a cell, as far as it is there: nothing of a cell that is too short to tell its key's length.
+pub fn key_in(cell: &[u8]) -> &[u8]
     ensures { result.now ≡ key_of cell.now }
 {
     if cell.len() < 2 {
@@ -22,8 +22,8 @@ pub(crate) fn key_in(cell: &[u8]) -> &[u8]
     key
 }
 
-/// What a cell has for its key.
-pub(crate) fn value_in(cell: &[u8]) -> &[u8]
+/// What a cell has for its key, which is nothing in a cell that is too short.
+pub fn value_in(cell: &[u8]) -> &[u8]
     ensures { result.now ≡ value_of cell.now }
 {
     if cell.len() < 2 {

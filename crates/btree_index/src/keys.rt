@@ -3,7 +3,7 @@ ghost use Rattle.btree_index.specs.Keys.{before, same_key};
 
 /// Whether a key comes before another, byte by byte.
 #[tactic(auto, unfolding(crate::specs::Keys::before))]
-pub(crate) fn is_before(a: &[u8], b: &[u8]) -> bool
+pub fn is_before(a: &[u8], b: &[u8]) -> bool
     ensures { result ≡ before a.now b.now }
 {
     a.cmp(b).is_lt()

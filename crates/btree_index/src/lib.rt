@@ -59,8 +59,10 @@ mod scans;
 mod splits;
 mod steps;
 
+pub use cells::{key_in, value_in};
 pub use finds::find;
 pub use inserts::{InsertFault, insert};
+pub use keys::is_before;
 pub use laws::trees_have_one_list;
 pub use removes::remove;
 pub use scans::scan;

@@ -1,0 +1,4 @@
+pub mod WalkLemmas
+pub mod StepLemmas
+pub mod DepthLemmas
+pub mod WrittenLaws
