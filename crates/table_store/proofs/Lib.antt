@@ -11,3 +11,4 @@ mod GoodLemmas
 mod OperationLemmas
 mod WorkedLemmas
 mod BeginLemmas
+mod ReadLemmas

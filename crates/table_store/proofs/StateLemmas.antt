@@ -122,7 +122,7 @@ planned place (suc n) (table ∷ tables) h t e =
     inr (among_right (record { table = t; key = None }) (key_trees place table.keys) (plan_from (suc place) tables)
     (planned (suc place) n tables (omega arith) t next))
 
-all_at : (P : List Version → Type 0) (xs : List (List Version)) (t : ℕ) → t < length xs → AllByRecursion P xs → P (unwrap_or (slice_get xs t) [])
+pub all_at : (P : List Version → Type 0) (xs : List (List Version)) (t : ℕ) → t < length xs → AllByRecursion P xs → P (unwrap_or (slice_get xs t) [])
 all_at P [] t h a = absurd (none t h)
   where
     none : (n : ℕ) → n < 0 → ⊥

@@ -6,3 +6,4 @@ pub mod Stored
 pub mod Operations
 pub mod Worked
 pub mod Begins
+pub mod Readings

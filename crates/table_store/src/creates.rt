@@ -31,7 +31,7 @@ pub fn create_edits(alloc: Global, schema: &Schema) -> Result<Vec<(u64, Edit)>, 
 }
 
 /// How many trees these tables have: one for the rows of each, and one for each key.
-fn count_trees(tables: &[TableDef]) -> Result<u64, AllocError>
+pub(crate) fn count_trees(tables: &[TableDef]) -> Result<u64, AllocError>
     ensures count { IfOk result (λ trees. trees ≡ length (plan_from 0 tables.now)) }
     ensures few { IfOk result (λ trees. trees + 1 < 2 ^ 62) }
 {
