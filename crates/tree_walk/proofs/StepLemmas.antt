@@ -3,7 +3,7 @@ use Rattle.std.proofs.Common.{◌≡◌, ℕ, Bool, true, false, if◌then◌els
 use Rattle.std.specs.List.{slice_get}
 use Rattle.std.specs.Result.{MatchResult, IsErrAnd}
 use Rattle.page_store.specs.Image.{Image}
-use Rattle.btree_index.specs.Trees.{Entry, below, spread}
+use Rattle.btree_index.specs.Trees.{Entry, below}
 use Rattle.tree_walk.specs.Walks.{is_inner, is_leaf_of, behind, descend, gather, over, walk_from}
 
 pub drop_here : {X : Type 0} (xs : List X) (i : ℕ) (x : X) → slice_get xs i ≡ Some x → drop i xs ≡ x ∷ drop (suc i) xs

@@ -1,5 +1,5 @@
 -- The walk decides whether there is a tree, where all pages but some are blank.
-use Rattle.std.proofs.Common.{◌≡◌, ◌⊎◌, inl, inr, ℕ, zero, suc, ◌+◌, ◌≤◌, ◌<◌, ◌==◌, Bool, true, false, List, [], ◌∷◌, ◌++◌, map, length, Option, None, Some, refl, sym, ap, ◌∙◌, subst, arith, length-append}
+use Rattle.std.proofs.Common.{◌≡◌, ◌⊎◌, inl, inr, ℕ, zero, suc, ◌≤◌, ◌==◌, Bool, true, false, List, [], ◌∷◌, ◌++◌, map, length, None, Some, refl, sym, ap, ◌∙◌, subst, arith, length-append}
 use Rattle.std.proofs.lemmas.Bool.{eqb-true}
 use Rattle.std.specs.List.{AllByRecursion}
 use Rattle.page_store.specs.Image.{Image, blank_image}
@@ -10,7 +10,7 @@ use Rattle.btree_index.specs.Trees.{Entry, page_of, spread, top, pages_of, IsSha
 use Rattle.btree_index.proofs.ApartLaws.{in_either, in_more}
 use Rattle.btree_index.proofs.TreeLaws.{one_height}
 use Rattle.tree_walk.specs.declared.walks.Walked.{Walked}
-use Rattle.tree_walk.specs.Walks.{IsLaid, IsWalked}
+use Rattle.tree_walk.specs.Walks.{IsWalked}
 
 not_equal : (a b : ℕ) → (a == b) ≡ false → a ≡ b → ⊥
 not_equal a b h e = grind arith

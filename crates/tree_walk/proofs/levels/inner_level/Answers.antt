@@ -1,10 +1,10 @@
-use Rattle.std.proofs.Common.{ℕ, ◌≡◌, ◌≤◌, ◌++◌, List, true, sym, ap, ◌∙◌, arith}
+use Rattle.std.proofs.Common.{ℕ, ◌≡◌, ◌≤◌, ◌++◌, List, sym, ap, ◌∙◌, arith}
 use Rattle.std.proofs.lemmas.Option.{same_Some}
 use Rattle.page_store.specs.Image.{Image}
 use Rattle.btree_index.specs.Trees.{Entry, below}
 use Rattle.tree_walk.proofs.StepLemmas.{ok_before}
 use Rattle.tree_walk.specs.Walks.{behind, descend, is_inner}
-use Rattle.tree_walk.proofs.StepLemmas.{down_more, down_stop, down_end}
+use Rattle.tree_walk.proofs.StepLemmas.{down_more}
 use Rattle.tree_walk.proofs.levels.inner_level.Goals as goal
 
 pub along-preserved : goal.along-preserved

@@ -1,4 +1,4 @@
-use Rattle.std.proofs.Common.{ℕ, ◌≡◌, ◌≤◌, ◌++◌, List, map, Option, Some, None, inl, inr, sym, ap, ◌∙◌, subst, arith, length, ◌<◌}
+use Rattle.std.proofs.Common.{ℕ, ◌≡◌, ◌≤◌, ◌++◌, List, map, Some, None, inl, inr, sym, ap, ◌∙◌, arith, length, ◌<◌}
 use Rattle.std.proofs.lemmas.Bool.{ltb-true}
 use Rattle.page_store.specs.Image.{Image}
 use Rattle.btree_index.specs.Trees.{Entry, page_of, top, pages_of}
