@@ -1,15 +1,23 @@
-//! Work on queries to be measured: `bench_queries WORK COUNT` does one kind of work over that many combinations or updates,
-//! and prints how many rows or net operations it gave.
+//! Work on queries to be measured: `bench_queries WORK COUNT` does one kind of work over that many combinations, updates or
+//! rows, and prints what it gave.
 //!
 //! | WORK | What is done |
 //! |---|---|
-//! | `groups` | a hundredth as many groups, with `count(*)` and a `sum`, ordered by the sum and then by the group |
-//! | `shape` | the same, with the time of grouping and ordering alone |
+//! | `counts` | `shape` and then `plans`, without their times |
+//! | `shape` | a hundredth as many groups, with `count(*)` and a `sum`, ordered by the sum and then by the group, with the time of grouping and ordering alone |
 //! | `updates` | updates of one row each by one transaction, each second one of the row just updated, kept up one at a time |
+//! | `plans` | that many selects of one row by its key over as many rows; a join of a tenth as many rows to a hundredth by key; a range of a hundredth of them; each over rows in blocks, with how many versions were read |
+//! | `scans` | a hundred such selects, and such a join, over rows in one block, which are all read |
 #![tactic(auto)]
+
+mod blocks;
+mod misses;
+mod plans;
+mod sources;
 
 use cdb_values::{List, Row, RowOp, RowRef, Value, Version};
 use net_writes::Overlay;
+use plans::Work;
 use sql_bind::{BoundColumn, BoundItem, BoundKey, BoundSelect};
 use sql_eval::shape;
 use std::alloc::{AllocError, Global};
@@ -29,20 +37,82 @@ const NUMBER: BoundColumn = BoundColumn {
 fn main(rt: HostRuntime) -> io::Result<()> {
     let mut words = env::args(&rt)?.skip(1);
     let (Some(work), Some(count)) = (words.next(), words.next()) else {
-        return println!(rt; "usage: bench_queries groups|shape|updates COUNT");
+        return println!(rt; "usage: bench_queries counts|shape|updates|plans|scans COUNT");
     };
     let count = count.as_str().parse::<u64>().unwrap_or(0);
-    if work.as_str() == "updates" {
-        let kept = keep_up(&rt, rt.alloc(), count)?;
+    let told = told(&rt, rt.alloc(), work.as_str(), count)?;
+    println!(rt; "{told}")
+}
+
+/// What is printed of some work.
+fn told(clock: &impl Clock, alloc: Global, work: &str, count: u64) -> io::Result<String> {
+    if work == "updates" {
+        let kept = keep_up(clock, alloc, count)?;
         let took = kept.took.as_micros();
-        return println!(rt; "in {took} us, {} net operations", kept.rows);
+        return Ok(format!(in alloc; "in {took} us, {} net operations", kept.rows)?);
     }
-    let shaped = group_and_order(&rt, rt.alloc(), count)?;
-    if work.as_str() == "shape" {
+    if work == "plans" {
+        return timed(alloc, by_plans(clock, alloc, count)?.as_slice());
+    }
+    if work == "scans" {
+        return timed(alloc, by_scans(clock, alloc, count)?.as_slice());
+    }
+    let shaped = group_and_order(clock, alloc, count)?;
+    if work == "shape" {
         let took = shaped.took.as_millis();
-        print!(rt; "in {took} ms, ")?;
+        return Ok(format!(in alloc; "in {took} ms, {} rows", shaped.rows)?);
     }
-    println!(rt; "{} rows", shaped.rows)
+    let mut out = format!(in alloc; "{} rows", shaped.rows)?;
+    for (name, work) in by_plans(clock, alloc, count)?.as_slice() {
+        out.push('\n')?;
+        put_work(alloc, &mut out, *name, work)?;
+    }
+    Ok(out)
+}
+
+/// What came of statements over rows in blocks.
+fn by_plans(
+    clock: &impl Clock,
+    alloc: Global,
+    count: u64,
+) -> io::Result<Vec<(&'static str, Work)>> {
+    let mut works = Vec::new(alloc);
+    works.push(("selects", plans::selects(clock, alloc, count)?))?;
+    works.push(("join", plans::join(clock, alloc, count / 10)?))?;
+    works.push(("range", plans::range(clock, alloc, count)?))?;
+    Ok(works)
+}
+
+/// What came of statements over rows in one block.
+fn by_scans(
+    clock: &impl Clock,
+    alloc: Global,
+    count: u64,
+) -> io::Result<Vec<(&'static str, Work)>> {
+    let mut works = Vec::new(alloc);
+    works.push(("selects", plans::scanned_selects(clock, alloc, count)?))?;
+    works.push(("join", plans::scanned_join(clock, alloc, count / 10)?))?;
+    Ok(works)
+}
+
+/// Works, one in each line, with their times.
+fn timed(alloc: Global, works: &[(&'static str, Work)]) -> io::Result<String> {
+    let mut out = String::new(alloc);
+    let mut before = "";
+    for (name, work) in works {
+        out.push_str(before)?;
+        put_work(alloc, &mut out, *name, work)?;
+        let took = work.took.as_millis();
+        out.push_str(format!(in alloc; " in {took} ms")?.as_str())?;
+        before = "\n";
+    }
+    Ok(out)
+}
+
+/// Adds what came of work.
+fn put_work(alloc: Global, out: &mut String, name: &str, work: &Work) -> Result<(), AllocError> {
+    let (rows, read) = (work.rows, work.read);
+    out.push_str(format!(in alloc; "{name}: {rows} rows, {read} versions read")?.as_str())
 }
 
 /// How many rows a query gave, and how long that took.

@@ -1,6 +1,6 @@
-//! Whether two answers are the same: the same replies, versions used and operations, or the same error.
+//! Whether two statements come to the same: the same replies and versions used, the same writes, or the same error.
 
-use cdb_values::{RowOp, Value, order};
+use cdb_values::{Row, RowOp, RowRef, Value, order};
 use report_text::ReplyLine;
 use sql_answer_plain::Outcome;
 use std::cmp::Ordering;
@@ -9,17 +9,16 @@ pub(crate) fn are_same(a: &Outcome, b: &Outcome) -> bool {
     match (a, b) {
         (Outcome::Fails(a), Outcome::Fails(b)) => *a == *b,
         (
-            Outcome::Gives { replies, uses, ops },
-            Outcome::Gives {
+            Outcome::Tells { replies, uses },
+            Outcome::Tells {
                 replies: other_replies,
                 uses: other_uses,
-                ops: other_ops,
             },
         ) => {
             are_same_replies(replies.as_slice(), other_replies.as_slice())
                 && uses.as_slice() == other_uses.as_slice()
-                && are_same_ops(ops.as_slice(), other_ops.as_slice())
         }
+        (Outcome::Writes(a), Outcome::Writes(b)) => are_same_ops(a.as_slice(), b.as_slice()),
         _ => false,
     }
 }
@@ -44,45 +43,55 @@ fn are_same_ops(a: &[RowOp], b: &[RowOp]) -> bool {
 }
 
 fn is_same_op(a: &RowOp, b: &RowOp) -> bool {
+    let (a, b) = (parts_of(a), parts_of(b));
+    a.table == b.table
+        && a.target == b.target
+        && are_same_rows(a.old, b.old)
+        && are_same_rows(a.row, b.row)
+}
+
+/// The parts of an operation. Its kind is seen by which of them there are.
+#[derive(Clone, Copy)]
+struct Parts<'a> {
+    table: u16,
+    target: Option<RowRef>,
+    old: Option<&'a Row>,
+    row: Option<&'a Row>,
+}
+
+fn parts_of(op: &RowOp) -> Parts<'_> {
+    match op {
+        RowOp::Insert { table, row } => Parts {
+            table: *table,
+            target: None,
+            old: None,
+            row: Some(row),
+        },
+        RowOp::Update {
+            table,
+            target,
+            old,
+            row,
+        } => Parts {
+            table: *table,
+            target: Some(*target),
+            old: Some(old),
+            row: Some(row),
+        },
+        RowOp::Delete { table, target, old } => Parts {
+            table: *table,
+            target: Some(*target),
+            old: Some(old),
+            row: None,
+        },
+    }
+}
+
+/// Whether two rows are there and the same, or neither is there.
+fn are_same_rows(a: Option<&Row>, b: Option<&Row>) -> bool {
     match (a, b) {
-        (
-            RowOp::Insert { table, row },
-            RowOp::Insert {
-                table: other_table,
-                row: other_row,
-            },
-        ) => *table == *other_table && is_same_row(row.as_slice(), other_row.as_slice()),
-        (
-            RowOp::Update {
-                table,
-                target,
-                old,
-                row,
-            },
-            RowOp::Update {
-                table: other_table,
-                target: other_target,
-                old: other_old,
-                row: other_row,
-            },
-        ) => {
-            *table == *other_table
-                && *target == *other_target
-                && is_same_row(old.as_slice(), other_old.as_slice())
-                && is_same_row(row.as_slice(), other_row.as_slice())
-        }
-        (
-            RowOp::Delete { table, target, old },
-            RowOp::Delete {
-                table: other_table,
-                target: other_target,
-                old: other_old,
-            },
-        ) => {
-            *table == *other_table
-                && *target == *other_target
-                && is_same_row(old.as_slice(), other_old.as_slice())
-        }
+        (Some(a), Some(b)) => is_same_row(a.as_slice(), b.as_slice()),
+        (None, None) => true,
         _ => false,
     }
 }

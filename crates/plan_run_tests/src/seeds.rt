@@ -1,11 +1,10 @@
 //! Transactions of drawn statements over drawn rows: each statement is answered by its plan as over all combinations.
 
 use crate::drawn::{Draws, TABLES, statement, versions};
-use crate::same::are_same;
-use crate::sessions::{Answers, Session, asked, go_on, schema_of};
+use crate::sessions::{Session, Told, asked, schema_of};
 use cdb_values::List;
-use sql_answer_plain::Outcome;
-use std::alloc::Global;
+use report_text::ReplyLine;
+use std::alloc::{AllocError, Global};
 use std::test::Fail;
 
 /// How often it came up in the statements of some seeds.
@@ -16,21 +15,35 @@ struct Tally {
     empty: u64,
     /// Whole tables.
     whole: u64,
-    /// Statements that gave or changed a row, and those that failed.
+    /// Queries that gave rows, writes of rows, and statements that failed.
     found: u64,
+    written: u64,
     failed: u64,
 }
 
 impl Tally {
-    fn take(&mut self, answers: &Answers) {
-        for interval in answers.by_plan.ranges.as_slice() {
+    fn new() -> Tally {
+        Tally {
+            by_key: 0,
+            empty: 0,
+            whole: 0,
+            found: 0,
+            written: 0,
+            failed: 0,
+        }
+    }
+
+    fn take(&mut self, told: &Told) {
+        for interval in told.ranges.as_slice() {
             count(&mut self.by_key, interval.key.is_some());
             count(&mut self.empty, interval.empty);
             count(&mut self.whole, interval.key.is_none());
         }
-        match &answers.plain {
-            Outcome::Fails(_) => count(&mut self.failed, true),
-            Outcome::Gives { replies, .. } => count(&mut self.found, replies.len() > 1),
+        match told.replies.as_slice().first() {
+            Some(ReplyLine::Row(_)) => count(&mut self.found, true),
+            Some(ReplyLine::Changed(rows)) => count(&mut self.written, *rows > 0),
+            Some(ReplyLine::Error(_)) => count(&mut self.failed, true),
+            _ => {}
         }
     }
 }
@@ -42,7 +55,7 @@ fn count(counter: &mut u64, came: bool) {
     }
 }
 
-/// A transaction over drawn rows, with some operations of its own.
+/// A transaction that begins over drawn rows.
 fn begun(alloc: Global, draws: &mut Draws) -> Result<Session, Fail> {
     let mut session = Session {
         schema: schema_of(alloc, &TABLES)?,
@@ -55,41 +68,75 @@ fn begun(alloc: Global, draws: &mut Draws) -> Result<Session, Fail> {
     Ok(session)
 }
 
-/// The statements of a seed that are answered otherwise by their plans.
+/// The statements of a seed that come to something else by their plans.
 fn otherwise(alloc: Global, seed: u64, tally: &mut Tally) -> Result<String, Fail> {
     let mut draws = Draws { x: seed };
     let mut session = begun(alloc, &mut draws)?;
     let mut otherwise = String::new(alloc);
     for _ in 0..12u8 {
         let text = statement(alloc, &mut draws)?;
-        let answers = asked(alloc, &mut session, text.as_str())?;
-        tally.take(&answers);
-        if !are_same(&answers.by_plan.outcome, &answers.plain) {
+        let told = asked(alloc, &mut session, text.as_str())?;
+        tally.take(&told);
+        if !told.is_same {
             otherwise.push_str(text.as_str())?;
             otherwise.push('\n')?;
         }
-        go_on(&mut session, answers.plain);
     }
     Ok(otherwise)
 }
 
-#[test]
-fn drawn_statements_are_answered_as_over_all_combinations(rt: HostRuntime) -> Result<(), Fail> {
-    let mut tally = Tally {
-        by_key: 0,
-        empty: 0,
-        whole: 0,
-        found: 0,
-        failed: 0,
-    };
-    for seed in 0..60u64 {
-        let found = otherwise(rt.alloc(), seed, &mut tally)?;
-        assert_eq!(rt; found.as_str(), "", "seed {seed}");
+/// The statements of twenty seeds from one on that come to something else by their plans, and what came up too seldom.
+fn all_otherwise(alloc: Global, seeds: u64) -> Result<String, Fail> {
+    let mut tally = Tally::new();
+    let mut all = String::new(alloc);
+    for step in 0..20u64 {
+        let seed = seeds.saturating_add(step);
+        all.push_str(otherwise(alloc, seed, &mut tally)?.as_str())?;
     }
-    assert!(rt; tally.by_key > 500, "{} by a key", tally.by_key);
-    assert!(rt; tally.empty > 20, "{} empty", tally.empty);
-    assert!(rt; tally.whole > 100, "{} whole", tally.whole);
-    assert!(rt; tally.found > 100, "{} found", tally.found);
-    assert!(rt; tally.failed > 5, "{} failed", tally.failed);
+    all.push_str(seldom(alloc, &tally)?.as_str())?;
+    Ok(all)
+}
+
+/// What did not come up more often than it has to.
+fn seldom(alloc: Global, tally: &Tally) -> Result<String, AllocError> {
+    let mut out = String::new(alloc);
+    put_seldom(alloc, &mut out, "by a key", tally.by_key, 160)?;
+    put_seldom(alloc, &mut out, "empty", tally.empty, 6)?;
+    put_seldom(alloc, &mut out, "whole", tally.whole, 30)?;
+    put_seldom(alloc, &mut out, "found", tally.found, 30)?;
+    put_seldom(alloc, &mut out, "written", tally.written, 15)?;
+    put_seldom(alloc, &mut out, "failed", tally.failed, 1)?;
+    Ok(out)
+}
+
+/// Adds how often something came up, where that is not more than so often.
+fn put_seldom(
+    alloc: Global,
+    out: &mut String,
+    name: &str,
+    count: u64,
+    least: u64,
+) -> Result<(), AllocError> {
+    if count > least {
+        return Ok(());
+    }
+    out.push_str(format!(in alloc; "{count} {name}\n")?.as_str())
+}
+
+#[test]
+fn drawn_statements_come_to_the_same_by_their_plans(rt: HostRuntime) -> Result<(), Fail> {
+    assert_eq!(rt; all_otherwise(rt.alloc(), 0)?.as_str(), "");
+    Ok(())
+}
+
+#[test]
+fn more_drawn_statements_do(rt: HostRuntime) -> Result<(), Fail> {
+    assert_eq!(rt; all_otherwise(rt.alloc(), 20)?.as_str(), "");
+    Ok(())
+}
+
+#[test]
+fn other_drawn_statements_do(rt: HostRuntime) -> Result<(), Fail> {
+    assert_eq!(rt; all_otherwise(rt.alloc(), 40)?.as_str(), "");
     Ok(())
 }

@@ -2,10 +2,12 @@
 //! combinations.
 ghost use Rattle.std.specs.Prelude.{◌≡◌, IfOk};
 
-use cdb_values::{List, RowOp, Schema, TableDef, Version};
+use crate::same::are_same;
+use cdb_values::{Interval, List, RowOp, Schema, TableDef, Version};
 use plan_run::{Executed, MemRows, RowFault, execute};
 use query_plan::Plan;
-use sql_answer_plain::{Outcome, answer};
+use report_text::ReplyLine;
+use sql_answer_plain::{Outcome, answer, answered_by};
 use sql_bind::{Bound, bind};
 use sql_reader::read;
 use std::alloc::{AllocError, Global};
@@ -24,11 +26,14 @@ pub(crate) struct Session {
     pub(crate) ops: List<RowOp>,
 }
 
-/// What a statement is answered by its plan, with the intervals that were read, and over all combinations.
+/// What a statement is answered by its plan.
 #[derive(Drop)]
-pub(crate) struct Answers {
-    pub(crate) by_plan: Executed,
-    pub(crate) plain: Outcome,
+pub(crate) struct Told {
+    pub(crate) replies: List<ReplyLine>,
+    /// The intervals that were read.
+    pub(crate) ranges: List<Interval>,
+    /// Whether it comes to the same over all combinations.
+    pub(crate) is_same: bool,
 }
 
 /// The schema of some tables.
@@ -44,8 +49,8 @@ pub(crate) fn schema_of(alloc: Global, tables: &[&str]) -> Result<Schema, Fail> 
     Ok(schema)
 }
 
-/// What a statement of the transaction is answered. Its operations stay as they were.
-pub(crate) fn asked(alloc: Global, session: &mut Session, text: &str) -> Result<Answers, Fail> {
+/// What a statement of the transaction is answered, after which this has the operations that the answer gives.
+pub(crate) fn asked(alloc: Global, session: &mut Session, text: &str) -> Result<Told, Fail> {
     let bound = bound(alloc, &session.schema, text)?;
     Ok(answered(alloc, session, bound)?)
 }
@@ -59,22 +64,33 @@ fn bound(alloc: Global, schema: &Schema, text: &str) -> Result<Bound, Fail> {
     Ok(bind(alloc, &statement, schema)?)
 }
 
-/// What a bound statement is answered.
-fn answered(alloc: Global, session: &mut Session, bound: Bound) -> Result<Answers, RowFault> {
+/// What a bound statement is answered, after which the transaction has the operations that the answer gives.
+fn answered(alloc: Global, session: &mut Session, bound: Bound) -> Result<Told, RowFault> {
+    let Executed { outcome, ranges } = by_plan(alloc, session, &bound)?;
+    let plain = plain(alloc, session, bound)?;
+    let is_same = are_same(&outcome, &plain);
+    let replies = settled(alloc, session, outcome)?;
+    Ok(Told {
+        replies,
+        ranges,
+        is_same,
+    })
+}
+
+/// What a bound statement comes to by its plan.
+fn by_plan(alloc: Global, session: &mut Session, bound: &Bound) -> Result<Executed, RowFault> {
     let mut source = MemRows {
         tables: copied(alloc, session.schema.tables())?,
         versions: mem::replace(&mut session.versions, List::new(alloc)),
     };
     let ops = session.ops.as_slice();
-    let by_plan = executed(alloc, &session.schema, &bound, &mut source, ops)?;
+    let executed = executed(alloc, &session.schema, bound, &mut source, ops)?;
     let MemRows { versions, .. } = source;
-    let tables = session.schema.tables();
-    let plain = answer(alloc, tables, versions.as_slice(), ops, &Ok(bound))?;
     session.versions = versions;
-    Ok(Answers { by_plan, plain })
+    Ok(executed)
 }
 
-/// What a bound statement is answered by its plan, over these rows.
+/// What a bound statement comes to by its plan, over these rows.
 fn executed(
     alloc: Global,
     schema: &Schema,
@@ -86,6 +102,29 @@ fn executed(
 {
     let plan = Plan::new(alloc, bound, schema)?;
     execute(alloc, schema.tables(), bound, &plan, source, ops)
+}
+
+/// What a bound statement comes to over all combinations.
+fn plain(alloc: Global, session: &Session, bound: Bound) -> Result<Outcome, AllocError> {
+    answer(
+        alloc,
+        session.schema.tables(),
+        session.versions.as_slice(),
+        session.ops.as_slice(),
+        &Ok(bound),
+    )
+}
+
+/// What an outcome is answered behind the transaction's operations, after which this has those that the answer gives.
+fn settled(
+    alloc: Global,
+    session: &mut Session,
+    outcome: Outcome,
+) -> Result<List<ReplyLine>, AllocError> {
+    let done = mem::replace(&mut session.ops, List::new(alloc));
+    let answer = answered_by(alloc, done, outcome)?;
+    session.ops = answer.ops;
+    Ok(answer.replies)
 }
 
 /// Copies of tables.
@@ -106,11 +145,4 @@ fn copied_table(table: &TableDef) -> Result<TableDef, AllocError>
     ensures { IfOk result (λ copy. copy ≡ table.now) }
 {
     table.clone()
-}
-
-/// The transaction after a statement that was answered so: it has the operations that were given.
-pub(crate) fn go_on(session: &mut Session, outcome: Outcome) {
-    if let Outcome::Gives { ops, .. } = outcome {
-        session.ops = ops;
-    }
 }

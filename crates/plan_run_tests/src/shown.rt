@@ -1,27 +1,21 @@
-//! Answers and intervals as texts. An answer is spelled as in a report; `t by_v = 3` is the interval of t by the key by_v in
+//! Replies and intervals as texts. Replies are spelled as in a report; `t by_v = 3` is the interval of t by the key by_v in
 //! which v is 3, and `t` the whole table.
 
 use cdb_values::{Edge, Interval, List, Name, TableDef, Value};
 use report_text::{Line, ReplyLine, Report, print};
-use sql_answer_plain::Outcome;
 use std::alloc::{AllocError, Global};
 
-/// The text of an answer: its replies, with commas between them.
-pub(crate) fn put_outcome(
+/// Adds replies, with commas between them.
+pub(crate) fn put_replies(
     alloc: Global,
     out: &mut String,
-    outcome: &Outcome,
+    replies: &[ReplyLine],
 ) -> Result<(), AllocError> {
-    match outcome {
-        Outcome::Fails(cause) => put_reply(alloc, out, ReplyLine::Error(*cause)),
-        Outcome::Gives { replies, .. } => {
-            for (at, reply) in replies.as_slice().iter().enumerate() {
-                out.push_str(if at == 0 { "" } else { ", " })?;
-                put_reply(alloc, out, reply.clone()?)?;
-            }
-            Ok(())
-        }
+    for (at, reply) in replies.iter().enumerate() {
+        out.push_str(if at == 0 { "" } else { ", " })?;
+        put_reply(alloc, out, reply.clone()?)?;
     }
+    Ok(())
 }
 
 /// Adds a reply, as a report has it behind a session and the number of its transaction.

@@ -1,9 +1,8 @@
 //! Each statement is answered as it was worked out by hand, and reads the intervals that were.
 
 use crate::cases::{JOINS, KEYS, OWN, ROWS, SEVERAL, TABLES};
-use crate::same::are_same;
-use crate::sessions::{Session, asked, go_on, schema_of};
-use crate::shown::{put_interval, put_outcome};
+use crate::sessions::{Session, asked, schema_of};
+use crate::shown::{put_interval, put_replies};
 use cdb_values::{List, RowOp, Version};
 use std::alloc::{AllocError, Global};
 use std::test::Fail;
@@ -16,8 +15,7 @@ fn begun(alloc: Global, tables: &[&str], rows: &[&str]) -> Result<Session, Fail>
         ops: List::new(alloc),
     };
     for text in rows {
-        let answers = asked(alloc, &mut session, *text)?;
-        go_on(&mut session, answers.plain);
+        asked(alloc, &mut session, *text)?;
     }
     for table in 0..session.schema.tables().len() {
         let versions = versions_of(alloc, table, session.ops.as_slice())?;
@@ -42,20 +40,19 @@ fn versions_of(alloc: Global, table: usize, ops: &[RowOp]) -> Result<List<Versio
     Ok(versions)
 }
 
-/// What a statement of the transaction is answered, with the intervals that it read. Whether it is answered otherwise over
-/// all combinations is told too.
+/// What a statement of the transaction is answered, with the intervals that it read. Whether it comes to something else
+/// over all combinations is told too.
 fn told(alloc: Global, session: &mut Session, text: &str) -> Result<String, Fail> {
-    let answers = asked(alloc, session, text)?;
+    let told = asked(alloc, session, text)?;
     let mut out = String::new(alloc);
-    put_outcome(alloc, &mut out, &answers.by_plan.outcome)?;
-    for interval in answers.by_plan.ranges.as_slice() {
+    put_replies(alloc, &mut out, told.replies.as_slice())?;
+    for interval in told.ranges.as_slice() {
         out.push_str("; ")?;
         put_interval(alloc, &mut out, session.schema.tables(), interval)?;
     }
-    if !are_same(&answers.by_plan.outcome, &answers.plain) {
+    if !told.is_same {
         out.push_str(", and otherwise over all combinations")?;
     }
-    go_on(session, answers.plain);
     Ok(out)
 }
 

@@ -1,0 +1,2 @@
+pub mod MissLemmas
+pub mod HeldLemmas
