@@ -100,7 +100,7 @@ fn all_otherwise(alloc: Global, seeds: u64) -> Result<String, Fail> {
 /// What did not come up more often than it has to.
 fn seldom(alloc: Global, tally: &Tally) -> Result<String, AllocError> {
     let mut out = String::new(alloc);
-    put_seldom(alloc, &mut out, "by a key", tally.by_key, 160)?;
+    put_seldom(alloc, &mut out, "by a key", tally.by_key, 60)?;
     put_seldom(alloc, &mut out, "empty", tally.empty, 6)?;
     put_seldom(alloc, &mut out, "whole", tally.whole, 30)?;
     put_seldom(alloc, &mut out, "found", tally.found, 30)?;
