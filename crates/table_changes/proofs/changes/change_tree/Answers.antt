@@ -1,0 +1,14 @@
+-- What is put stands behind what was taken out.
+use Rattle.std.specs.Option.{option_copied}
+use Rattle.page_workspace.specs.Drafts.{meant}
+use Rattle.btree_index.specs.Changes.{Becomes}
+use Rattle.table_store.specs.Operations as ops
+use Rattle.table_changes.proofs.ChangedLemmas.{put_behind_taken}
+use Rattle.table_changes.proofs.changes.change_tree.Goals as goal
+
+pub returns-in-Ok-clause-changed : goal.returns-in-Ok-clause-changed
+returns-in-Ok-clause-changed g c = λ own free list stands.
+    let taken : Becomes (meant g.P.PageSource.pages c.args.space.now) (meant g.P.PageSource.pages c.take_all.new.space) c.args.root own free
+    (ops.removed (option_copied c.args.key) (ops.gone c.args.table c.args.ops.now) list) = c.in-Ok.ensures.taken own free list stands in
+    put_behind_taken (meant g.P.PageSource.pages c.args.space.now) (meant g.P.PageSource.pages c.take_all.new.space) (meant g.P.PageSource.pages c.put_all.new.space)
+    c.args.root own free _ _ c.put_all.result taken (c.put_all.ensures.put taken.more taken.spare _ taken.stands)
