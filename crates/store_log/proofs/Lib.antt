@@ -1,11 +1,16 @@
 pub mod AdoptionLaws
 pub mod CutLaws
+pub mod FaultLemmas
+pub mod FindLemmas
 pub mod FirstLemmas
+pub mod GrowLemmas
 pub mod HeldLaws
 pub mod KeepLemmas
 pub mod KeptLaws
+pub mod MendLemmas
 pub mod OpenLemmas
 pub mod PieceLemmas
 pub mod StepLemmas
+pub mod WalkLemmas
 pub mod WindowLemmas
 pub mod WorkedStores

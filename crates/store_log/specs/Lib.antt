@@ -4,4 +4,7 @@ pub mod Firsts
 pub mod Held
 pub mod Holds
 pub mod Keeps
+pub mod Mends
+pub mod Opens
 pub mod Steps
+pub mod Walks

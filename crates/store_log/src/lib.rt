@@ -22,12 +22,17 @@
 
 mod asides;
 mod facts;
+mod finds;
 mod held_logs;
 mod laws;
+mod mends;
+mod opens;
 mod readings;
 mod standings;
 mod steps;
 mod stores;
+mod walks;
+mod windows;
 
 pub use facts::stores_by_hand;
 pub use held_logs::{HeldLog, TakeFault};
@@ -35,6 +40,7 @@ pub use laws::{
     cut_frames_stand, held_bytes_stand, kept_frames_stand, left_frames_stand,
     open_adoptions_can_go, standings_are_apart,
 };
+pub use opens::{OpenFault, Opened, Unopened, open_log};
 pub use readings::standing_of;
 pub use standings::Standing;
 pub use stores::{Held, KeepFault};
