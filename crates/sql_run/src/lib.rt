@@ -32,6 +32,6 @@ mod sources;
 pub use answers::answer_prepared;
 pub use kinds::TextKind;
 pub use laws::{sql_keeps_rows, sql_leaves_sound_operations};
-pub use prepares::{Prepared, prepare};
+pub use prepares::{Meaning, Prepared, prepare};
 pub use sources::RowsAt;
 pub use sql_answer_plain::Answer;

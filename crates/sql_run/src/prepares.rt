@@ -20,7 +20,7 @@ use std::alloc::{AllocError, Global};
 
 /// What a text means in a schema.
 #[derive(Drop)]
-pub(crate) enum Meaning {
+pub enum Meaning {
     /// A statement, with the plan by which it reads.
     Runs { statement: Bound, plan: Plan },
     /// It has an error before any row is looked at.
@@ -44,7 +44,7 @@ impl Prepared {
     }
 
     /// What the text means. Takes no memory.
-    pub(crate) fn meaning(&self) -> &Meaning
+    pub fn meaning(&self) -> &Meaning
         ensures meaning { meaning_in result.now ≡ (text_in self.now).meaning }
         ensures plan { plan_in result.now ≡ (text_in self.now).plan }
     {
