@@ -7,7 +7,7 @@ ghost use Rattle.std.specs.BTreeMap.{keys, IsOrdered};
 ghost use Rattle.std.specs.Ordering.{nat_cmp, eq_by_cmp};
 ghost use Rattle.std.specs.Option.{option_copied};
 ghost use Rattle.page_store.specs.Image.{blank_image};
-ghost use Rattle.phys_log.specs.Logs.{pages_of, replayed, Fits, AreNext, records_in, last_lsn_of};
+ghost use Rattle.phys_log.specs.Logs.{pages_of, replayed, Fits, IsLog, AreNext, records_in, last_lsn_of};
 ghost use Rattle.phys_log.specs.Undone.{later_records};
 ghost use Rattle.log_replay.specs.Chains.{links_on, chain_of};
 ghost use Rattle.log_replay.specs.Kept.{found, page_in, chain_in, ArePlain, AreEdited, TellsWhether};
@@ -118,6 +118,8 @@ impl PagedLog {
         requires { position ≤ length self.now }
         ensures copy { IfOk result (λ g. g.copy ≡ pages_of self.now page) }
         ensures chain { IfOk result (λ g. g.chain ≡ later_records self.now position page) }
+        // so that undoing the one on the other gives the page at the position
+        ensures logged { OnOk result (IsLog self.now) }
     {
         let chain = later(alloc, self.entries.as_slice(), self.chain(page), position)?;
         let copy = self.copy_of(alloc, page)?;

@@ -2,7 +2,7 @@ use Rattle.std.proofs.Common.{◌≡◌, List, ap, subst, ◌∙◌}
 use Rattle.phys_log.specs.declared.entries.Entry.{Entry}
 use Rattle.log_replay.specs.Chains.{granted}
 use Rattle.log_replay.specs.Kept.{IsKept}
-use Rattle.log_replay.proofs.LogLemmas.{rises_is, later_is}
+use Rattle.log_replay.proofs.LogLemmas.{rises_is, later_is, log_out}
 use Rattle.log_replay.proofs.logs.PagedLog.grant.Goals as goal
 
 pub later-requires : goal.later-requires
@@ -17,3 +17,9 @@ returns-clause-chain c =
     subst (λ (l : List Entry). IsKept l c.self.inside.pages.entries c.self.inside.chains.entries) c.self.view_is c.self.invariant in
     told ∙ ap (λ (l : List Entry). granted l c.args.position links) at
     ∙ later_is c.args.self.now c.self.inside.pages.entries c.self.inside.chains.entries c.args.position c.args.page links kept c.chain.ensures.chain
+
+pub returns-clause-logged : goal.returns-clause-logged
+returns-clause-logged c =
+    let kept : IsKept c.args.self.now c.self.inside.pages.entries c.self.inside.chains.entries =
+    subst (λ (l : List Entry). IsKept l c.self.inside.pages.entries c.self.inside.chains.entries) c.self.view_is c.self.invariant in
+    log_out c.args.self.now kept.logged
