@@ -1,0 +1,44 @@
+//! Pages at an earlier position of a log that goes on: a reader takes a grant of a page from whoever has the log now, and
+//! undoes what came after its position.
+//!
+//! A grant is a copy of the page of now, and the page's records after the position, newest first (`log_replay`). Undone
+//! one after the other, they leave the page at the position. Two grants may come of different logs, as long as each
+//! begins with the same first entries, up to the position:
+//!
+//! ```text
+//! first entries, up to position 2    e1 e2
+//! grant of page 0                    e1 e2 e3            copy of page 0, chain: its records in e3
+//! grant of page 1                    e1 e2 e3 e4 e5      the log has grown
+//! grant of page 7                    e1 e2 f3 f4         another node's, or a tail dropped and written anew
+//! ```
+//!
+//! Nothing is assumed of the time between two grants: a page may have been freed and used again, and the undone page is
+//! still that of the first entries, since they alone decide it. `SnapshotPages` gives pages by this way as a `PageSource`:
+//!
+//! ```text
+//! load 0   granted, undone and kept     kept: 0
+//! load 1   granted, undone and kept     kept: 1 0
+//! load 0   kept: nothing is granted     kept: 0 1
+//! ```
+//!
+//! The 256 pages that were used last are kept. They outlive their `SnapshotPages` where they are taken out as `KeptPages`
+//! and handed to the next one over the same first entries.
+//!
+//! | Notion | Code | Definition |
+//! |---|---|---|
+//! | what a grant speaks of | `Granter::grant` | `specs/Grants.antt` |
+//! | records that can be undone, one after the other | | `specs/Grants.antt` |
+//! | the kept pages, and one of them used | `KeptPages` | `specs/Kept.antt` |
+//! | a source of undone pages | `SnapshotPages` | `specs/Snapshots.antt` |
+#![tactic(auto)]
+
+mod granters;
+mod kept;
+mod laws;
+mod snapshots;
+mod undoing;
+
+pub use granters::{Granter, LogGranter};
+pub use kept::KeptPages;
+pub use laws::undoing_gives_the_first_entries;
+pub use snapshots::SnapshotPages;
