@@ -1,0 +1,9 @@
+mod ListLemmas
+mod GenidLemmas
+mod StateLemmas
+mod FitLemmas
+mod ForestLemmas
+mod StepLemmas
+mod BrokenLemmas
+mod PassLemmas
+mod EndLemmas

@@ -1,0 +1,30 @@
+-- The pages stay while the next genid is read.
+use Rattle.std.proofs.Common.{ℕ, ap, sym, ◌∙◌, subst}
+use Rattle.page_store.specs.Image.{Image}
+use Rattle.page_workspace.specs.Drafts.{meant}
+use Rattle.page_workspace.specs.Spare.{next_genid}
+use Rattle.table_store.specs.Stored.{Stands}
+use Rattle.table_edits.specs.Answers.{AreWithin}
+use Rattle.table_edits.proofs.EndLemmas.{done_told, broken_told}
+use Rattle.table_edits.proofs.edits.change_rows.Goals as goal
+
+pub change_from-requires-clause-next : goal.change_from-requires-clause-next
+change_from-requires-clause-next g c =
+    c.in-Ok.ensures.next ∙ ap (λ (pages : ℕ → Image). next_genid pages) (sym c.in-Ok.ensures.pages)
+
+pub returns-in-Ok-clause-stands : goal.returns-in-Ok-clause-stands
+returns-in-Ok-clause-stands g c = λ rows stands able.
+    let there = subst (λ (pages : ℕ → Image). Stands pages c.args.schema.now rows) (sym c.in-Ok.ensures.pages) stands in
+    done_told c.change_from.result _ _ _ (λ d. d.0) (c.change_from.ensures.done rows there able)
+
+pub returns-in-Ok-clause-duplicate : goal.returns-in-Ok-clause-duplicate
+returns-in-Ok-clause-duplicate g c = λ rows stands able.
+    let there = subst (λ (pages : ℕ → Image). Stands pages c.args.schema.now rows) (sym c.in-Ok.ensures.pages) stands in
+    broken_told c.change_from.result _ _ (c.change_from.ensures.done rows there able)
+
+pub returns-in-Ok-clause-within : goal.returns-in-Ok-clause-within
+returns-in-Ok-clause-within g c = λ rows stands able.
+    let there = subst (λ (pages : ℕ → Image). Stands pages c.args.schema.now rows) (sym c.in-Ok.ensures.pages) stands in
+    done_told c.change_from.result _ _ _
+    (λ d. subst (λ (pages : ℕ → Image). AreWithin pages (meant g.P.PageSource.pages c.change_from.new.space)) c.in-Ok.ensures.pages d.1)
+    (c.change_from.ensures.done rows there able)

@@ -1,0 +1,21 @@
+-- The edits of the workspace, made on the pages that went into it.
+use Rattle.std.proofs.Common.{◌≡◌, ℕ, List, sym, ap, ◌∙◌, subst}
+use Rattle.page_store.specs.Image.{Image}
+use Rattle.page_store.specs.declared.edits.Edit.{Edit}
+use Rattle.page_workspace.specs.Drafts.{Draft, meant, edited_by}
+use Rattle.table_store.specs.Stored.{Stands}
+use Rattle.table_edits.specs.Answers.{AreWithin}
+use Rattle.table_edits.proofs.edits.ops_to_edits.Goals as goal
+
+pub returns-in-Ok-clause-within : goal.returns-in-Ok-clause-within
+returns-in-Ok-clause-within g c = λ rows stands able.
+    let pages = g.P.PageSource.pages in
+    let new = c.change_rows.new.space in
+    let items = c.finish.result.items in
+    let first : meant pages c.new-space.result ≡ pages c.args.pages = ap (λ (d : Draft g.row.P.Denot). meant pages d) c.new-space.ensures in
+    let base : pages new.base ≡ pages c.args.pages = c.in-Ok.ensures.base ∙ ap (λ (d : Draft g.row.P.Denot). pages d.base) c.new-space.ensures in
+    let after : meant pages new ≡ edited_by items (pages c.args.pages) =
+    ap (λ (es : List (ℕ × Edit)). edited_by es (pages new.base)) (sym c.finish.ensures.edits) ∙ ap (λ (f : ℕ → Image). edited_by items f) base in
+    subst (λ (f : ℕ → Image). AreWithin f (edited_by items (pages c.args.pages))) first
+    (subst (λ (f : ℕ → Image). AreWithin (meant pages c.new-space.result) f) after
+    (c.in-Ok.ensures.within rows (subst (λ (f : ℕ → Image). Stands f c.args.schema.now rows) (sym first) stands) able))

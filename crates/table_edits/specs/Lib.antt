@@ -1,0 +1,5 @@
+pub mod Fits
+pub mod Genids
+pub mod Broken
+pub mod Halfway
+pub mod Answers
