@@ -176,27 +176,6 @@ chain_more pages (suc turns) id ids more all some turned free m h =
     go false e = e
     go true e = absurd (some (eqb-true id 0 e))
 
-pub chain_stops : (pages : ℕ → Image) (turns id : ℕ) (ids : List ℕ) (all : Option (List ℕ)) → (id ≡ 0 → ⊥) → (turns ≡ 0) ⊎ (is_free_page (pages id) ≡ false)
-    → option_map (λ (l : List ℕ). ids ++ l) (chain_from pages turns id) ≡ all → None ≡ all
-chain_stops pages zero id ids all some stop h =
-    sym (ap (λ (t : Bool). option_map (λ (l : List ℕ). ids ++ l) (if t then Some [] else None)) (go (id == 0) refl)) ∙ h
-  where
-    go : (t : Bool) → (id == 0) ≡ t → (id == 0) ≡ false
-    go false e = e
-    go true e = absurd (some (eqb-true id 0 e))
-chain_stops pages (suc turns) id ids all some (inl e) h = absurd (none turns e)
-  where
-    none : (n : ℕ) → suc n ≡ 0 → ⊥
-    none n e = omega arith
-chain_stops pages (suc turns) id ids all some (inr bad) h =
-    sym (ap (λ (t : Bool). option_map (λ (l : List ℕ). ids ++ l) (if t then Some [] else if is_free_page (pages id) then option_map (λ (l : List ℕ). id ∷ l) (chain_from pages turns (pages id).head.right) else None)) (go (id == 0) refl)
-    ∙ ap (λ (t : Bool). option_map (λ (l : List ℕ). ids ++ l) (if t then option_map (λ (l : List ℕ). id ∷ l) (chain_from pages turns (pages id).head.right) else None)) bad)
-    ∙ h
-  where
-    go : (t : Bool) → (id == 0) ≡ t → (id == 0) ≡ false
-    go false e = e
-    go true e = absurd (some (eqb-true id 0 e))
-
 pub chain_ends : (pages : ℕ → Image) (turns id : ℕ) (ids : List ℕ) (all : Option (List ℕ)) → id ≡ 0 → option_map (λ (l : List ℕ). ids ++ l) (chain_from pages turns id) ≡ all
     → Some ids ≡ all
 chain_ends pages turns id ids all e h =

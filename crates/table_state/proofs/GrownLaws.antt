@@ -3,7 +3,9 @@ use Rattle.std.proofs.Common.{◌≡◌, ◌⊎◌, inl, inr, ℕ, zero, suc, �
 use Rattle.std.specs.List.{AllByRecursion}
 use Rattle.page_store.specs.Image.{Image}
 use Rattle.page_workspace.specs.Spare.{IsIn, AreApart, IsChain, first_free, count_of}
-use Rattle.btree_index.specs.Trees.{top, pages_of}
+use Rattle.btree_index.specs.Trees.{top, pages_of, leaves}
+use Rattle.table_state.specs.Listed.{Climb, AllClimb}
+use Rattle.table_state.proofs.ClimbLaws.{cells_climb}
 use Rattle.btree_index.proofs.ApartLaws.{in_left, in_right, in_either, apart_left, apart_right, apart_cross, apart_join}
 use Rattle.btree_index.proofs.TreeLaws.{one_height}
 use Rattle.tree_walk.specs.declared.walks.Walked.{Walked}
@@ -35,6 +37,12 @@ trees_stand pages root limit (t ∷ ts) w apart =
       record { height = s.0; cells = t.cells.items; holds = s.1; own_is = sym s.2; pairs = refl },
       trees_stand pages (suc root) limit ts w.1 (apart_right (own_of t) (joined (owns_of ts)) apart),
     )
+
+-- their cells climb
+trees_climb : (pages : ℕ → Image) (root limit : ℕ) (trees : List Walked) → AreWalked pages root limit trees → AllClimb trees
+trees_climb pages root limit [] w = tt
+trees_climb pages root limit (t ∷ ts) w =
+    (subst Climb w.0.1.is (cells_climb pages (leaves pages w.0.0 (top root)) w.0.1.fenced), trees_climb pages (suc root) limit ts w.1)
 
 -- the pages of a tree are those that its walk gave
 same_own : (pages : ℕ → Image) (root limit : ℕ) (t : Walked) (own : List ℕ) (list : List Pair) → IsWalked pages root limit (Some t) → IsTree pages root own list
@@ -128,6 +136,7 @@ forest_there pages number limit r found h g own next free =
       next = next ∙ h.next;
       next_small = subst (λ (n : ℕ). n < 2 ^ 62) (sym next) h.next_small;
       count_small = subst (λ (n : ℕ). n < 2 ^ 62) h.count h.count_small;
+      climb = trees_climb pages 1 limit found.trees.items g.walked;
     }
 
 -- no forest stands where the free pages do not

@@ -3,3 +3,13 @@ pub mod ChainLaws
 pub mod NumberLaws
 pub mod ReserveLaws
 pub mod GrownLaws
+pub mod FitLaws
+pub mod AmongLaws
+pub mod VersionLaws
+pub mod ClimbLaws
+pub mod OrderLaws
+pub mod ListedLaws
+pub mod KeyedLaws
+pub mod TableLaws
+pub mod PlanLaws
+pub mod StateLaws

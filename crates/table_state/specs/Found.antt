@@ -6,6 +6,9 @@ use Rattle.table_store.specs.Forests.{Pair, Forest, joined}
 use Rattle.table_state.specs.declared.forests.Found.{Found}
 use Rattle.tree_walk.specs.declared.walks.Walked.{Walked}
 use Rattle.table_state.specs.declared.reserves.Reserve.{Reserve}
+use Rattle.table_state.specs.Listed.{AllClimb, AreTables}
+use Rattle.cdb_values.specs.Rows.{Rows}
+use Rattle.cdb_values.specs.declared.tables.TableDef.{TableDef}
 use Rattle.table_state.specs.Grown.{owns_of, lists_of, AreOwn}
 
 -- the pages are a forest of so many trees, with these pages, lists and free pages, and small numbers on the meta page
@@ -15,6 +18,7 @@ pub record HasForest (pages : ℕ → Image) (trees : ℕ) (found : Found) : Typ
   pub next : found.next ≡ next_genid pages
   pub next_small : found.next < 2 ^ 62
   pub count_small : count_of pages < 2 ^ 62
+  pub climb : AllClimb found.trees.items
 
 -- the pages are no forest of so many trees at all, or the numbers on the meta page are not small
 abbrev pub HasNoForest : (ℕ → Image) → ℕ → Type 0
@@ -36,3 +40,8 @@ pub record HasAll (reserve : Reserve) (grown : List Walked) (found : Found) : Ty
 abbrev pub IsGathered : Reserve → List Walked → Option Found → Type 0
 IsGathered reserve trees None = AreOwn (joined (owns_of trees) ++ reserve.free.items) reserve.count → ⊥
 IsGathered reserve trees (Some found) = HasAll reserve trees found
+
+-- the rows that the trees of what was found list
+pub record IsRead (found : Found) (tables : List TableDef) (rows : Rows) : Type 0 where
+  pub are : AreTables found.next tables (lists_of found.trees.items) rows.tables
+  pub next_is : rows.next ≡ found.next

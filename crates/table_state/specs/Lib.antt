@@ -4,3 +4,6 @@ pub mod Numbers
 pub mod Reserves
 pub mod Grown
 pub mod Found
+pub mod Fits
+pub mod Listed
+pub mod States

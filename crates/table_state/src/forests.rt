@@ -15,16 +15,16 @@ use tree_walk::Walked;
 /// What pages hold: the next genid, the numbers of the free pages, and the trees from root 1 on, each with the numbers of
 /// its pages and the cells of its leaves.
 #[derive(Drop)]
-pub struct Found {
+pub(crate) struct Found {
     /// The next genid.
-    pub next: u64,
+    pub(crate) next: u64,
     /// The numbers of the free pages, as they are chained.
-    pub free: Vec<u64>,
+    pub(crate) free: Vec<u64>,
     /// The trees, by their roots.
-    pub trees: Vec<Walked>,
+    pub(crate) trees: Vec<Walked>,
 }
 
-/// What the walks may need at most: 2^62 pages were never edited.
+/// The number that each number of edited pages stays below: 2^62. No slice has as many.
 const LIMIT: u64 = 1 << 62;
 
 /// The trees of any pages, `trees` of them from root 1 on, with the meta page and the free pages. Each page whose number is
@@ -32,7 +32,7 @@ const LIMIT: u64 = 1 << 62;
 ///
 /// `None` exactly where the pages hold no such trees, all on pages of their own, or where the next genid or the number of
 /// pages is 2^62 or more. `Gone` comes only where the source lost its pages; `NoMemory` is want of memory.
-pub fn forest_of<P: PageSource>(
+pub(crate) fn forest_of<P: PageSource>(
     alloc: Global,
     pages: &mut P,
     trees: u64,

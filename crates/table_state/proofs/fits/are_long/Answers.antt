@@ -1,0 +1,6 @@
+use Rattle.cdb_values.specs.Good.{bytes_of_key}
+use Rattle.table_state.proofs.FitLaws.{past_key}
+use Rattle.table_state.proofs.fits.are_long.Goals as goal
+
+pub returns : goal.returns
+returns c = past_key (bytes_of_key c.args.values.now) c.key_size.result c.key_size.ensures

@@ -1,0 +1,6 @@
+use Rattle.cdb_values.specs.Good.{bytes_of_row}
+use Rattle.table_state.proofs.FitLaws.{past_row}
+use Rattle.table_state.proofs.fits.is_row_long.Goals as goal
+
+pub returns : goal.returns
+returns c = past_row (bytes_of_row c.args.row.now) c.row_size.result c.row_size.ensures
