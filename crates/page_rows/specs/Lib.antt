@@ -1,0 +1,5 @@
+pub mod Bounds
+pub mod Picks
+pub mod Listed
+pub mod OneState
+pub mod Standing
