@@ -11,12 +11,14 @@ use Rattle.cdb_values.specs.declared.tables.KeyDef.{KeyDef}
 use Rattle.cdb_values.specs.declared.values.Value.{Value}
 use Rattle.sql_bind.specs.declared.types.Cmp.{Cmp}
 use Rattle.sql_bind.specs.declared.types.Cmp.TheVariants as cmp
-use Rattle.key_code.specs.Codes.{key_value, key_code, IsInRange}
+use Rattle.byteorder.specs.Endian.{big_bytes}
+use Rattle.cdb_values.specs.declared.values.Value.TheVariants.{Null, Int, Text, Blob}
+use Rattle.key_code.specs.Codes.{lifted, key_value, key_code, IsInRange}
 use Rattle.key_code.proofs.NumberLaws.{byte_order}
 use Rattle.sql_answer.specs.Truth.{Unknown, is_yes, truth_of, is_null, stands, compared}
 use Rattle.sql_answer.specs.Conditions.{cell}
 use Rattle.query_laws.specs.Intervals.{Interval, Edge, Free, AtLeast, Above, AtMost, Below, is_within, are_equal, is_between}
-use Rattle.page_rows.specs.Bounds.{IsTail, AreEnds, beyond, low_end, high_end, counted_edge, low_key, high_key, IsLowInRange, IsHighInRange}
+use Rattle.page_rows.specs.Bounds.{IsTail, AreEnds, beyond, after_null, low_end, high_end, counted_edge, low_key, high_key, IsLowInRange, IsHighInRange}
 use Rattle.page_rows.proofs.OrderLemmas.{under_beyond, none_under, from_value, above_value, to_value, below_value, same_first}
 
 pub both : (a b : Bool) → (a && b) ≡ true → (a ≡ true) × (b ≡ true)
@@ -40,14 +42,36 @@ is_equal Less h = absurd (false≢true h)
 is_equal Equal h = refl
 is_equal Greater h = absurd (false≢true h)
 
--- the value of the next column, within a bound, decides
-low_next : (edge : Edge) (v : Value) (values : List Value) (tail : List ℕ) → IsInRange v → IsLowInRange edge → is_within edge v ≡ true
-    → is_lt (byte_order (key_code (v ∷ values) ++ tail) (low_end edge)) ≡ false
-low_next Free v values tail h k w = none_under (key_code (v ∷ values) ++ tail)
-low_next (AtLeast x) v values tail h k w = from_value v x values tail h k (stands_so cmp.Ge v x w)
-low_next (Above x) v values tail h k w = above_value v x values tail beyond h k (stands_so cmp.Gt v x w)
-low_next (AtMost x) v values tail h k w = none_under (key_code (v ∷ values) ++ tail)
-low_next (Below x) v values tail h k w = none_under (key_code (v ∷ values) ++ tail)
+-- a value that is compared is not NULL
+not_null : (op : Cmp) (a b : Value) → is_yes (compared op a b) ≡ true → is_null a ≡ false
+not_null op a b h = go (is_null a) h
+  where
+    go : (n : Bool) → is_yes (if n || is_null b then Unknown else truth_of (stands op (value_order a b))) ≡ true → n ≡ false
+    go true k = absurd (false≢true k)
+    go false k = refl
+
+some_value : (v : Value) (values : List Value) (tail : List ℕ) → is_null v ≡ false → is_lt (byte_order (key_code (v ∷ values) ++ tail) (1 ∷ [])) ≡ false
+some_value Null values tail e = absurd (false≢true (sym e))
+some_value (Int x) values tail e = none_under ((big_bytes 8 (lifted x) ++ key_code values) ++ tail)
+some_value (Text x) values tail e = refl
+some_value (Blob x) values tail e = refl
+
+past_null : (high : Edge) (v : Value) (values : List Value) (tail : List ℕ) → is_within high v ≡ true
+    → is_lt (byte_order (key_code (v ∷ values) ++ tail) (after_null high)) ≡ false
+past_null Free v values tail w = none_under (key_code (v ∷ values) ++ tail)
+past_null (AtLeast x) v values tail w = none_under (key_code (v ∷ values) ++ tail)
+past_null (Above x) v values tail w = none_under (key_code (v ∷ values) ++ tail)
+past_null (AtMost x) v values tail w = some_value v values tail (not_null cmp.Le v x w)
+past_null (Below x) v values tail w = some_value v values tail (not_null cmp.Lt v x w)
+
+-- the value of the next column, within its bounds, decides
+low_next : (low high : Edge) (v : Value) (values : List Value) (tail : List ℕ) → IsInRange v → IsLowInRange low → is_within low v ≡ true → is_within high v ≡ true
+    → is_lt (byte_order (key_code (v ∷ values) ++ tail) (low_end low high)) ≡ false
+low_next Free high v values tail h k w u = past_null high v values tail u
+low_next (AtLeast x) high v values tail h k w u = from_value v x values tail h k (stands_so cmp.Ge v x w)
+low_next (Above x) high v values tail h k w u = above_value v x values tail beyond h k (stands_so cmp.Gt v x w)
+low_next (AtMost x) high v values tail h k w u = past_null high v values tail u
+low_next (Below x) high v values tail h k w u = past_null high v values tail u
 
 high_next : (edge : Edge) (v : Value) (values : List Value) (tail : List ℕ) → IsTail tail → IsInRange v → IsHighInRange edge → is_within edge v ≡ true
     → is_lt (byte_order (key_code (v ∷ values) ++ tail) (high_end edge)) ≡ true
@@ -71,14 +95,16 @@ front_order x v values others tail end h k e =
 from_low : (columns : List ℕ) (equal : List Value) (low high : Edge) (row : List Value) (tail : List ℕ) → AllByRecursion IsInRange (cells row columns)
     → AllByRecursion IsInRange equal → IsLowInRange (counted_edge (slice_get columns (length equal)) low) → are_equal columns equal row ≡ true
     → is_between (slice_get columns (length equal)) low high row ≡ true
-    → is_lt (byte_order (key_code (cells row columns) ++ tail) (low_key columns equal low)) ≡ false
+    → is_lt (byte_order (key_code (cells row columns) ++ tail) (low_key columns equal low high)) ≡ false
 from_low [] [] low high row tail r s k e b = none_under tail
 from_low (c ∷ cs) [] low high row tail r s k e b =
-    low_next low (cell row c) (cells row cs) tail r.0 k (both (is_within low (cell row c)) (is_within high (cell row c)) b).0
+    let m = both (is_within low (cell row c)) (is_within high (cell row c)) b in
+    low_next low high (cell row c) (cells row cs) tail r.0 k m.0 m.1
 from_low [] (v ∷ vs) low high row tail r s k e b = absurd (false≢true e)
 from_low (c ∷ cs) (v ∷ vs) low high row tail r s k e b =
     let same = both (is_yes (compared cmp.Eq (cell row c) v)) (are_equal cs vs row) e in
-    ap is_lt (front_order (cell row c) v (cells row cs) vs tail (low_end (counted_edge (slice_get cs (length vs)) low)) r.0 s.0 same.0)
+    ap is_lt (front_order (cell row c) v (cells row cs) vs tail
+    (low_end (counted_edge (slice_get cs (length vs)) low) (counted_edge (slice_get cs (length vs)) high)) r.0 s.0 same.0)
     ∙ from_low cs vs low high row tail r.1 s.1 k same.1 b
 
 to_high : (columns : List ℕ) (equal : List Value) (low high : Edge) (row : List Value) (tail : List ℕ) → IsTail tail → AllByRecursion IsInRange (cells row columns)
@@ -98,7 +124,7 @@ to_high (c ∷ cs) (v ∷ vs) low high row tail t r s k e b =
 pub are_ends : (key : KeyDef) (interval : Interval) → AllByRecursion IsInRange interval.equal
     → IsLowInRange (counted_edge (slice_get key.columns (length interval.equal)) interval.low)
     → IsHighInRange (counted_edge (slice_get key.columns (length interval.equal)) interval.high)
-    → AreEnds key interval (low_key key.columns interval.equal interval.low) (high_key key.columns interval.equal interval.high)
+    → AreEnds key interval (low_key key.columns interval.equal interval.low interval.high) (high_key key.columns interval.equal interval.high)
 unfolding before
 are_ends key interval s l h = λ row tail t r e.
     let m = both (are_equal key.columns interval.equal row) (is_between (slice_get key.columns (length interval.equal)) interval.low interval.high row) e in (
@@ -109,11 +135,11 @@ are_ends key interval s l h = λ row tail t r e.
 pub ends_are : (key : KeyDef) (interval : Interval) (columns : List ℕ) (low high : Key) → columns ≡ key.columns → AllByRecursion IsInRange interval.equal
     → IsLowInRange (counted_edge (slice_get columns (length interval.equal)) interval.low)
     → IsHighInRange (counted_edge (slice_get columns (length interval.equal)) interval.high)
-    → low ≡ low_key columns interval.equal interval.low → high ≡ high_key columns interval.equal interval.high → AreEnds key interval low high
+    → low ≡ low_key columns interval.equal interval.low interval.high → high ≡ high_key columns interval.equal interval.high → AreEnds key interval low high
 ends_are key interval columns low high c s l h el eh =
     let small = subst (λ (cs : List ℕ). IsLowInRange (counted_edge (slice_get cs (length interval.equal)) interval.low)) c l in
     let large = subst (λ (cs : List ℕ). IsHighInRange (counted_edge (slice_get cs (length interval.equal)) interval.high)) c h in
-    let first : low ≡ low_key key.columns interval.equal interval.low = el ∙ ap (λ (cs : List ℕ). low_key cs interval.equal interval.low) c in
+    let first : low ≡ low_key key.columns interval.equal interval.low interval.high = el ∙ ap (λ (cs : List ℕ). low_key cs interval.equal interval.low interval.high) c in
     let last : high ≡ high_key key.columns interval.equal interval.high = eh ∙ ap (λ (cs : List ℕ). high_key cs interval.equal interval.high) c in
     subst (λ (k : Key). AreEnds key interval k high) (sym first)
-    (subst (λ (k : Key). AreEnds key interval (low_key key.columns interval.equal interval.low) k) (sym last) (are_ends key interval s small large))
+    (subst (λ (k : Key). AreEnds key interval (low_key key.columns interval.equal interval.low interval.high) k) (sym last) (are_ends key interval s small large))

@@ -22,13 +22,21 @@ use Rattle.query_laws.specs.Intervals.{Interval, lies_by, Edge, Free, AtLeast, A
 abbrev pub beyond : List ℕ
 beyond = 255 ∷ 255 ∷ 255 ∷ 255 ∷ 255 ∷ 255 ∷ 255 ∷ 255 ∷ 255 ∷ []
 
--- what a bound puts behind the equal values: where the pairs begin, and where they end
-abbrev pub low_end : Edge → List ℕ
-low_end Free = []
-low_end (AtLeast value) = key_value value
-low_end (Above value) = key_value value ++ beyond
-low_end (AtMost value) = []
-low_end (Below value) = []
+-- what comes after NULL, whose code is a byte 0, where a high bound wants a value
+abbrev pub after_null : Edge → List ℕ
+after_null Free = []
+after_null (AtLeast value) = []
+after_null (Above value) = []
+after_null (AtMost value) = 1 ∷ []
+after_null (Below value) = 1 ∷ []
+
+-- what two bounds put behind the equal values: where the pairs begin, and where they end
+abbrev pub low_end : Edge → Edge → List ℕ
+low_end Free high = after_null high
+low_end (AtLeast value) high = key_value value
+low_end (Above value) high = key_value value ++ beyond
+low_end (AtMost value) high = after_null high
+low_end (Below value) high = after_null high
 
 abbrev pub high_end : Edge → List ℕ
 high_end Free = beyond
@@ -43,8 +51,9 @@ counted_edge None edge = Free
 counted_edge (Some column) edge = edge
 
 -- the keys between which the pairs stand, for a key over these columns
-abbrev pub low_key : List ℕ → List Value → Edge → List ℕ
-low_key columns equal low = key_code equal ++ low_end (counted_edge (slice_get columns (length equal)) low)
+abbrev pub low_key : List ℕ → List Value → Edge → Edge → List ℕ
+low_key columns equal low high =
+    key_code equal ++ low_end (counted_edge (slice_get columns (length equal)) low) (counted_edge (slice_get columns (length equal)) high)
 
 abbrev pub high_key : List ℕ → List Value → Edge → List ℕ
 high_key columns equal high = key_code equal ++ high_end (counted_edge (slice_get columns (length equal)) high)

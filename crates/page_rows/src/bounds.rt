@@ -3,7 +3,7 @@ ghost use Rattle.std.specs.Prelude.{◌≡◌, ◌++◌, length, slice_get, IfOk
 ghost use Rattle.std.specs.List.{AllByRecursion};
 ghost use Rattle.key_code.specs.Codes.{key_value, key_code, IsInRange};
 ghost use Rattle.query_plan.specs.Views.{edge_in, interval_in};
-ghost use Rattle.page_rows.specs.Bounds.{beyond, low_end, high_end, counted_edge, low_key as low_key_of, high_key as high_key_of, IsLowInRange, IsHighInRange, AreEnds};
+ghost use Rattle.page_rows.specs.Bounds.{beyond, after_null, low_end, high_end, counted_edge, low_key as low_key_of, high_key as high_key_of, IsLowInRange, IsHighInRange, AreEnds};
 
 use cdb_values::{Edge, Interval, KeyDef, Value};
 use key_code::encode_key;
@@ -33,14 +33,14 @@ pub(crate) fn ends_of(alloc: Global, key: &KeyDef, interval: &Interval) -> Resul
 /// The first key that a pair of the interval can have, in the tree of a key over these columns. The error is want of
 /// memory.
 fn low_key(alloc: Global, columns: &[u8], interval: &Interval) -> Result<Vec<u8>, AllocError>
-    ensures key { IfOk result (λ key. key.items ≡ low_key_of columns.now interval.now.equal (edge_in interval.now.low)) }
+    ensures key { IfOk result (λ key. key.items ≡ low_key_of columns.now interval.now.equal (edge_in interval.now.low) (edge_in interval.now.high)) }
     ensures equal { OnOk result (AllByRecursion IsInRange interval.now.equal) }
     ensures edge { OnOk result (IsLowInRange (counted_edge (slice_get columns.now (length interval.now.equal)) (edge_in interval.now.low))) }
 {
     let mut key = Vec::new(alloc);
     put_key(alloc, &mut key, interval.equal.as_slice())?;
     if interval.equal.len() < columns.len() {
-        put_low(alloc, &mut key, &interval.low)?;
+        put_low(alloc, &mut key, &interval.low, &interval.high)?;
     }
     Ok(key)
 }
@@ -61,15 +61,28 @@ fn high_key(alloc: Global, columns: &[u8], interval: &Interval) -> Result<Vec<u8
     Ok(key)
 }
 
-/// Adds what a bound says of where the pairs begin.
-fn put_low(alloc: Global, key: &mut Vec<u8>, edge: &Edge) -> Result<(), AllocError>
-    ensures end { OnOk result (key.new.items ≡ key.old.items ++ low_end (edge_in edge.now)) }
-    ensures range { OnOk result (IsLowInRange (edge_in edge.now)) }
+/// Adds what two bounds say of where the pairs begin.
+fn put_low(alloc: Global, key: &mut Vec<u8>, low: &Edge, high: &Edge) -> Result<(), AllocError>
+    ensures end { OnOk result (key.new.items ≡ key.old.items ++ low_end (edge_in low.now) (edge_in high.now)) }
+    ensures range { OnOk result (IsLowInRange (edge_in low.now)) }
 {
-    match edge {
-        Edge::Free | Edge::AtMost(_) | Edge::Below(_) => Ok(()),
+    match low {
+        Edge::Free | Edge::AtMost(_) | Edge::Below(_) => put_after_null(key, high),
         Edge::AtLeast(value) => put_value(alloc, key, value),
         Edge::Above(value) => put_after(alloc, key, value),
+    }
+}
+
+/// Adds what comes after NULL, where a high bound wants a value.
+fn put_after_null(key: &mut Vec<u8>, high: &Edge) -> Result<(), AllocError>
+    ensures { OnOk result (key.new.items ≡ key.old.items ++ after_null (edge_in high.now)) }
+{
+    match high {
+        Edge::Free | Edge::AtLeast(_) | Edge::Above(_) => Ok(()),
+        Edge::AtMost(_) | Edge::Below(_) => {
+            key.push(1)?;
+            Ok(())
+        }
     }
 }
 

@@ -14,7 +14,7 @@
 //!
 //! | Bound | The low end goes on with | The high end goes on with |
 //! |---|---|---|
-//! | none, or no next column | nothing | nine bytes 255 |
+//! | none, or no next column | nothing, or 01 below a high bound, since NULL is 00 | nine bytes 255 |
 //! | at least x | the code of x | |
 //! | above x | the code of x, nine bytes 255 | |
 //! | at most x | | the code of x, nine bytes 255 |
