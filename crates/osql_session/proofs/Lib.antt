@@ -1,0 +1,4 @@
+pub mod BaseLemmas
+pub mod CourseLemmas
+pub mod ItemLemmas
+pub mod RepeatLemmas

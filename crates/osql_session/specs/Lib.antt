@@ -1,0 +1,5 @@
+pub mod Courses
+pub mod Items
+pub mod Requests
+pub mod Sessions
+pub mod Used
