@@ -22,7 +22,8 @@
 //! ```
 //!
 //! The 256 pages that were used last are kept. They outlive their `SnapshotPages` where they are taken out as `KeptPages`
-//! and handed to the next one over the same first entries.
+//! and handed to the next one over the same first entries. That they are the same is known by the type of a
+//! `FrontGranter`, where the source was lent to code that tells nothing of it.
 //!
 //! | Notion | Code | Definition |
 //! |---|---|---|
@@ -32,12 +33,14 @@
 //! | a source of undone pages | `SnapshotPages` | `specs/Snapshots.antt` |
 #![tactic(auto)]
 
+mod fronts;
 mod granters;
 mod kept;
 mod laws;
 mod snapshots;
 mod undoing;
 
+pub use fronts::{Front, FrontGranter};
 pub use granters::{Granter, LogGranter};
 pub use kept::KeptPages;
 pub use laws::undoing_gives_the_first_entries;

@@ -1,14 +1,12 @@
 ghost use Rattle.std.specs.Prelude.{◌≡◌, ◌≤◌, ◌++◌, IfOk, OnOk, length, take};
-ghost use Rattle.phys_log.specs.Logs.{pages_of};
 ghost use Rattle.undo_snapshot.specs.Grants.{Speaks};
-ghost use Rattle.undo_snapshot.specs.Kept.{AreOf};
 
 use cdb_values::List;
 use log_replay::{Grant, PagedLog};
-use page_store::{PageFault, PageSource};
+use page_store::PageFault;
 use phys_log::{Entry, copy_entry};
 use std::alloc::{AllocError, Global};
-use undo_snapshot::{Granter, KeptPages, LogGranter, SnapshotPages};
+use undo_snapshot::{Granter, LogGranter};
 
 /// Appends copies of entries to a log.
 pub(crate) fn append_all(
@@ -26,36 +24,6 @@ pub(crate) fn append_all(
             Err(_) => return Err(AllocError),
         }
         rest = after;
-    }
-    Ok(())
-}
-
-/// Appends an entry behind a position at which pages are kept. They stay pages at that position.
-#[tactic(auto, using(crate::proofs::FrontLemmas::kept_on))]
-pub fn append_behind(
-    alloc: Global,
-    log: &mut PagedLog,
-    entry: Entry,
-    position: u64,
-    kept: &KeptPages,
-) -> Result<(), AllocError>
-    requires within { position ≤ length log.old }
-    requires kept { AreOf (pages_of (take position log.old)) kept.now }
-    ensures within { position ≤ length log.new }
-    ensures kept { AreOf (pages_of (take position log.new)) kept.now }
-{
-    match log.append(alloc, entry) {
-        Ok(()) => Ok(()),
-        Err(_) => Err(AllocError),
-    }
-}
-
-/// Loads the first pages, so many. The granter keeps its first entries.
-pub fn load_first<G: Granter>(source: &mut SnapshotPages<G>, count: u64) -> Result<(), PageFault>
-    ensures front { G.front source.new.granter ≡ G.front source.old.granter }
-{
-    for id in 0..count {
-        source.load(id)?;
     }
     Ok(())
 }

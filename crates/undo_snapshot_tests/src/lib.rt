@@ -3,8 +3,10 @@
 #![tactic(auto)]
 
 mod granters;
+mod keeps;
 
-pub use granters::{CountedGranter, TurningGranter, append_behind, load_first};
+pub use granters::{CountedGranter, TurningGranter};
+pub use keeps::{append_behind, keep_first};
 
 #[cfg(test)]
 mod samples;

@@ -1,6 +1,7 @@
 //! Grants of other logs each time, a granter that is lost, and kept pages while the log grows.
 
-use super::granters::{CountedGranter, TurningGranter, append_behind, load_first};
+use super::granters::{CountedGranter, TurningGranter};
+use super::keeps::{append_behind, keep_first};
 use super::samples::{PAGES, draw, entry_over, folded, is_same_page, three_tails};
 use cdb_values::List;
 use log_replay::PagedLog;
@@ -81,9 +82,7 @@ fn kept_pages_outlive_their_source(rt: HostRuntime) -> Result<(), Fail> {
     let mut log = PagedLog::new(alloc);
     draw(alloc, &mut log, 6, 5)?;
     assert!(rt; log.entries().len() == 6);
-    let mut source = SnapshotPages::new(alloc, LogGranter::new(&log, 6), 6)?;
-    load_first(&mut source, PAGES)?;
-    let kept = source.into_kept();
+    let kept = keep_first(alloc, &log, 6, PAGES)?;
     let entry = entry_over(alloc, &log, 0, PAGES)?;
     append_behind(alloc, &mut log, entry, 6, &kept)?;
     let granter = CountedGranter::new(LogGranter::new(&log, 6), 0);
