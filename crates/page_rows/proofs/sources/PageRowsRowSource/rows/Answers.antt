@@ -1,22 +1,17 @@
 -- What is read is of the state that the pages stand for, and they stand for it still.
+use Rattle.std.proofs.Common.{rules}
 use Rattle.cdb_values.specs.Rows.{versions_of}
 use Rattle.page_rows.proofs.StandingLemmas.{of_standing, standing_same}
 use Rattle.page_rows.proofs.sources.PageRowsRowSource.rows.Goals as goal
 
 pub returns-in-Ok-clause-versions : goal.returns-in-Ok-clause-versions
-returns-in-Ok-clause-versions g c =
-    standing_same (g.P.PageSource.pages c.read_rows.new.pages) (g.P.PageSource.pages c.args.self.now.pages) c.args.self.now.schema.now
-    c.self-1.given.0 c.args.self.now.standing c.in-Ok.ensures.pages
+returns-in-Ok-clause-versions g c = search (rules, standing_same, c.in-Ok.ensures.pages)
 
 pub returns-in-Err-Gone-clause-versions : goal.returns-in-Err-Gone-clause-versions
-returns-in-Err-Gone-clause-versions g c =
-    standing_same (g.P.PageSource.pages c.read_rows.new.pages) (g.P.PageSource.pages c.args.self.now.pages) c.args.self.now.schema.now
-    c.self-1.given.0 c.args.self.now.standing c.in-Err-Gone.ensures.pages
+returns-in-Err-Gone-clause-versions g c = search (rules, standing_same, c.in-Err-Gone.ensures.pages)
 
 pub returns-in-Err-NoMemory-clause-versions : goal.returns-in-Err-NoMemory-clause-versions
-returns-in-Err-NoMemory-clause-versions g c =
-    standing_same (g.P.PageSource.pages c.read_rows.new.pages) (g.P.PageSource.pages c.args.self.now.pages) c.args.self.now.schema.now
-    c.self-1.given.0 c.args.self.now.standing c.in-Err-NoMemory.ensures.pages
+returns-in-Err-NoMemory-clause-versions g c = search (rules, standing_same, c.in-Err-NoMemory.ensures.pages)
 
 pub returns-in-Ok-clause-all : goal.returns-in-Ok-clause-all
 returns-in-Ok-clause-all g c =
