@@ -1,11 +1,15 @@
 //! A log to be measured: `bench_log WORK COUNT` appends that many entries of three records over 1,000 pages, grants one
-//! page with up to ten later records, and drops the last ten entries.
+//! page with up to ten later records, and drops the last ten entries. Two works measure stores.
 //!
 //! | WORK | What is printed |
 //! |---|---|
 //! | `counts` | how many entries were appended, how many records were granted, and how many entries are left |
 //! | `times` | the same, with the times |
+//! | `opens` | how long a store of so many entries takes to be opened, and its bytes to be read and its entries appended |
+//! | `keeps` | how long a small entry takes to be kept so many times in a file, and as many bytes to be appended bare |
 #![tactic(auto)]
+
+mod stores;
 
 use cdb_values::List;
 use log_replay::PagedLog;
@@ -21,20 +25,29 @@ const PAGES: u64 = 1000;
 fn main(rt: HostRuntime) -> io::Result<()> {
     let mut words = env::args(&rt)?.skip(1);
     let (Some(work), Some(count)) = (words.next(), words.next()) else {
-        return println!(rt; "usage: bench_log counts|times COUNT");
+        return println!(rt; "usage: bench_log counts|times|opens|keeps COUNT");
     };
     let count = count.as_str().parse::<u64>().unwrap_or(0);
+    match work.as_str() {
+        "opens" => stores::measure_opening(&rt, count),
+        "keeps" => stores::measure_keeping(&rt, count),
+        _ => measure_log(&rt, count, work.as_str() == "times"),
+    }
+}
+
+/// Appends entries, grants a page and drops entries, and prints how many; the times where they are wanted.
+fn measure_log(rt: &HostRuntime, count: u64, is_timed: bool) -> io::Result<()> {
     let mut log = PagedLog::new(rt.alloc());
-    let started = Instant::now(&rt)?;
+    let started = Instant::now(rt)?;
     let appended = append_all(rt.alloc(), &mut log, count)?;
-    let grew = started.elapsed(&rt)?;
-    let started = Instant::now(&rt)?;
+    let grew = started.elapsed(rt)?;
+    let started = Instant::now(rt)?;
     let granted = grant_one(rt.alloc(), &log)?;
-    let gave = started.elapsed(&rt)?;
-    let started = Instant::now(&rt)?;
+    let gave = started.elapsed(rt)?;
+    let started = Instant::now(rt)?;
     let left = drop_ten(rt.alloc(), &mut log)?;
-    let fell = started.elapsed(&rt)?;
-    if work.as_str() == "times" {
+    let fell = started.elapsed(rt)?;
+    if is_timed {
         let (grew, gave, fell) = (grew.as_millis(), gave.as_micros(), fell.as_micros());
         println!(rt; "appended in {grew} ms, granted in {gave} us, dropped in {fell} us")?;
     }

@@ -77,3 +77,11 @@ fn a_folder_in_place_of_the_file(rt: HostRuntime) -> Result<(), Fail> {
     fs::remove_dir_all(&rt, folder.as_str())?;
     Ok(())
 }
+
+/// A folder that may not be written to: the file is not there, which is an empty store, and its header is not written.
+#[test]
+fn a_folder_that_takes_no_file(rt: HostRuntime) -> Result<(), Fail> {
+    assert_eq!(rt; file_outcome(&rt, "/proc/node2.log")?, Outcome::Failed);
+    assert!(rt; !fs::exists(&rt, "/proc/node2.log")?);
+    Ok(())
+}

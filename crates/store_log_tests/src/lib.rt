@@ -12,4 +12,10 @@ mod files;
 #[cfg(test)]
 mod outcomes;
 #[cfg(test)]
+mod pieces;
+#[cfg(test)]
+mod rich;
+#[cfg(test)]
+mod second;
+#[cfg(test)]
 mod tests;

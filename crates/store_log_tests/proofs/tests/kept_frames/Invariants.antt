@@ -3,4 +3,4 @@ use Rattle.std.proofs.Common.{◌≡◌, []}
 use Rattle.store_log_tests.proofs.tests.kept_frames.Given as goal
 
 abbrev pub invariant-generations : goal.invariant-generations
-invariant-generations l = l.store.waiting ≡ []
+invariant-generations g l = l.store.waiting ≡ []
