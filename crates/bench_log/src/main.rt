@@ -1,5 +1,5 @@
 //! A log to be measured: `bench_log WORK COUNT` appends that many entries of three records over 1,000 pages, grants one
-//! page with up to ten later records, and drops the last ten entries. Two works measure stores.
+//! page with up to ten later records, and drops the last ten entries. Other works measure stores, and pages at a position.
 //!
 //! | WORK | What is printed |
 //! |---|---|
@@ -7,10 +7,15 @@
 //! | `times` | the same, with the times |
 //! | `opens` | how long a store of so many entries takes to be opened, and its bytes to be read and its entries appended |
 //! | `keeps` | how long a small entry takes to be kept so many times in a file, and as many bytes to be appended bare |
+//! | `others` | how long loads of a page take at a position so many commits back that changed other pages, and how many were granted |
+//! | `same` | the same, of a page that each of the commits changed |
 #![tactic(auto)]
 
 mod stores;
+mod undos;
 
+use crate::stores::{measure_keeping, measure_opening};
+use crate::undos::{Changed, measure_loads};
 use cdb_values::List;
 use log_replay::PagedLog;
 use phys_log::Entry;
@@ -25,12 +30,14 @@ const PAGES: u64 = 1000;
 fn main(rt: HostRuntime) -> io::Result<()> {
     let mut words = env::args(&rt)?.skip(1);
     let (Some(work), Some(count)) = (words.next(), words.next()) else {
-        return println!(rt; "usage: bench_log counts|times|opens|keeps COUNT");
+        return println!(rt; "usage: bench_log counts|times|opens|keeps|others|same COUNT");
     };
     let count = count.as_str().parse::<u64>().unwrap_or(0);
     match work.as_str() {
-        "opens" => stores::measure_opening(&rt, count),
-        "keeps" => stores::measure_keeping(&rt, count),
+        "opens" => measure_opening(&rt, count),
+        "keeps" => measure_keeping(&rt, count),
+        "others" => measure_loads(&rt, count, Changed::OtherPages),
+        "same" => measure_loads(&rt, count, Changed::SamePage),
         _ => measure_log(&rt, count, work.as_str() == "times"),
     }
 }
