@@ -1,0 +1,5 @@
+pub mod Conflicts
+pub mod Asked
+pub mod Able
+pub mod Decided
+pub mod Views

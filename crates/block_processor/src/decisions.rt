@@ -1,0 +1,133 @@
+//! What is decided of a request.
+ghost use Rattle.std.specs.Prelude.{◌≡◌, IfOk, None};
+ghost use Rattle.cdb_values.specs.Rows.{apply_all};
+ghost use Rattle.page_workspace.specs.Drafts.{meant};
+ghost use Rattle.phys_log.specs.Logs.{pages_of};
+ghost use Rattle.table_store.specs.Stored.{Stands};
+ghost use Rattle.log_rows.specs.History.{rows_of, tables_of};
+ghost use Rattle.log_rows.specs.Sources.{source_pages};
+ghost use Rattle.block_processor.specs.Able.{IsAble};
+ghost use Rattle.block_processor.specs.Asked.{IsAsked};
+ghost use Rattle.block_processor.specs.Decided.{conflict_of, broken_by, Decides, IsNextEntry};
+
+use crate::conflicts::first_conflict;
+use crate::operations::{are_able, changes_made};
+use log_replay::{LogPages, PagedLog};
+use log_rows::{entry_records, next_genid};
+use page_workspace::Workspace;
+use phys_log::{CommitId, CommitRequest, Decision, Entry, Item};
+use std::alloc::{AllocError, Global};
+use table_edits::{OpsFault, change_rows};
+
+/// What is decided of a request over a log, whose next entry is of a generation: the first of a conflict, a duplicate and
+/// the next entry that is right. Nothing is changed.
+///
+/// Answers `AllocError` for want of memory, where the next genid or an LSN would not be below 2^62, and where the log has a
+/// setup behind the begin position, which no log that is kept has.
+pub fn decide(
+    alloc: Global,
+    request: &CommitRequest,
+    log: &PagedLog,
+    generation: u64,
+) -> Result<Decision, AllocError>
+    requires asked { IsAsked request.now log.now }
+    ensures { IfOk result (Decides request.now log.now generation) }
+{
+    let Some(schema) = log.schema() else {
+        unreachable!();
+    };
+    match first_conflict(
+        schema,
+        log.entries(),
+        request.begin,
+        request.genids.as_slice(),
+    ) {
+        Some(found) => Ok(Decision::Conflict {
+            position: found.position,
+            item: Item::Genid(found.item),
+        }),
+        None => decide_free(alloc, request, log, generation),
+    }
+}
+
+/// What is decided of a request that no entry touches.
+fn decide_free(
+    alloc: Global,
+    request: &CommitRequest,
+    log: &PagedLog,
+    generation: u64,
+) -> Result<Decision, AllocError>
+    requires asked { IsAsked request.now log.now }
+    requires free { conflict_of request.now log.now ≡ None }
+    ensures { IfOk result (Decides request.now log.now generation) }
+{
+    if !are_able(request, log) {
+        return Err(AllocError);
+    }
+    decide_able(alloc, request, log, generation)
+}
+
+/// What is decided of a request that no entry touches, and whose operations can be done.
+fn decide_able(
+    alloc: Global,
+    request: &CommitRequest,
+    log: &PagedLog,
+    generation: u64,
+) -> Result<Decision, AllocError>
+    requires asked { IsAsked request.now log.now }
+    requires free { conflict_of request.now log.now ≡ None }
+    requires able { IsAble request.now log.now }
+    ensures { IfOk result (Decides request.now log.now generation) }
+{
+    let Some(schema) = log.schema() else {
+        unreachable!();
+    };
+    let mut space = Workspace::new(alloc, LogPages::new(alloc, log)?);
+    match change_rows(alloc, &mut space, schema, request.ops.as_slice()) {
+        Ok(()) => Ok(Decision::Commit(next_entry(alloc, request, log, generation, space)?)),
+        Err(OpsFault::Duplicate { table, key }) => Ok(Decision::Duplicate {
+            position: log.entries().len() as u64,
+            table,
+            key,
+        }),
+        Err(OpsFault::NoMemory) => Err(AllocError),
+        // a log loses no pages
+        Err(OpsFault::Gone) => unreachable!(),
+    }
+}
+
+/// The next entry of a log, by a workspace over its pages on which the operations of a request were done.
+fn next_entry<'a>(
+    alloc: Global,
+    request: &CommitRequest,
+    log: &PagedLog,
+    generation: u64,
+    space: Workspace<LogPages<'a>>,
+) -> Result<Entry, AllocError>
+    requires asked { IsAsked request.now log.now }
+    requires free { conflict_of request.now log.now ≡ None }
+    requires able { IsAble request.now log.now }
+    requires kept { broken_by request.now log.now ≡ None }
+    requires over { source_pages space.base ≡ pages_of log.now }
+    requires done { Stands (meant source_pages space) (tables_of log.now) (apply_all (rows_of log.now) request.now.ops) }
+    ensures { IfOk result (IsNextEntry request.now log.now generation) }
+{
+    let records = entry_records(alloc, log, space)?;
+    let changes = changes_made(alloc, request.ops.as_slice(), next_genid(log))?;
+    let id = copy_id(&request.id)?;
+    Ok(Entry::Commit {
+        generation,
+        id,
+        begin: request.begin,
+        level: request.level,
+        changes,
+        records,
+    })
+}
+
+/// An equal identity.
+fn copy_id(id: &CommitId) -> Result<CommitId, AllocError>
+    ensures { IfOk result (λ i. i ≡ id.now) }
+{
+    id.clone()
+}

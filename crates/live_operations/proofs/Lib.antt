@@ -1,0 +1,11 @@
+pub mod CodedLaws
+pub mod LiteralLemmas
+pub mod LiveLaws
+pub mod NetLemmas
+pub mod RangedLaws
+pub mod ReadyLaws
+pub mod SeenLemmas
+pub mod StatementLemmas
+pub mod StayLaws
+pub mod TimesLemmas
+pub mod WorkedLemmas

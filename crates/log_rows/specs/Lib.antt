@@ -1,0 +1,4 @@
+pub mod Applied
+pub mod History
+pub mod Setups
+pub mod Sources

@@ -1,0 +1,10 @@
+use Rattle.std.proofs.Common.{◌≡◌, length}
+use Rattle.cdb_values.specs.Changes.{genids_taken}
+use Rattle.report_laws.specs.View.{first_touched}
+use Rattle.range_validate.proofs.versions.first_version.Given as goal
+
+abbrev pub invariant-used : goal.invariant-used
+invariant-used l = first_touched (genids_taken l.changes) l.rest ≡ first_touched (genids_taken l.changes) l.used
+
+abbrev pub decreases-used : goal.decreases-used
+decreases-used l = length l.rest
