@@ -58,6 +58,13 @@ impl Model for OsqlSession {
     ghost invariant = { λ s. list_all is_on_base s.ops.items ≡ true };
 }
 
+/// An answer, after which a value that it came from is let go: the steps of its destructor are no part of who answers.
+fn with_no<T: Drop, U>(_value: T, answer: U) -> U
+    ensures { result ≡ answer }
+{
+    answer
+}
+
 impl OsqlSession {
     /// A transaction that began at a position, and has said nothing yet. Takes no memory.
     pub fn new(alloc: Global, id: CommitId, begin: u64, level: Level) -> OsqlSession
@@ -108,7 +115,8 @@ impl OsqlSession {
         ensures excused { IsExcused result (S.losses source.old) (S.losses source.new) }
     {
         let prepared = prepare(alloc, schema, text)?;
-        self.statement(alloc, schema, &prepared, source)
+        let answer = self.statement(alloc, schema, &prepared, source);
+        with_no(prepared, answer)
     }
 
     /// What a prepared text is answered, after which the session has its operations, and what it used: the versions
@@ -149,6 +157,13 @@ impl OsqlSession {
         ensures excused { IsExcused result (S.losses source.old) (S.losses source.new) }
     {
         self.answered(alloc, schema, prepared, source)
+    }
+
+    /// The position that the transaction began at. Takes no memory.
+    pub fn begin(&self) -> u64
+        ensures { result ≡ self.now.begin }
+    {
+        self.begin
     }
 
     /// What is asked at the commit; `None` exactly where the session has no operations. `Err` is want of memory.

@@ -83,10 +83,10 @@ last_position origin entries = origin.position + length entries
 abbrev pub entry_at : Origin → List EntryLine → ℕ → Option EntryLine
 entry_at origin entries position = slice_get entries (position - (origin.position + 1))
 
--- the versions that a transaction uses, by what it was answered: those that its texts use, and those
--- that its operations take away
+-- the versions that a transaction uses, by what it was answered: those that its operations take away, and
+-- then those that its texts use besides
 abbrev pub used_by : Answered → List GenidItem
-used_by ran = ran.uses ++ taken_by ran.ops
+used_by ran = taken_by ran.ops ++ ran.uses
 
 -- what an entry changes, where these are the rows at each position before it
 abbrev pub changes_by : Basis → List Rows → Option EntryLine → List Change

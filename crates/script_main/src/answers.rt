@@ -1,5 +1,8 @@
 //! What a script's bytes are answered: a status and the text that belongs to it.
 ghost use Rattle.std.specs.Prelude.{true, IfOk};
+ghost use Rattle.report_laws.specs.Lawful.{Lawful};
+ghost use Rattle.report_laws.specs.Play.{InPlayOrder};
+ghost use Rattle.script_play.specs.Basis.{from_nothing};
 ghost use Rattle.script_read.specs.Answers.{refusal};
 ghost use Rattle.script_form.specs.CanRun.{CanRun};
 ghost use Rattle.script_form.specs.Named.{IsNamed};
@@ -8,7 +11,7 @@ ghost use Rattle.script_main.specs.Run.{IsText};
 
 use super::statuses::Status;
 use cdb_values::Bytes;
-use report_text::print;
+use report_text::{Report, print};
 use script_form::Script;
 use script_play::play;
 use script_read::{ScriptStop, read_script, scripts_can_run, scripts_have_names};
@@ -34,22 +37,40 @@ pub(crate) fn answer_script(
         Ok(script) => {
             scripts_can_run();
             scripts_have_names();
-            played(alloc, &script)
+            let answer = played(alloc, &script);
+            let_go(script);
+            answer
         }
         Err(ScriptStop::Refused { line, why }) => refused(alloc, line, why),
         Err(ScriptStop::NoMemory) => Err(AllocError),
     }
 }
 
+/// A value's end, so that the steps of its destructor are no part of the function that had it.
+fn let_go<T: Drop>(_value: T) {}
+
 /// The answer to a script that was read.
-#[tactic(auto, using(crate::proofs::ReportedLemmas::reported))]
 fn played(alloc: Global, script: &Script) -> Result<Answer, AllocError>
     requires runs { CanRun script.now }
     requires names { IsNamed script.now }
     ensures { IfOk result (λ a. IsText true (Ok script.now) a.status a.text) }
 {
-    let report = play(alloc, script)?;
-    let text = print(alloc, &report)?;
+    let played = play(alloc, script)?;
+    let answer = told(alloc, script, &played.report);
+    let_go(played);
+    answer
+}
+
+/// The answer to a script by the report of its play.
+#[tactic(auto, using(crate::proofs::ReportedLemmas::reported))]
+fn told(alloc: Global, script: &Script, report: &Report) -> Result<Answer, AllocError>
+    requires runs { CanRun script.now }
+    requires names { IsNamed script.now }
+    requires lawful { Lawful (from_nothing script.now) report.now }
+    requires in_order { InPlayOrder (from_nothing script.now) report.now }
+    ensures { IfOk result (λ a. IsText true (Ok script.now) a.status a.text) }
+{
+    let text = print(alloc, report)?;
     Ok(Answer {
         status: Status::Done,
         text,

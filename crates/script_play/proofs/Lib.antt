@@ -1,6 +1,11 @@
 pub mod AppliedLaws
 pub mod FitLaws
 pub mod SoundLaws
+pub mod ConflictLaws
+pub mod LiveLemmas
+pub mod RequestLemmas
+pub mod VerdictLemmas
+pub mod ReadLemmas
 pub mod StoredLemmas
 pub mod DecisionLemmas
 pub mod StandingLemmas

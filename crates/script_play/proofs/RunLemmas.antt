@@ -2,10 +2,10 @@
 use Rattle.std.proofs.Common.{◌≡◌, ℕ, suc, ◌+◌, ◌≤◌, List, [], ◌∷◌, ◌++◌, length, map, refl, sym, subst, ap, arith, Option, Some, None, ◌∙◌, Bool, true, false, append_assoc, ◌⊎◌, inl, inr, eq-eqb}
 use Rattle.std.proofs.lemmas.List.{append-nil, length-append}
 use Rattle.std.specs.List.{AllByRecursion}
-use Rattle.std.specs.Str.{bytes_eq}
+use Rattle.std.specs.Str.{bytes_eq, is_utf8}
 use Rattle.std.specs.Cmp.Lexicographic.{same_text}
 use Rattle.cdb_values.specs.declared.rows.Level.{Level}
-use Rattle.snapshot_rows.specs.Ages.{Ages}
+use Rattle.script_play.specs.Seen.{Seen}
 use Rattle.sql_answer.specs.Reading.{kind_of_text}
 use Rattle.script_form.specs.CanRun.{tables_of}
 use Rattle.script_form.specs.declared.scripts.Script.{Script}
@@ -34,10 +34,10 @@ use Rattle.report_laws.proofs.ToldLaws.{told_append, told_own, told_other}
 use Rattle.report_laws.proofs.WorkLaws.{after_own, after_other, its_transaction}
 use Rattle.script_play.specs.Basis.{from_nothing}
 use Rattle.sql_answer.specs.Language.{sql_language}
-use Rattle.sql_run.specs.Sound.{HasDistinctColumns}
+use Rattle.script_play.specs.Ready.{IsAskable}
 use Rattle.script_play.specs.SoFar.{SoFar, Stored, Standing, IsPast, IsEnded, state_of}
 use Rattle.script_play.specs.Step.{Turned, Cut, IsTurned, IsCutShort, IsKept, turn, turn_by, cut_by, entries_added}
-use Rattle.script_play.specs.declared.states.SessionState.{SessionState}
+use Rattle.script_play.specs.Doing.{SessionAt}
 use Rattle.script_play.proofs.StoredLemmas.{world, entry_of}
 use Rattle.script_play.proofs.StandingLemmas.{Grows, grows_length, stands_on}
 use Rattle.script_play.proofs.TurnLemmas.{Comes, Turns, IsNews, IsPastOf, WasCutUnder, turns}
@@ -65,11 +65,11 @@ past_next p text (LevelText later) (Some texts) txn is = is
 past_next p text OtherText (Some texts) txn is = is
 
 -- what a line of the script leaves, so that the run so far is kept
-pub record Keeps (script : Script) (done : List BodyLine) (l : BodyLine) (lines : List Line) (entries entries' : List EntryLine) (taken' : List (List GenidItem)) (ages ages' : Ages) (name text : List ℕ) (number : ℕ) (rs : List ReplyLine) (after : SessionState) : Type 0 where
-  pub stored : Stored script entries' taken' ages'
+pub record Keeps (script : Script) (done : List BodyLine) (l : BodyLine) (lines : List Line) (entries entries' : List EntryLine) (taken' : List (List GenidItem)) (seen seen' : Seen) (name text : List ℕ) (number : ℕ) (rs : List ReplyLine) (after : SessionAt) : Type 0 where
+  pub stored : Stored script entries' taken' seen'
   pub grows : Grows entries entries'
-  pub next : ages.next ≤ ages'.next
-  pub stands : Standing script entries' ages'.next name (next_place sql_language (place_after sql_language name done) text) (told name lines ++ numbered number rs) after
+  pub next : seen.next ≤ seen'.next
+  pub stands : Standing script entries' seen'.next name (next_place sql_language (place_after sql_language name done) text) (told name lines ++ numbered number rs) after
   pub paced : Paced (length entries) (length entries') rs
   pub belongs : number ≡ number_told sql_language (place_after sql_language name done) text
   pub added : List EntryLine
@@ -78,8 +78,8 @@ pub record Keeps (script : Script) (done : List BodyLine) (l : BodyLine) (lines 
   pub answered : AllByRecursion (IsEntryTold (from_nothing script) (view_of (from_nothing script) entries') (lines ++ lines_of name number rs)) entries'
   pub ended : AllByRecursion (IsEnded (done ++ l ∷ [])) entries'
 
-module _ (script : Script) (done left : List BodyLine) (l : BodyLine) (lines : List Line) (entries : List EntryLine) (taken : List (List GenidItem)) (ages : Ages) (states sites' : List SessionState) (name text : List ℕ)
-    (was : SoFar script done (l ∷ left) lines entries taken ages states) (is_act : l.act ≡ Say name text) where
+module _ (script : Script) (done left : List BodyLine) (l : BodyLine) (lines : List Line) (entries : List EntryLine) (taken : List (List GenidItem)) (seen : Seen) (states sites' : List SessionAt) (name text : List ℕ)
+    (was : SoFar script done (l ∷ left) lines entries taken seen states) (is_act : l.act ≡ Say name text) where
   abbrev pub place : Place
   place = place_after sql_language name done
 
@@ -96,10 +96,10 @@ module _ (script : Script) (done left : List BodyLine) (l : BodyLine) (lines : L
           (past_next (place_after sql_language session done) text (kind_of_text text) (place_after sql_language session done).pending txn is)
       pick false differs = subst (λ (p : Place). IsPast p.number p.pending txn) (sym (after_other sql_language session name text l done is_act differs)) is
 
-  pub advanced : (entries' : List EntryLine) (taken' : List (List GenidItem)) (ages' : Ages) (number : ℕ) (rs : List ReplyLine) (after : SessionState) → Keeps script done l lines entries entries' taken' ages ages' name text number rs after →
+  pub advanced : (entries' : List EntryLine) (taken' : List (List GenidItem)) (seen' : Seen) (number : ℕ) (rs : List ReplyLine) (after : SessionAt) → Keeps script done l lines entries entries' taken' seen seen' name text number rs after →
       state_of name script.sessions sites' ≡ after → ((m : List ℕ) → bytes_eq name m ≡ false → state_of m script.sessions sites' ≡ state_of m script.sessions states) →
-      SoFar script (done ++ l ∷ []) left (lines ++ lines_of name number rs) entries' taken' ages' sites'
-  advanced entries' taken' ages' number rs after keeps own others = record {
+      SoFar script (done ++ l ∷ []) left (lines ++ lines_of name number rs) entries' taken' seen' sites'
+  advanced entries' taken' seen' number rs after keeps own others = record {
     body = was.body ∙ sym (append_assoc done (l ∷ []) left);
     stored = keeps.stored;
     standing = standing;
@@ -133,30 +133,31 @@ module _ (script : Script) (done left : List BodyLine) (l : BodyLine) (lines : L
           subst (λ (a : Act). IsTurnOf sql_language (last_position (from_nothing script).origin (Setup 1 ∷ was.later)) done lines a rs keeps.added) (sym is_act)
           (subst (λ n. IsTurn n lines name (number_told sql_language place text) (is_own sql_language place text) rs keeps.added) now keeps.turn)
 
-      own_stands : Standing script entries' ages'.next name (place_after sql_language name (done ++ l ∷ [])) (told name (lines ++ lines_of name number rs)) (state_of name script.sessions sites')
+      own_stands : Standing script entries' seen'.next name (place_after sql_language name (done ++ l ∷ [])) (told name (lines ++ lines_of name number rs)) (state_of name script.sessions sites')
       own_stands =
-          subst (λ (p : Place). Standing script entries' ages'.next name p (told name (lines ++ lines_of name number rs)) (state_of name script.sessions sites')) (sym own_place)
-          (subst (λ ls. Standing script entries' ages'.next name (next_place sql_language place text) ls (state_of name script.sessions sites')) (sym (told_append name lines (lines_of name number rs) ∙ ap (λ ls. told name lines ++ ls) (told_own name name number rs (same_itself name))))
-          (subst (λ (x : SessionState). Standing script entries' ages'.next name (next_place sql_language place text) (told name lines ++ numbered number rs) x) (sym own) keeps.stands))
+          subst (λ (p : Place). Standing script entries' seen'.next name p (told name (lines ++ lines_of name number rs)) (state_of name script.sessions sites')) (sym own_place)
+          (subst (λ ls. Standing script entries' seen'.next name (next_place sql_language place text) ls (state_of name script.sessions sites')) (sym (told_append name lines (lines_of name number rs) ∙ ap (λ ls. told name lines ++ ls) (told_own name name number rs (same_itself name))))
+          (subst (λ (x : SessionAt). Standing script entries' seen'.next name (next_place sql_language place text) (told name lines ++ numbered number rs) x) (sym own) keeps.stands))
 
-      other_stands : (m : List ℕ) → bytes_eq name m ≡ false → Standing script entries' ages'.next m (place_after sql_language m (done ++ l ∷ [])) (told m (lines ++ lines_of name number rs)) (state_of m script.sessions sites')
+      other_stands : (m : List ℕ) → bytes_eq name m ≡ false → Standing script entries' seen'.next m (place_after sql_language m (done ++ l ∷ [])) (told m (lines ++ lines_of name number rs)) (state_of m script.sessions sites')
       other_stands m differs =
-          subst (λ (p : Place). Standing script entries' ages'.next m p (told m (lines ++ lines_of name number rs)) (state_of m script.sessions sites')) (sym (after_other sql_language m name text l done is_act differs))
-          (subst (λ ls. Standing script entries' ages'.next m (place_after sql_language m done) ls (state_of m script.sessions sites')) (sym (told_append m lines (lines_of name number rs) ∙ ap (λ ls. told m lines ++ ls) (told_other m name number rs differs) ∙ append-nil (told m lines)))
-          (subst (λ (x : SessionState). Standing script entries' ages'.next m (place_after sql_language m done) (told m lines) x) (sym (others m differs))
-          (stands_on script entries entries' ages.next ages'.next m (place_after sql_language m done) (told m lines) (state_of m script.sessions states) keeps.grows keeps.next (was.standing m))))
+          subst (λ (p : Place). Standing script entries' seen'.next m p (told m (lines ++ lines_of name number rs)) (state_of m script.sessions sites')) (sym (after_other sql_language m name text l done is_act differs))
+          (subst (λ ls. Standing script entries' seen'.next m (place_after sql_language m done) ls (state_of m script.sessions sites')) (sym (told_append m lines (lines_of name number rs) ∙ ap (λ ls. told m lines ++ ls) (told_other m name number rs differs) ∙ append-nil (told m lines)))
+          (subst (λ (x : SessionAt). Standing script entries' seen'.next m (place_after sql_language m done) (told m lines) x) (sym (others m differs))
+          (stands_on script entries entries' seen.next seen'.next m (place_after sql_language m done) (told m lines) (state_of m script.sessions states) keeps.grows keeps.next (was.standing m))))
 
-      standing : (m : List ℕ) → Standing script entries' ages'.next m (place_after sql_language m (done ++ l ∷ [])) (told m (lines ++ lines_of name number rs)) (state_of m script.sessions sites')
+      standing : (m : List ℕ) → Standing script entries' seen'.next m (place_after sql_language m (done ++ l ∷ [])) (told m (lines ++ lines_of name number rs)) (state_of m script.sessions sites')
       standing m = pick (bytes_eq name m) refl
         where
-          pick : (b : Bool) → bytes_eq name m ≡ b → Standing script entries' ages'.next m (place_after sql_language m (done ++ l ∷ [])) (told m (lines ++ lines_of name number rs)) (state_of m script.sessions sites')
-          pick true same = subst (λ n. Standing script entries' ages'.next n (place_after sql_language n (done ++ l ∷ [])) (told n (lines ++ lines_of name number rs)) (state_of n script.sessions sites')) (same_name name m same) own_stands
+          pick : (b : Bool) → bytes_eq name m ≡ b → Standing script entries' seen'.next m (place_after sql_language m (done ++ l ∷ [])) (told m (lines ++ lines_of name number rs)) (state_of m script.sessions sites')
+          pick true same = subst (λ n. Standing script entries' seen'.next n (place_after sql_language n (done ++ l ∷ [])) (told n (lines ++ lines_of name number rs)) (state_of n script.sessions sites')) (same_name name m same) own_stands
           pick false differs = other_stands m differs
 
   -- the session before its line
-  pub comes : AllByRecursion HasDistinctColumns (tables_of script) → Comes script entries taken ages name place place.pending (state_of name script.sessions states).doing text (kind_of_text text) (told name lines)
-  comes apart = record {
-    apart = apart;
+  pub comes : AllByRecursion IsAskable (tables_of script) → is_utf8 text ≡ true → Comes script entries taken seen name place place.pending (state_of name script.sessions states).doing text (kind_of_text text) (told name lines)
+  comes askable utf8 = record {
+    askable = askable;
+    utf8 = utf8;
     stored = was.stored;
     before = (was.standing name).before;
     mine = (was.standing name).mine;
@@ -173,9 +174,9 @@ module _ (script : Script) (done left : List BodyLine) (l : BodyLine) (lines : L
       of_name (Commit position session txn begin level) is = λ same. subst (λ n. IsPast (place_after sql_language n done).number (place_after sql_language n done).pending txn) (same_name session name same) is
 
   -- what a line leaves, where it did what it does
-  pub turn_keeps : (entries' : List EntryLine) (taken' : List (List GenidItem)) (ages' : Ages) (t : Turned) → Turns script entries entries' taken' ages ages' name (next_place sql_language place text) (told name lines) (number_told sql_language place text) (is_own sql_language place text) t →
-      Keeps script done l lines entries entries' taken' ages ages' name text t.number t.replies t.after
-  turn_keeps entries' taken' ages' t turn = record {
+  pub turn_keeps : (entries' : List EntryLine) (taken' : List (List GenidItem)) (seen' : Seen) (t : Turned) → Turns script entries entries' taken' seen seen' name (next_place sql_language place text) (told name lines) (number_told sql_language place text) (is_own sql_language place text) t →
+      Keeps script done l lines entries entries' taken' seen seen' name text t.number t.replies t.after
+  turn_keeps entries' taken' seen' t turn = record {
     stored = turn.stored;
     grows = turn.grows;
     next = turn.next;
@@ -259,29 +260,29 @@ module _ (script : Script) (done left : List BodyLine) (l : BodyLine) (lines : L
 
   -- what the line does, by the number of transactions that the session has begun, and its level
   abbrev pub turn_at : ℕ → Level → Turned
-  turn_at n level = turn_by (world script entries taken ages) n level text (kind_of_text text) (state_of name script.sessions states).doing
+  turn_at n level = turn_by (world script entries taken seen) n level text (kind_of_text text) (state_of name script.sessions states).doing
 
   abbrev pub its_turn : Turned
   its_turn = turn_at (state_of name script.sessions states).number (state_of name script.sessions states).level
 
-  abbrev pub KeptAt : Ages → ℕ → Level → Type 0
-  KeptAt ages' n level = IsKept (length entries) ages ages' (turn_at n level).added
+  abbrev pub KeptAt : Seen → ℕ → Level → Type 0
+  KeptAt seen' n level = IsKept (length entries) seen seen' (turn_at n level).added
 
-  abbrev pub TurnsAt : Ages → ℕ → Level → Type 0
-  TurnsAt ages' n level = Turns script entries (entries ++ entries_added name (length entries) (turn_at n level)) (taken ++ map taken_by (turn_at n level).added) ages ages' name (next_place sql_language place text) (told name lines) (number_told sql_language place text) (is_own sql_language place text) (turn_at n level)
+  abbrev pub TurnsAt : Seen → ℕ → Level → Type 0
+  TurnsAt seen' n level = Turns script entries (entries ++ entries_added name (length entries) (turn_at n level)) (taken ++ map taken_by (turn_at n level).added) seen seen' name (next_place sql_language place text) (told name lines) (number_told sql_language place text) (is_own sql_language place text) (turn_at n level)
 
   -- a line that was done keeps the run so far
-  pub turned_keeps : AllByRecursion HasDistinctColumns (tables_of script) → (lines' : List Line) (entries' : List EntryLine) (taken' : List (List GenidItem)) (ages' : Ages) →
-      IsTurned (world script entries taken ages) name (turn (world script entries taken ages) (state_of name script.sessions states) text) lines lines' entries entries' taken' ages' →
-      state_of name script.sessions sites' ≡ (turn (world script entries taken ages) (state_of name script.sessions states) text).after →
+  pub turned_keeps : AllByRecursion IsAskable (tables_of script) → is_utf8 text ≡ true → (lines' : List Line) (entries' : List EntryLine) (taken' : List (List GenidItem)) (seen' : Seen) →
+      IsTurned (world script entries taken seen) name (turn (world script entries taken seen) (state_of name script.sessions states) text) lines lines' entries entries' taken' seen' →
+      state_of name script.sessions sites' ≡ (turn (world script entries taken seen) (state_of name script.sessions states) text).after →
       ((m : List ℕ) → bytes_eq name m ≡ false → state_of m script.sessions sites' ≡ state_of m script.sessions states) →
-      SoFar script (done ++ l ∷ []) left lines' entries' taken' ages' sites'
-  turned_keeps apart lines' entries' taken' ages' run own others =
-      subst (λ ls. SoFar script (done ++ l ∷ []) left ls entries' taken' ages' sites') (sym run.lines_are)
-      (subst (λ es. SoFar script (done ++ l ∷ []) left (lines ++ lines_of name its_turn.number its_turn.replies) es taken' ages' sites') (sym run.entries_are)
-      (subst (λ ts. SoFar script (done ++ l ∷ []) left (lines ++ lines_of name its_turn.number its_turn.replies) (entries ++ entries_added name (length entries) its_turn) ts ages' sites') (sym run.taken_are)
-      (advanced (entries ++ entries_added name (length entries) its_turn) (taken ++ map taken_by its_turn.added) ages' its_turn.number its_turn.replies its_turn.after
-      (turn_keeps (entries ++ entries_added name (length entries) its_turn) (taken ++ map taken_by its_turn.added) ages' its_turn goes) own others)))
+      SoFar script (done ++ l ∷ []) left lines' entries' taken' seen' sites'
+  turned_keeps askable utf8 lines' entries' taken' seen' run own others =
+      subst (λ ls. SoFar script (done ++ l ∷ []) left ls entries' taken' seen' sites') (sym run.lines_are)
+      (subst (λ es. SoFar script (done ++ l ∷ []) left (lines ++ lines_of name its_turn.number its_turn.replies) es taken' seen' sites') (sym run.entries_are)
+      (subst (λ ts. SoFar script (done ++ l ∷ []) left (lines ++ lines_of name its_turn.number its_turn.replies) (entries ++ entries_added name (length entries) its_turn) ts seen' sites') (sym run.taken_are)
+      (advanced (entries ++ entries_added name (length entries) its_turn) (taken ++ map taken_by its_turn.added) seen' its_turn.number its_turn.replies its_turn.after
+      (turn_keeps (entries ++ entries_added name (length entries) its_turn) (taken ++ map taken_by its_turn.added) seen' its_turn goes) own others)))
     where
       number : place.number ≡ (state_of name script.sessions states).number
       number = sym (was.standing name).number
@@ -289,23 +290,23 @@ module _ (script : Script) (done left : List BodyLine) (l : BodyLine) (lines : L
       level : place.level ≡ (state_of name script.sessions states).level
       level = sym (was.standing name).level
 
-      goes : TurnsAt ages' (state_of name script.sessions states).number (state_of name script.sessions states).level
-      goes = subst (λ (v : Level). KeptAt ages' (state_of name script.sessions states).number v → TurnsAt ages' (state_of name script.sessions states).number v) level
-          (subst (λ n. KeptAt ages' n place.level → TurnsAt ages' n place.level) number (turns script entries taken ages ages' name place text (told name lines) (kind_of_text text) place.pending (state_of name script.sessions states).doing (comes apart))) run.rows_are
+      goes : TurnsAt seen' (state_of name script.sessions states).number (state_of name script.sessions states).level
+      goes = subst (λ (v : Level). KeptAt seen' (state_of name script.sessions states).number v → TurnsAt seen' (state_of name script.sessions states).number v) level
+          (subst (λ n. KeptAt seen' n place.level → TurnsAt seen' n place.level) number (turns script entries taken seen seen' name place text (told name lines) (kind_of_text text) place.pending (state_of name script.sessions states).doing (comes askable utf8))) run.rows_are
 
   -- and so does one that was cut short
-  pub cut_keeps : AllByRecursion HasDistinctColumns (tables_of script) → (lines' : List Line) (entries' : List EntryLine) (taken' : List (List GenidItem)) (ages' : Ages) (c : Cut) →
+  pub cut_keeps : AllByRecursion IsAskable (tables_of script) → is_utf8 text ≡ true → (lines' : List Line) (entries' : List EntryLine) (taken' : List (List GenidItem)) (seen' : Seen) (c : Cut) →
       cut_by (state_of name script.sessions states).number (state_of name script.sessions states).level (kind_of_text text) (state_of name script.sessions states).doing ≡ Some c →
-      IsCutShort (world script entries taken ages) name c lines lines' entries entries' taken' ages' →
+      IsCutShort (world script entries taken seen) name c lines lines' entries entries' taken' seen' →
       state_of name script.sessions sites' ≡ c.after →
       ((m : List ℕ) → bytes_eq name m ≡ false → state_of m script.sessions sites' ≡ state_of m script.sessions states) →
-      SoFar script (done ++ l ∷ []) left lines' entries' taken' ages' sites'
-  cut_keeps apart lines' entries' taken' ages' c is run own others =
-      subst (λ ls. SoFar script (done ++ l ∷ []) left ls entries' taken' ages' sites') (sym run.lines_are)
-      (subst (λ es. SoFar script (done ++ l ∷ []) left (lines ++ lines_of name c.number (reply.NoMemory ∷ [])) es taken' ages' sites') (sym run.entries_are)
-      (subst (λ ts. SoFar script (done ++ l ∷ []) left (lines ++ lines_of name c.number (reply.NoMemory ∷ [])) entries ts ages' sites') (sym run.taken_are)
-      (subst (λ (a : Ages). SoFar script (done ++ l ∷ []) left (lines ++ lines_of name c.number (reply.NoMemory ∷ [])) entries taken a sites') (sym run.rows_are)
-      (advanced entries taken ages c.number (reply.NoMemory ∷ []) c.after (record {
+      SoFar script (done ++ l ∷ []) left lines' entries' taken' seen' sites'
+  cut_keeps askable utf8 lines' entries' taken' seen' c is run own others =
+      subst (λ ls. SoFar script (done ++ l ∷ []) left ls entries' taken' seen' sites') (sym run.lines_are)
+      (subst (λ es. SoFar script (done ++ l ∷ []) left (lines ++ lines_of name c.number (reply.NoMemory ∷ [])) es taken' seen' sites') (sym run.entries_are)
+      (subst (λ ts. SoFar script (done ++ l ∷ []) left (lines ++ lines_of name c.number (reply.NoMemory ∷ [])) entries ts seen' sites') (sym run.taken_are)
+      (subst (λ (a : Seen). SoFar script (done ++ l ∷ []) left (lines ++ lines_of name c.number (reply.NoMemory ∷ [])) entries taken a sites') (sym run.rows_are)
+      (advanced entries taken seen c.number (reply.NoMemory ∷ []) c.after (record {
         stored = was.stored;
         grows = inl refl;
         next = omega arith;
@@ -319,8 +320,8 @@ module _ (script : Script) (done left : List BodyLine) (l : BodyLine) (lines : L
         ended = all_map (IsEnded done) _ ended_later entries was.ended;
       }) own others))))
     where
-      stands : CutStands script entries ages name (next_place sql_language place text) (told name lines) (number_told sql_language place text) c
-      stands = cuts script entries taken ages name place text (told name lines) (kind_of_text text) place.pending (state_of name script.sessions states).doing (comes apart) c
+      stands : CutStands script entries seen name (next_place sql_language place text) (told name lines) (number_told sql_language place text) c
+      stands = cuts script entries taken seen name place text (told name lines) (kind_of_text text) place.pending (state_of name script.sessions states).doing (comes askable utf8) c
           (ap (λ n. cut_by n place.level (kind_of_text text) (state_of name script.sessions states).doing) (sym (was.standing name).number)
           ∙ ap (λ (v : Level). cut_by (state_of name script.sessions states).number v (kind_of_text text) (state_of name script.sessions states).doing) (sym (was.standing name).level) ∙ is)
 

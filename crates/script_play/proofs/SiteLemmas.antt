@@ -1,12 +1,21 @@
 -- Where a session is, by its place among the sessions, and that a line of its own changes no other.
-use Rattle.std.proofs.Common.{◌≡◌, ℕ, zero, suc, ◌+◌, ◌≤◌, ◌<◌, List, [], ◌∷◌, ◌++◌, length, map, refl, sym, subst, ap, arith, Option, Some, None, ◌∙◌, Bool, true, false, inl, inr, if◌then◌else◌, slice_set}
+use Rattle.std.proofs.Common.{◌≡◌, ◌≢◌, ℕ, zero, suc, ◌+◌, ◌≤◌, ◌<◌, List, [], ◌∷◌, ◌++◌, length, map, refl, sym, subst, ap, arith, Option, Some, None, ◌∙◌, Bool, true, false, ◌⊎◌, inl, inr, if◌then◌else◌, slice_set}
 use Rattle.std.proofs.lemmas.List.{length-set}
 use Rattle.std.specs.List.{AllByRecursion, slice_get}
-use Rattle.std.specs.Str.{bytes_eq}
-use Rattle.cdb_values.specs.declared.tables.TableDef.{TableDef}
-use Rattle.snapshot_rows.specs.Ages.{Ages, seen}
-use Rattle.snapshot_rows.specs.declared.ages.Age.{Age}
-use Rattle.script_form.specs.CanRun.{IsDeclared, IsSaid, tables_of}
+use Rattle.std.specs.Str.{bytes_eq, is_utf8}
+use Rattle.cdb_values.specs.Rows.{Rows}
+use Rattle.cdb_values.specs.declared.rows.RowOp.{RowOp}
+use Rattle.cdb_values.specs.declared.tables.ColumnDef.{ColumnDef}
+use Rattle.live_operations.specs.Live.{AreLive}
+use Rattle.log_rows.specs.History.{rows_of, takes_in}
+use Rattle.phys_log.specs.Logs.{page_at}
+use Rattle.phys_log.specs.declared.entries.Entry.{Entry}
+use Rattle.report_laws.specs.Language.{alone, alone_from}
+use Rattle.table_store.specs.Stored.{Stands}
+use Rattle.script_play.specs.RunViews.{seen_in, AreOwn, IsOwn}
+use Rattle.script_play.specs.declared.states.SessionState.{SessionState}
+use Rattle.script_play.specs.Seen.{Seen}
+use Rattle.script_form.specs.CanRun.{CanRun, IsDeclared, IsSaid, tables_of}
 use Rattle.script_form.specs.declared.scripts.Script.{Script}
 use Rattle.script_form.specs.declared.scripts.Act.{Act}
 use Rattle.script_form.specs.declared.scripts.Act.TheVariants.{Say}
@@ -19,14 +28,15 @@ use Rattle.report_text.specs.declared.reports.ReplyLine.{ReplyLine}
 use Rattle.report_laws.specs.Work.{Place, place_after}
 use Rattle.sql_answer.specs.Language.{sql_language}
 use Rattle.cdb_values.specs.declared.items.GenidItem.{GenidItem}
-use Rattle.script_play.proofs.SoundLaws.{distinct, sound_length}
+use Rattle.script_play.proofs.LiveLemmas.{alone_leaves_live, stands_distinct}
+use Rattle.script_play.proofs.SoundLaws.{distinct}
 use Rattle.sql_run.specs.Sound.{HasDistinctColumns}
-use Rattle.script_play.specs.Ready.{IsReady, IsReadyToGo}
-use Rattle.script_play.specs.SoFar.{IsBefore, IsDoing, SoFar, Stored, state_of, session_from, session_at}
+use Rattle.sql_run.specs.Spelled.{HasColumn}
+use Rattle.script_play.specs.Ready.{IsAble, IsAskable, IsLogged, IsReady, IsReadyToGo}
+use Rattle.script_play.specs.SoFar.{IsBefore, IsDoing, IsOpen, SoFar, Stored, state_of, session_from, session_at}
 use Rattle.script_play.specs.Step.{IsTaken, world_of}
-use Rattle.script_play.specs.declared.states.SessionState.{SessionState}
-use Rattle.script_play.specs.declared.states.InTransaction.{InTransaction}
-use Rattle.script_play.specs.declared.states.InTransaction.TheVariants as doing
+use Rattle.script_play.specs.Doing.{SessionAt, Doing}
+use Rattle.script_play.specs.Doing as doing
 use Rattle.script_play.proofs.RunLemmas.{same_itself, same_name, turned_keeps, cut_keeps}
 
 -- the place is counted on from a number
@@ -61,7 +71,7 @@ declared k name (s ∷ ss) (inr more) none = pick (bytes_eq s.name name) (declar
     pick false later found = later found
 
 -- the session at its place is there
-pub found_state : (k : ℕ) (name : List ℕ) (ss : List SessionLine) (states : List SessionState) (at i : ℕ) (x : SessionState) → session_from k name ss ≡ Some at → at ≡ k + i → slice_get states i ≡ Some x → state_of name ss states ≡ x
+pub found_state : (k : ℕ) (name : List ℕ) (ss : List SessionLine) (states : List SessionAt) (at i : ℕ) (x : SessionAt) → session_from k name ss ≡ Some at → at ≡ k + i → slice_get states i ≡ Some x → state_of name ss states ≡ x
 found_state k name [] states at i x is place has = absurd cc
 found_state k name (s ∷ ss) [] at i x is place has = absurd cc
 found_state k name (s ∷ ss) (y ∷ ys) at zero x is place has = pick (bytes_eq s.name name) is
@@ -76,7 +86,7 @@ found_state k name (s ∷ ss) (y ∷ ys) at (suc i) x is place has = pick (bytes
     pick false later found = later found
 
 -- a session that is put there is there
-pub set_state : (k : ℕ) (name : List ℕ) (ss : List SessionLine) (states : List SessionState) (at i : ℕ) (x : SessionState) → session_from k name ss ≡ Some at → at ≡ k + i → i < length states → state_of name ss (slice_set states i x) ≡ x
+pub set_state : (k : ℕ) (name : List ℕ) (ss : List SessionLine) (states : List SessionAt) (at i : ℕ) (x : SessionAt) → session_from k name ss ≡ Some at → at ≡ k + i → i < length states → state_of name ss (slice_set states i x) ≡ x
 set_state k name [] states at i x is place inside = absurd cc
 set_state k name (s ∷ ss) [] at i x is place inside = absurd (omega (arith, inside))
 set_state k name (s ∷ ss) (y ∷ ys) at zero x is place inside = pick (bytes_eq s.name name) is
@@ -91,7 +101,7 @@ set_state k name (s ∷ ss) (y ∷ ys) at (suc i) x is place inside = pick (byte
     pick false later found = later found
 
 -- and every other session is where it was
-pub other_state : (k : ℕ) (name m : List ℕ) (ss : List SessionLine) (states : List SessionState) (at i : ℕ) (x : SessionState) → session_from k name ss ≡ Some at → at ≡ k + i → bytes_eq name m ≡ false → state_of m ss (slice_set states i x) ≡ state_of m ss states
+pub other_state : (k : ℕ) (name m : List ℕ) (ss : List SessionLine) (states : List SessionAt) (at i : ℕ) (x : SessionAt) → session_from k name ss ≡ Some at → at ≡ k + i → bytes_eq name m ≡ false → state_of m ss (slice_set states i x) ≡ state_of m ss states
 other_state k name m [] states at i x is place differs = absurd cc
 other_state k name m (s ∷ ss) [] at i x is place differs = refl
 other_state k name m (s ∷ ss) (y ∷ ys) at zero x is place differs = pick (bytes_eq s.name name) refl is
@@ -110,42 +120,70 @@ other_state k name m (s ∷ ss) (y ∷ ys) at (suc i) x is place differs = pick 
     pick true later found = let same : k ≡ at = cc in absurd (omega (arith, same, place))
     pick false later found = go (bytes_eq s.name m) (later found)
 
-length-seen : (at : ℕ) (tables : List (List Age)) → length (seen at tables) ≡ length tables
-length-seen at [] = refl
-length-seen at (ages ∷ more) = let rest = length-seen at more in omega (arith, rest)
+-- the tables of a script that runs are as texts ask for them
+askable : (tables : List TableLine) → AllByRecursion HasDistinctColumns (map (λ (t : TableLine). t.table) tables) → AllByRecursion (λ (t : TableLine). t.table.columns ≢ []) tables → AllByRecursion IsAskable (map (λ (t : TableLine). t.table) tables)
+askable [] apart columns = tt
+askable (t ∷ ts) apart columns = ((apart.0, some t.table.columns columns.0), askable ts apart.1 columns.1)
+  where
+    some : (found : List ColumnDef) → found ≢ [] → HasColumn found
+    some [] there = absurd (there refl)
+    some (column ∷ found) there = tt
+
+pub runs_askable : (script : Script) → CanRun script → AllByRecursion IsAskable (tables_of script)
+runs_askable script can = askable script.tables (distinct [] (tables_of script) can.tables_lawful) can.columns
 
 -- the rows are ready for a line
-pub ready : (script : Script) (entries : List EntryLine) (taken : List (List GenidItem)) (ages : Ages) → AllByRecursion HasDistinctColumns (tables_of script) → Stored script entries taken ages → IsReady (tables_of script) (length entries) ages
-ready script entries taken ages apart stored = record {
+pub ready : (script : Script) (entries : List EntryLine) (log : List Entry) → AllByRecursion IsAskable (tables_of script) → Stored script entries (takes_in log) (seen_in log) → IsLogged (tables_of script) (length entries) log →
+    IsReady (tables_of script) (length entries) log
+ready script entries log askable stored logged = record {
   opened = stored.opened;
-  apart = apart;
-  many = sym (length-seen (length entries) ages.tables) ∙ sound_length (tables_of script) ages.next _ (stored.sound (length entries) stored.opened (omega arith));
-  up_to = stored.up_to;
-  sound = stored.sound;
-  kept = stored.kept;
+  askable = askable;
+  logged = logged;
+  kept = stored.sound;
 }
 
-doing_ready : (script : Script) (entries : List EntryLine) (next : ℕ) (p : Place) (q : Option (List (List ℕ))) (d : InTransaction) (mine : List ReplyLine) → IsDoing script entries next p q d mine → IsReadyToGo (tables_of script) (length entries) next d
-doing_ready script entries next p None doing.No mine is = tt
-doing_ready script entries next p None (doing.Open begin ops uses) mine is = absurd is
-doing_ready script entries next p None doing.Aborted mine is = tt
-doing_ready script entries next p (Some texts) doing.No mine is = tt
-doing_ready script entries next p (Some texts) (doing.Open begin ops uses) mine is = (is.first, is.within, is.sound)
-doing_ready script entries next p (Some texts) doing.Aborted mine is = tt
+-- a transaction that is open can go on: what its texts left is there at its begin position
+open_able : (script : Script) (entries : List EntryLine) (log : List Entry) (texts : List (List ℕ)) (begin : ℕ) (ops : List RowOp) (uses : List GenidItem) (mine : List ReplyLine) →
+    Stored script entries (takes_in log) (seen_in log) → IsLogged (tables_of script) (length entries) log → IsOpen script entries (rows_of log).next texts begin ops uses mine → IsAble (tables_of script) (length entries) log begin ops
+open_able script entries log texts begin ops uses mine stored logged is = record {
+  first = is.first;
+  within = is.within;
+  kept = is.sound;
+  live = subst (λ (o : List RowOp). AreLive (log_rows_at begin).tables o) (sym ops_are)
+      (alone_leaves_live (tables_of script) (log_rows_at begin).tables texts (stands_distinct (tables_of script) (log_rows_at begin) stands));
+}
+  where
+    log_rows_at : ℕ → Rows
+    log_rows_at k = (seen_in log).at k
+
+    stands : Stands (page_at log begin) (tables_of script) (log_rows_at begin)
+    stands = logged.stands begin is.first (let w = is.within in let n = logged.count in omega (arith, w, n))
+
+    ops_are : ops ≡ (alone sql_language (tables_of script) (log_rows_at begin) texts).ops
+    ops_are = is.ops_are ∙ ap (λ (r : Rows). (alone_from sql_language (tables_of script) r.tables [] texts).ops) (sym (stored.rows_are begin is.first is.within))
+
+doing_ready : (script : Script) (entries : List EntryLine) (log : List Entry) (p : Place) (q : Option (List (List ℕ))) (d : Doing) (mine : List ReplyLine) →
+    Stored script entries (takes_in log) (seen_in log) → IsLogged (tables_of script) (length entries) log → IsDoing script entries (rows_of log).next p q d mine → IsReadyToGo (tables_of script) (length entries) log d
+doing_ready script entries log p None doing.No mine stored logged is = tt
+doing_ready script entries log p None (doing.Open begin ops uses) mine stored logged is = absurd is
+doing_ready script entries log p None doing.Aborted mine stored logged is = tt
+doing_ready script entries log p (Some texts) doing.No mine stored logged is = tt
+doing_ready script entries log p (Some texts) (doing.Open begin ops uses) mine stored logged is = open_able script entries log texts begin ops uses mine stored logged is
+doing_ready script entries log p (Some texts) doing.Aborted mine stored logged is = tt
 
 -- the run before a line of a session
-pub record Turn (script : Script) (name text : List ℕ) (lines : List Line) (entries : List EntryLine) (ages : Ages) (states : List SessionState) : Type 0 where
-  pub ready : IsReady (tables_of script) (length entries) ages
-  pub to_go : (at : ℕ) (x : SessionState) → session_at name script.sessions ≡ Some at → slice_get states at ≡ Some x → IsReadyToGo (tables_of script) (length entries) ages.next x.doing
+pub record Turn (script : Script) (name text : List ℕ) (entries : List EntryLine) (log : List Entry) (states : List SessionAt) : Type 0 where
+  pub ready : IsReady (tables_of script) (length entries) log
+  pub to_go : (at : ℕ) (x : SessionAt) → session_at name script.sessions ≡ Some at → slice_get states at ≡ Some x → IsReadyToGo (tables_of script) (length entries) log x.doing
   pub is_declared : session_at name script.sessions ≡ None → ⊥
   pub inside : (at : ℕ) → session_at name script.sessions ≡ Some at → at < length states
 
-pub turn_is : (script : Script) (left : List BodyLine) (l : BodyLine) (lines : List Line) (entries : List EntryLine) (taken : List (List GenidItem)) (ages : Ages) (states : List SessionState) (name text : List ℕ) →
-    IsBefore script (l ∷ left) lines entries taken ages states → l.act ≡ Say name text → Turn script name text lines entries ages states
-turn_is script left l lines entries taken ages states name text before is_act = record {
-  ready = ready script entries taken ages (distinct [] (tables_of script) before.can_run.tables_lawful) before.so_far.stored;
-  to_go = λ at x found has. subst (λ (y : SessionState). IsReadyToGo (tables_of script) (length entries) ages.next y.doing) (found_state 0 name script.sessions states at at x found (omega arith) has)
-      (doing_ready script entries ages.next (place_after sql_language name before.done) (place_after sql_language name before.done).pending (state_of name script.sessions states).doing _ (before.so_far.standing name).doing);
+pub turn_is : (script : Script) (left : List BodyLine) (l : BodyLine) (lines : List Line) (entries : List EntryLine) (log : List Entry) (states : List SessionAt) (name text : List ℕ) →
+    IsBefore script (l ∷ left) lines entries (takes_in log) (seen_in log) states → IsLogged (tables_of script) (length entries) log → l.act ≡ Say name text → Turn script name text entries log states
+turn_is script left l lines entries log states name text before logged is_act = record {
+  ready = ready script entries log (runs_askable script before.can_run) before.so_far.stored logged;
+  to_go = λ at x found has. subst (λ (y : SessionAt). IsReadyToGo (tables_of script) (length entries) log y.doing) (found_state 0 name script.sessions states at at x found (omega arith) has)
+      (doing_ready script entries log (place_after sql_language name before.done) (place_after sql_language name before.done).pending (state_of name script.sessions states).doing _ before.so_far.stored logged (before.so_far.standing name).doing);
   is_declared = declared 0 name script.sessions said;
   inside = λ at found. let w = within 0 name script.sessions at found in let same = before.same in omega (arith, w, same);
 }
@@ -154,18 +192,21 @@ turn_is script left l lines entries taken ages states name text before is_act = 
     said = (subst (λ (a : Act). IsSaid script.sessions a) is_act before.said.0).0
 
 -- a line that was taken keeps the run so far
-pub turn_taken : (script : Script) (left : List BodyLine) (l : BodyLine) (lines lines' : List Line) (entries entries' : List EntryLine) (taken taken' : List (List GenidItem)) (ages ages' : Ages) (states : List SessionState) (name text : List ℕ) (at : ℕ) (x after : SessionState) →
-    IsBefore script (l ∷ left) lines entries taken ages states → l.act ≡ Say name text → session_at name script.sessions ≡ Some at → slice_get states at ≡ Some x →
-    IsTaken (world_of (tables_of script) ages taken (length entries)) name x text after lines lines' entries entries' taken' ages' →
-    IsBefore script left lines' entries' taken' ages' (slice_set states at after)
-turn_taken script left l lines lines' entries entries' taken taken' ages ages' states name text at x after before is_act found has run = record {
+pub turn_taken : (script : Script) (left : List BodyLine) (l : BodyLine) (lines lines' : List Line) (entries entries' : List EntryLine) (taken taken' : List (List GenidItem)) (seen seen' : Seen) (states : List SessionAt) (name text : List ℕ) (at : ℕ) (x after : SessionAt) →
+    IsBefore script (l ∷ left) lines entries taken seen states → l.act ≡ Say name text → session_at name script.sessions ≡ Some at → slice_get states at ≡ Some x →
+    IsTaken (world_of (tables_of script) seen taken (length entries)) name x text after lines lines' entries entries' taken' seen' →
+    IsBefore script left lines' entries' taken' seen' (slice_set states at after)
+turn_taken script left l lines lines' entries entries' taken taken' seen seen' states name text at x after before is_act found has run = record {
   can_run = before.can_run;
   said = before.said.1;
   same = length-set states at after ∙ before.same;
   done = before.done ++ l ∷ [];
-  so_far = go (subst (λ (y : SessionState). IsTaken (world_of (tables_of script) ages taken (length entries)) name y text after lines lines' entries entries' taken' ages') (sym its) run);
+  so_far = go (subst (λ (y : SessionAt). IsTaken (world_of (tables_of script) seen taken (length entries)) name y text after lines lines' entries entries' taken' seen') (sym its) run);
 }
   where
+    utf8 : is_utf8 text ≡ true
+    utf8 = (subst (λ (a : Act). IsSaid script.sessions a) is_act before.said.0).1
+
     its : state_of name script.sessions states ≡ x
     its = found_state 0 name script.sessions states at at x found (omega arith) has
 
@@ -178,15 +219,74 @@ turn_taken script left l lines lines' entries entries' taken taken' ages ages' s
     others : (m : List ℕ) → bytes_eq name m ≡ false → state_of m script.sessions (slice_set states at after) ≡ state_of m script.sessions states
     others m differs = other_state 0 name m script.sessions states at at after found (omega arith) differs
 
-    go : IsTaken (world_of (tables_of script) ages taken (length entries)) name (state_of name script.sessions states) text after lines lines' entries entries' taken' ages' →
-        SoFar script (before.done ++ l ∷ []) left lines' entries' taken' ages' (slice_set states at after)
-    go (inl (done, there)) = turned_keeps script before.done left l lines entries taken ages states (slice_set states at after) name text before.so_far is_act (distinct [] (tables_of script) before.can_run.tables_lawful)
-        lines' entries' taken' ages' done (own ∙ there) others
-    go (inr (c, is, short, there)) = cut_keeps script before.done left l lines entries taken ages states (slice_set states at after) name text before.so_far is_act (distinct [] (tables_of script) before.can_run.tables_lawful)
-        lines' entries' taken' ages' c is short (own ∙ there) others
+    go : IsTaken (world_of (tables_of script) seen taken (length entries)) name (state_of name script.sessions states) text after lines lines' entries entries' taken' seen' →
+        SoFar script (before.done ++ l ∷ []) left lines' entries' taken' seen' (slice_set states at after)
+    go (inl (done, there)) = turned_keeps script before.done left l lines entries taken seen states (slice_set states at after) name text before.so_far is_act (runs_askable script before.can_run) utf8
+        lines' entries' taken' seen' done (own ∙ there) others
+    go (inr (c, is, short, there)) = cut_keeps script before.done left l lines entries taken seen states (slice_set states at after) name text before.so_far is_act (runs_askable script before.can_run) utf8
+        lines' entries' taken' seen' c is short (own ∙ there) others
 
 -- what is put at a place twice is what was put there last
 pub set_again : {A : Type 0} (xs : List A) (i : ℕ) (x y : A) → slice_set (slice_set xs i x) i y ≡ slice_set xs i y
 set_again [] i x y = refl
 set_again (z ∷ zs) zero x y = refl
 set_again (z ∷ zs) (suc i) x y = ap (λ rest. z ∷ rest) (set_again zs i x y)
+
+-- the line of a session at its place has its name
+pub found_line : (k : ℕ) (name : List ℕ) (ss : List SessionLine) (at i : ℕ) → session_from k name ss ≡ Some at → at ≡ k + i → (s : SessionLine) × (slice_get ss i ≡ Some s) × (s.name ≡ name)
+found_line k name [] at i is place = absurd cc
+found_line k name (s ∷ ss) at zero is place = pick (bytes_eq s.name name) refl is
+  where
+    pick : (b : Bool) → bytes_eq s.name name ≡ b → (if b then Some k else session_from (k + 1) name ss) ≡ Some at → (l : SessionLine) × (slice_get (s ∷ ss) 0 ≡ Some l) × (l.name ≡ name)
+    pick true same found = (s, refl, same_name s.name name same)
+    pick false other found = let least = from_least (k + 1) name ss at found in absurd (omega (arith, least, place))
+found_line k name (s ∷ ss) at (suc i) is place = pick (bytes_eq s.name name) (λ found. found_line (k + 1) name ss at i found (omega (arith, place))) is
+  where
+    pick : (b : Bool) → (session_from (k + 1) name ss ≡ Some at → (l : SessionLine) × (slice_get ss i ≡ Some l) × (l.name ≡ name)) → (if b then Some k else session_from (k + 1) name ss) ≡ Some at → (l : SessionLine) × (slice_get (s ∷ ss) (suc i) ≡ Some l) × (l.name ≡ name)
+    pick true later found = let same : k ≡ at = cc in absurd (omega (arith, same, place))
+    pick false later found = later found
+
+-- what is found in a list with one exchanged
+get_set : {A : Type 0} (xs : List A) (i j : ℕ) (x y : A) → slice_get (slice_set xs i x) j ≡ Some y → ((i ≡ j) × (x ≡ y)) ⊎ (slice_get xs j ≡ Some y)
+get_set [] i j x y is = inr is
+get_set (z ∷ zs) zero zero x y is = let same : x ≡ y = cc in inl (refl, same)
+get_set (z ∷ zs) zero (suc j) x y is = inr is
+get_set (z ∷ zs) (suc i) zero x y is = inr is
+get_set (z ∷ zs) (suc i) (suc j) x y is = later (get_set zs i j x y is)
+  where
+    later : ((i ≡ j) × (x ≡ y)) ⊎ (slice_get zs j ≡ Some y) → ((suc i ≡ suc j) × (x ≡ y)) ⊎ (slice_get zs j ≡ Some y)
+    later (inl (at, same)) = let up : suc i ≡ suc j = omega (arith, at) in inl (up, same)
+    later (inr found) = inr found
+
+-- the session whose line comes has an open transaction of its own, and so have all when it is put back
+pub own_there : (sessions : List SessionLine) (states : List SessionState) (name : List ℕ) (at : ℕ) (x : SessionState) → AreOwn sessions states → session_at name sessions ≡ Some at → slice_get states at ≡ Some x → IsOwn name x
+own_there sessions states name at x own found has =
+    let line : (s : SessionLine) × (slice_get sessions at ≡ Some s) × (s.name ≡ name) = found_line 0 name sessions at at found (omega arith) in
+    subst (λ (n : List ℕ). IsOwn n x) line.2 (own at line.0 x line.1 has)
+
+pub own_after : (sessions : List SessionLine) (states : List SessionState) (name : List ℕ) (at : ℕ) (x : SessionState) → AreOwn sessions states → session_at name sessions ≡ Some at → IsOwn name x → AreOwn sessions (slice_set states at x)
+own_after sessions states name at x own found is place s y line has = go (get_set states at place x y has)
+  where
+    there : (l : SessionLine) × (slice_get sessions at ≡ Some l) × (l.name ≡ name)
+    there = found_line 0 name sessions at at found (omega arith)
+
+    go : ((at ≡ place) × (x ≡ y)) ⊎ (slice_get states place ≡ Some y) → IsOwn s.name y
+    go (inl (same, put)) =
+        let same_line : there.0 ≡ s = let here : slice_get sessions place ≡ Some there.0 = subst (λ n. slice_get sessions n ≡ Some there.0) same there.1 in cc in
+        subst (λ (z : SessionState). IsOwn s.name z) put (subst (λ (n : List ℕ). IsOwn n x) (sym there.2 ∙ ap (λ (l : SessionLine). l.name) same_line) is)
+    go (inr before) = own place s y line before
+
+-- views of sessions, one by one
+pub map_length : {A B : Type 0} (f : A → B) (xs : List A) → length (map f xs) ≡ length xs
+map_length f [] = refl
+map_length f (x ∷ xs) = let rest : length (map f xs) ≡ length xs = map_length f xs in omega (arith, rest)
+
+pub map_set : {A B : Type 0} (f : A → B) (xs : List A) (i : ℕ) (x : A) → map f (slice_set xs i x) ≡ slice_set (map f xs) i (f x)
+map_set f [] i x = refl
+map_set f (y ∷ ys) zero x = refl
+map_set f (y ∷ ys) (suc i) x = ap (λ rest. f y ∷ rest) (map_set f ys i x)
+
+pub map_get : {A B : Type 0} (f : A → B) (xs : List A) (i : ℕ) (x : A) → slice_get xs i ≡ Some x → slice_get (map f xs) i ≡ Some (f x)
+map_get f [] i x is = absurd cc
+map_get f (y ∷ ys) zero x is = let same : y ≡ x = cc in ap (λ z. Some (f z)) same
+map_get f (y ∷ ys) (suc i) x is = map_get f ys i x is

@@ -1,16 +1,13 @@
 -- Soundness: what is sound stays so later, and is as the layers below want it.
-use Rattle.std.proofs.Common.{◌≡◌, ℕ, ◌<◌, ◌≤◌, ◌||◌, ◌++◌, ◌∷◌, [], List, nat_le, refl, sym, subst, arith, length, map, zero, suc, Bool, true, false}
+use Rattle.std.proofs.Common.{◌≡◌, ℕ, ◌<◌, ◌≤◌, ◌||◌, ◌++◌, ◌∷◌, [], List, nat_le, refl, arith, length, map, zero, suc, Bool, true, false}
 use Rattle.std.specs.Prelude.{slice_get, Some, None, if◌then◌else◌}
 use Rattle.std.specs.List.{AllByRecursion}
-use Rattle.cdb_values.specs.Good.{IsGood, first_broken, AllFit}
-use Rattle.cdb_values.specs.Rows.{no_rows}
 use Rattle.cdb_values.specs.declared.rows.RowOp.{RowOp}
 use Rattle.cdb_values.specs.declared.rows.RowOp.TheVariants.{Insert, Update, Delete}
 use Rattle.cdb_values.specs.declared.rows.RowRef.{RowRef}
 use Rattle.cdb_values.specs.declared.rows.RowRef.TheVariants.{Base, Own}
 use Rattle.cdb_values.specs.declared.rows.Version.{Version}
 use Rattle.cdb_values.specs.declared.tables.TableDef.{TableDef}
-use Rattle.cdb_values.specs.Views.{IsOnBase}
 use Rattle.cdb_values.specs.Changes.{taken_by}
 use Rattle.cdb_values.specs.Tables.{add_fault, are_bad_keys, has_twice, is_named, is_past_limits, is_unlawful}
 use Rattle.cdb_values.specs.declared.schemas.AddFault.TheVariants.{Taken, Unlawful, Limit}
@@ -18,10 +15,9 @@ use Rattle.cdb_values.specs.declared.tables.ColumnDef.{ColumnDef}
 use Rattle.cdb_values.specs.declared.tables.KeyDef.{KeyDef}
 use Rattle.script_form.specs.CanRun.{AreTaken}
 use Rattle.report_laws.specs.Outcome.{name_of_table}
-use Rattle.cdb_values.specs.declared.items.GenidItem.{GenidItem}
-use Rattle.cdb_values.specs.Views.{IsBased}
-use Rattle.snapshot_rows.proofs.BasedLaws.{on_base_is_based, none_broken}
-use Rattle.commit_decisions.specs.Decisions.{HasName}
+use Rattle.script_play.specs.Decisions.{HasName}
+use Rattle.report_laws.specs.Spelled.{WritesRow, HaveRows}
+use Rattle.script_play.specs.Ready.{AreKept, IsKeptOp}
 use Rattle.sql_run.specs.Sound.{AreSound, HasDistinctColumns, IsSoundOp, IsSoundVersion, IsBelow}
 
 -- versions below a next genid are below a later one
@@ -56,30 +52,11 @@ pub sound_none : (tables : List TableDef) (next : ℕ) → AreSound tables next 
 sound_none [] next = tt
 sound_none (table ∷ tables) next = (tt, sound_none tables next)
 
--- as many lists of versions as tables
-pub sound_length : (tables : List TableDef) (next : ℕ) (versions : List (List Version)) → AreSound tables next versions → length versions ≡ length tables
-sound_length [] next [] sound = refl
-sound_length [] next (vs ∷ others) sound = absurd sound
-sound_length (table ∷ tables) next [] sound = absurd sound
-sound_length (table ∷ tables) next (vs ∷ others) sound = let more : length others ≡ length tables = sound_length tables next others sound.1 in omega arith
-
 -- a table's place is within the tables
 pub place_within : (tables : List TableDef) (place : ℕ) (table : TableDef) → slice_get tables place ≡ Some table → place < length tables
 place_within [] place table at = absurd cc
 place_within (first ∷ tables) zero table at = omega arith
 place_within (first ∷ tables) (suc place) table at = let within : place < length tables = place_within tables place table at in omega arith
-
--- sound operations are on a base
-pub sound_on_base : (tables : List TableDef) (next : ℕ) (ops : List RowOp) → AllByRecursion (IsSoundOp tables next) ops → AllByRecursion (IsOnBase (length tables) next) ops
-sound_on_base tables next [] all = tt
-sound_on_base tables next (Insert place row ∷ ops) ((table, at, fits), all) = (place_within tables place table at, sound_on_base tables next ops all)
-sound_on_base tables next (Update place (Base genid) old row ∷ ops) ((table, at, fits, below), all) = ((place_within tables place table at, below), sound_on_base tables next ops all)
-sound_on_base tables next (Update place (Own write) old row ∷ ops) ((table, at, fits, below), all) = absurd below
-sound_on_base tables next (Delete place (Base genid) old ∷ ops) ((table, at, below), all) = ((place_within tables place table at, below), sound_on_base tables next ops all)
-sound_on_base tables next (Delete place (Own write) old ∷ ops) ((table, at, below), all) = absurd below
-
-pub sound_based : (tables : List TableDef) (next : ℕ) (ops : List RowOp) → AllByRecursion (IsSoundOp tables next) ops → AllByRecursion (IsBased (length tables)) ops
-sound_based tables next ops all = on_base_is_based (length tables) next ops (sound_on_base tables next ops all)
 
 name_at : (tables : List TableDef) (place : ℕ) (table : TableDef) → slice_get tables place ≡ Some table → (name : List ℕ) × (name_of_table tables place ≡ Some name)
 name_at tables place table at = (table.name, rw at refl)
@@ -91,10 +68,6 @@ all_named tables next (Update place (Base genid) old row ∷ ops) ((table, at, f
 all_named tables next (Update place (Own write) old row ∷ ops) all = all_named tables next ops all.1
 all_named tables next (Delete place (Base genid) old ∷ ops) ((table, at, below), all) = (name_at tables place table at, all_named tables next ops all)
 all_named tables next (Delete place (Own write) old ∷ ops) all = all_named tables next ops all.1
-
--- sound operations are on a base with as many tables
-pub on_base : (tables : List TableDef) (count next : ℕ) (ops : List RowOp) → count ≡ length tables → AllByRecursion (IsSoundOp tables next) ops → AllByRecursion (IsOnBase count next) ops
-on_base tables count next ops many sound = subst (λ n. AllByRecursion (IsOnBase n next) ops) (sym many) (sound_on_base tables next ops sound)
 
 -- a table that may be added has distinct names of columns
 distinct_one : (before : List TableDef) (table : TableDef) → add_fault before table ≡ None → HasDistinctColumns table
@@ -122,14 +95,31 @@ pub distinct : (before tables : List TableDef) → AreTaken before tables → Al
 distinct before [] taken = tt
 distinct before (table ∷ tables) taken = (distinct_one before table taken.0, distinct (before ++ table ∷ []) tables taken.1)
 
--- tables without rows break no key
-pub fits_none : (tables : List TableDef) → first_broken tables (map (λ _. []) tables) ≡ None
-fits_none tables = none_broken tables
+-- ---- with texts of UTF-8
 
-all_fit_none : (tables : List TableDef) → AllFit tables (map (λ _. []) tables)
-all_fit_none [] = tt
-all_fit_none (table ∷ tables) = (tt, all_fit_none tables)
+pub rows_later : (tables : List TableDef) (next next' : ℕ) (versions : List (List Version)) → next ≤ next' → AreKept tables next versions → AreKept tables next' versions
+rows_later tables next next' versions later kept = (sound_later tables next next' versions later kept.0, kept.1)
 
--- tables without rows are good
-pub good_none : (tables : List TableDef) → IsGood tables (no_rows tables).tables
-good_none tables = record { rows_fit = all_fit_none tables; keys_kept = none_broken tables }
+pub kept_later : (tables : List TableDef) (next next' : ℕ) (ops : List RowOp) → next ≤ next' → AllByRecursion (IsKeptOp tables next) ops → AllByRecursion (IsKeptOp tables next') ops
+kept_later tables next next' [] later all = tt
+kept_later tables next next' (op ∷ ops) later all = ((op_later tables next next' op later all.0.0, all.0.1), kept_later tables next next' ops later all.1)
+
+-- operations that are sound, and whose rows have texts of UTF-8, are both
+pub kept_both : (tables : List TableDef) (next : ℕ) (ops : List RowOp) → AllByRecursion (IsSoundOp tables next) ops → AllByRecursion WritesRow ops → AllByRecursion (IsKeptOp tables next) ops
+kept_both tables next [] sound told = tt
+kept_both tables next (op ∷ ops) sound told = ((sound.0, told.0), kept_both tables next ops sound.1 told.1)
+
+pub kept_sound : (tables : List TableDef) (next : ℕ) (ops : List RowOp) → AllByRecursion (IsKeptOp tables next) ops → AllByRecursion (IsSoundOp tables next) ops
+kept_sound tables next [] all = tt
+kept_sound tables next (op ∷ ops) all = (all.0.0, kept_sound tables next ops all.1)
+
+pub kept_told : (tables : List TableDef) (next : ℕ) (ops : List RowOp) → AllByRecursion (IsKeptOp tables next) ops → AllByRecursion WritesRow ops
+kept_told tables next [] all = tt
+kept_told tables next (op ∷ ops) all = (all.0.1, kept_told tables next ops all.1)
+
+have_none : (tables : List TableDef) → HaveRows (map (λ _. []) tables)
+have_none [] = tt
+have_none (table ∷ tables) = (tt, have_none tables)
+
+pub kept_none : (tables : List TableDef) (next : ℕ) → AreKept tables next (map (λ _. []) tables)
+kept_none tables next = (sound_none tables next, have_none tables)

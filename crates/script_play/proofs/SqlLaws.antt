@@ -1,25 +1,42 @@
 -- What a run asks of the language of SQL: each text is answered, and by sound operations over sound rows; and a
 -- transaction's texts use what they use one after the other.
-use Rattle.std.proofs.Common.{◌≡◌, ℕ, ◌++◌, ◌∷◌, [], List, ◌∙◌, ap, append_assoc, sym}
+use Rattle.std.proofs.Common.{◌≡◌, ℕ, ◌++◌, ◌∷◌, [], List, ◌∙◌, ap, append_assoc, sym, true}
 use Rattle.std.proofs.lemmas.List.{append-nil}
 use Rattle.std.specs.List.{AllByRecursion}
+use Rattle.std.specs.Str.{is_utf8}
 use Rattle.cdb_values.specs.declared.items.GenidItem.{GenidItem}
 use Rattle.cdb_values.specs.declared.rows.RowOp.{RowOp}
 use Rattle.cdb_values.specs.declared.rows.Version.{Version}
 use Rattle.cdb_values.specs.declared.tables.TableDef.{TableDef}
-use Rattle.sql_run.specs.Sound.{AreSound, HasDistinctColumns, IsSoundOp}
+use Rattle.sql_run.specs.Sound.{HasDistinctColumns}
+use Rattle.sql_run.specs.Spelled.{HasColumns}
 use Rattle.report_laws.specs.Answers.{Answers}
 use Rattle.report_laws.specs.Language.{Language, alone_from}
 use Rattle.sql_answer.proofs.LanguageLemmas.{sql_answers}
 use Rattle.sql_answer.specs.Language.{bound_in, sql_language}
+use Rattle.sql_run.proofs.RowLaws.{leaves_such_rows}
 use Rattle.sql_run.proofs.SoundLaws.{leaves_sound_ops}
+use Rattle.script_play.proofs.SoundLaws.{kept_both, kept_sound, kept_told}
+use Rattle.script_play.specs.Ready.{AreKept, IsAskable, IsKeptOp}
 
 pub sql_is_answered : Answers sql_language
 sql_is_answered = sql_answers bound_in
 
-pub sound_answer : (tables : List TableDef) (versions : List (List Version)) (done : List RowOp) (text : List ℕ) (next : ℕ) → AllByRecursion HasDistinctColumns tables → AreSound tables next versions → AllByRecursion (IsSoundOp tables next) done
-    → AllByRecursion (IsSoundOp tables next) (sql_language.answer tables versions done text).ops
-sound_answer tables versions done text next apart sound all = leaves_sound_ops tables versions done text next apart sound all
+-- tables as texts ask for them have columns of distinct names, and one or more
+askable_apart : (tables : List TableDef) → AllByRecursion IsAskable tables → AllByRecursion HasDistinctColumns tables
+askable_apart [] all = tt
+askable_apart (table ∷ tables) all = (all.0.0, askable_apart tables all.1)
+
+askable_columns : (tables : List TableDef) → AllByRecursion IsAskable tables → AllByRecursion HasColumns tables
+askable_columns [] all = tt
+askable_columns (table ∷ tables) all = (all.0.1, askable_columns tables all.1)
+
+pub kept_answer : (tables : List TableDef) (versions : List (List Version)) (done : List RowOp) (text : List ℕ) (next : ℕ) → AllByRecursion IsAskable tables → is_utf8 text ≡ true → AreKept tables next versions → AllByRecursion (IsKeptOp tables next) done
+    → AllByRecursion (IsKeptOp tables next) (sql_language.answer tables versions done text).ops
+kept_answer tables versions done text next askable utf8 kept all =
+    kept_both tables next (sql_language.answer tables versions done text).ops
+    (leaves_sound_ops tables versions done text next (askable_apart tables askable) kept.0 (kept_sound tables next done all))
+    (leaves_such_rows tables versions done text (askable_columns tables askable) utf8 kept.1 (kept_told tables next done all))
 
 -- one text more uses what it uses behind the texts before it
 pub uses_more : (language : Language) (tables : List TableDef) (versions : List (List Version)) (done : List RowOp) (texts : List (List ℕ)) (text : List ℕ) →

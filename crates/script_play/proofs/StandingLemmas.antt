@@ -19,12 +19,11 @@ use Rattle.sql_answer.specs.Language.{sql_language}
 use Rattle.report_laws.proofs.GrowLaws.{told_stays, cut_stays}
 use Rattle.report_laws.proofs.HistoryLaws.{rows_stay}
 use Rattle.report_laws.proofs.ToldLaws.{along_append, along_one, along_map}
-use Rattle.script_play.proofs.SoundLaws.{ops_later}
+use Rattle.script_play.proofs.SoundLaws.{kept_later}
 use Rattle.script_play.specs.SoFar.{IsOpen, IsDoing, Standing}
 use Rattle.script_play.specs.Step.{state}
-use Rattle.script_play.specs.declared.states.SessionState.{SessionState}
-use Rattle.script_play.specs.declared.states.InTransaction.{InTransaction}
-use Rattle.script_play.specs.declared.states.InTransaction.TheVariants as doing
+use Rattle.script_play.specs.Doing.{SessionAt, Doing}
+use Rattle.script_play.specs.Doing as doing
 
 -- the history stays, or grows by an entry
 abbrev pub Grows : List EntryLine → List EntryLine → Type 0
@@ -48,10 +47,10 @@ module _ (script : Script) (entries : List EntryLine) (e : EntryLine) where
     says = is.says ∙ ap (λ (a : Answered). reply.Begin begin ∷ a.replies) (sym (alone_stays texts begin is.within));
     ops_are = is.ops_are ∙ ap (λ (a : Answered). a.ops) (sym (alone_stays texts begin is.within));
     uses_are = is.uses_are ∙ ap (λ (a : Answered). a.uses) (sym (alone_stays texts begin is.within));
-    sound = ops_later (tables_of script) next next' ops le is.sound;
+    sound = kept_later (tables_of script) next next' ops le is.sound;
   }
 
-  doing_stays : (next next' : ℕ) (p : Place) (q : Option (List (List ℕ))) (d : InTransaction) (mine : List ReplyLine) → next ≤ next' → IsDoing script entries next p q d mine → IsDoing script grown next' p q d mine
+  doing_stays : (next next' : ℕ) (p : Place) (q : Option (List (List ℕ))) (d : Doing) (mine : List ReplyLine) → next ≤ next' → IsDoing script entries next p q d mine → IsDoing script grown next' p q d mine
   doing_stays next next' p None doing.No mine le is = is
   doing_stays next next' p None (doing.Open begin ops uses) mine le is = absurd is
   doing_stays next next' p None doing.Aborted mine le is = absurd is
@@ -59,7 +58,7 @@ module _ (script : Script) (entries : List EntryLine) (e : EntryLine) where
   doing_stays next next' p (Some texts) (doing.Open begin ops uses) mine le is = open_stays next next' texts begin ops uses mine le is
   doing_stays next next' p (Some texts) doing.Aborted mine le is = cut_stays (from_nothing script) entries e (transaction p.number texts p.level Nowhere) mine is
 
-  grown_stands : (next next' : ℕ) (name : List ℕ) (p : Place) (lines : List Numbered) (at : SessionState) → next ≤ next' → Standing script entries next name p lines at → Standing script grown next' name p lines at
+  grown_stands : (next next' : ℕ) (name : List ℕ) (p : Place) (lines : List Numbered) (at : SessionAt) → next ≤ next' → Standing script entries next name p lines at → Standing script grown next' name p lines at
   grown_stands next next' name p lines at le was = record {
     before = was.before;
     mine = was.mine;
@@ -71,7 +70,7 @@ module _ (script : Script) (entries : List EntryLine) (e : EntryLine) where
   }
 
 -- the same open transaction, below a greater next genid
-open_later : (script : Script) (entries : List EntryLine) (next next' : ℕ) (p : Place) (q : Option (List (List ℕ))) (d : InTransaction) (mine : List ReplyLine) → next ≤ next' → IsDoing script entries next p q d mine → IsDoing script entries next' p q d mine
+open_later : (script : Script) (entries : List EntryLine) (next next' : ℕ) (p : Place) (q : Option (List (List ℕ))) (d : Doing) (mine : List ReplyLine) → next ≤ next' → IsDoing script entries next p q d mine → IsDoing script entries next' p q d mine
 open_later script entries next next' p None doing.No mine le is = is
 open_later script entries next next' p None (doing.Open begin ops uses) mine le is = absurd is
 open_later script entries next next' p None doing.Aborted mine le is = absurd is
@@ -82,12 +81,12 @@ open_later script entries next next' p (Some texts) (doing.Open begin ops uses) 
   says = is.says;
   ops_are = is.ops_are;
   uses_are = is.uses_are;
-  sound = ops_later (tables_of script) next next' ops le is.sound;
+  sound = kept_later (tables_of script) next next' ops le is.sound;
 }
 open_later script entries next next' p (Some texts) doing.Aborted mine le is = is
 
 -- a session stays where it is when the history grows
-pub stands_on : (script : Script) (entries entries' : List EntryLine) (next next' : ℕ) (name : List ℕ) (p : Place) (lines : List Numbered) (at : SessionState) → Grows entries entries' → next ≤ next' →
+pub stands_on : (script : Script) (entries entries' : List EntryLine) (next next' : ℕ) (name : List ℕ) (p : Place) (lines : List Numbered) (at : SessionAt) → Grows entries entries' → next ≤ next' →
     Standing script entries next name p lines at → Standing script entries' next' name p lines at
 stands_on script entries entries' next next' name p lines at (inl same) le was = subst (λ es. Standing script es next' name p lines at) (sym same) (record {
   before = was.before;
@@ -133,7 +132,7 @@ module _ (script : Script) (entries entries' : List EntryLine) (grows : Grows en
   }
 
   -- a session is in a transaction, of which these lines were told
-  pub in_transaction : (texts : List (List ℕ)) (mine : List ReplyLine) (lines : List Numbered) (next number : ℕ) (d : InTransaction) →
+  pub in_transaction : (texts : List (List ℕ)) (mine : List ReplyLine) (lines : List Numbered) (next number : ℕ) (d : Doing) →
       IsDoing script entries' next (with_open p (Some texts) number) (Some texts) d mine → lines ≡ before ++ numbered number mine →
       Standing script entries' next name (with_open p (Some texts) number) lines (state number p.level d)
   in_transaction texts mine lines next number d is all = record {

@@ -9,7 +9,7 @@ use Rattle.cdb_values.specs.Rows.{Rows, apply_all}
 use Rattle.cdb_values.specs.declared.rows.Level.{Level}
 use Rattle.cdb_values.specs.declared.rows.RowOp.{RowOp}
 use Rattle.cdb_values.specs.declared.rows.Version.{Version}
-use Rattle.snapshot_rows.specs.Ages.{Ages, IsUpTo, seen, rows_seen}
+use Rattle.script_play.specs.Seen.{Seen}
 use Rattle.script_form.specs.declared.scripts.Script.{Script}
 use Rattle.report_text.specs.declared.reports.EntryLine.{EntryLine}
 use Rattle.report_text.specs.declared.reports.EntryLine.TheVariants.{Commit}
@@ -26,10 +26,10 @@ use Rattle.sql_answer.specs.Language.{sql_language}
 use Rattle.cdb_values.specs.declared.items.GenidItem.{GenidItem}
 use Rattle.report_laws.proofs.EachLaws.{all_append, each_append, get_front, get_next}
 use Rattle.report_laws.proofs.HistoryLaws.{none_stands, rows_stay, rows_new, entry_new, taken_stays, taken_new, untouched_stays}
-use Rattle.commit_decisions.specs.Decisions.{first_conflict}
-use Rattle.sql_run.specs.Sound.{AreSound, IsSoundOp}
-use Rattle.commit_decisions.proofs.ConflictLaws.{none_since}
-use Rattle.script_play.proofs.SoundLaws.{all_named, sound_later}
+use Rattle.block_processor.specs.Conflicts.{first_conflict}
+use Rattle.script_play.specs.Ready.{AreKept, IsKeptOp}
+use Rattle.block_processor.proofs.ConflictLaws.{none_since}
+use Rattle.script_play.proofs.SoundLaws.{all_named, kept_sound, rows_later}
 use Rattle.script_play.specs.SoFar.{Stored}
 use Rattle.script_play.specs.Step.{World, world_of, IsKept}
 
@@ -37,31 +37,31 @@ use Rattle.script_play.specs.Step.{World, world_of, IsKept}
 abbrev pub entry_of : List ℕ → ℕ → ℕ → Level → ℕ → EntryLine
 entry_of name number begin level now = Commit (now + 1) name number begin level
 
-abbrev pub world : Script → List EntryLine → List (List GenidItem) → Ages → World
-world script entries taken ages = world_of (tables_of script) ages taken (length entries)
+abbrev pub world : Script → List EntryLine → List (List GenidItem) → Seen → World
+world script entries taken seen = world_of (tables_of script) seen taken (length entries)
 
 -- a transaction comes to its commit
-pub record Commits (script : Script) (entries : List EntryLine) (taken : List (List GenidItem)) (ages : Ages) (name : List ℕ) (t : Transaction) (begin : ℕ) (uses : List GenidItem) (ops : List RowOp) : Type 0 where
-  pub stored : Stored script entries taken ages
+pub record Commits (script : Script) (entries : List EntryLine) (taken : List (List GenidItem)) (seen : Seen) (name : List ℕ) (t : Transaction) (begin : ℕ) (uses : List GenidItem) (ops : List RowOp) : Type 0 where
+  pub stored : Stored script entries taken seen
   pub first : 1 ≤ begin
   pub within : begin ≤ length entries
   pub is_its : transaction_of sql_language name t.number script.body ≡ Some t
   pub ops_are : ops ≡ (alone_at (from_nothing script) (view_of (from_nothing script) entries) t begin).ops
   pub uses_are : uses ≡ (alone_at (from_nothing script) (view_of (from_nothing script) entries) t begin).uses
-  pub sound : AllByRecursion (IsSoundOp (tables_of script) ages.next) ops
+  pub sound : AllByRecursion (IsKeptOp (tables_of script) seen.next) ops
   pub once : AllByRecursion (λ e. is_entry_of name t.number e ≡ false) entries
   -- applied now, the operations leave sound rows, which fit
-  pub applied : AreSound (tables_of script) (apply_all (rows_seen ages (length entries)) ops).next (apply_all (rows_seen ages (length entries)) ops).tables
-  pub grows : ages.next ≤ (apply_all (rows_seen ages (length entries)) ops).next
-  pub fits : AllFit (tables_of script) (apply_all (rows_seen ages (length entries)) ops).tables
+  pub applied : AreKept (tables_of script) (apply_all (seen.at (length entries)) ops).next (apply_all (seen.at (length entries)) ops).tables
+  pub grows : seen.next ≤ (apply_all (seen.at (length entries)) ops).next
+  pub fits : AllFit (tables_of script) (apply_all (seen.at (length entries)) ops).tables
 
-module _ (script : Script) (entries : List EntryLine) (taken : List (List GenidItem)) (ages : Ages) (name : List ℕ) (t : Transaction) (begin : ℕ) (uses : List GenidItem) (ops : List RowOp) (c : Commits script entries taken ages name t begin uses ops) where
+module _ (script : Script) (entries : List EntryLine) (taken : List (List GenidItem)) (seen : Seen) (name : List ℕ) (t : Transaction) (begin : ℕ) (uses : List GenidItem) (ops : List RowOp) (c : Commits script entries taken seen name t begin uses ops) where
   abbrev pub now : ℕ
   now = length entries
 
   -- what it uses: what its texts used, and what its operations take away
   abbrev pub used : List GenidItem
-  used = uses ++ taken_by ops
+  used = taken_by ops ++ uses
 
   -- what no entry since the begin touches, by the versions that were kept for each entry
   pub untouched_now : first_conflict begin (drop begin taken) used ≡ None → IsUntouched (view_of (from_nothing script) entries) begin (now + 1) used
@@ -72,8 +72,8 @@ module _ (script : Script) (entries : List EntryLine) (taken : List (List GenidI
   -- these are what it uses when it is run alone
   used_is : used_by (alone_at (from_nothing script) (view_of (from_nothing script) entries) t begin) ≡ used
   used_is =
-      ap (λ (us : List GenidItem). us ++ taken_by (alone_at (from_nothing script) (view_of (from_nothing script) entries) t begin).ops) (sym c.uses_are)
-      ∙ ap (λ (o : List RowOp). uses ++ taken_by o) (sym c.ops_are)
+      ap (λ (us : List GenidItem). taken_by (alone_at (from_nothing script) (view_of (from_nothing script) entries) t begin).ops ++ us) (sym c.uses_are)
+      ∙ ap (λ (o : List RowOp). taken_by o ++ uses) (sym c.ops_are)
 
   abbrev pub e : EntryLine
   e = entry_of name t.number begin t.level now
@@ -88,7 +88,7 @@ module _ (script : Script) (entries : List EntryLine) (taken : List (List GenidI
   pub its_ops : ops_of (from_nothing script) (states_of (from_nothing script) entries) e ≡ ops
   its_ops = ap (λ (found : Option Transaction). ops_alone (from_nothing script) (rows_at (from_nothing script) entries begin) found) c.is_its ∙ sym c.ops_are
 
-  pub rows_there : rows_after (from_nothing script) (states_of (from_nothing script) entries) e ≡ apply_all (rows_seen ages now) ops
+  pub rows_there : rows_after (from_nothing script) (states_of (from_nothing script) entries) e ≡ apply_all (seen.at now) ops
   rows_there =
       let back : now + 1 - 1 ≡ now = omega arith in
       ap (λ (o : List RowOp). apply_all (rows_at (from_nothing script) entries (now + 1 - 1)) o) its_ops
@@ -98,19 +98,19 @@ module _ (script : Script) (entries : List EntryLine) (taken : List (List GenidI
   next_at : now + 1 ≡ last_position (from_nothing script).origin entries + 1
   next_at = omega arith
 
-  pub rows_then : rows_at (from_nothing script) more (now + 1) ≡ apply_all (rows_seen ages now) ops
+  pub rows_then : rows_at (from_nothing script) more (now + 1) ≡ apply_all (seen.at now) ops
   rows_then = ap (λ k. rows_at (from_nothing script) more k) next_at ∙ rows_new (from_nothing script) entries e ∙ rows_there
 
-  module _ (ages' : Ages) (kept : IsKept now ages ages' (ops ∷ [])) (unbroken : first_broken (tables_of script) (apply_all (rows_seen ages now) ops).tables ≡ None) (some : ops ≢ []) (clear : first_conflict begin (drop begin taken) used ≡ None) where
-    good : IsGood (tables_of script) (apply_all (rows_seen ages now) ops).tables
+  module _ (seen' : Seen) (kept : IsKept now seen seen' (ops ∷ [])) (unbroken : first_broken (tables_of script) (apply_all (seen.at now) ops).tables ≡ None) (some : ops ≢ []) (clear : first_conflict begin (drop begin taken) used ≡ None) where
+    good : IsGood (tables_of script) (apply_all (seen.at now) ops).tables
     good = record { rows_fit = c.fits; keys_kept = unbroken }
 
-    rows_applied : apply_all (rows_at (from_nothing script) entries (last_position (from_nothing script).origin entries)) (alone_at (from_nothing script) (view_of (from_nothing script) entries) t begin).ops ≡ apply_all (rows_seen ages now) ops
+    rows_applied : apply_all (rows_at (from_nothing script) entries (last_position (from_nothing script).origin entries)) (alone_at (from_nothing script) (view_of (from_nothing script) entries) t begin).ops ≡ apply_all (seen.at now) ops
     rows_applied =
         let last : last_position (from_nothing script).origin entries ≡ now = omega arith in
         ap (λ k. apply_all (rows_at (from_nothing script) entries k) (alone_at (from_nothing script) (view_of (from_nothing script) entries) t begin).ops) last
         ∙ ap (λ (r : Rows). apply_all r (alone_at (from_nothing script) (view_of (from_nothing script) entries) t begin).ops) (sym c.stored.now_are)
-        ∙ ap (λ (o : List RowOp). apply_all (rows_seen ages now) o) (sym c.ops_are)
+        ∙ ap (λ (o : List RowOp). apply_all (seen.at now) o) (sym c.ops_are)
 
     its_entry : IsCommitAfter (from_nothing script) (view_of (from_nothing script) entries) (now + 1) name t.number begin t.level
     its_entry = record {
@@ -127,10 +127,10 @@ module _ (script : Script) (entries : List EntryLine) (taken : List (List GenidI
       is_good = subst (λ (r : Rows). IsGood (tables_of script) r.tables) (sym rows_applied) good;
     }
 
-    pub next_is : ages'.next ≡ (apply_all (rows_seen ages now) ops).next
-    next_is = ap (λ (r : Rows). r.next) kept.0
+    pub next_is : seen'.next ≡ (apply_all (seen.at now) ops).next
+    next_is = kept.2
 
-    tables_are : seen (now + 1) ages'.tables ≡ (apply_all (rows_seen ages now) ops).tables
+    tables_are : (seen'.at (now + 1)).tables ≡ (apply_all (seen.at now) ops).tables
     tables_are = ap (λ (r : Rows). r.tables) kept.0
 
     -- each position of the longer history is one of the shorter, or the next
@@ -160,23 +160,22 @@ module _ (script : Script) (entries : List EntryLine) (taken : List (List GenidI
         ∙ sym (taken_stays (from_nothing script) entries e k (omega (arith, first)) (omega (arith, within)))
 
     -- after the commit
-    pub stored_more : Stored script more taken' ages'
+    pub stored_more : Stored script more taken' seen'
     stored_more = record {
       opened = omega (arith, count);
       history = each_append (IsEntryAfter (from_nothing script)) [] entries (e ∷ []) c.stored.history (its_entry, tt);
-      rows_are = at_next (λ at. seen at ages'.tables ≡ (rows_at (from_nothing script) more at).tables)
-          (λ at first within. kept.1 at (omega (arith, within)) ∙ c.stored.rows_are at first within ∙ ap (λ (r : Rows). r.tables) (sym (rows_stay (from_nothing script) entries e at (omega (arith, within)))))
-          (tables_are ∙ ap (λ (r : Rows). r.tables) (sym rows_then));
-      now_are = subst (λ k. rows_seen ages' k ≡ rows_at (from_nothing script) more k) (sym count) (kept.0 ∙ sym rows_then);
-      up_to = subst (λ k. IsUpTo k ages') (sym count) kept.2;
+      rows_are = at_next (λ at. seen'.at at ≡ rows_at (from_nothing script) more at)
+          (λ at first within. kept.1 at (omega (arith, within)) ∙ c.stored.rows_are at first within ∙ sym (rows_stay (from_nothing script) entries e at (omega (arith, within))))
+          (kept.0 ∙ sym rows_then);
+      now_are = subst (λ k. seen'.at k ≡ rows_at (from_nothing script) more k) (sym count) (kept.0 ∙ sym rows_then);
+      next_is = next_is ∙ ap (λ (r : Rows). r.next) (sym kept.0) ∙ ap (λ k. (seen'.at k).next) (sym count);
       taken_length = let same = c.stored.taken_length in omega (arith, count, same, length-append taken (taken_by ops ∷ []));
       taken_are = at_next (λ k. unwrap_or (slice_get taken' (k - 1)) [] ≡ taken_at (from_nothing script) more k) taken_before taken_there;
-      sound = at_next (λ at. AreSound (tables_of script) ages'.next (seen at ages'.tables))
-          (λ at first within. subst (λ (vs : List (List Version)). AreSound (tables_of script) ages'.next vs) (sym (kept.1 at (omega (arith, within))))
-          (sound_later (tables_of script) ages.next ages'.next (seen at ages.tables) (let g = c.grows in let n = next_is in omega (arith, g, n)) (c.stored.sound at first within)))
-          (subst (λ (vs : List (List Version)). AreSound (tables_of script) ages'.next vs) (sym tables_are) (subst (λ k. AreSound (tables_of script) k (apply_all (rows_seen ages now) ops).tables) (sym next_is) c.applied));
-      kept = subst (λ k. first_broken (tables_of script) (seen k ages'.tables) ≡ None) (sym count) (ap (λ (vs : List (List Version)). first_broken (tables_of script) vs) tables_are ∙ unbroken);
-      named = all_append _ taken (taken_by ops ∷ []) c.stored.named (all_named (tables_of script) ages.next ops c.sound, tt);
+      sound = at_next (λ at. AreKept (tables_of script) seen'.next (seen'.at at).tables)
+          (λ at first within. subst (λ (vs : List (List Version)). AreKept (tables_of script) seen'.next vs) (ap (λ (r : Rows). r.tables) (sym (kept.1 at (omega (arith, within)))))
+          (rows_later (tables_of script) seen.next seen'.next (seen.at at).tables (let g = c.grows in let n = next_is in omega (arith, g, n)) (c.stored.sound at first within)))
+          (subst (λ (vs : List (List Version)). AreKept (tables_of script) seen'.next vs) (sym tables_are) (subst (λ k. AreKept (tables_of script) k (apply_all (seen.at now) ops).tables) (sym next_is) c.applied));
+      named = all_append _ taken (taken_by ops ∷ []) c.stored.named (all_named (tables_of script) seen.next ops (kept_sound (tables_of script) seen.next ops c.sound), tt);
     }
 
     -- and the outcome is right

@@ -3,13 +3,12 @@ use Rattle.std.proofs.Common.{◌≡◌, ℕ, ◌+◌, ◌≤◌, ◌<◌, ◌==
 use Rattle.std.proofs.lemmas.List.{append-nil}
 use Rattle.std.proofs.lemmas.Bool.{ne_eqb}
 use Rattle.std.specs.List.{AllByRecursion}
-use Rattle.std.specs.Str.{bytes_eq}
+use Rattle.std.specs.Str.{bytes_eq, is_utf8}
 use Rattle.cdb_values.specs.declared.rows.Level.{Level}
-use Rattle.cdb_values.specs.Rows.{apply_all}
+use Rattle.cdb_values.specs.Rows.{Rows, apply_all}
 use Rattle.cdb_values.specs.declared.rows.RowOp.{RowOp}
 use Rattle.cdb_values.specs.declared.rows.StatementError.TheVariants.{State}
-use Rattle.cdb_values.specs.declared.rows.Version.{Version}
-use Rattle.snapshot_rows.specs.Ages.{Ages, rows_seen, seen}
+use Rattle.script_play.specs.Seen.{Seen}
 use Rattle.script_form.specs.CanRun.{tables_of}
 use Rattle.script_form.specs.declared.scripts.Script.{Script}
 use Rattle.report_text.specs.declared.reports.EntryLine.{EntryLine}
@@ -35,16 +34,15 @@ use Rattle.report_laws.proofs.TurnedLaws.{loud, no_row}
 use Rattle.report_laws.specs.Answers.{ArePlain}
 use Rattle.report_laws.proofs.PlainLaws.{plain_then, plain_paced}
 use Rattle.report_laws.proofs.ToldLaws.{numbered_append}
-use Rattle.commit_decisions.specs.Decisions.{added_by}
-use Rattle.sql_run.specs.Sound.{AreSound, HasDistinctColumns, IsSoundOp}
-use Rattle.script_play.proofs.SqlLaws.{sql_is_answered, sound_answer, uses_more}
-use Rattle.script_play.proofs.AppliedLaws.{sound_applied}
+use Rattle.script_play.specs.Decisions.{added_by}
+use Rattle.script_play.specs.Ready.{AreKept, IsAskable, IsKeptOp}
+use Rattle.script_play.proofs.SqlLaws.{sql_is_answered, kept_answer, uses_more}
+use Rattle.script_play.proofs.AppliedLaws.{kept_applied}
 use Rattle.script_play.proofs.FitLaws.{sound_fits}
 use Rattle.script_play.specs.SoFar.{Stored, IsOpen, IsDoing, IsPast, Standing}
 use Rattle.script_play.specs.Step.{World, Turned, state, turned, turn_by, outcome, answer_at, own_line, committed, goes_on, entries_added, IsKept}
-use Rattle.script_play.specs.declared.states.SessionState.{SessionState}
-use Rattle.script_play.specs.declared.states.InTransaction.{InTransaction}
-use Rattle.script_play.specs.declared.states.InTransaction.TheVariants as doing
+use Rattle.script_play.specs.Doing.{SessionAt, Doing}
+use Rattle.script_play.specs.Doing as doing
 use Rattle.script_play.proofs.StoredLemmas.{Commits, entry_of, world}
 use Rattle.script_play.proofs.DecisionLemmas.{Decided, decides, entries_after, taken_after}
 use Rattle.script_play.proofs.StandingLemmas.{Grows, alone_on, grows_length, idle_after, in_transaction}
@@ -74,25 +72,26 @@ abbrev pub WasCutUnder : List Numbered → ℕ → Type 0
 WasCutUnder lines told = (cause : ReplyLine) × (cuts cause ≡ true) × StandsIn lines (told, cause)
 
 -- what a line does is right
-pub record Turns (script : Script) (entries entries' : List EntryLine) (taken' : List (List GenidItem)) (ages ages' : Ages) (name : List ℕ) (after : Place) (lines : List Numbered) (told : ℕ) (own : Bool) (t : Turned) : Type 0 where
-  pub stored : Stored script entries' taken' ages'
+pub record Turns (script : Script) (entries entries' : List EntryLine) (taken' : List (List GenidItem)) (seen seen' : Seen) (name : List ℕ) (after : Place) (lines : List Numbered) (told : ℕ) (own : Bool) (t : Turned) : Type 0 where
+  pub stored : Stored script entries' taken' seen'
   pub grows : Grows entries entries'
-  pub next : ages.next ≤ ages'.next
-  pub stands : Standing script entries' ages'.next name after (lines ++ numbered t.number t.replies) t.after
+  pub next : seen.next ≤ seen'.next
+  pub stands : Standing script entries' seen'.next name after (lines ++ numbered t.number t.replies) t.after
   pub paced : Paced (length entries) (length entries') t.replies
   pub number : t.number ≡ told
   pub up_to : (are_up_to (is_last_of own) t.replies ≡ true) ⊎ ((t.replies ≡ []) × WasCutUnder lines told)
   pub news : IsNews script name lines entries entries' after t
 
 -- a session before a line of its own
-pub record Comes (script : Script) (entries : List EntryLine) (taken : List (List GenidItem)) (ages : Ages) (name : List ℕ) (p : Place) (pending : Option (List (List ℕ))) (what : InTransaction) (text : List ℕ) (k : Kind) (lines : List Numbered) : Type 0 where
-  pub apart : AllByRecursion HasDistinctColumns (tables_of script)
-  pub stored : Stored script entries taken ages
+pub record Comes (script : Script) (entries : List EntryLine) (taken : List (List GenidItem)) (seen : Seen) (name : List ℕ) (p : Place) (pending : Option (List (List ℕ))) (what : Doing) (text : List ℕ) (k : Kind) (lines : List Numbered) : Type 0 where
+  pub askable : AllByRecursion IsAskable (tables_of script)
+  pub utf8 : is_utf8 text ≡ true
+  pub stored : Stored script entries taken seen
   pub before : List Numbered
   pub mine : List ReplyLine
   pub is : lines ≡ before ++ numbered p.number mine
   pub past : Along (IsTold (from_nothing script) (view_of (from_nothing script) entries) name) p.over before
-  pub doing : IsDoing script entries ages.next p pending what mine
+  pub doing : IsDoing script entries seen.next p pending what mine
   pub entered : AllByRecursion (IsPastOf name p.number pending) entries
   -- a transaction that this line ends is the session's of its number
   pub its : (t : Transaction) → (next_by p text k pending).over ≡ p.over ++ Does t ∷ [] → t.number ≡ (next_by p text k pending).number → transaction_of sql_language name t.number script.body ≡ Some t
@@ -112,18 +111,18 @@ pub piece : (lines before : List Numbered) (number : ℕ) (mine more : List Repl
 piece lines before number mine more is =
     ap (λ ls. ls ++ numbered number more) is ∙ append_assoc before (numbered number mine) (numbered number more) ∙ ap (λ ls. before ++ ls) (sym (numbered_append number mine more))
 
-module _ (script : Script) (entries : List EntryLine) (taken : List (List GenidItem)) (ages ages' : Ages) (name : List ℕ) (p : Place) (text : List ℕ) (lines : List Numbered) where
+module _ (script : Script) (entries : List EntryLine) (taken : List (List GenidItem)) (seen seen' : Seen) (name : List ℕ) (p : Place) (text : List ℕ) (lines : List Numbered) where
   abbrev pub w : World
-  w = world script entries taken ages
+  w = world script entries taken seen
 
   -- a line that adds nothing to the history
-  quiet : (k : Kind) (pending : Option (List (List ℕ))) (what : InTransaction) → Comes script entries taken ages name p pending what text k lines → (after : Place) (told number : ℕ) (own : Bool) (replies : List ReplyLine) (at : SessionState) → ages' ≡ ages →
-      Standing script entries ages.next name after (lines ++ numbered number replies) at → Paced (length entries) (length entries) replies → number ≡ told → (are_up_to (is_last_of own) replies ≡ true) ⊎ ((replies ≡ []) × WasCutUnder lines told) →
-      Turns script entries (entries ++ []) (taken ++ []) ages ages' name after lines told own (turned number replies at)
+  quiet : (k : Kind) (pending : Option (List (List ℕ))) (what : Doing) → Comes script entries taken seen name p pending what text k lines → (after : Place) (told number : ℕ) (own : Bool) (replies : List ReplyLine) (at : SessionAt) → seen' ≡ seen →
+      Standing script entries seen.next name after (lines ++ numbered number replies) at → Paced (length entries) (length entries) replies → number ≡ told → (are_up_to (is_last_of own) replies ≡ true) ⊎ ((replies ≡ []) × WasCutUnder lines told) →
+      Turns script entries (entries ++ []) (taken ++ []) seen seen' name after lines told own (turned number replies at)
   quiet k pending what c after told number own replies at same stands paced number_is up_to =
-      subst (λ (a : Ages). Turns script entries (entries ++ []) (taken ++ []) ages a name after lines told own (turned number replies at)) (sym same)
-      (subst (λ es. Turns script entries es (taken ++ []) ages ages name after lines told own (turned number replies at)) (sym (append-nil entries))
-      (subst (λ ts. Turns script entries entries ts ages ages name after lines told own (turned number replies at)) (sym (append-nil taken)) (record {
+      subst (λ (a : Seen). Turns script entries (entries ++ []) (taken ++ []) seen a name after lines told own (turned number replies at)) (sym same)
+      (subst (λ es. Turns script entries es (taken ++ []) seen seen name after lines told own (turned number replies at)) (sym (append-nil entries))
+      (subst (λ ts. Turns script entries entries ts seen seen name after lines told own (turned number replies at)) (sym (append-nil taken)) (record {
         stored = c.stored;
         grows = inl refl;
         next = omega arith;
@@ -135,19 +134,19 @@ module _ (script : Script) (entries : List EntryLine) (taken : List (List GenidI
       })))
 
   -- the answer to a line, at a position of the history
-  answer_is : (k : Kind) (pending : Option (List (List ℕ))) (what : InTransaction) → Comes script entries taken ages name p pending what text k lines → (begin : ℕ) → 1 ≤ begin → begin ≤ length entries → (ops : List RowOp) →
+  answer_is : (k : Kind) (pending : Option (List (List ℕ))) (what : Doing) → Comes script entries taken seen name p pending what text k lines → (begin : ℕ) → 1 ≤ begin → begin ≤ length entries → (ops : List RowOp) →
       answer_at w begin ops text ≡ sql_language.answer (tables_of script) (rows_at (from_nothing script) entries begin).tables ops text
-  answer_is k pending what c begin first within ops = ap (λ (vs : List (List Version)). sql_language.answer (tables_of script) vs ops text) (c.stored.rows_are begin first within)
+  answer_is k pending what c begin first within ops = ap (λ (r : Rows). sql_language.answer (tables_of script) r.tables ops text) (c.stored.rows_are begin first within)
 
-  answer_sound : (k : Kind) (pending : Option (List (List ℕ))) (what : InTransaction) → Comes script entries taken ages name p pending what text k lines → (begin : ℕ) → 1 ≤ begin → begin ≤ length entries → (ops : List RowOp) →
-      AllByRecursion (IsSoundOp (tables_of script) ages.next) ops → AllByRecursion (IsSoundOp (tables_of script) ages.next) (answer_at w begin ops text).ops
+  answer_sound : (k : Kind) (pending : Option (List (List ℕ))) (what : Doing) → Comes script entries taken seen name p pending what text k lines → (begin : ℕ) → 1 ≤ begin → begin ≤ length entries → (ops : List RowOp) →
+      AllByRecursion (IsKeptOp (tables_of script) seen.next) ops → AllByRecursion (IsKeptOp (tables_of script) seen.next) (answer_at w begin ops text).ops
   answer_sound k pending what c begin first within ops all =
-      sound_answer (tables_of script) (seen begin ages.tables) ops text ages.next c.apart (c.stored.sound begin first within) all
+      kept_answer (tables_of script) (seen.at begin).tables ops text seen.next c.askable c.utf8 (c.stored.sound begin first within) all
 
   -- a transaction that a line ends comes to its commit
-  comes_to : (k : Kind) (pending : Option (List (List ℕ))) (what : InTransaction) → Comes script entries taken ages name p pending what text k lines → (t : Transaction) (begin : ℕ) (uses : List GenidItem) (ops : List RowOp) → 1 ≤ begin → begin ≤ length entries →
+  comes_to : (k : Kind) (pending : Option (List (List ℕ))) (what : Doing) → Comes script entries taken seen name p pending what text k lines → (t : Transaction) (begin : ℕ) (uses : List GenidItem) (ops : List RowOp) → 1 ≤ begin → begin ≤ length entries →
       transaction_of sql_language name t.number script.body ≡ Some t → ops ≡ (alone_at (from_nothing script) (view_of (from_nothing script) entries) t begin).ops → uses ≡ (alone_at (from_nothing script) (view_of (from_nothing script) entries) t begin).uses →
-      AllByRecursion (IsSoundOp (tables_of script) ages.next) ops → AllByRecursion (λ e. is_entry_of name t.number e ≡ false) entries → Commits script entries taken ages name t begin uses ops
+      AllByRecursion (IsKeptOp (tables_of script) seen.next) ops → AllByRecursion (λ e. is_entry_of name t.number e ≡ false) entries → Commits script entries taken seen name t begin uses ops
   comes_to k pending what c t begin uses ops first within its are uses_are sound once = record {
     stored = c.stored;
     first = first;
@@ -159,15 +158,18 @@ module _ (script : Script) (entries : List EntryLine) (taken : List (List GenidI
     once = once;
     applied = applied.0;
     grows = applied.1;
-    fits = sound_fits (tables_of script) (apply_all (rows_seen ages (length entries)) ops).next (apply_all (rows_seen ages (length entries)) ops).tables applied.0;
+    fits = sound_fits (tables_of script) (apply_all (seen.at (length entries)) ops).next (apply_all (seen.at (length entries)) ops).tables applied.0.0;
   }
     where
-      applied : AreSound (tables_of script) (apply_all (rows_seen ages (length entries)) ops).next (apply_all (rows_seen ages (length entries)) ops).tables × (ages.next ≤ (apply_all (rows_seen ages (length entries)) ops).next)
-      applied = sound_applied (tables_of script) (rows_seen ages (length entries)) ops (c.stored.sound (length entries) c.stored.opened (omega arith)) sound
+      applied : AreKept (tables_of script) (apply_all (seen.at (length entries)) ops).next (apply_all (seen.at (length entries)) ops).tables × (seen.next ≤ (apply_all (seen.at (length entries)) ops).next)
+      applied = subst (λ n. AreKept (tables_of script) (apply_all (seen.at (length entries)) ops).next (apply_all (seen.at (length entries)) ops).tables × (n ≤ (apply_all (seen.at (length entries)) ops).next)) (sym c.stored.next_is)
+          (kept_applied (tables_of script) (seen.at (length entries)) ops
+          (subst (λ n. AreKept (tables_of script) n (seen.at (length entries)).tables) c.stored.next_is (c.stored.sound (length entries) c.stored.opened (omega arith)))
+          (subst (λ n. AllByRecursion (IsKeptOp (tables_of script) n) ops) c.stored.next_is sound))
 
   -- a decision on a transaction that the line ends, behind these replies of it
   decided_turn : (t : Transaction) (begin : ℕ) (uses : List GenidItem) (ops : List RowOp) (o : ReplyLine) (added : List (List RowOp)) → begin ≤ length entries → 1 ≤ begin →
-      Decided script entries taken ages ages' name t begin uses ops o added → Grows entries (entries_after entries name t.number begin t.level added)
+      Decided script entries taken seen seen' name t begin uses ops o added → Grows entries (entries_after entries name t.number begin t.level added)
   decided_turn t begin uses ops o added within first d = go d.told
     where
       go : (added ≡ []) ⊎ ((x : List RowOp) × (added ≡ x ∷ []) × (o ≡ reply.Committed (length entries + 1))) → Grows entries (entries_after entries name t.number begin t.level added)
@@ -175,7 +177,7 @@ module _ (script : Script) (entries : List EntryLine) (taken : List (List GenidI
       go (inr (x, one, is)) = inr (entry_of name t.number begin t.level (length entries), ap (λ (l : List (List RowOp)). entries_after entries name t.number begin t.level l) one)
 
   news_of : (t : Transaction) (begin : ℕ) (uses : List GenidItem) (ops : List RowOp) (o : ReplyLine) (added : List (List RowOp)) (after : Place) (turn : Turned) → turn.number ≡ t.number → turn.begin ≡ begin → turn.after.level ≡ t.level → StandsIn turn.replies o → IsPast after.number after.pending t.number → WasTold script entries name turn.number turn.begin o (lines ++ numbered turn.number turn.replies) →
-      Decided script entries taken ages ages' name t begin uses ops o added → IsNews script name lines entries (entries_after entries name t.number begin t.level added) after turn
+      Decided script entries taken seen seen' name t begin uses ops o added → IsNews script name lines entries (entries_after entries name t.number begin t.level added) after turn
   news_of t begin uses ops o added after turn number at level stands past begins d = go d.told
     where
       go : (added ≡ []) ⊎ ((x : List RowOp) × (added ≡ x ∷ []) × (o ≡ reply.Committed (length entries + 1))) → IsNews script name lines entries (entries_after entries name t.number begin t.level added) after turn
@@ -191,34 +193,34 @@ module _ (script : Script) (entries : List EntryLine) (taken : List (List GenidI
 
   -- what is kept for a line
   abbrev pub Kept : Turned → Type 0
-  Kept t = IsKept (length entries) ages ages' t.added
+  Kept t = IsKept (length entries) seen seen' t.added
 
   abbrev pub Goal : Place → ℕ → Bool → Turned → Type 0
-  Goal after told own t = Kept t → Turns script entries (entries ++ entries_added name (length entries) t) (taken ++ map taken_by t.added) ages ages' name after lines told own t
+  Goal after told own t = Kept t → Turns script entries (entries ++ entries_added name (length entries) t) (taken ++ map taken_by t.added) seen seen' name after lines told own t
 
   -- outside a transaction nothing of one was told
-  pub idle_lines : (k : Kind) (c : Comes script entries taken ages name p None doing.No text k lines) → lines ≡ c.before
+  pub idle_lines : (k : Kind) (c : Comes script entries taken seen name p None doing.No text k lines) → lines ≡ c.before
   idle_lines k c = c.is ∙ ap (λ rs. c.before ++ numbered p.number rs) c.doing ∙ append-nil c.before
 
-  begun : (c : Comes script entries taken ages name p None doing.No text BeginText lines) → Goal (next_by p text BeginText None) (number_by p.number BeginText None) false (turn_by w p.number p.level text BeginText doing.No)
+  begun : (c : Comes script entries taken seen name p None doing.No text BeginText lines) → Goal (next_by p text BeginText None) (number_by p.number BeginText None) false (turn_by w p.number p.level text BeginText doing.No)
   begun c kept = quiet BeginText None doing.No c (with_open p (Some []) (p.number + 1)) (p.number + 1) (p.number + 1) false (reply.Begin (length entries) ∷ []) (state (p.number + 1) p.level (doing.Open (length entries) [] [])) kept
-      (in_transaction script entries entries (inl refl) name p c.before c.past [] (reply.Begin (length entries) ∷ []) (lines ++ numbered (p.number + 1) (reply.Begin (length entries) ∷ [])) ages.next (p.number + 1) (doing.Open (length entries) [] [])
+      (in_transaction script entries entries (inl refl) name p c.before c.past [] (reply.Begin (length entries) ∷ []) (lines ++ numbered (p.number + 1) (reply.Begin (length entries) ∷ [])) seen.next (p.number + 1) (doing.Open (length entries) [] [])
       (record { first = c.stored.opened; within = omega arith; says = refl; ops_are = refl; uses_are = refl; sound = tt })
       (ap (λ ls. ls ++ numbered (p.number + 1) (reply.Begin (length entries) ∷ [])) (idle_lines BeginText c)))
       (refl, refl) refl (inl refl)
 
   -- a line outside a transaction has its one reply
-  lone : (k : Kind) (c : Comes script entries taken ages name p None doing.No text k lines) (answered : ReplyLine) (level : Level) → Paced (length entries) (length entries) (answered ∷ []) → are_up_to (is_last_of false) (answered ∷ []) ≡ true →
+  lone : (k : Kind) (c : Comes script entries taken seen name p None doing.No text k lines) (answered : ReplyLine) (level : Level) → Paced (length entries) (length entries) (answered ∷ []) → are_up_to (is_last_of false) (answered ∷ []) ≡ true →
       Goal (record { over = p.over ++ Lone answered ∷ []; number = p.number; level = level; pending = None }) 0 false (turned 0 (answered ∷ []) (state p.number level doing.No))
   lone k c answered level paced up_to kept = quiet k None doing.No c (record { over = p.over ++ Lone answered ∷ []; number = p.number; level = level; pending = None }) 0 0 false (answered ∷ []) (state p.number level doing.No) kept
-      (idle_after script entries entries (inl refl) name p c.before c.past (Lone answered) (answered ∷ []) (lines ++ numbered 0 (answered ∷ [])) ages.next p.number level refl
+      (idle_after script entries entries (inl refl) name p c.before c.past (Lone answered) (answered ∷ []) (lines ++ numbered 0 (answered ∷ [])) seen.next p.number level refl
       (ap (λ ls. ls ++ numbered 0 (answered ∷ [])) (idle_lines k c)))
       paced refl (inl up_to)
 
   -- a transaction was told up to its decision
   ends_with : (t : Transaction) (begin : ℕ) (uses : List GenidItem) (ops : List RowOp) (front : List ReplyLine) (o : ReplyLine) (added : List (List RowOp)) → 1 ≤ begin → begin ≤ length entries → (IsDecided o → Ends t.end (o ∷ [])) →
       front ≡ reply.Begin begin ∷ (alone_at (from_nothing script) (view_of (from_nothing script) entries) t begin).replies → ops ≡ (alone_at (from_nothing script) (view_of (from_nothing script) entries) t begin).ops →
-      uses ≡ (alone_at (from_nothing script) (view_of (from_nothing script) entries) t begin).uses → Decided script entries taken ages ages' name t begin uses ops o added →
+      uses ≡ (alone_at (from_nothing script) (view_of (from_nothing script) entries) t begin).uses → Decided script entries taken seen seen' name t begin uses ops o added →
       IsWhole (from_nothing script) (view_of (from_nothing script) (entries_after entries name t.number begin t.level added)) name t (front ++ o ∷ [])
   ends_with t begin uses ops front o added first within ends says are uses_are d = record {
     begin = begin;
@@ -229,8 +231,8 @@ module _ (script : Script) (entries : List EntryLine) (taken : List (List GenidI
     last = o ∷ [];
     ends = ends d.decided;
     right = (
-      subst (λ (us : List GenidItem). IsRight (from_nothing script) (view_of (from_nothing script) longer) name t begin (us ++ taken_by its_ops) its_ops o) (uses_are ∙ ap (λ (a : Answered). a.uses) (sym same))
-          (subst (λ (x : List RowOp). IsRight (from_nothing script) (view_of (from_nothing script) longer) name t begin (uses ++ taken_by x) x o) (are ∙ ap (λ (a : Answered). a.ops) (sym same)) d.right),
+      subst (λ (us : List GenidItem). IsRight (from_nothing script) (view_of (from_nothing script) longer) name t begin (taken_by its_ops ++ us) its_ops o) (uses_are ∙ ap (λ (a : Answered). a.uses) (sym same))
+          (subst (λ (x : List RowOp). IsRight (from_nothing script) (view_of (from_nothing script) longer) name t begin (taken_by x ++ uses) x o) (are ∙ ap (λ (a : Answered). a.ops) (sym same)) d.right),
       tt,
     );
     says = ap (λ rs. rs ++ o ∷ []) says ∙ ap (λ (a : Answered). reply.Begin begin ∷ (a.replies ++ o ∷ [])) (sym same);
@@ -264,16 +266,16 @@ module _ (script : Script) (entries : List EntryLine) (taken : List (List GenidI
   abbrev pub own_entries : Answered → List EntryLine
   own_entries a = entries_after entries name (p.number + 1) (length entries) p.level (own_added a)
 
-  own_by : (c : Comes script entries taken ages name p None doing.No text OtherText lines) (a : Answered) → ArePlain a.replies →
+  own_by : (c : Comes script entries taken seen name p None doing.No text OtherText lines) (a : Answered) → ArePlain a.replies →
       own_front a ≡ reply.Begin (length entries) ∷ (alone_at (from_nothing script) (view_of (from_nothing script) entries) own_txn (length entries)).replies → a.ops ≡ (alone_at (from_nothing script) (view_of (from_nothing script) entries) own_txn (length entries)).ops →
       a.uses ≡ (alone_at (from_nothing script) (view_of (from_nothing script) entries) own_txn (length entries)).uses →
-      Decided script entries taken ages ages' name own_txn (length entries) a.uses a.ops (own_outcome a) (own_added a) →
-      Turns script entries (own_entries a) (taken_after taken (own_added a)) ages ages' name (with_own_line p text) lines (p.number + 1) true (own_line w (p.number + 1) p.level a)
+      Decided script entries taken seen seen' name own_txn (length entries) a.uses a.ops (own_outcome a) (own_added a) →
+      Turns script entries (own_entries a) (taken_after taken (own_added a)) seen seen' name (with_own_line p text) lines (p.number + 1) true (own_line w (p.number + 1) p.level a)
   own_by c a plain says are uses_are d = record {
     stored = d.stored;
     grows = decided_turn own_txn (length entries) a.uses a.ops (own_outcome a) (own_added a) (omega arith) c.stored.opened d;
     next = d.grows;
-    stands = idle_after script entries (own_entries a) (decided_turn own_txn (length entries) a.uses a.ops (own_outcome a) (own_added a) (omega arith) c.stored.opened d) name p c.before c.past (Does own_txn) (own_front a ++ own_outcome a ∷ []) (lines ++ numbered (p.number + 1) (own_front a ++ own_outcome a ∷ [])) ages'.next (p.number + 1) p.level
+    stands = idle_after script entries (own_entries a) (decided_turn own_txn (length entries) a.uses a.ops (own_outcome a) (own_added a) (omega arith) c.stored.opened d) name p c.before c.past (Does own_txn) (own_front a ++ own_outcome a ∷ []) (lines ++ numbered (p.number + 1) (own_front a ++ own_outcome a ∷ [])) seen'.next (p.number + 1) p.level
         (inl (ends_with own_txn (length entries) a.uses a.ops (own_front a) (own_outcome a) (own_added a) c.stored.opened (omega arith) (λ x. x) says are uses_are d))
         (ap (λ ls. ls ++ numbered (p.number + 1) (own_front a ++ own_outcome a ∷ [])) (idle_lines OtherText c));
     paced = (refl, plain_then (length entries) (length (own_entries a)) a.replies (own_outcome a ∷ []) plain d.paced);
@@ -291,9 +293,9 @@ module _ (script : Script) (entries : List EntryLine) (taken : List (List GenidI
         says = ap (λ (rs : List ReplyLine). lines ++ numbered (p.number + 1) (rs ++ own_outcome a ∷ [])) says;
       }
 
-  own : (c : Comes script entries taken ages name p None doing.No text OtherText lines) → Goal (next_by p text OtherText None) (number_by p.number OtherText None) true (turn_by w p.number p.level text OtherText doing.No)
-  own c kept = own_by c (answer_at w (length entries) [] text) (sql_is_answered.plain (tables_of script) (seen (length entries) ages.tables) [] text) says are uses_are
-      (decides script entries taken ages ages' name own_txn (length entries) (answer_at w (length entries) [] text).uses (answer_at w (length entries) [] text).ops commits kept)
+  own : (c : Comes script entries taken seen name p None doing.No text OtherText lines) → Goal (next_by p text OtherText None) (number_by p.number OtherText None) true (turn_by w p.number p.level text OtherText doing.No)
+  own c kept = own_by c (answer_at w (length entries) [] text) (sql_is_answered.plain (tables_of script) (seen.at (length entries)).tables [] text) says are uses_are
+      (decides script entries taken seen seen' name own_txn (length entries) (answer_at w (length entries) [] text).uses (answer_at w (length entries) [] text).ops commits kept)
     where
       its : answer_at w (length entries) [] text ≡ sql_language.answer (tables_of script) (rows_at (from_nothing script) entries (length entries)).tables [] text
       its = answer_is OtherText None doing.No c (length entries) c.stored.opened (omega arith) []
@@ -307,14 +309,14 @@ module _ (script : Script) (entries : List EntryLine) (taken : List (List GenidI
       uses_are : (answer_at w (length entries) [] text).uses ≡ (alone_at (from_nothing script) (view_of (from_nothing script) entries) own_txn (length entries)).uses
       uses_are = ap (λ (x : Answered). x.uses) its ∙ sym (append-nil (sql_language.answer (tables_of script) (rows_at (from_nothing script) entries (length entries)).tables [] text).uses)
 
-      commits : Commits script entries taken ages name own_txn (length entries) (answer_at w (length entries) [] text).uses (answer_at w (length entries) [] text).ops
+      commits : Commits script entries taken seen name own_txn (length entries) (answer_at w (length entries) [] text).uses (answer_at w (length entries) [] text).ops
       commits = comes_to OtherText None doing.No c own_txn (length entries) (answer_at w (length entries) [] text).uses (answer_at w (length entries) [] text).ops c.stored.opened (omega arith) (c.its own_txn refl refl) are uses_are
           (answer_sound OtherText None doing.No c (length entries) c.stored.opened (omega arith) [] tt)
           (none_past name p.number (p.number + 1) None (λ txn le. omega (arith, le)) entries c.entered)
 
   -- what was told of an open transaction, and one statement more
-  module _ (texts : List (List ℕ)) (begin : ℕ) (ops : List RowOp) (uses : List GenidItem) (k : Kind) (c : Comes script entries taken ages name p (Some texts) (doing.Open begin ops uses) text k lines) where
-    more_open : IsOpen script entries ages.next (texts ++ text ∷ []) begin (answer_at w begin ops text).ops (uses ++ (answer_at w begin ops text).uses) (c.mine ++ (answer_at w begin ops text).replies)
+  module _ (texts : List (List ℕ)) (begin : ℕ) (ops : List RowOp) (uses : List GenidItem) (k : Kind) (c : Comes script entries taken seen name p (Some texts) (doing.Open begin ops uses) text k lines) where
+    more_open : IsOpen script entries seen.next (texts ++ text ∷ []) begin (answer_at w begin ops text).ops (uses ++ (answer_at w begin ops text).uses) (c.mine ++ (answer_at w begin ops text).replies)
     more_open = record {
       first = c.doing.first;
       within = c.doing.within;
@@ -334,13 +336,13 @@ module _ (script : Script) (entries : List EntryLine) (taken : List (List GenidI
 
     goes : Goal (with_open p (Some (texts ++ text ∷ [])) p.number) p.number false (goes_on p.number p.level begin uses (answer_at w begin ops text))
     goes kept = quiet k (Some texts) (doing.Open begin ops uses) c (with_open p (Some (texts ++ text ∷ [])) p.number) p.number p.number false (answer_at w begin ops text).replies (state p.number p.level (doing.Open begin (answer_at w begin ops text).ops (uses ++ (answer_at w begin ops text).uses))) kept
-        (in_transaction script entries entries (inl refl) name p c.before c.past (texts ++ text ∷ []) (c.mine ++ (answer_at w begin ops text).replies) (lines ++ numbered p.number (answer_at w begin ops text).replies) ages.next p.number (doing.Open begin (answer_at w begin ops text).ops (uses ++ (answer_at w begin ops text).uses))
+        (in_transaction script entries entries (inl refl) name p c.before c.past (texts ++ text ∷ []) (c.mine ++ (answer_at w begin ops text).replies) (lines ++ numbered p.number (answer_at w begin ops text).replies) seen.next p.number (doing.Open begin (answer_at w begin ops text).ops (uses ++ (answer_at w begin ops text).uses))
         more_open (piece lines c.before p.number c.mine (answer_at w begin ops text).replies c.is))
-        (plain_paced (length entries) (answer_at w begin ops text).replies (sql_is_answered.plain (tables_of script) (seen begin ages.tables) ops text)) refl (inl (sql_is_answered.closed (tables_of script) (seen begin ages.tables) ops text))
+        (plain_paced (length entries) (answer_at w begin ops text).replies (sql_is_answered.plain (tables_of script) (seen.at begin).tables ops text)) refl (inl (sql_is_answered.closed (tables_of script) (seen.at begin).tables ops text))
 
     rolled : Goal (closed p texts ByRollback) p.number false (turned p.number (reply.RolledBack ∷ []) (state p.number p.level doing.No))
     rolled kept = quiet k (Some texts) (doing.Open begin ops uses) c (closed p texts ByRollback) p.number p.number false (reply.RolledBack ∷ []) (state p.number p.level doing.No) kept
-        (idle_after script entries entries (inl refl) name p c.before c.past (Does (transaction p.number texts p.level ByRollback)) (c.mine ++ reply.RolledBack ∷ []) (lines ++ numbered p.number (reply.RolledBack ∷ [])) ages.next p.number p.level
+        (idle_after script entries entries (inl refl) name p c.before c.past (Does (transaction p.number texts p.level ByRollback)) (c.mine ++ reply.RolledBack ∷ []) (lines ++ numbered p.number (reply.RolledBack ∷ [])) seen.next p.number p.level
         (inl (record { begin = begin; base = omega arith; within = (let w = c.doing.within in omega (arith, w)); ran = alone_at (from_nothing script) (view_of (from_nothing script) entries) (transaction p.number texts p.level ByRollback) begin; is_ran = refl; last = reply.RolledBack ∷ []; ends = refl; right = (refl, tt); says = ap (λ rs. rs ++ reply.RolledBack ∷ []) c.doing.says }))
         (piece lines c.before p.number c.mine (reply.RolledBack ∷ []) c.is))
         refl refl (inl refl)
@@ -351,13 +353,13 @@ module _ (script : Script) (entries : List EntryLine) (taken : List (List GenidI
     abbrev pub last : ReplyLine
     last = outcome w begin uses ops
 
-    commits_by : transaction_of sql_language name p.number script.body ≡ Some ending → Decided script entries taken ages ages' name ending begin uses ops last (added_by last ops) →
-        Turns script entries (entries_after entries name p.number begin p.level (added_by last ops)) (taken_after taken (added_by last ops)) ages ages' name (closed p texts ByCommit) lines p.number false (committed w p.number p.level begin uses ops)
+    commits_by : transaction_of sql_language name p.number script.body ≡ Some ending → Decided script entries taken seen seen' name ending begin uses ops last (added_by last ops) →
+        Turns script entries (entries_after entries name p.number begin p.level (added_by last ops)) (taken_after taken (added_by last ops)) seen seen' name (closed p texts ByCommit) lines p.number false (committed w p.number p.level begin uses ops)
     commits_by its d = record {
       stored = d.stored;
       grows = decided_turn ending begin uses ops last (added_by last ops) c.doing.within c.doing.first d;
       next = d.grows;
-      stands = idle_after script entries (entries_after entries name p.number begin p.level (added_by last ops)) (decided_turn ending begin uses ops last (added_by last ops) c.doing.within c.doing.first d) name p c.before c.past (Does ending) (c.mine ++ last ∷ []) (lines ++ numbered p.number (last ∷ [])) ages'.next p.number p.level
+      stands = idle_after script entries (entries_after entries name p.number begin p.level (added_by last ops)) (decided_turn ending begin uses ops last (added_by last ops) c.doing.within c.doing.first d) name p c.before c.past (Does ending) (c.mine ++ last ∷ []) (lines ++ numbered p.number (last ∷ [])) seen'.next p.number p.level
           (inl (ends_with ending begin uses ops c.mine last (added_by last ops) c.doing.first c.doing.within (λ x. x) c.doing.says c.doing.ops_are c.doing.uses_are d))
           (piece lines c.before p.number c.mine (last ∷ []) c.is);
       paced = d.paced;
@@ -375,14 +377,14 @@ module _ (script : Script) (entries : List EntryLine) (taken : List (List GenidI
           says = piece lines c.before p.number c.mine (last ∷ []) c.is ∙ ap (λ (rs : List ReplyLine). c.before ++ numbered p.number (rs ++ last ∷ [])) c.doing.says;
         }
 
-  comes_to_commit : (texts : List (List ℕ)) (begin : ℕ) (ops : List RowOp) (uses : List GenidItem) (c : Comes script entries taken ages name p (Some texts) (doing.Open begin ops uses) text CommitText lines) → Goal (closed p texts ByCommit) p.number false (committed w p.number p.level begin uses ops)
+  comes_to_commit : (texts : List (List ℕ)) (begin : ℕ) (ops : List RowOp) (uses : List GenidItem) (c : Comes script entries taken seen name p (Some texts) (doing.Open begin ops uses) text CommitText lines) → Goal (closed p texts ByCommit) p.number false (committed w p.number p.level begin uses ops)
   comes_to_commit texts begin ops uses c kept = commits_by texts begin ops uses CommitText c (c.its (transaction p.number texts p.level ByCommit) refl refl)
-      (decides script entries taken ages ages' name (transaction p.number texts p.level ByCommit) begin uses ops
+      (decides script entries taken seen seen' name (transaction p.number texts p.level ByCommit) begin uses ops
       (comes_to CommitText (Some texts) (doing.Open begin ops uses) c (transaction p.number texts p.level ByCommit) begin uses ops c.doing.first c.doing.within (c.its (transaction p.number texts p.level ByCommit) refl refl) c.doing.ops_are c.doing.uses_are c.doing.sound
       (none_past name p.number p.number (Some texts) (λ txn less. less) entries c.entered)) kept)
 
   -- lines of a transaction that want of memory ended are skipped
-  module _ (texts : List (List ℕ)) (k : Kind) (c : Comes script entries taken ages name p (Some texts) doing.Aborted text k lines) where
+  module _ (texts : List (List ℕ)) (k : Kind) (c : Comes script entries taken seen name p (Some texts) doing.Aborted text k lines) where
     skipped_lines : lines ++ numbered p.number [] ≡ c.before ++ numbered p.number c.mine
     skipped_lines = append-nil lines ∙ c.is
 
@@ -420,17 +422,17 @@ module _ (script : Script) (entries : List EntryLine) (taken : List (List GenidI
 
     skips : Goal (with_open p (Some (texts ++ text ∷ [])) p.number) p.number false (turned p.number [] (state p.number p.level doing.Aborted))
     skips kept = quiet k (Some texts) doing.Aborted c (with_open p (Some (texts ++ text ∷ [])) p.number) p.number p.number false [] (state p.number p.level doing.Aborted) kept
-        (in_transaction script entries entries (inl refl) name p c.before c.past (texts ++ text ∷ []) c.mine (lines ++ numbered p.number []) ages.next p.number doing.Aborted more_cut skipped_lines)
+        (in_transaction script entries entries (inl refl) name p c.before c.past (texts ++ text ∷ []) c.mine (lines ++ numbered p.number []) seen.next p.number doing.Aborted more_cut skipped_lines)
         refl refl (inr (refl, was_cut))
 
     skips_end : (end : End) → Goal (closed p texts end) p.number false (turned p.number [] (state p.number p.level doing.No))
     skips_end end kept = quiet k (Some texts) doing.Aborted c (closed p texts end) p.number p.number false [] (state p.number p.level doing.No) kept
-        (idle_after script entries entries (inl refl) name p c.before c.past (Does (transaction p.number texts p.level end)) c.mine (lines ++ numbered p.number []) ages.next p.number p.level
+        (idle_after script entries entries (inl refl) name p c.before c.past (Does (transaction p.number texts p.level end)) c.mine (lines ++ numbered p.number []) seen.next p.number p.level
         (inr (record { begin = c.doing.begin; base = c.doing.base; within = c.doing.within; ran = c.doing.ran; is_ran = c.doing.is_ran; front = c.doing.front; rest = c.doing.rest; fits = c.doing.fits; cause = c.doing.cause; is_cause = c.doing.is_cause; says = c.doing.says })) skipped_lines)
         refl refl (inr (refl, was_cut))
 
   -- whatever the line is, and wherever the session is
-  pub turns : (k : Kind) (pending : Option (List (List ℕ))) (what : InTransaction) → Comes script entries taken ages name p pending what text k lines →
+  pub turns : (k : Kind) (pending : Option (List (List ℕ))) (what : Doing) → Comes script entries taken seen name p pending what text k lines →
       Goal (next_by p text k pending) (number_by p.number k pending) (is_own_by k pending) (turn_by w p.number p.level text k what)
   turns BeginText None doing.No c = begun c
   turns CommitText None doing.No c = lone CommitText c (reply.Error State) p.level refl refl

@@ -2,11 +2,9 @@
 use Rattle.std.proofs.Common.{◌≡◌, ℕ, ◌≤◌, List, [], ◌∷◌, ◌++◌, map, refl, sym, subst, ap, arith, Option, Some, None, ◌∙◌, Bool, true, false, inl, inr, if◌then◌else◌}
 use Rattle.std.proofs.lemmas.List.{append-nil}
 use Rattle.std.specs.Str.{bytes_eq}
-use Rattle.cdb_values.specs.Good.{first_broken}
+use Rattle.cdb_values.specs.Rows.{Rows, no_rows}
 use Rattle.cdb_values.specs.declared.rows.RowOp.{RowOp}
-use Rattle.cdb_values.specs.declared.rows.Version.{Version}
-use Rattle.cdb_values.specs.declared.tables.TableDef.{TableDef}
-use Rattle.snapshot_rows.specs.Ages.{Ages, IsUpTo, seen, no_ages}
+use Rattle.script_play.specs.Seen.{Seen}
 use Rattle.script_form.specs.declared.scripts.Script.{Script}
 use Rattle.script_form.specs.declared.scripts.BodyLine.{BodyLine}
 use Rattle.script_form.specs.declared.scripts.SessionLine.{SessionLine}
@@ -27,25 +25,15 @@ use Rattle.report_laws.specs.Told.{Along, Numbered, IsTold, IsCut, told, numbere
 use Rattle.report_laws.specs.Work.{Transaction, Item, Does, Place, Nowhere, transaction, work, place_after, items_at, open_item, start}
 use Rattle.cdb_values.specs.declared.items.GenidItem.{GenidItem}
 use Rattle.report_laws.proofs.ToldLaws.{along_append, along_one, along_map}
-use Rattle.sql_run.specs.Sound.{AreSound}
-use Rattle.script_play.proofs.SoundLaws.{sound_none, fits_none}
+use Rattle.script_play.specs.Ready.{AreKept}
+use Rattle.script_play.proofs.SoundLaws.{kept_none}
 use Rattle.script_play.specs.SoFar.{SoFar, Standing, IsOpen, IsDoing, at_start, state_of, report_of}
-use Rattle.script_play.specs.declared.states.SessionState.{SessionState}
-use Rattle.script_play.specs.declared.states.InTransaction.{InTransaction}
-use Rattle.script_play.specs.declared.states.InTransaction.TheVariants as doing
+use Rattle.script_play.specs.Doing.{SessionAt, Doing}
+use Rattle.script_play.specs.Doing as doing
 
 -- the schema's entry
 abbrev pub opening : List EntryLine
 opening = Setup 1 ∷ []
-
--- tables without ages have no rows at any position
-seen_none : (at : ℕ) (tables : List TableDef) → seen at (no_ages tables).tables ≡ map (λ _. []) tables
-seen_none at [] = refl
-seen_none at (table ∷ tables) = ap (λ (vs : List (List Version)). [] ∷ vs) (seen_none at tables)
-
-up_to_none : (last : ℕ) (tables : List TableDef) → IsUpTo last (no_ages tables)
-up_to_none last [] = tt
-up_to_none last (table ∷ tables) = (tt, up_to_none last tables)
 
 starts : (name : List ℕ) (sessions : List SessionLine) → state_of name sessions (map (λ _. at_start) sessions) ≡ at_start
 starts name [] = refl
@@ -58,23 +46,24 @@ starts name (s ∷ ss) = pick (bytes_eq s.name name) (starts name ss)
 only_one : (P : ℕ → Type 0) → P 1 → (at : ℕ) → 1 ≤ at → at ≤ 1 → P at
 only_one P one at first within = let is : at ≡ 1 = omega (arith, first, within) in subst P (sym is) one
 
--- the run as it begins
-pub begins_so : (script : Script) → SoFar script [] script.body [] opening ([] ∷ []) (no_ages (tables_of script)) (map (λ _. at_start) script.sessions)
-begins_so script = record {
+-- the run as it begins, with tables without rows
+pub begins_so : (script : Script) (seen : Seen) → seen.at 1 ≡ no_rows (tables_of script) → seen.next ≡ 1 →
+    SoFar script [] script.body [] opening ([] ∷ []) seen (map (λ _. at_start) script.sessions)
+begins_so script seen none next = record {
   body = refl;
   stored = record {
     opened = omega arith;
     history = ((refl, refl, refl), tt);
-    rows_are = only_one (λ at. seen at (no_ages (tables_of script)).tables ≡ (rows_at (from_nothing script) opening at).tables) (seen_none 1 (tables_of script));
-    now_are = ap (λ (vs : List (List Version)). record { tables = vs; next = 1 }) (seen_none 1 (tables_of script));
-    up_to = up_to_none 1 (tables_of script);
+    rows_are = only_one (λ at. seen.at at ≡ rows_at (from_nothing script) opening at) none;
+    now_are = none;
+    next_is = next ∙ ap (λ (r : Rows). r.next) (sym none);
     taken_length = refl;
     taken_are = only_one _ refl;
-    sound = λ at first within. subst (λ (vs : List (List Version)). AreSound (tables_of script) 1 vs) (sym (seen_none at (tables_of script))) (sound_none (tables_of script) 1);
-    kept = ap (λ (vs : List (List Version)). first_broken (tables_of script) vs) (seen_none 1 (tables_of script)) ∙ fits_none (tables_of script);
+    sound = only_one (λ at. AreKept (tables_of script) seen.next (seen.at at).tables)
+        (subst (λ (r : Rows). AreKept (tables_of script) seen.next r.tables) (sym none) (kept_none (tables_of script) seen.next));
     named = (tt, tt);
   };
-  standing = λ name. subst (λ (x : SessionState). Standing script opening 1 name start [] x) (sym (starts name script.sessions)) (record { before = []; mine = []; is = refl; past = refl; number = refl; level = refl; doing = refl });
+  standing = λ name. subst (λ (x : SessionAt). Standing script opening seen.next name start [] x) (sym (starts name script.sessions)) (record { before = []; mine = []; is = refl; past = refl; number = refl; level = refl; doing = refl });
   fresh = tt;
   later = [];
   begins = refl;
@@ -102,7 +91,7 @@ open_told script entries name next texts begin ops uses mine t same end is = inl
 })
 
 -- along all that a session did up to a place of its work
-along_place : (P : Item → List ReplyLine → Type 0) (script : Script) (entries : List EntryLine) (next : ℕ) (name : List ℕ) (p : Place) (pending : Option (List (List ℕ))) (d : InTransaction) (before : List Numbered) (mine : List ReplyLine) →
+along_place : (P : Item → List ReplyLine → Type 0) (script : Script) (entries : List EntryLine) (next : ℕ) (name : List ℕ) (p : Place) (pending : Option (List (List ℕ))) (d : Doing) (before : List Numbered) (mine : List ReplyLine) →
     ((item : Item) (rs : List ReplyLine) → IsTold (from_nothing script) (view_of (from_nothing script) entries) name item rs → P item rs) →
     ((texts : List (List ℕ)) (begin : ℕ) (ops : List RowOp) (uses : List GenidItem) → IsOpen script entries next texts begin ops uses mine → P (Does (transaction p.number texts p.level Nowhere)) mine) →
     ((texts : List (List ℕ)) → IsCut (from_nothing script) (view_of (from_nothing script) entries) (transaction p.number texts p.level Nowhere) mine → P (Does (transaction p.number texts p.level Nowhere)) mine) →
@@ -120,7 +109,7 @@ along_place P script entries next name p (Some texts) doing.Aborted before mine 
     along_append P p.over (Does (transaction p.number texts p.level Nowhere) ∷ []) before (numbered p.number mine) (along_map (IsTold (from_nothing script) (view_of (from_nothing script) entries) name) P over p.over before past)
     (along_one P (Does (transaction p.number texts p.level Nowhere)) mine (cut texts is))
 
-module _ (script : Script) (done : List BodyLine) (lines : List Line) (entries : List EntryLine) (taken : List (List GenidItem)) (ages : Ages) (states : List SessionState) (was : SoFar script done [] lines entries taken ages states) where
+module _ (script : Script) (done : List BodyLine) (lines : List Line) (entries : List EntryLine) (taken : List (List GenidItem)) (seen : Seen) (states : List SessionAt) (was : SoFar script done [] lines entries taken seen states) where
   all_done : script.body ≡ done
   all_done = was.body ∙ append-nil done
 
@@ -128,12 +117,12 @@ module _ (script : Script) (done : List BodyLine) (lines : List Line) (entries :
   told_along name =
       subst (λ (b : List BodyLine). Along (IsTold (from_nothing script) (view_of (from_nothing script) entries) name) (work sql_language name b) (told name lines)) (sym all_done)
       (subst (λ ls. Along (IsTold (from_nothing script) (view_of (from_nothing script) entries) name) (items_at (place_after sql_language name done)) ls) (sym stands.is)
-      (along_place (IsTold (from_nothing script) (view_of (from_nothing script) entries) name) script entries ages.next name (place_after sql_language name done) (place_after sql_language name done).pending (state_of name script.sessions states).doing stands.before stands.mine
+      (along_place (IsTold (from_nothing script) (view_of (from_nothing script) entries) name) script entries seen.next name (place_after sql_language name done) (place_after sql_language name done).pending (state_of name script.sessions states).doing stands.before stands.mine
       (λ item rs is. is)
-      (λ texts begin ops uses is. open_told script entries name ages.next texts begin ops uses stands.mine (transaction (place_after sql_language name done).number texts (place_after sql_language name done).level Nowhere) refl refl is)
+      (λ texts begin ops uses is. open_told script entries name seen.next texts begin ops uses stands.mine (transaction (place_after sql_language name done).number texts (place_after sql_language name done).level Nowhere) refl refl is)
       (λ texts cut. inr cut) stands.past stands.doing))
     where
-      stands : Standing script entries ages.next name (place_after sql_language name done) (told name lines) (state_of name script.sessions states)
+      stands : Standing script entries seen.next name (place_after sql_language name done) (told name lines) (state_of name script.sessions states)
       stands = was.standing name
 
   -- the run at its end gives a lawful report

@@ -1,42 +1,80 @@
 -- What the code says of a line that is still to be done, and of one that was.
-use Rattle.std.specs.Prelude.{◌≡◌, ℕ, ◌+◌, ◌++◌, ◌∷◌, [], List, Option, Some, None, map}
+use Rattle.std.specs.Prelude.{◌≡◌, ℕ, ◌+◌, ◌++◌, ◌∷◌, [], List, Option, Some, None}
+use Rattle.cdb_values.specs.Changes.{taken_by}
+use Rattle.cdb_values.specs.Rows.{apply_all}
 use Rattle.cdb_values.specs.declared.rows.Level.{Level}
 use Rattle.cdb_values.specs.declared.rows.RowOp.{RowOp}
+use Rattle.cdb_values.specs.declared.tables.TableDef.{TableDef}
+use Rattle.log_rows.specs.History.{rows_of, takes_of, IsCommit}
+use Rattle.phys_log.specs.Logs.{pages_of, Fits}
+use Rattle.phys_log.specs.declared.entries.Entry.{Entry}
+use Rattle.osql_session.specs.Sessions.{Session}
 use Rattle.report_text.specs.declared.reports.EntryLine.{EntryLine}
 use Rattle.report_text.specs.declared.reports.EntryLine.TheVariants.{Commit}
 use Rattle.report_text.specs.declared.reports.Line.{Line}
-use Rattle.cdb_values.specs.declared.items.GenidItem.{GenidItem}
-use Rattle.snapshot_rows.specs.Ages.{Ages}
+use Rattle.report_text.specs.declared.reports.ReplyLine.{ReplyLine}
+use Rattle.table_store.specs.Stored.{Stands}
+use Rattle.script_play.specs.Decisions.{added_by}
+use Rattle.script_play.specs.EntryLines.{line_of}
+use Rattle.script_play.specs.RunViews.{state_in, IsOwn}
+use Rattle.script_play.specs.Step.{Turned, Cut}
 use Rattle.script_play.specs.declared.effects.LineEffect.{LineEffect}
+use Rattle.script_play.specs.declared.verdicts.Verdict.{Verdict}
 use Rattle.script_play.specs.declared.states.SessionState.{SessionState}
-use Rattle.script_play.specs.Step.{World, Turned, Cut, IsTurned}
 
--- the operations that are committed, if some are
-abbrev pub added_in : Option (List RowOp) → List (List RowOp)
-added_in None = []
-added_in (Some ops) = ops ∷ []
+-- the transaction that an entry names: of a session, under its number, begun there, at a level
+pub record Named : Type 0 where
+  pub session : List ℕ
+  pub number : ℕ
+  pub begin : ℕ
+  pub level : Level
 
--- an effect is what a line does
-pub record IsEffect (p : LineEffect) (t : Turned) : Type 0 where
+abbrev pub named_so : List ℕ → ℕ → ℕ → Level → Named
+named_so session number begin level = record { session = session; number = number; begin = begin; level = level }
+
+-- an entry is the next of a log, names that transaction, and makes of the rows what these operations make of them
+pub record IsEntryOf (tables : List TableDef) (log : List Entry) (entry : Entry) (named : Named) (ops : List RowOp) : Type 0 where
+  pub names : (position : ℕ) → line_of position entry ≡ Commit position named.session named.number named.begin named.level
+  pub fits : Fits log entry
+  pub commit : IsCommit entry
+  pub stands : Stands (pages_of (log ++ entry ∷ [])) tables (rows_of (log ++ entry ∷ []))
+  pub rows : rows_of (log ++ entry ∷ []) ≡ apply_all (rows_of log) ops
+  pub takes : takes_of entry ≡ taken_by ops
+
+-- the entry that is to be appended, where operations are committed
+abbrev pub IsAdded : List TableDef → List Entry → Option Entry → Named → List (List RowOp) → Type 0
+IsAdded tables log None named [] = Unit {0}
+IsAdded tables log None named (ops ∷ more) = ⊥
+IsAdded tables log (Some entry) named [] = ⊥
+IsAdded tables log (Some entry) named (ops ∷ []) = IsEntryOf tables log entry named ops
+IsAdded tables log (Some entry) named (ops ∷ _ ∷ more) = ⊥
+
+-- what is decided on the operations of a transaction, and the entry that it appends
+pub record IsVerdict (tables : List TableDef) (log : List Entry) (v : Verdict) (outcome : ReplyLine) (named : Named) (ops : List RowOp) : Type 0 where
+  pub told : v.outcome ≡ outcome
+  pub added : IsAdded tables log v.added named (added_by outcome ops)
+
+-- the transaction of a session
+abbrev pub named_by : Session → Named
+named_by s = named_so s.id.session s.id.txn s.begin s.level
+
+-- an effect is what a line of a session does
+pub record IsEffect (tables : List TableDef) (log : List Entry) (name : List ℕ) (p : LineEffect) (t : Turned) : Type 0 where
   pub number : p.number ≡ t.number
   pub replies : p.replies.items ≡ t.replies
-  pub after : p.after ≡ t.after
-  pub begin : p.begin ≡ t.begin
-  pub added : added_in p.added ≡ t.added
+  pub after : state_in p.after ≡ t.after
+  pub own : IsOwn name p.after
+  pub added : IsAdded tables log p.added (named_so name t.number t.begin t.after.level) t.added
 
 -- a cut, by where the session is behind it
 abbrev pub cut_in : SessionState → Option Cut
-cut_in after = Some (record { number = after.number; after = after })
+cut_in after = Some (record { number = after.number; after = state_in after })
 
 -- lines were added behind others
 abbrev pub Grown : List Line → List Line → Type 0
 Grown old new = (more : List Line) × (new ≡ old ++ more)
 
--- the entries of operations that are committed
-abbrev pub entries_of : List ℕ → ℕ → ℕ → Level → ℕ → List (List RowOp) → List EntryLine
-entries_of name number begin level now added = map (λ ops. Commit (now + 1) name number begin level) added
-
--- a line did what it does, and the session is there behind it
-abbrev pub IsEffectDone : World → List ℕ → Turned → SessionState → List Line → List Line → List EntryLine → List EntryLine → List (List GenidItem) → Ages → Type 0
-IsEffectDone w name t after lines lines' entries entries' taken' ages' =
-    IsTurned w name t lines lines' entries entries' taken' ages' × (after ≡ t.after)
+-- the line of the history of an entry that is appended behind a position
+abbrev pub lines_added : ℕ → Option Entry → List EntryLine
+lines_added now None = []
+lines_added now (Some entry) = line_of (now + 1) entry ∷ []

@@ -1,4 +1,8 @@
 pub mod Basis
+pub mod Seen
+pub mod Doing
+pub mod Decisions
+pub mod EntryLines
 pub mod RunViews
 pub mod Effects
 pub mod Ready

@@ -1,43 +1,109 @@
 -- The run so far, as the code keeps it, in the words of the definitions.
-use Rattle.std.specs.Prelude.{◌≡◌, ℕ, List, length}
+use Rattle.std.specs.Prelude.{◌≡◌, ℕ, ◌∷◌, [], List, length, map, true, slice_get, Some}
+use Rattle.std.specs.Str.{is_utf8}
 use Rattle.cdb_values.specs.declared.tables.TableDef.{TableDef}
+use Rattle.log_rows.specs.History.{rows_of, rows_at, takes_in}
+use Rattle.cdb_values.specs.Rows.{no_rows}
+use Rattle.phys_log.specs.Logs.{pages_of}
+use Rattle.phys_log.specs.declared.entries.Entry.{Entry}
+use Rattle.phys_log.specs.declared.entries.Entry.TheVariants.{Setup}
+use Rattle.phys_log.specs.declared.entries.LogRecord.{LogRecord}
+use Rattle.table_store.specs.Stored.{Stands}
+use Rattle.script_form.specs.CanRun.{tables_of}
 use Rattle.script_form.specs.declared.scripts.BodyLine.{BodyLine}
 use Rattle.script_form.specs.declared.scripts.Script.{Script}
+use Rattle.script_form.specs.declared.scripts.SessionLine.{SessionLine}
+use Rattle.cdb_values.specs.declared.rows.Level.{Level}
 use Rattle.sql_answer.specs.Answers.{Meaning}
 use Rattle.sql_answer.specs.Language.{meaning, bound_in}
-use Rattle.script_play.specs.Effects.{IsEffectDone}
-use Rattle.script_play.specs.Ready.{IsReady}
+use Rattle.script_play.specs.Doing.{Doing, SessionAt}
+use Rattle.script_play.specs.Doing as doing
+use Rattle.script_play.specs.EntryLines.{AreTold}
+use Rattle.script_play.specs.Ready.{IsReady, IsLogged}
+use Rattle.script_play.specs.Seen.{Seen}
 use Rattle.script_play.specs.SoFar.{IsBefore}
-use Rattle.script_play.specs.Step.{World, Turned, IsTaken, world_of}
+use Rattle.script_play.specs.Step.{World, Turned, IsTaken, IsTurned, world_of}
 use Rattle.script_play.specs.declared.run.RunSoFar.{RunSoFar}
+use Rattle.script_play.specs.declared.states.InTransaction.{InTransaction}
+use Rattle.script_play.specs.declared.states.InTransaction.TheVariants.{No, Open, Aborted}
 use Rattle.script_play.specs.declared.states.SessionState.{SessionState}
+
+-- what a session is doing, and where it is
+abbrev pub doing_in : InTransaction → Doing
+doing_in No = doing.No
+doing_in (Open session) = doing.Open session.begin session.ops session.genids
+doing_in Aborted = doing.Aborted
+
+abbrev pub state_in : SessionState → SessionAt
+state_in s = record { number = s.number; level = s.level; doing = doing_in s.doing }
+
+-- the rows at each position of a log
+abbrev pub seen_in : List Entry → Seen
+seen_in log = record { at = rows_at log; next = (rows_of log).next }
 
 -- what the run is before a line
 abbrev pub world : List TableDef → RunSoFar → World
-world tables run = world_of tables run.rows run.taken.items (length run.entries.items)
+world tables run = world_of tables (seen_in run.log) (takes_in run.log) (length run.entries.items)
 
--- the rows are ready for a line
+-- the log is ready for a line
 abbrev pub IsReadyFor : List TableDef → RunSoFar → Type 0
-IsReadyFor tables run = IsReady tables (length run.entries.items) run.rows
+IsReadyFor tables run = IsReady tables (length run.entries.items) run.log
 
--- what some text means in the schema
+-- what some text of UTF-8 means in the schema
 abbrev pub IsOfText : List TableDef → Meaning → Type 0
-IsOfText tables meant = (text : List ℕ) × (meant ≡ meaning bound_in tables text)
+IsOfText tables meant = (text : List ℕ) × (is_utf8 text ≡ true) × (meant ≡ meaning bound_in tables text)
 
--- the history and the rows are the same
+-- the history and the log are the same
 abbrev pub IsSameHistory : RunSoFar → RunSoFar → Type 0
-IsSameHistory old new = (new.entries.items ≡ old.entries.items) × (new.taken.items ≡ old.taken.items) × (new.rows ≡ old.rows)
+IsSameHistory old new = (new.entries.items ≡ old.entries.items) × (new.log ≡ old.log)
+
+-- a log that has the setup of a schema alone, in a generation; its pages stand for tables without rows
+pub record IsOpenedLog (tables : List TableDef) (log : List Entry) : Type 0 where
+  pub generation : ℕ
+  pub records : List LogRecord
+  pub is : log ≡ Setup generation tables records ∷ []
+  pub stands : Stands (pages_of log) tables (no_rows tables)
+
+-- an open transaction is that of a session of this name, under its number and at its level
+abbrev pub IsOwnDoing : List ℕ → ℕ → Level → InTransaction → Type 0
+IsOwnDoing name number level No = Unit {0}
+IsOwnDoing name number level (Open session) = (session.id ≡ record { began = 1; session = name; txn = number }) × (session.level ≡ level)
+IsOwnDoing name number level Aborted = Unit {0}
+
+abbrev pub IsOwn : List ℕ → SessionState → Type 0
+IsOwn name s = IsOwnDoing name s.number s.level s.doing
+
+-- no transaction is open
+abbrev pub IsShut : InTransaction → Type 0
+IsShut No = Unit {0}
+IsShut (Open session) = ⊥
+IsShut Aborted = Unit {0}
+
+-- each session's open transaction is its own
+abbrev pub AreOwn : List SessionLine → List SessionState → Type 0
+AreOwn sessions states = (at : ℕ) (s : SessionLine) (x : SessionState) → slice_get sessions at ≡ Some s → slice_get states at ≡ Some x → IsOwn s.name x
 
 -- the run before a line, with the lines `left` still to do
 abbrev pub IsBeforeLine : Script → List BodyLine → RunSoFar → List SessionState → Type 0
-IsBeforeLine script left run states = IsBefore script left run.lines.items run.entries.items run.taken.items run.rows states
+IsBeforeLine script left run states =
+    IsBefore script left run.lines.items run.entries.items (takes_in run.log) (seen_in run.log) (map state_in states)
+    × IsLogged (tables_of script) (length run.entries.items) run.log
+    × AreTold run.entries.items run.log
+    × AreOwn script.sessions states
 
--- a line of a session did what it does, or was cut short
+-- a line of a session did what it does, or was cut short; the log is in order behind it
 abbrev pub IsTakenFrom : List TableDef → List ℕ → SessionState → List ℕ → SessionState → RunSoFar → RunSoFar → Type 0
 IsTakenFrom tables name before text after old new =
-    IsTaken (world tables old) name before text after old.lines.items new.lines.items old.entries.items new.entries.items new.taken.items new.rows
+    IsTaken (world tables old) name (state_in before) text (state_in after) old.lines.items new.lines.items old.entries.items new.entries.items (takes_in new.log) (seen_in new.log)
+    × IsLogged tables (length new.entries.items) new.log
+    × (AreTold old.entries.items old.log → AreTold new.entries.items new.log)
+    × IsOwn name after
 
--- a line did what it does
+-- a line did what it does; the log is in order behind it
 abbrev pub IsDoneFrom : List TableDef → List ℕ → Turned → SessionState → RunSoFar → RunSoFar → Type 0
 IsDoneFrom tables name turned after old new =
-    IsEffectDone (world tables old) name turned after old.lines.items new.lines.items old.entries.items new.entries.items new.taken.items new.rows
+    IsTurned (world tables old) name turned old.lines.items new.lines.items old.entries.items new.entries.items (takes_in new.log) (seen_in new.log)
+    × (state_in after ≡ turned.after)
+    × IsLogged tables (length new.entries.items) new.log
+    × (AreTold old.entries.items old.log → AreTold new.entries.items new.log)
+    × IsOwn name after

@@ -1,12 +1,11 @@
 -- The run so far: what holds of the lines, the history, the rows and the sessions after each line of
 -- the script.
-use Rattle.std.specs.Prelude.{◌≡◌, ℕ, ◌+◌, ◌-◌, ◌≤◌, ◌<◌, ◌++◌, ◌∷◌, [], List, length, Option, Some, None, if◌then◌else◌, slice_get, unwrap_or, map}
+use Rattle.std.specs.Prelude.{◌≡◌, ℕ, ◌+◌, ◌-◌, ◌≤◌, ◌<◌, ◌++◌, ◌∷◌, [], List, length, Option, Some, None, if◌then◌else◌, slice_get, unwrap_or}
 use Rattle.std.specs.List.{AllByRecursion}
 use Rattle.std.specs.Str.{bytes_eq}
-use Rattle.cdb_values.specs.Good.{first_broken}
 use Rattle.cdb_values.specs.declared.rows.Level.TheVariants.{Snapshot}
 use Rattle.cdb_values.specs.declared.rows.RowOp.{RowOp}
-use Rattle.snapshot_rows.specs.Ages.{Ages, IsUpTo, seen, rows_seen, no_ages}
+use Rattle.script_play.specs.Seen.{Seen}
 use Rattle.script_form.specs.CanRun.{CanRun, IsSaid, tables_of}
 use Rattle.script_form.specs.declared.scripts.Script.{Script}
 use Rattle.script_form.specs.declared.scripts.BodyLine.{BodyLine}
@@ -28,19 +27,18 @@ use Rattle.report_laws.specs.Play.{InTurns}
 use Rattle.report_laws.specs.Told.{Along, Numbered, IsCut, IsTold, IsEntryTold, told, numbered}
 use Rattle.report_laws.specs.Work.{Place, Nowhere, transaction, place_after}
 use Rattle.cdb_values.specs.declared.items.GenidItem.{GenidItem}
-use Rattle.commit_decisions.specs.Decisions.{HasName}
-use Rattle.sql_run.specs.Sound.{AreSound, IsSoundOp}
-use Rattle.script_play.specs.declared.states.SessionState.{SessionState}
-use Rattle.script_play.specs.declared.states.InTransaction.{InTransaction}
-use Rattle.script_play.specs.declared.states.InTransaction.TheVariants as doing
+use Rattle.script_play.specs.Decisions.{HasName}
+use Rattle.script_play.specs.Ready.{AreKept, IsKeptOp}
+use Rattle.script_play.specs.Doing.{SessionAt, Doing}
+use Rattle.script_play.specs.Doing as doing
 use Rattle.script_play.specs.Step.{state}
 
 -- where a session is that has done nothing
-abbrev pub at_start : SessionState
+abbrev pub at_start : SessionAt
 at_start = state 0 Snapshot doing.No
 
 -- where a session is, by its place among the sessions
-abbrev pub state_of : List ℕ → List SessionLine → List SessionState → SessionState
+abbrev pub state_of : List ℕ → List SessionLine → List SessionAt → SessionAt
 state_of name [] states = at_start
 state_of name (s ∷ ss) [] = at_start
 state_of name (s ∷ ss) (x ∷ xs) = if bytes_eq s.name name then x else state_of name ss xs
@@ -52,10 +50,10 @@ pub record IsOpen (script : Script) (entries : List EntryLine) (next : ℕ) (tex
   pub says : mine ≡ reply.Begin begin ∷ (alone sql_language (tables_of script) (rows_at (from_nothing script) entries begin) texts).replies
   pub ops_are : ops ≡ (alone sql_language (tables_of script) (rows_at (from_nothing script) entries begin) texts).ops
   pub uses_are : uses ≡ (alone sql_language (tables_of script) (rows_at (from_nothing script) entries begin) texts).uses
-  pub sound : AllByRecursion (IsSoundOp (tables_of script) next) ops
+  pub sound : AllByRecursion (IsKeptOp (tables_of script) next) ops
 
 -- what a session is doing, by the transaction that is open in its work
-abbrev pub IsDoing : Script → List EntryLine → ℕ → Place → Option (List (List ℕ)) → InTransaction → List ReplyLine → Type 0
+abbrev pub IsDoing : Script → List EntryLine → ℕ → Place → Option (List (List ℕ)) → Doing → List ReplyLine → Type 0
 IsDoing script entries next p None doing.No mine = mine ≡ []
 IsDoing script entries next p None (doing.Open begin ops uses) mine = ⊥
 IsDoing script entries next p None doing.Aborted mine = ⊥
@@ -64,7 +62,7 @@ IsDoing script entries next p (Some texts) (doing.Open begin ops uses) mine = Is
 IsDoing script entries next p (Some texts) doing.Aborted mine = IsCut (from_nothing script) (view_of (from_nothing script) entries) (transaction p.number texts p.level Nowhere) mine
 
 -- a session's lines are those of its work so far, and it is where its work is
-pub record Standing (script : Script) (entries : List EntryLine) (next : ℕ) (name : List ℕ) (p : Place) (lines : List Numbered) (at : SessionState) : Type 0 where
+pub record Standing (script : Script) (entries : List EntryLine) (next : ℕ) (name : List ℕ) (p : Place) (lines : List Numbered) (at : SessionAt) : Type 0 where
   pub before : List Numbered
   pub mine : List ReplyLine
   pub is : lines ≡ before ++ numbered p.number mine
@@ -84,24 +82,23 @@ IsEnded done (Setup position) = Unit {0}
 IsEnded done (Commit position session txn begin level) = IsPast (place_after sql_language session done).number (place_after sql_language session done).pending txn
 
 -- the history so far, the versions that each entry took away, and the rows at each position
-pub record Stored (script : Script) (entries : List EntryLine) (taken : List (List GenidItem)) (ages : Ages) : Type 0 where
+pub record Stored (script : Script) (entries : List EntryLine) (taken : List (List GenidItem)) (seen : Seen) : Type 0 where
   pub opened : 1 ≤ length entries
   pub history : EachAfter (IsEntryAfter (from_nothing script)) [] entries
-  pub rows_are : (at : ℕ) → 1 ≤ at → at ≤ length entries → seen at ages.tables ≡ (rows_at (from_nothing script) entries at).tables
-  pub now_are : rows_seen ages (length entries) ≡ rows_at (from_nothing script) entries (length entries)
-  pub up_to : IsUpTo (length entries) ages
+  pub rows_are : (at : ℕ) → 1 ≤ at → at ≤ length entries → seen.at at ≡ rows_at (from_nothing script) entries at
+  pub now_are : seen.at (length entries) ≡ rows_at (from_nothing script) entries (length entries)
+  pub next_is : seen.next ≡ (seen.at (length entries)).next
   pub taken_length : length taken ≡ length entries
   pub taken_are : (k : ℕ) → 1 ≤ k → k ≤ length entries → unwrap_or (slice_get taken (k - 1)) [] ≡ taken_at (from_nothing script) entries k
-  pub sound : (at : ℕ) → 1 ≤ at → at ≤ length entries → AreSound (tables_of script) ages.next (seen at ages.tables)
-  pub kept : first_broken (tables_of script) (seen (length entries) ages.tables) ≡ None
+  pub sound : (at : ℕ) → 1 ≤ at → at ≤ length entries → AreKept (tables_of script) seen.next (seen.at at).tables
   -- each version that an entry took away is one of a table that has a name
   pub named : AllByRecursion (AllByRecursion (HasName (tables_of script))) taken
 
 -- after the script's lines `done`, with the lines `left` still to do
-pub record SoFar (script : Script) (done left : List BodyLine) (lines : List Line) (entries : List EntryLine) (taken : List (List GenidItem)) (ages : Ages) (states : List SessionState) : Type 0 where
+pub record SoFar (script : Script) (done left : List BodyLine) (lines : List Line) (entries : List EntryLine) (taken : List (List GenidItem)) (seen : Seen) (states : List SessionAt) : Type 0 where
   pub body : script.body ≡ done ++ left
-  pub stored : Stored script entries taken ages
-  pub standing : (name : List ℕ) → Standing script entries ages.next name (place_after sql_language name done) (told name lines) (state_of name script.sessions states)
+  pub stored : Stored script entries taken seen
+  pub standing : (name : List ℕ) → Standing script entries seen.next name (place_after sql_language name done) (told name lines) (state_of name script.sessions states)
   pub fresh : EachAfter (IsFreshLine (from_nothing script).origin) [] lines
   pub later : List EntryLine
   pub begins : entries ≡ Setup 1 ∷ later
@@ -112,24 +109,16 @@ pub record SoFar (script : Script) (done left : List BodyLine) (lines : List Lin
   pub placed : EachAfter HasItsPlace [] lines
 
 -- the run before a line, with the lines `left` still to do: every line of the script can be run
-pub record IsBefore (script : Script) (left : List BodyLine) (lines : List Line) (entries : List EntryLine) (taken : List (List GenidItem)) (ages : Ages) (states : List SessionState) : Type 0 where
+pub record IsBefore (script : Script) (left : List BodyLine) (lines : List Line) (entries : List EntryLine) (taken : List (List GenidItem)) (seen : Seen) (states : List SessionAt) : Type 0 where
   pub can_run : CanRun script
   pub said : AllByRecursion (λ l. IsSaid script.sessions l.act) left
   pub same : length states ≡ length script.sessions
   pub done : List BodyLine
-  pub so_far : SoFar script done left lines entries taken ages states
+  pub so_far : SoFar script done left lines entries taken seen states
 
 -- the report of lines and of a history that begins with the run
 abbrev pub report_of : List Line → List EntryLine → Report
 report_of lines entries = record { lines = lines; base = None; entries = entries; feeds = []; end = length entries }
-
--- the run at its opening
-pub record IsOpened (script : Script) (lines : List Line) (entries : List EntryLine) (taken : List (List GenidItem)) (ages : Ages) (states : List SessionState) : Type 0 where
-  pub no_lines : lines ≡ []
-  pub schema_stands : entries ≡ Setup 1 ∷ []
-  pub nothing_taken : taken ≡ [] ∷ []
-  pub no_rows : ages ≡ no_ages (tables_of script)
-  pub at_starts : states ≡ map (λ _. at_start) script.sessions
 
 -- the place of the session with a name, counted on from a number
 abbrev pub session_from : ℕ → List ℕ → List SessionLine → Option ℕ

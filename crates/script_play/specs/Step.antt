@@ -4,13 +4,13 @@
 -- sets the level is answered so, and any other line is a transaction of its own. In a transaction
 -- `commit` has it decided, `rollback` ends it, and any other line is answered. After a transaction
 -- that want of memory ended, lines are skipped up to its `commit` or `rollback`.
-use Rattle.std.specs.Prelude.{◌≡◌, ℕ, ◌+◌, ◌<◌, ◌++◌, ◌∷◌, [], List, Option, Some, None, map, length, ◌⊎◌}
+use Rattle.std.specs.Prelude.{◌≡◌, ℕ, ◌+◌, ◌<◌, ◌++◌, ◌∷◌, [], List, Option, Some, None, map, ◌⊎◌}
 use Rattle.cdb_values.specs.Rows.{apply_all}
 use Rattle.cdb_values.specs.declared.rows.Level.{Level}
 use Rattle.cdb_values.specs.declared.rows.RowOp.{RowOp}
 use Rattle.cdb_values.specs.declared.rows.StatementError.TheVariants.{State}
 use Rattle.cdb_values.specs.declared.tables.TableDef.{TableDef}
-use Rattle.snapshot_rows.specs.Ages.{Ages, IsUpTo, seen, rows_seen}
+use Rattle.script_play.specs.Seen.{Seen}
 use Rattle.report_text.specs.declared.reports.EntryLine.{EntryLine}
 use Rattle.report_text.specs.declared.reports.EntryLine.TheVariants.{Commit}
 use Rattle.report_text.specs.declared.reports.Line.{Line}
@@ -24,12 +24,11 @@ use Rattle.sql_run.specs.Texts.{answer_to}
 use Rattle.cdb_values.specs.Changes.{taken_by}
 use Rattle.report_laws.specs.Told.{lines_of}
 use Rattle.cdb_values.specs.declared.items.GenidItem.{GenidItem}
-use Rattle.commit_decisions.specs.Decisions.{decision, added_by}
-use Rattle.script_play.specs.declared.states.SessionState.{SessionState}
-use Rattle.script_play.specs.declared.states.InTransaction.{InTransaction}
-use Rattle.script_play.specs.declared.states.InTransaction.TheVariants as doing
+use Rattle.script_play.specs.Decisions.{decision, added_by}
+use Rattle.script_play.specs.Doing.{SessionAt, Doing}
+use Rattle.script_play.specs.Doing as doing
 
-abbrev pub state : ℕ → Level → InTransaction → SessionState
+abbrev pub state : ℕ → Level → Doing → SessionAt
 state number level what = record { number = number; level = level; doing = what }
 
 -- what a line adds: its replies and the number that they are told under, where the session is then,
@@ -37,32 +36,32 @@ state number level what = record { number = number; level = level; doing = what 
 pub record Turned : Type 0 where
   pub number : ℕ
   pub replies : List ReplyLine
-  pub after : SessionState
+  pub after : SessionAt
   pub begin : ℕ
   pub added : List (List RowOp)
 
-abbrev pub turned : ℕ → List ReplyLine → SessionState → Turned
+abbrev pub turned : ℕ → List ReplyLine → SessionAt → Turned
 turned number replies after = record { number = number; replies = replies; after = after; begin = 0; added = [] }
 
 -- what the run is before a line: the tables, the rows at each position, what each entry took away,
 -- and the last position
 pub record World : Type 0 where
   pub tables : List TableDef
-  pub ages : Ages
+  pub seen : Seen
   pub taken : List (List GenidItem)
   pub now : ℕ
 
-abbrev pub world_of : List TableDef → Ages → List (List GenidItem) → ℕ → World
-world_of tables ages taken now = record { tables = tables; ages = ages; taken = taken; now = now }
+abbrev pub world_of : List TableDef → Seen → List (List GenidItem) → ℕ → World
+world_of tables seen taken now = record { tables = tables; seen = seen; taken = taken; now = now }
 
 -- a transaction that began at a position comes to its commit with these operations, its texts having used these
 -- versions
 abbrev pub outcome : World → ℕ → List GenidItem → List RowOp → ReplyLine
-outcome w begin uses ops = decision w.tables w.taken (rows_seen w.ages w.now) begin w.now uses ops
+outcome w begin uses ops = decision w.tables w.taken (w.seen.at w.now) begin w.now uses ops
 
 -- an answer in a transaction that began there, by what the text means
 abbrev pub answer_of : World → ℕ → List RowOp → Meaning → Answered
-answer_of w begin ops meant = answer_to w.tables (seen begin w.ages.tables) ops meant
+answer_of w begin ops meant = answer_to w.tables (w.seen.at begin).tables ops meant
 
 -- the same by the text
 abbrev pub answer_at : World → ℕ → List RowOp → List ℕ → Answered
@@ -93,7 +92,7 @@ abbrev pub goes_on : ℕ → Level → ℕ → List GenidItem → Answered → T
 goes_on number level begin uses a = turned number a.replies (state number level (doing.Open begin a.ops (uses ++ a.uses)))
 
 -- what a line does, by what its text means and is to transactions
-abbrev pub turn_of : World → ℕ → Level → Meaning → Kind → InTransaction → Turned
+abbrev pub turn_of : World → ℕ → Level → Meaning → Kind → Doing → Turned
 turn_of w number level meant BeginText doing.No = turned (number + 1) (reply.Begin w.now ∷ []) (state (number + 1) level (doing.Open w.now [] []))
 turn_of w number level meant CommitText doing.No = turned 0 (reply.Error State ∷ []) (state number level doing.No)
 turn_of w number level meant RollbackText doing.No = turned 0 (reply.Error State ∷ []) (state number level doing.No)
@@ -111,10 +110,10 @@ turn_of w number level meant (LevelText later) doing.Aborted = turned number [] 
 turn_of w number level meant OtherText doing.Aborted = turned number [] (state number level doing.Aborted)
 
 -- the same by the text
-abbrev pub turn_by : World → ℕ → Level → List ℕ → Kind → InTransaction → Turned
+abbrev pub turn_by : World → ℕ → Level → List ℕ → Kind → Doing → Turned
 turn_by w number level text k what = turn_of w number level (meaning bound_in w.tables text) k what
 
-abbrev pub turn : World → SessionState → List ℕ → Turned
+abbrev pub turn : World → SessionAt → List ℕ → Turned
 turn w before text = turn_by w before.number before.level text (kind_of_text text) before.doing
 
 -- the entry of the transaction that a line commits
@@ -122,31 +121,30 @@ abbrev pub entries_added : List ℕ → ℕ → Turned → List EntryLine
 entries_added name now t = map (λ ops. Commit (now + 1) name t.number t.begin t.after.level) t.added
 
 -- the operations of a commit, if there is one, are written at the next position
-abbrev pub IsKept : ℕ → Ages → Ages → List (List RowOp) → Type 0
-IsKept now ages ages' [] = ages' ≡ ages
-IsKept now ages ages' (ops ∷ _) =
-    (rows_seen ages' (now + 1) ≡ apply_all (rows_seen ages now) ops)
-    × ((at : ℕ) → at < now + 1 → seen at ages'.tables ≡ seen at ages.tables)
-    × IsUpTo (now + 1) ages'
-    × (length ages'.tables ≡ length ages.tables)
+abbrev pub IsKept : ℕ → Seen → Seen → List (List RowOp) → Type 0
+IsKept now seen seen' [] = seen' ≡ seen
+IsKept now seen seen' (ops ∷ _) =
+    (seen'.at (now + 1) ≡ apply_all (seen.at now) ops)
+    × ((at : ℕ) → at < now + 1 → seen'.at at ≡ seen.at at)
+    × (seen'.next ≡ (apply_all (seen.at now) ops).next)
 
 -- a line did what it does
-pub record IsTurned (w : World) (name : List ℕ) (t : Turned) (lines lines' : List Line) (entries entries' : List EntryLine) (taken' : List (List GenidItem)) (ages' : Ages) : Type 0 where
+pub record IsTurned (w : World) (name : List ℕ) (t : Turned) (lines lines' : List Line) (entries entries' : List EntryLine) (taken' : List (List GenidItem)) (seen' : Seen) : Type 0 where
   pub lines_are : lines' ≡ lines ++ lines_of name t.number t.replies
   pub entries_are : entries' ≡ entries ++ entries_added name w.now t
   pub taken_are : taken' ≡ w.taken ++ map taken_by t.added
-  pub rows_are : IsKept w.now w.ages ages' t.added
+  pub rows_are : IsKept w.now w.seen seen' t.added
 
 -- the number of a transaction that want of memory ends, and where the session is then: it skips the
 -- lines of the transaction that are still to come
 pub record Cut : Type 0 where
   pub number : ℕ
-  pub after : SessionState
+  pub after : SessionAt
 
-abbrev pub cut : ℕ → SessionState → Option Cut
+abbrev pub cut : ℕ → SessionAt → Option Cut
 cut number after = Some (record { number = number; after = after })
 
-abbrev pub cut_by : ℕ → Level → Kind → InTransaction → Option Cut
+abbrev pub cut_by : ℕ → Level → Kind → Doing → Option Cut
 cut_by number level BeginText doing.No = cut (number + 1) (state (number + 1) level doing.Aborted)
 cut_by number level CommitText doing.No = None
 cut_by number level RollbackText doing.No = None
@@ -160,18 +158,18 @@ cut_by number level OtherText (doing.Open begin ops uses) = cut number (state nu
 cut_by number level _ doing.Aborted = None
 
 -- a line was cut short by want of memory, which is all that was told and done
-pub record IsCutShort (w : World) (name : List ℕ) (c : Cut) (lines lines' : List Line) (entries entries' : List EntryLine) (taken' : List (List GenidItem)) (ages' : Ages) : Type 0 where
+pub record IsCutShort (w : World) (name : List ℕ) (c : Cut) (lines lines' : List Line) (entries entries' : List EntryLine) (taken' : List (List GenidItem)) (seen' : Seen) : Type 0 where
   pub lines_are : lines' ≡ lines ++ lines_of name c.number (reply.NoMemory ∷ [])
   pub entries_are : entries' ≡ entries
   pub taken_are : taken' ≡ w.taken
-  pub rows_are : ages' ≡ w.ages
+  pub rows_are : seen' ≡ w.seen
 
 -- a line did what it does, or was cut short; and the session is there behind it
-abbrev pub IsTakenBy : World → List ℕ → ℕ → Level → List ℕ → Kind → InTransaction → SessionState → List Line → List Line → List EntryLine → List EntryLine → List (List GenidItem) → Ages → Type 0
-IsTakenBy w name number level text k what after lines lines' entries entries' taken' ages' =
-    (IsTurned w name (turn_by w number level text k what) lines lines' entries entries' taken' ages' × (after ≡ (turn_by w number level text k what).after))
-    ⊎ ((c : Cut) × (cut_by number level k what ≡ Some c) × IsCutShort w name c lines lines' entries entries' taken' ages' × (after ≡ c.after))
+abbrev pub IsTakenBy : World → List ℕ → ℕ → Level → List ℕ → Kind → Doing → SessionAt → List Line → List Line → List EntryLine → List EntryLine → List (List GenidItem) → Seen → Type 0
+IsTakenBy w name number level text k what after lines lines' entries entries' taken' seen' =
+    (IsTurned w name (turn_by w number level text k what) lines lines' entries entries' taken' seen' × (after ≡ (turn_by w number level text k what).after))
+    ⊎ ((c : Cut) × (cut_by number level k what ≡ Some c) × IsCutShort w name c lines lines' entries entries' taken' seen' × (after ≡ c.after))
 
-abbrev pub IsTaken : World → List ℕ → SessionState → List ℕ → SessionState → List Line → List Line → List EntryLine → List EntryLine → List (List GenidItem) → Ages → Type 0
-IsTaken w name before text after lines lines' entries entries' taken' ages' =
-    IsTakenBy w name before.number before.level text (kind_of_text text) before.doing after lines lines' entries entries' taken' ages'
+abbrev pub IsTaken : World → List ℕ → SessionAt → List ℕ → SessionAt → List Line → List Line → List EntryLine → List EntryLine → List (List GenidItem) → Seen → Type 0
+IsTaken w name before text after lines lines' entries entries' taken' seen' =
+    IsTakenBy w name before.number before.level text (kind_of_text text) before.doing after lines lines' entries entries' taken' seen'

@@ -1,28 +1,28 @@
 //! What a line of a session is to do, by where the session is: nothing is told or kept yet.
 ghost use Rattle.std.specs.Prelude.{◌≡◌, ℕ, List, ◌+◌, ◌++◌, ◌∷◌, [], length, IfOk, IfSome};
-ghost use Rattle.std.specs.List.{AllByRecursion};
 ghost use Rattle.cdb_values.specs.declared.items.GenidItem.{GenidItem};
 ghost use Rattle.cdb_values.specs.declared.rows.RowOp.{RowOp};
-ghost use Rattle.commit_decisions.specs.Decisions.{added_by};
-ghost use Rattle.sql_run.specs.Sound.{IsSoundOp};
+ghost use Rattle.phys_log.specs.declared.entries.Entry.{Entry};
+ghost use Rattle.cdb_values.specs.declared.tables.TableDef.{TableDef};
 ghost use Rattle.sql_answer.specs.Answers.{Meaning};
 ghost use Rattle.sql_run.specs.Texts.{plan_by};
 ghost use Rattle.sql_run.specs.Views.{kind_in, text_in};
-ghost use Rattle.script_play.specs.RunViews.{world, IsReadyFor, IsOfText};
-ghost use Rattle.script_play.specs.Effects.{IsEffect, added_in, cut_in};
-ghost use Rattle.script_play.specs.Ready.{IsReadyToGo};
-ghost use Rattle.script_play.specs.Step.{World, answer_of, committed, cut_by, goes_on, outcome, own_line, state, turn_of, turned};
+ghost use Rattle.script_play.specs.Doing as doing;
+ghost use Rattle.script_play.specs.RunViews.{world, doing_in, state_in, IsReadyFor, IsOfText, IsOwn, IsOwnDoing, IsShut};
+ghost use Rattle.script_play.specs.Effects.{IsEffect, cut_in};
+ghost use Rattle.script_play.specs.Ready.{IsAble, IsReadyToGo};
+ghost use Rattle.script_play.specs.Step.{World, answer_of, committed, cut_by, goes_on, own_line, state, turn_of, turned};
 
+use super::reads::answer_text;
 use super::run::RunSoFar;
 use super::states::{InTransaction, SessionState};
-use cdb_values::{GenidItem, Level, List, RowOp, Schema, StatementError};
-use commit_decisions::decide;
+use super::verdicts::{GENERATION, decided};
+use cdb_values::{Level, Name, Schema, StatementError};
+use osql_session::OsqlSession;
+use phys_log::{CommitId, Entry};
 use report_text::ReplyLine;
-use sql_run::{Prepared, TextKind, answer_prepared};
+use sql_run::{Prepared, TextKind};
 use std::alloc::{AllocError, Global};
-
-/// The last position that a history may have.
-const LAST_POSITION: u64 = (1 << 62) - 1;
 
 /// What a line is to do.
 #[derive(Drop)]
@@ -32,10 +32,8 @@ pub(crate) struct LineEffect {
     pub replies: Vec<ReplyLine>,
     /// Where the session is then.
     pub after: SessionState,
-    /// Where the transaction that it commits began.
-    pub begin: u64,
-    /// The operations of the transaction that it commits, if it commits one with operations.
-    pub added: Option<List<RowOp>>,
+    /// The entry of the transaction that it commits, if it commits one with operations.
+    pub added: Option<Entry>,
 }
 
 /// What a line of that kind is to do, by its prepared text.
@@ -43,16 +41,18 @@ pub(crate) fn effect_of(
     alloc: Global,
     schema: &Schema,
     run: &RunSoFar,
+    name: &Name,
     state: SessionState,
     kind: TextKind,
     prepared: &Prepared,
 ) -> Result<LineEffect, AllocError>
     requires ready { IsReadyFor schema.now run.now }
-    requires ready_to_go { IsReadyToGo schema.now (length run.now.entries.items) run.now.rows.next state.doing }
+    requires ready_to_go { IsReadyToGo schema.now (length run.now.entries.items) run.now.log (doing_in state.doing) }
+    requires own { IsOwn name.now state }
     requires plan { (text_in prepared.now).plan ≡ plan_by schema.now (text_in prepared.now).meaning }
     requires of_text { IsOfText schema.now (text_in prepared.now).meaning }
-    ensures { IfOk result (λ p. IsEffect p
-        (turn_of (world schema.now run.now) state.number state.level (text_in prepared.now).meaning (kind_in kind) state.doing)) }
+    ensures { IfOk result (λ p. IsEffect schema.now run.now.log name.now p
+        (turn_of (world schema.now run.now) state.number state.level (text_in prepared.now).meaning (kind_in kind) (doing_in state.doing))) }
 {
     let SessionState {
         number,
@@ -60,16 +60,9 @@ pub(crate) fn effect_of(
         doing,
     } = state;
     match doing {
-        InTransaction::No => outside(alloc, schema, run, number, level, kind, prepared),
-        InTransaction::Open { begin, ops, uses } => {
-            let held = OpenTransaction {
-                number,
-                level,
-                begin,
-                ops,
-                uses,
-            };
-            inside(alloc, schema, run, held, kind, prepared)
+        InTransaction::No => outside(alloc, schema, run, name, number, level, kind, prepared),
+        InTransaction::Open(session) => {
+            inside(alloc, schema, run, number, level, session, kind, prepared)
         }
         InTransaction::Aborted => Ok(skip(alloc, number, level, kind)),
     }
@@ -78,18 +71,20 @@ pub(crate) fn effect_of(
 /// Where the session is if want of memory cuts the line short; `None` where the line is in no
 /// transaction, or its number can't be counted.
 pub(crate) fn cut_state(state: &SessionState, kind: TextKind) -> Option<SessionState>
-    ensures { IfSome result (λ after. cut_by state.now.number state.now.level (kind_in kind) state.now.doing ≡ cut_in after) }
+    ensures cut { IfSome result (λ after. cut_by state.now.number state.now.level (kind_in kind) (doing_in state.now.doing) ≡ cut_in after) }
+    ensures shut { IfSome result (λ after. IsShut after.doing) }
 {
     match state.doing {
         InTransaction::No => cut_outside(state.number, state.level, kind),
-        InTransaction::Open { .. } => Some(cut_inside(state.number, state.level, kind)),
+        InTransaction::Open(_) => Some(cut_inside(state.number, state.level, kind)),
         InTransaction::Aborted => None,
     }
 }
 
 /// Where a session is behind a line outside a transaction that was cut short.
 fn cut_outside(number: u64, level: Level, kind: TextKind) -> Option<SessionState>
-    ensures { IfSome result (λ after. cut_by number level (kind_in kind) InTransaction.No ≡ cut_in after) }
+    ensures cut { IfSome result (λ after. cut_by number level (kind_in kind) doing.No ≡ cut_in after) }
+    ensures shut { IfSome result (λ after. IsShut after.doing) }
 {
     let next = number.checked_add(1)?;
     match kind {
@@ -111,7 +106,8 @@ fn cut_outside(number: u64, level: Level, kind: TextKind) -> Option<SessionState
 
 /// Where a session is behind a line in its transaction that was cut short.
 fn cut_inside(number: u64, level: Level, kind: TextKind) -> SessionState
-    ensures { (begin : ℕ) (ops : List RowOp) (uses : List GenidItem) → cut_by number level (kind_in kind) (InTransaction.Open begin ops uses) ≡ cut_in result }
+    ensures cut { (begin : ℕ) (ops : List RowOp) (uses : List GenidItem) → cut_by number level (kind_in kind) (doing.Open begin ops uses) ≡ cut_in result }
+    ensures shut { IsShut result.doing }
 {
     let doing = match kind {
         TextKind::Commit => InTransaction::No,
@@ -132,6 +128,7 @@ fn outside(
     alloc: Global,
     schema: &Schema,
     run: &RunSoFar,
+    name: &Name,
     number: u64,
     level: Level,
     kind: TextKind,
@@ -140,27 +137,16 @@ fn outside(
     requires ready { IsReadyFor schema.now run.now }
     requires plan { (text_in prepared.now).plan ≡ plan_by schema.now (text_in prepared.now).meaning }
     requires of_text { IsOfText schema.now (text_in prepared.now).meaning }
-    ensures { IfOk result (λ p. IsEffect p
-        (turn_of (world schema.now run.now) number level (text_in prepared.now).meaning (kind_in kind) InTransaction.No)) }
+    ensures { IfOk result (λ p. IsEffect schema.now run.now.log name.now p
+        (turn_of (world schema.now run.now) number level (text_in prepared.now).meaning (kind_in kind) doing.No)) }
 {
     match kind {
-        TextKind::Begin => begin(alloc, run, number, level),
+        TextKind::Begin => begin(alloc, run, name, number, level),
         TextKind::Commit => refused(alloc, number, level),
         TextKind::Rollback => refused(alloc, number, level),
         TextKind::SetLevel(level) => set_level(alloc, number, level),
-        TextKind::Other => own_transaction(alloc, schema, run, number, level, prepared),
+        TextKind::Other => own_transaction(alloc, schema, run, name, number, level, prepared),
     }
-}
-
-/// An open transaction of a session: its number and level, the position where it began, its operations so far, and
-/// the versions that its texts used besides.
-#[derive(Drop)]
-struct OpenTransaction {
-    number: u64,
-    level: Level,
-    begin: u64,
-    ops: List<RowOp>,
-    uses: List<GenidItem>,
 }
 
 /// What a line in an open transaction is to do.
@@ -168,47 +154,56 @@ fn inside(
     alloc: Global,
     schema: &Schema,
     run: &RunSoFar,
-    held: OpenTransaction,
+    number: u64,
+    level: Level,
+    session: OsqlSession,
     kind: TextKind,
     prepared: &Prepared,
 ) -> Result<LineEffect, AllocError>
     requires ready { IsReadyFor schema.now run.now }
-    requires sound { AllByRecursion (IsSoundOp schema.now run.now.rows.next) held.ops }
+    requires able { IsAble schema.now (length run.now.entries.items) run.now.log session.begin session.ops }
     requires plan { (text_in prepared.now).plan ≡ plan_by schema.now (text_in prepared.now).meaning }
-    ensures { IfOk result (λ p. IsEffect p
-        (turn_of (world schema.now run.now) held.number held.level (text_in prepared.now).meaning (kind_in kind) (InTransaction.Open held.begin held.ops held.uses))) }
+    ensures { (name : List ℕ) → IsOwnDoing name number level (InTransaction.Open session) → IfOk result (λ p. IsEffect schema.now run.now.log name p
+        (turn_of (world schema.now run.now) number level (text_in prepared.now).meaning (kind_in kind) (doing.Open session.begin session.ops session.genids))) }
 {
     match kind {
-        TextKind::Commit => commit(alloc, schema, run, held),
-        TextKind::Rollback => rolled_back(alloc, held.number, held.level),
-        TextKind::Begin => go_on(alloc, schema, run, held, prepared),
-        TextKind::SetLevel(_) => go_on(alloc, schema, run, held, prepared),
-        TextKind::Other => go_on(alloc, schema, run, held, prepared),
+        TextKind::Commit => commit(alloc, schema, run, number, level, session),
+        TextKind::Rollback => rolled_back(alloc, number, level),
+        TextKind::Begin => go_on(alloc, schema, run, number, level, session, prepared),
+        TextKind::SetLevel(_) => go_on(alloc, schema, run, number, level, session, prepared),
+        TextKind::Other => go_on(alloc, schema, run, number, level, session, prepared),
     }
 }
 
 /// What a line of a transaction that want of memory ended is to do: it is skipped.
 fn skip(alloc: Global, number: u64, level: Level, kind: TextKind) -> LineEffect
-    ensures { (w : World) (meaning : Meaning) → IsEffect result (turn_of w number level meaning (kind_in kind) InTransaction.Aborted) }
+    ensures { (tables : List TableDef) (log : List Entry) (name : List ℕ) (w : World) (meaning : Meaning) → IsEffect tables log name result (turn_of w number level meaning (kind_in kind) doing.Aborted) }
 {
-    let doing = match kind {
-        TextKind::Commit => InTransaction::No,
-        TextKind::Rollback => InTransaction::No,
-        TextKind::Begin => InTransaction::Aborted,
-        TextKind::SetLevel(_) => InTransaction::Aborted,
-        TextKind::Other => InTransaction::Aborted,
-    };
-    let after = SessionState {
+    match kind {
+        TextKind::Commit => quiet(alloc, number, idle(number, level)),
+        TextKind::Rollback => quiet(alloc, number, idle(number, level)),
+        TextKind::Begin => quiet(alloc, number, aborted(number, level)),
+        TextKind::SetLevel(_) => quiet(alloc, number, aborted(number, level)),
+        TextKind::Other => quiet(alloc, number, aborted(number, level)),
+    }
+}
+
+/// A session whose transaction was ended by want of memory.
+fn aborted(number: u64, level: Level) -> SessionState
+    ensures is { state_in result ≡ state number level doing.Aborted }
+    ensures own { (name : List ℕ) → IsOwn name result }
+{
+    SessionState {
         number,
         level,
-        doing,
-    };
-    quiet(alloc, number, after)
+        doing: InTransaction::Aborted,
+    }
 }
 
 /// A session that is in no transaction.
 fn idle(number: u64, level: Level) -> SessionState
-    ensures { result ≡ state number level InTransaction.No }
+    ensures is { state_in result ≡ state number level doing.No }
+    ensures own { (name : List ℕ) → IsOwn name result }
 {
     SessionState {
         number,
@@ -219,13 +214,12 @@ fn idle(number: u64, level: Level) -> SessionState
 
 /// The line is skipped: it is told nothing, and the session is then at `after`.
 fn quiet(alloc: Global, number: u64, after: SessionState) -> LineEffect
-    ensures { IsEffect result (turned number [] after) }
+    ensures { (tables : List TableDef) (log : List Entry) (name : List ℕ) → IsOwn name after → IsEffect tables log name result (turned number [] (state_in after)) }
 {
     LineEffect {
         number,
         replies: Vec::new(alloc),
         after,
-        begin: 0,
         added: None,
     }
 }
@@ -237,7 +231,7 @@ fn one(
     reply: ReplyLine,
     after: SessionState,
 ) -> Result<LineEffect, AllocError>
-    ensures { IfOk result (λ p. IsEffect p (turned number (reply ∷ []) after)) }
+    ensures { (tables : List TableDef) (log : List Entry) (name : List ℕ) → IsOwn name after → IfOk result (λ p. IsEffect tables log name p (turned number (reply ∷ []) (state_in after))) }
 {
     let mut replies = Vec::new(alloc);
     replies.push(reply)?;
@@ -245,14 +239,13 @@ fn one(
         number,
         replies,
         after,
-        begin: 0,
         added: None,
     })
 }
 
 /// A line that does not fit outside a transaction.
 fn refused(alloc: Global, number: u64, level: Level) -> Result<LineEffect, AllocError>
-    ensures { IfOk result (λ p. IsEffect p (turned 0 (ReplyLine.Error StatementError.State ∷ []) (state number level InTransaction.No))) }
+    ensures { (tables : List TableDef) (log : List Entry) (name : List ℕ) → IfOk result (λ p. IsEffect tables log name p (turned 0 (ReplyLine.Error StatementError.State ∷ []) (state number level doing.No))) }
 {
     one(
         alloc,
@@ -264,14 +257,14 @@ fn refused(alloc: Global, number: u64, level: Level) -> Result<LineEffect, Alloc
 
 /// A line that rolls its transaction back.
 fn rolled_back(alloc: Global, number: u64, level: Level) -> Result<LineEffect, AllocError>
-    ensures { IfOk result (λ p. IsEffect p (turned number (ReplyLine.RolledBack ∷ []) (state number level InTransaction.No))) }
+    ensures { (tables : List TableDef) (log : List Entry) (name : List ℕ) → IfOk result (λ p. IsEffect tables log name p (turned number (ReplyLine.RolledBack ∷ []) (state number level doing.No))) }
 {
     one(alloc, number, ReplyLine::RolledBack, idle(number, level))
 }
 
 /// A line that sets the level of later transactions.
 fn set_level(alloc: Global, number: u64, level: Level) -> Result<LineEffect, AllocError>
-    ensures { IfOk result (λ p. IsEffect p (turned 0 (ReplyLine.Level level ∷ []) (state number level InTransaction.No))) }
+    ensures { (tables : List TableDef) (log : List Entry) (name : List ℕ) → IfOk result (λ p. IsEffect tables log name p (turned 0 (ReplyLine.Level level ∷ []) (state number level doing.No))) }
 {
     one(alloc, 0, ReplyLine::Level(level), idle(number, level))
 }
@@ -286,22 +279,47 @@ fn counted(number: u64) -> Result<u64, AllocError>
     }
 }
 
+/// A session's transaction of that number begins at the last position.
+fn opened(
+    alloc: Global,
+    run: &RunSoFar,
+    name: &Name,
+    number: u64,
+    level: Level,
+) -> Result<OsqlSession, AllocError>
+    ensures own { IfOk result (λ s. IsOwnDoing name.now number level (InTransaction.Open s)) }
+    ensures begin { IfOk result (λ s. s.begin ≡ length run.now.entries.items) }
+    ensures ops { IfOk result (λ s. s.ops ≡ []) }
+    ensures genids { IfOk result (λ s. s.genids ≡ []) }
+{
+    let id = CommitId {
+        began: GENERATION,
+        session: name.clone()?,
+        txn: number,
+    };
+    Ok(OsqlSession::new(alloc, id, run.entries.len() as u64, level))
+}
+
 /// A transaction begins at the last position.
-fn begin(alloc: Global, run: &RunSoFar, number: u64, level: Level) -> Result<LineEffect, AllocError>
-    ensures { IfOk result (λ p. IsEffect p (turned (number + 1) (ReplyLine.Begin (length run.now.entries.items) ∷ []) (state (number + 1) level (InTransaction.Open (length run.now.entries.items) [] [])))) }
+fn begin(
+    alloc: Global,
+    run: &RunSoFar,
+    name: &Name,
+    number: u64,
+    level: Level,
+) -> Result<LineEffect, AllocError>
+    ensures { (tables : List TableDef) → IfOk result (λ p. IsEffect tables run.now.log name.now p
+        (turned (number + 1) (ReplyLine.Begin (length run.now.entries.items) ∷ []) (state (number + 1) level (doing.Open (length run.now.entries.items) [] [])))) }
 {
     let number = counted(number)?;
-    let now = run.entries.len() as u64;
+    let session = opened(alloc, run, name, number, level)?;
+    let reply = ReplyLine::Begin(session.begin());
     let after = SessionState {
         number,
         level,
-        doing: InTransaction::Open {
-            begin: now,
-            ops: List::new(alloc),
-            uses: List::new(alloc),
-        },
+        doing: InTransaction::Open(session),
     };
-    one(alloc, number, ReplyLine::Begin(now), after)
+    one(alloc, number, reply, after)
 }
 
 /// A line is answered in an open transaction.
@@ -309,89 +327,29 @@ fn go_on(
     alloc: Global,
     schema: &Schema,
     run: &RunSoFar,
-    held: OpenTransaction,
+    number: u64,
+    level: Level,
+    session: OsqlSession,
     prepared: &Prepared,
 ) -> Result<LineEffect, AllocError>
+    requires ready { IsReadyFor schema.now run.now }
+    requires able { IsAble schema.now (length run.now.entries.items) run.now.log session.begin session.ops }
     requires plan { (text_in prepared.now).plan ≡ plan_by schema.now (text_in prepared.now).meaning }
-    ensures { IfOk result (λ p. IsEffect p
-        (goes_on held.number held.level held.begin held.uses (answer_of (world schema.now run.now) held.begin held.ops (text_in prepared.now).meaning))) }
+    ensures { (name : List ℕ) → IsOwnDoing name number level (InTransaction.Open session) → IfOk result (λ p. IsEffect schema.now run.now.log name p
+        (goes_on number level session.begin session.genids (answer_of (world schema.now run.now) session.begin session.ops (text_in prepared.now).meaning))) }
 {
-    let OpenTransaction {
-        number,
-        level,
-        begin,
-        ops,
-        uses,
-    } = held;
-    let found = answer_prepared(alloc, schema, &run.rows, begin, ops, prepared)?;
-    let doing = InTransaction::Open {
-        begin,
-        ops: found.ops,
-        uses: joined(uses, found.uses)?,
-    };
+    let mut session = session;
+    let replies = answer_text(alloc, schema, &run.log, &mut session, prepared)?;
     Ok(LineEffect {
         number,
-        replies: found.replies.into_vec(),
+        replies: replies.into_vec(),
         after: SessionState {
             number,
             level,
-            doing,
+            doing: InTransaction::Open(session),
         },
-        begin: 0,
         added: None,
     })
-}
-
-/// These versions, and then those.
-fn joined(first: List<GenidItem>, second: List<GenidItem>) -> Result<List<GenidItem>, AllocError>
-    ensures { IfOk result (λ all. all ≡ first ++ second) }
-{
-    let mut all = first.into_vec();
-    let mut more = second.into_vec();
-    all.append(&mut more)?;
-    Ok(List::from_vec(all))
-}
-
-/// What is decided on a transaction at its commit, by what its texts used and by its operations.
-#[tactic(auto, using(crate::proofs::SoundLaws::on_base))]
-fn decided(
-    alloc: Global,
-    schema: &Schema,
-    run: &RunSoFar,
-    begin: u64,
-    uses: &[GenidItem],
-    ops: &[RowOp],
-) -> Result<ReplyLine, AllocError>
-    requires ready { IsReadyFor schema.now run.now }
-    requires sound { AllByRecursion (IsSoundOp schema.now run.now.rows.next) ops.now }
-    ensures { IfOk result (λ o. o ≡ outcome (world schema.now run.now) begin uses.now ops.now) }
-{
-    let now = run.entries.len() as u64;
-    if LAST_POSITION <= now {
-        return Err(AllocError);
-    }
-    let taken = run.taken.as_slice();
-    decide(alloc, schema, &run.rows, taken, begin, now, uses, ops)
-}
-
-/// The operations that a decision commits.
-fn committing(outcome: &ReplyLine, ops: List<RowOp>) -> Option<List<RowOp>>
-    ensures { added_in result ≡ added_by outcome.now ops }
-{
-    match outcome {
-        ReplyLine::Committed(_) => not_empty(ops),
-        _ => None,
-    }
-}
-
-/// These operations, where there are some.
-fn not_empty(ops: List<RowOp>) -> Option<List<RowOp>>
-    ensures { (position : ℕ) → added_in result ≡ added_by (ReplyLine.Committed position) ops }
-{
-    match ops.as_slice().split_first() {
-        None => None,
-        Some(_) => Some(ops),
-    }
 }
 
 /// A transaction comes to its commit.
@@ -399,30 +357,23 @@ fn commit(
     alloc: Global,
     schema: &Schema,
     run: &RunSoFar,
-    held: OpenTransaction,
+    number: u64,
+    level: Level,
+    session: OsqlSession,
 ) -> Result<LineEffect, AllocError>
     requires ready { IsReadyFor schema.now run.now }
-    requires sound { AllByRecursion (IsSoundOp schema.now run.now.rows.next) held.ops }
-    ensures { IfOk result (λ p. IsEffect p
-        (committed (world schema.now run.now) held.number held.level held.begin held.uses held.ops)) }
+    requires able { IsAble schema.now (length run.now.entries.items) run.now.log session.begin session.ops }
+    ensures { (name : List ℕ) → IsOwnDoing name number level (InTransaction.Open session) → IfOk result (λ p. IsEffect schema.now run.now.log name p
+        (committed (world schema.now run.now) number level session.begin session.genids session.ops)) }
 {
-    let OpenTransaction {
-        number,
-        level,
-        begin,
-        ops,
-        uses,
-    } = held;
-    let outcome = decided(alloc, schema, run, begin, uses.as_slice(), ops.as_slice())?;
-    let added = committing(&outcome, ops);
+    let verdict = decided(alloc, schema, run, &session)?;
     let mut replies = Vec::new(alloc);
-    replies.push(outcome)?;
+    replies.push(verdict.outcome)?;
     Ok(LineEffect {
         number,
         replies,
         after: idle(number, level),
-        begin,
-        added,
+        added: verdict.added,
     })
 }
 
@@ -431,6 +382,7 @@ fn own_transaction(
     alloc: Global,
     schema: &Schema,
     run: &RunSoFar,
+    name: &Name,
     number: u64,
     level: Level,
     prepared: &Prepared,
@@ -438,22 +390,19 @@ fn own_transaction(
     requires ready { IsReadyFor schema.now run.now }
     requires plan { (text_in prepared.now).plan ≡ plan_by schema.now (text_in prepared.now).meaning }
     requires of_text { IsOfText schema.now (text_in prepared.now).meaning }
-    ensures { IfOk result (λ p. IsEffect p
+    ensures { IfOk result (λ p. IsEffect schema.now run.now.log name.now p
         (own_line (world schema.now run.now) (number + 1) level (answer_of (world schema.now run.now) (length run.now.entries.items) [] (text_in prepared.now).meaning))) }
 {
     let number = counted(number)?;
-    let now = run.entries.len() as u64;
-    let found = answer_prepared(alloc, schema, &run.rows, now, List::new(alloc), prepared)?;
-    let uses = found.uses.as_slice();
-    let outcome = decided(alloc, schema, run, now, uses, found.ops.as_slice())?;
-    let added = committing(&outcome, found.ops);
-    let replies = whole(alloc, now, found.replies.into_vec(), outcome)?;
+    let mut session = opened(alloc, run, name, number, level)?;
+    let told = answer_text(alloc, schema, &run.log, &mut session, prepared)?;
+    let verdict = decided(alloc, schema, run, &session)?;
+    let replies = whole(alloc, session.begin(), told.into_vec(), verdict.outcome)?;
     Ok(LineEffect {
         number,
         replies,
         after: idle(number, level),
-        begin: now,
-        added,
+        added: verdict.added,
     })
 }
 

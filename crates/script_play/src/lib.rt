@@ -8,6 +8,9 @@
 //! | in one | `error state` | is decided on | `rolledback` | `error state` | is answered |
 //! | behind one that want of memory ended | is skipped | ends it | ends it | is skipped | is skipped |
 //!
+//! A statement reads its rows from the pages of the log at its transaction's begin position. A commit is decided by
+//! `block_processor`, and its entry appended to the log: the log's pages at each position stand for the rows there.
+//!
 //! A line's text is read and bound once, by `prepare` of `sql_run`, whatever becomes of it. A text that is no statement, or
 //! has another error, is answered by that error, and the transaction goes on. Where the text can't be read for want of
 //! memory, nothing is known of the line, and the run ends.
@@ -23,18 +26,26 @@
 //!
 //! | Notion | Code | Definition |
 //! |---|---|---|
+//! | where a session is | `states` | `specs/Doing.antt` |
 //! | what a line does | `effects`, `run` | `specs/Step.antt` |
+//! | what a text is answered | `reads` | `Texts` of `sql_run` |
+//! | what is decided at a commit | `verdicts` | `specs/Decisions.antt` |
 //! | what a line is to do, and what is done of it | `effects`, `run` | `specs/Effects.antt` |
 //! | the run so far, as the code keeps it | `run` | `specs/RunViews.antt` |
-//! | what the rows keep from line to line | | `specs/Ready.antt` |
+//! | the rows at each position | | `specs/Seen.antt` |
+//! | what the log and the rows keep from line to line | | `specs/Ready.antt` |
 //! | the run so far | `play` | `specs/SoFar.antt` |
+//! | the lines of a history, by the entries of a log | `run` | `specs/EntryLines.antt` |
 //! | what a report is judged by | | `specs/Basis.antt` |
 #![tactic(auto)]
 
 mod effects;
+mod holding;
 mod lines;
 mod playing;
+mod reads;
 mod run;
 mod states;
+mod verdicts;
 
-pub use playing::play;
+pub use playing::{Played, play};

@@ -1,17 +1,19 @@
 //! One line of a session, told and kept, or cut short by want of memory.
-ghost use Rattle.std.specs.Prelude.{◌≡◌, ◌++◌, ◌∷◌, [], List, Some, length, OnErr, IfOk};
+ghost use Rattle.std.specs.Prelude.{◌≡◌, ◌++◌, ◌∷◌, [], List, Some, length, true, OnOk, OnErr, IfOk};
+ghost use Rattle.std.specs.Str.{is_utf8};
 ghost use Rattle.report_laws.specs.Told.{lines_of};
 ghost use Rattle.report_text.specs.declared.reports.Line.{Line};
 ghost use Rattle.sql_answer.specs.Language.{meaning, bound_in};
 ghost use Rattle.sql_answer.specs.Reading.{kind_of_text};
 ghost use Rattle.sql_run.specs.Texts.{plan_by};
 ghost use Rattle.sql_run.specs.Views.{kind_in, text_in};
-ghost use Rattle.script_play.specs.RunViews.{world, IsReadyFor, IsSameHistory, IsTakenFrom, IsDoneFrom, IsOfText};
+ghost use Rattle.script_play.specs.RunViews.{world, doing_in, IsReadyFor, IsSameHistory, IsTakenFrom, IsDoneFrom, IsOfText, IsOwn};
 ghost use Rattle.script_play.specs.Effects.{Grown};
 ghost use Rattle.script_play.specs.Ready.{IsReadyToGo};
 ghost use Rattle.script_play.specs.Step.{turn_of};
 
 use super::effects::{cut_state, effect_of};
+use super::holding::{beside, let_go};
 use super::run::{RunSoFar, add_reply, apply_effect};
 use super::states::SessionState;
 use cdb_values::{Name, Schema};
@@ -34,15 +36,21 @@ pub(crate) fn run_session_line(
     run: &mut RunSoFar,
 ) -> Result<SessionState, AllocError>
     requires ready { IsReadyFor schema.now run.old }
-    requires ready_to_go { IsReadyToGo schema.now (length run.old.entries.items) run.old.rows.next state.doing }
+    requires ready_to_go { IsReadyToGo schema.now (length run.old.entries.items) run.old.log (doing_in state.doing) }
+    requires own { IsOwn name.now state }
     ensures { IfOk result (λ after. IsTakenFrom schema.now name.now state text.now after run.old run.new) }
 {
-    let prepared = read_text(alloc, schema, text)?;
+    let (state, prepared) = beside(state, read_text(alloc, schema, text))?;
     let kind = prepared.kind();
     let cut = cut_state(&state, kind);
     let had = run.lines.len();
-    match run_whole(alloc, schema, name, state, kind, &prepared, run) {
-        Ok(after) => Ok(after),
+    let done = run_whole(alloc, schema, name, state, kind, &prepared, run);
+    let_go(prepared);
+    match done {
+        Ok(after) => {
+            let_go(cut);
+            Ok(after)
+        }
         Err(_) => cut_short(name, had, cut, run),
     }
 }
@@ -54,6 +62,7 @@ fn read_text(alloc: Global, schema: &Schema, text: &[u8]) -> Result<Prepared, Al
     ensures kind { IfOk result (λ p. (text_in p).kind ≡ kind_of_text text.now) }
     ensures meaning { IfOk result (λ p. (text_in p).meaning ≡ meaning bound_in schema.now text.now) }
     ensures plan { IfOk result (λ p. (text_in p).plan ≡ plan_by schema.now (text_in p).meaning) }
+    ensures utf8 { OnOk result (is_utf8 text.now ≡ true) }
 {
     if TEXT_LIMIT <= text.len() {
         return Err(AllocError);
@@ -75,14 +84,15 @@ fn run_whole(
     run: &mut RunSoFar,
 ) -> Result<SessionState, AllocError>
     requires ready { IsReadyFor schema.now run.old }
-    requires ready_to_go { IsReadyToGo schema.now (length run.old.entries.items) run.old.rows.next state.doing }
+    requires ready_to_go { IsReadyToGo schema.now (length run.old.entries.items) run.old.log (doing_in state.doing) }
+    requires own { IsOwn name.now state }
     requires plan { (text_in prepared.now).plan ≡ plan_by schema.now (text_in prepared.now).meaning }
     requires of_text { IsOfText schema.now (text_in prepared.now).meaning }
-    ensures ok { IfOk result (λ after. IsDoneFrom schema.now name.now (turn_of (world schema.now run.old) state.number state.level (text_in prepared.now).meaning (kind_in kind) state.doing) after run.old run.new) }
+    ensures ok { IfOk result (λ after. IsDoneFrom schema.now name.now (turn_of (world schema.now run.old) state.number state.level (text_in prepared.now).meaning (kind_in kind) (doing_in state.doing)) after run.old run.new) }
     ensures err_lines { OnErr result (Grown run.old.lines.items run.new.lines.items) }
     ensures err_same { OnErr result (IsSameHistory run.old run.new) }
 {
-    let effect = effect_of(alloc, schema, run, state, kind, prepared)?;
+    let effect = effect_of(alloc, schema, run, name, state, kind, prepared)?;
     apply_effect(alloc, name, effect, run)
 }
 

@@ -1,30 +1,52 @@
 //! The lines of a script, done one after the other on one node.
-ghost use Rattle.std.specs.Prelude.{◌≡◌, ◌++◌, ◌∷◌, [], List, OnOk, IfOk, map};
+ghost use Rattle.std.specs.Prelude.{◌≡◌, ℕ, ◌-◌, ◌≤◌, ◌++◌, ◌∷◌, [], List, Some, length, OnOk, IfOk, map, slice_get, unwrap_or};
+ghost use Rattle.log_replay.specs.Answers.{schema_of as schema_told};
+ghost use Rattle.log_rows.specs.History.{rows_at as rows_made, takes_in, StandsThroughout};
+ghost use Rattle.report_laws.specs.History.{rows_at, taken_at};
+ghost use Rattle.script_play.specs.EntryLines.{AreTold};
 ghost use Rattle.script_form.specs.CanRun.{CanRun, tables_of};
 ghost use Rattle.script_form.specs.declared.scripts.BodyLine.{BodyLine};
 ghost use Rattle.report_laws.specs.Lawful.{Lawful};
 ghost use Rattle.report_laws.specs.Play.{InPlayOrder};
 ghost use Rattle.script_play.specs.Basis.{from_nothing};
-ghost use Rattle.script_play.specs.RunViews.{IsBeforeLine};
+ghost use Rattle.script_play.specs.RunViews.{state_in, IsBeforeLine, IsOpenedLog};
 ghost use Rattle.script_play.specs.SoFar.{at_start, report_of, session_at};
-ghost use Rattle.snapshot_rows.specs.Ages.{no_ages};
 ghost use Rattle.std.specs.Str.{bytes_eq};
 
 use super::lines::run_session_line;
 use super::run::RunSoFar;
 use super::states::{InTransaction, SessionState};
+use super::verdicts::GENERATION;
 use cdb_values::{Level, List, Name, Schema, TableDef};
+use log_replay::PagedLog;
+use log_rows::setup_entry;
 use report_text::{EntryLine, Report};
 use script_form::{Act, BodyLine, Script, SessionLine, TableLine};
-use snapshot_rows::Snapshots;
 use std::alloc::{AllocError, Global};
 
-/// The report of a script that can run: its lines are done one after the other. The error is want
-/// of memory.
-pub fn play(alloc: Global, script: &Script) -> Result<Report, AllocError>
+/// A script that was played.
+#[derive(Drop)]
+pub struct Played {
+    /// The report of the run.
+    pub report: Report,
+    /// The log that its commits made.
+    pub log: PagedLog,
+}
+
+/// Plays a script that can run: its lines are done one after the other. The report is lawful and in the order of play. The
+/// log begins with the script's tables. It has exactly the entries of the history, each with the session, number, begin and
+/// level that are printed; each takes away what it does in the history, its changes make the rows of the history at each
+/// position, and its pages stand for these rows. The error is want of memory.
+pub fn play(alloc: Global, script: &Script) -> Result<Played, AllocError>
     requires { CanRun script.now }
-    ensures lawful { IfOk result (λ report. Lawful (from_nothing script.now) report) }
-    ensures in_order { IfOk result (λ report. InPlayOrder (from_nothing script.now) report) }
+    ensures lawful { IfOk result (λ p. Lawful (from_nothing script.now) p.report) }
+    ensures in_order { IfOk result (λ p. InPlayOrder (from_nothing script.now) p.report) }
+    ensures entries { IfOk result (λ p. AreTold p.report.entries p.log) }
+    ensures schema { IfOk result (λ p. schema_told p.log ≡ Some (tables_of script.now)) }
+    ensures taken { IfOk result (λ p. (k : ℕ) → 1 ≤ k → k ≤ length p.log
+        → unwrap_or (slice_get (takes_in p.log) (k - 1)) [] ≡ taken_at (from_nothing script.now) p.report.entries k) }
+    ensures rows { IfOk result (λ p. (k : ℕ) → 1 ≤ k → k ≤ length p.log → rows_made p.log k ≡ rows_at (from_nothing script.now) p.report.entries k) }
+    ensures stands { IfOk result (λ p. StandsThroughout (tables_of script.now) p.log) }
 {
     let schema = schema_of(alloc, script.tables.as_slice())?;
     let mut so_far = opened(alloc, &schema)?;
@@ -61,29 +83,29 @@ fn add_copy(schema: &mut Schema, table: &TableDef) -> Result<(), AllocError>
     }
 }
 
-/// The run at its opening: the schema stands in the history, and the tables have no rows.
+/// The run at its opening: the schema stands in the history and in the log, and the tables have no rows.
 fn opened(alloc: Global, schema: &Schema) -> Result<RunSoFar, AllocError>
     ensures lines { IfOk result (λ run. run.lines.items ≡ []) }
     ensures entries { IfOk result (λ run. run.entries.items ≡ EntryLine.Setup 1 ∷ []) }
-    ensures taken { IfOk result (λ run. run.taken.items ≡ [] ∷ []) }
-    ensures rows { IfOk result (λ run. run.rows ≡ no_ages schema.now) }
+    ensures log { IfOk result (λ run. IsOpenedLog schema.now run.log) }
 {
     let mut entries = Vec::new(alloc);
     entries.push(EntryLine::Setup { position: 1 })?;
-    let mut taken = Vec::new(alloc);
-    taken.push(List::new(alloc))?;
-    let rows = Snapshots::new(alloc, schema.tables())?;
+    let mut log = PagedLog::new(alloc);
+    let entry = setup_entry(alloc, schema, GENERATION)?;
+    if log.append(alloc, entry).is_err() {
+        return Err(AllocError);
+    }
     Ok(RunSoFar {
         lines: Vec::new(alloc),
         entries,
-        taken,
-        rows,
+        log,
     })
 }
 
 /// The sessions at the opening: none has done anything.
 fn starts(alloc: Global, sessions: &[SessionLine]) -> Result<List<SessionState>, AllocError>
-    ensures { IfOk result (λ states. states ≡ map (λ _. at_start) sessions.now) }
+    ensures { IfOk result (λ states. map state_in states ≡ map (λ _. at_start) sessions.now) }
 {
     let mut states: List<SessionState> = List::new(alloc);
     let mut rest = sessions;
@@ -96,7 +118,7 @@ fn starts(alloc: Global, sessions: &[SessionLine]) -> Result<List<SessionState>,
 
 /// A session that has done nothing.
 fn at_rest() -> SessionState
-    ensures { result ≡ at_start }
+    ensures { state_in result ≡ at_start }
 {
     SessionState {
         number: 0,
@@ -153,22 +175,23 @@ fn is_same(a: &Name, b: &Name) -> bool
     a.as_bytes() == b.as_bytes()
 }
 
-/// The report of a run that is done.
-fn reported(alloc: Global, run: RunSoFar) -> Report
-    ensures { result ≡ report_of run.lines.items run.entries.items }
+/// What a run that is done leaves.
+fn reported(alloc: Global, run: RunSoFar) -> Played
+    ensures report { result.report ≡ report_of run.lines.items run.entries.items }
+    ensures log { result.log ≡ run.log }
 {
     let end = run.entries.len() as u64;
     let RunSoFar {
         lines,
         entries,
-        taken: _,
-        rows: _,
+        log,
     } = run;
-    Report {
+    let report = Report {
         lines: List::from_vec(lines),
         base: None,
         entries: List::from_vec(entries),
         feeds: List::new(alloc),
         end,
-    }
+    };
+    Played { report, log }
 }

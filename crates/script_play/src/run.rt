@@ -1,30 +1,26 @@
 //! The run so far, and how what a line is to do is told and kept.
-ghost use Rattle.std.specs.Prelude.{◌≡◌, ◌+◌, ◌++◌, ◌∷◌, ◌<◌, ◌^◌, [], length, map, OnOk, OnErr, IfOk};
-ghost use Rattle.std.specs.List.{AllByRecursion};
-ghost use Rattle.cdb_values.specs.Changes.{taken_by};
+ghost use Rattle.std.specs.Prelude.{◌≡◌, ◌+◌, ◌++◌, ◌∷◌, [], length, OnOk, OnErr, IfOk, IfSome, option_to_list};
 ghost use Rattle.report_laws.specs.Told.{lines_of};
-ghost use Rattle.cdb_values.specs.Views.{IsBased};
-ghost use Rattle.snapshot_rows.specs.Ages.{IsUpTo};
+ghost use Rattle.phys_log.specs.Logs.{Fits};
 ghost use Rattle.script_play.specs.RunViews.{IsSameHistory};
-ghost use Rattle.script_play.specs.Effects.{Grown, added_in, entries_of};
-ghost use Rattle.script_play.specs.Step.{IsKept};
+ghost use Rattle.script_play.specs.Effects.{Grown, lines_added};
+ghost use Rattle.script_play.specs.EntryLines.{line_of as line_of_entry};
 
 use super::effects::LineEffect;
+use super::holding::beside;
 use super::states::SessionState;
-use cdb_values::{GenidItem, Level, List, Name, RowOp};
-use commit_decisions::items_taken;
+use cdb_values::Name;
+use log_replay::PagedLog;
+use phys_log::Entry;
 use report_text::{EntryLine, Line, ReplyLine};
-use snapshot_rows::Snapshots;
 use std::alloc::{AllocError, Global};
 
-/// The run so far: the lines and the history of its report, the versions that each entry of the
-/// history took away, and the rows at each position.
+/// The run so far: the lines and the history of its report, and the log, whose pages have the rows at each position.
 #[derive(Drop)]
 pub(crate) struct RunSoFar {
     pub lines: Vec<Line>,
     pub entries: Vec<EntryLine>,
-    pub taken: Vec<List<GenidItem>>,
-    pub rows: Snapshots,
+    pub log: PagedLog,
 }
 
 /// Adds a line of a session.
@@ -70,13 +66,11 @@ pub(crate) fn apply_effect(
     effect: LineEffect,
     run: &mut RunSoFar,
 ) -> Result<SessionState, AllocError>
-    requires up_to { IsUpTo (length run.old.entries.items) run.old.rows }
-    requires based { AllByRecursion (AllByRecursion (IsBased (length run.old.rows.tables))) (added_in effect.added) }
+    requires fits { IfSome effect.added (Fits run.old.log) }
     ensures state { IfOk result (λ after. after ≡ effect.after) }
     ensures lines { OnOk result (run.new.lines.items ≡ run.old.lines.items ++ lines_of name.now effect.number effect.replies.items) }
-    ensures entries { OnOk result (run.new.entries.items ≡ run.old.entries.items ++ entries_of name.now effect.number effect.begin effect.after.level (length run.old.entries.items) (added_in effect.added)) }
-    ensures taken { OnOk result (run.new.taken.items ≡ run.old.taken.items ++ map taken_by (added_in effect.added)) }
-    ensures rows { OnOk result (IsKept (length run.old.entries.items) run.old.rows run.new.rows (added_in effect.added)) }
+    ensures entries { OnOk result (run.new.entries.items ≡ run.old.entries.items ++ lines_added (length run.old.entries.items) effect.added) }
+    ensures log { OnOk result (run.new.log ≡ run.old.log ++ option_to_list effect.added) }
     ensures err_lines { OnErr result (Grown run.old.lines.items run.new.lines.items) }
     ensures err_same { OnErr result (IsSameHistory run.old run.new) }
 {
@@ -84,75 +78,76 @@ pub(crate) fn apply_effect(
         number,
         replies,
         after,
-        begin,
         added,
     } = effect;
     add_replies(&mut run.lines, name, number, replies)?;
-    append_committed(alloc, name, number, begin, after.level, added, run)?;
+    append_committed(alloc, added, run)?;
     Ok(after)
 }
 
-/// Keeps the operations that are committed, if some are. After an error nothing is changed.
+/// Appends the entry that is committed, if one is. After an error nothing is changed.
 fn append_committed(
     alloc: Global,
-    name: &Name,
-    number: u64,
-    begin: u64,
-    level: Level,
-    added: Option<List<RowOp>>,
+    added: Option<Entry>,
     run: &mut RunSoFar,
 ) -> Result<(), AllocError>
-    requires up_to { IsUpTo (length run.old.entries.items) run.old.rows }
-    requires based { AllByRecursion (AllByRecursion (IsBased (length run.old.rows.tables))) (added_in added) }
-    ensures entries { OnOk result (run.new.entries.items ≡ run.old.entries.items ++ entries_of name.now number begin level (length run.old.entries.items) (added_in added)) }
-    ensures taken { OnOk result (run.new.taken.items ≡ run.old.taken.items ++ map taken_by (added_in added)) }
-    ensures rows { OnOk result (IsKept (length run.old.entries.items) run.old.rows run.new.rows (added_in added)) }
+    requires fits { IfSome added (Fits run.old.log) }
+    ensures entries { OnOk result (run.new.entries.items ≡ run.old.entries.items ++ lines_added (length run.old.entries.items) added) }
+    ensures log { OnOk result (run.new.log ≡ run.old.log ++ option_to_list added) }
     ensures lines { run.new.lines.items ≡ run.old.lines.items }
     ensures err_same { OnErr result (IsSameHistory run.old run.new) }
 {
     match added {
         None => Ok(()),
-        Some(ops) => append_entry(alloc, name, number, begin, level, ops, run),
+        Some(entry) => append_entry(alloc, entry, run),
     }
 }
 
-/// Keeps the operations of a transaction at the next position. After an error nothing is changed.
-fn append_entry(
-    alloc: Global,
-    name: &Name,
-    number: u64,
-    begin: u64,
-    level: Level,
-    ops: List<RowOp>,
-    run: &mut RunSoFar,
-) -> Result<(), AllocError>
-    requires up_to { IsUpTo (length run.old.entries.items) run.old.rows }
-    requires based { AllByRecursion (IsBased (length run.old.rows.tables)) ops }
-    ensures entries { OnOk result (run.new.entries.items ≡ run.old.entries.items ++ EntryLine.Commit (length run.old.entries.items + 1) name.now number begin level ∷ []) }
-    ensures taken { OnOk result (run.new.taken.items ≡ run.old.taken.items ++ taken_by ops ∷ []) }
-    ensures rows { OnOk result (IsKept (length run.old.entries.items) run.old.rows run.new.rows (ops ∷ [])) }
+/// Appends an entry to the log, and its line to the history. After an error nothing is changed.
+fn append_entry(alloc: Global, entry: Entry, run: &mut RunSoFar) -> Result<(), AllocError>
+    requires fits { Fits run.old.log entry }
+    ensures entries { OnOk result (run.new.entries.items ≡ run.old.entries.items ++ line_of_entry (length run.old.entries.items + 1) entry ∷ []) }
+    ensures log { OnOk result (run.new.log ≡ run.old.log ++ entry ∷ []) }
     ensures lines { run.new.lines.items ≡ run.old.lines.items }
     ensures err_same { OnErr result (IsSameHistory run.old run.new) }
 {
     let position = run.entries.len() as u64 + 1;
-    let items = items_taken(alloc, ops.as_slice())?;
-    let session = name.clone()?;
-    let entry = EntryLine::Commit {
-        position,
-        session,
-        txn: number,
-        begin,
-        level,
-    };
-    run.taken.push(items)?;
-    if run.entries.push(entry).is_err() {
-        let _ = run.taken.pop();
-        return Err(AllocError);
-    }
-    if run.rows.commit(alloc, position, ops).is_err() {
-        let _ = run.taken.pop();
+    let line = line_of(position, &entry);
+    let (entry, line) = beside(entry, line)?;
+    let (entry, ()) = beside(entry, add_line(&mut run.entries, line))?;
+    if run.log.append(alloc, entry).is_err() {
         let _ = run.entries.pop();
         return Err(AllocError);
     }
     Ok(())
+}
+
+/// Adds a line of the history.
+fn add_line(entries: &mut Vec<EntryLine>, line: EntryLine) -> Result<(), AllocError>
+    ensures ok { OnOk result (entries.new.items ≡ entries.old.items ++ line ∷ []) }
+    ensures err { OnErr result (entries.new.items ≡ entries.old.items) }
+{
+    entries.push(line)?;
+    Ok(())
+}
+
+/// The line of the history of an entry at a position.
+pub(crate) fn line_of(position: u64, entry: &Entry) -> Result<EntryLine, AllocError>
+    ensures { IfOk result (λ line. line ≡ line_of_entry position entry.now) }
+{
+    match entry {
+        Entry::Setup { .. } => Ok(EntryLine::Setup { position }),
+        Entry::Commit {
+            id,
+            begin,
+            level,
+            ..
+        } => Ok(EntryLine::Commit {
+            position,
+            session: id.session.clone()?,
+            txn: id.txn,
+            begin: *begin,
+            level: *level,
+        }),
+    }
 }

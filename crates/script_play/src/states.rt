@@ -1,19 +1,15 @@
 //! Where sessions are in their work.
 
-use cdb_values::{GenidItem, Level, List, RowOp};
+use cdb_values::Level;
+use osql_session::OsqlSession;
 
 /// What a session is doing.
 #[derive(Drop)]
 pub(crate) enum InTransaction {
     /// It is in no transaction.
     No,
-    /// It is in a transaction that began at that position, has these operations so far, and whose texts used these
-    /// versions besides.
-    Open {
-        begin: u64,
-        ops: List<RowOp>,
-        uses: List<GenidItem>,
-    },
+    /// It is in a transaction, which has come so far.
+    Open(OsqlSession),
     /// Its transaction was ended by want of memory, and the lines up to its `commit` or `rollback`
     /// are skipped.
     Aborted,

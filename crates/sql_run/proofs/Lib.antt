@@ -7,6 +7,5 @@ pub mod ReadLemmas
 pub mod RowLaws
 pub mod ShapeLemmas
 pub mod SoundLaws
-pub mod SourceLemmas
 pub mod TextLemmas
 pub mod TypeLemmas

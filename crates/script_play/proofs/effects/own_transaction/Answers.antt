@@ -1,26 +1,56 @@
-use Rattle.std.proofs.Common.{rules, ◌≡◌, ◌∙◌, length, arith}
+use Rattle.std.proofs.Common.{◌≡◌, ◌∙◌, ◌+◌, ◌++◌, ◌∷◌, [], ℕ, List, length, ap, sym, subst}
+use Rattle.cdb_values.specs.declared.items.GenidItem.{GenidItem}
+use Rattle.cdb_values.specs.declared.rows.RowOp.{RowOp}
+use Rattle.report_text.specs.declared.reports.ReplyLine.{ReplyLine}
+use Rattle.report_text.specs.declared.reports.ReplyLine.TheVariants as reply
 use Rattle.sql_run.specs.Views.{text_in}
-use Rattle.script_play.proofs.TakeLemmas.{own_sound, own_told, own_added}
-use Rattle.script_play.specs.Step.{World, world_of}
+use Rattle.script_play.proofs.TakeLemmas.{own_able, own_told, own_added}
+use Rattle.script_play.specs.Decisions.{added_by}
+use Rattle.phys_log.specs.declared.entries.CommitId.{CommitId}
+use Rattle.cdb_values.specs.declared.rows.Level.{Level}
+use Rattle.script_play.specs.Effects.{IsAdded, Named, named_by, named_so}
+use Rattle.script_play.specs.Ready.{IsAble}
+use Rattle.script_play.specs.RunViews.{world}
+use Rattle.script_play.specs.Doing as doing
+use Rattle.script_play.specs.Step.{answer_of, outcome, state}
 use Rattle.script_play.proofs.effects.own_transaction.Goals as goal
 
-pub decided-requires-clause-sound : goal.decided-requires-clause-sound
-decided-requires-clause-sound c =
-    own_sound c.args.schema.now (length c.args.run.now.entries.items) c.len-now.result c.args.run.now.rows (text_in c.args.prepared.now).meaning c.as_slice.result.now c.new.result
-    c.requires.ready c.requires.of_text (let a = c.len-now.ensures in let b = c.args.run.now.entries.ok in omega (arith, a, b)) c.new.ensures (c.as_slice.ensures ∙ c.in_ok-found.ensures.ops)
+pub decided-requires-clause-able : goal.decided-requires-clause-able
+decided-requires-clause-able c =
+    subst (λ (b : ℕ). IsAble c.args.schema.now (length c.args.run.now.entries.items) c.args.run.now.log b c.answer_text.new.session.ops) (sym c.answer_text.ensures.begin)
+    (own_able c.args.schema.now (length c.args.run.now.entries.items) c.in_ok-session.session.begin c.args.run.now.log (text_in c.args.prepared.now).meaning c.answer_text.new.session.ops c.in_ok-session.session.ops
+    c.requires.ready c.requires.of_text c.in_ok-session.ensures.begin c.in_ok-session.ensures.ops c.in_ok-told.ensures.ops)
 
 pub returns : goal.returns
-returns c =
-    let at : c.len-now.result ≡ length c.args.run.now.entries.items = (let a = c.len-now.ensures in let b = c.args.run.now.entries.ok in omega (arith, a, b)) in
-    let w : World = world_of c.args.schema.now c.args.run.now.rows c.args.run.now.taken.items (length c.args.run.now.entries.items) in
-    record {
-      number = search rules;
-      replies = own_told w (text_in c.args.prepared.now).meaning c.len-now.result c.new.result c.in_ok-found.found.ops c.in_ok-found.found.uses c.in_ok-found.found.replies c.in_ok-replies.replies.items c.in_ok-outcome.outcome
-          at c.new.ensures c.in_ok-found.ensures.replies c.in_ok-found.ensures.ops c.in_ok-found.ensures.uses
-          (rw (c.as_slice-uses.ensures, c.as_slice.ensures) at c.in_ok-outcome.ensures) (rw c.into_vec.ensures at c.in_ok-replies.ensures);
-      after = search rules;
-      begin = search rules;
-      added = own_added w (text_in c.args.prepared.now).meaning c.len-now.result c.new.result c.in_ok-found.found.ops c.in_ok-found.found.uses c.in_ok-outcome.outcome _
-          at c.new.ensures c.in_ok-found.ensures.ops c.in_ok-found.ensures.uses
-          (rw (c.as_slice-uses.ensures, c.as_slice.ensures) at c.in_ok-outcome.ensures) c.committing-added.ensures;
-    }
+returns c = record {
+  number = c.in_ok-number.ensures;
+  replies = own_told (world c.args.schema.now c.args.run.now) (text_in c.args.prepared.now).meaning c.in_ok-session.session.begin c.in_ok-session.session.ops c.answer_text.new.session.ops c.answer_text.new.session.genids
+      c.in_ok-told.told c.in_ok-replies.replies.items c.in_ok-verdict.verdict.outcome c.in_ok-session.ensures.begin c.in_ok-session.ensures.ops c.in_ok-told.ensures.replies c.in_ok-told.ensures.ops used
+      (c.in_ok-verdict.ensures.told ∙ ap (λ (b : ℕ). outcome (world c.args.schema.now c.args.run.now) b c.answer_text.new.session.genids c.answer_text.new.session.ops) c.answer_text.ensures.begin)
+      (c.in_ok-replies.ensures ∙ ap (λ (b : ℕ). told_from b c.into_vec.result.items) (c.begin.ensures ∙ c.answer_text.ensures.begin) ∙ ap (λ (rs : List ReplyLine). told_from c.in_ok-session.session.begin rs) c.into_vec.ensures);
+  own = c.idle.ensures.own c.args.name.now;
+  after = c.idle.ensures.is ∙ ap (λ (n : ℕ). state n c.args.level doing.No) c.in_ok-number.ensures;
+  added = subst (λ (all : List (List RowOp)). IsAdded c.args.schema.now c.args.run.now.log c.in_ok-verdict.verdict.added its all)
+      (own_added (world c.args.schema.now c.args.run.now) (text_in c.args.prepared.now).meaning c.in_ok-session.session.begin c.in_ok-session.session.ops c.answer_text.new.session.ops c.answer_text.new.session.genids
+      c.in_ok-session.ensures.begin c.in_ok-session.ensures.ops c.in_ok-told.ensures.ops used)
+      (subst (λ (b : ℕ). IsAdded c.args.schema.now c.args.run.now.log c.in_ok-verdict.verdict.added its
+      (added_by (outcome (world c.args.schema.now c.args.run.now) b c.answer_text.new.session.genids c.answer_text.new.session.ops) c.answer_text.new.session.ops)) c.answer_text.ensures.begin
+      (subst (λ (n : Named). IsAdded c.args.schema.now c.args.run.now.log c.in_ok-verdict.verdict.added n (added_by (outcome (world c.args.schema.now c.args.run.now) c.answer_text.new.session.begin c.answer_text.new.session.genids c.answer_text.new.session.ops) c.answer_text.new.session.ops))
+      named_is c.in_ok-verdict.ensures.added));
+}
+  where
+    told_from : ℕ → List ReplyLine → List ReplyLine
+    told_from b replies = reply.Begin b ∷ (replies ++ c.in_ok-verdict.verdict.outcome ∷ [])
+
+    used : c.answer_text.new.session.genids ≡ (answer_of (world c.args.schema.now c.args.run.now) c.in_ok-session.session.begin c.in_ok-session.session.ops (text_in c.args.prepared.now).meaning).uses
+    used = c.in_ok-told.ensures.genids ∙ ap (λ (items : List GenidItem). items ++ (answer_of (world c.args.schema.now c.args.run.now) c.in_ok-session.session.begin c.in_ok-session.session.ops (text_in c.args.prepared.now).meaning).uses) c.in_ok-session.ensures.genids
+
+    its : Named
+    its = named_so c.args.name.now (c.args.number + 1) (length c.args.run.now.entries.items) c.args.level
+
+    named_is : named_by c.answer_text.new.session ≡ its
+    named_is =
+        ap (λ (i : CommitId). named_so i.session i.txn c.answer_text.new.session.begin c.answer_text.new.session.level) (c.answer_text.ensures.id ∙ c.in_ok-session.ensures.own.0)
+        ∙ ap (λ (n : ℕ). named_so c.args.name.now n c.answer_text.new.session.begin c.answer_text.new.session.level) c.in_ok-number.ensures
+        ∙ ap (λ (b : ℕ). named_so c.args.name.now (c.args.number + 1) b c.answer_text.new.session.level) (c.answer_text.ensures.begin ∙ c.in_ok-session.ensures.begin)
+        ∙ ap (λ (l : Level). named_so c.args.name.now (c.args.number + 1) (length c.args.run.now.entries.items) l) (c.answer_text.ensures.level ∙ c.in_ok-session.ensures.own.1)

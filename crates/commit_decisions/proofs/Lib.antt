@@ -1,2 +1,0 @@
-pub mod ConflictLaws
-pub mod DecisionLemmas

@@ -1,0 +1,149 @@
+//! What is decided on a transaction at its commit, and how it is told.
+ghost use Rattle.std.specs.Prelude.{◌≡◌, [], length, None, Some, IfOk, unwrap_or};
+ghost use Rattle.cdb_values.specs.Good.{KeyName};
+ghost use Rattle.osql_session.specs.Requests.{request_of};
+ghost use Rattle.report_laws.specs.Outcome.{name_of_table};
+ghost use Rattle.script_play.specs.Decisions.{conflict_told, touched, key_place, by_key};
+ghost use Rattle.script_play.specs.Effects.{IsVerdict, named_by};
+ghost use Rattle.script_play.specs.Ready.{IsAble};
+ghost use Rattle.script_play.specs.RunViews.{world, IsReadyFor};
+ghost use Rattle.script_play.specs.Step.{outcome};
+ghost use Rattle.table_edits.specs.Broken.{named};
+
+use super::run::RunSoFar;
+use block_processor::decide;
+use cdb_values::{GenidItem, Item, Name, Schema};
+use osql_session::OsqlSession;
+use phys_log::{CommitRequest, Decision, Entry};
+use report_text::ReplyLine;
+use std::alloc::{AllocError, Global};
+use table_edits::the_first_broken_key_has_its_name;
+
+/// The generation in which one node runs.
+pub(crate) const GENERATION: u64 = 1;
+
+/// The last position that a history may have.
+const LAST_POSITION: u64 = (1 << 62) - 1;
+
+/// What is told of a transaction at its commit, and the entry that it appends, if it appends one.
+#[derive(Drop)]
+pub(crate) struct Verdict {
+    pub outcome: ReplyLine,
+    pub added: Option<Entry>,
+}
+
+/// What is decided on the transaction of a session at its commit.
+pub(crate) fn decided(
+    alloc: Global,
+    schema: &Schema,
+    run: &RunSoFar,
+    session: &OsqlSession,
+) -> Result<Verdict, AllocError>
+    requires ready { IsReadyFor schema.now run.now }
+    requires able { IsAble schema.now (length run.now.entries.items) run.now.log session.now.begin session.now.ops }
+    ensures { IfOk result (λ v. IsVerdict schema.now run.now.log v
+        (outcome (world schema.now run.now) session.now.begin session.now.genids session.now.ops) (named_by session.now) session.now.ops) }
+{
+    match session.request(alloc)? {
+        None => Ok(Verdict {
+            outcome: ReplyLine::Committed(session.begin()),
+            added: None,
+        }),
+        Some(request) => judged(alloc, schema, run, session, &request),
+    }
+}
+
+/// What is decided on a request.
+fn judged(
+    alloc: Global,
+    schema: &Schema,
+    run: &RunSoFar,
+    session: &OsqlSession,
+    request: &CommitRequest,
+) -> Result<Verdict, AllocError>
+    requires ready { IsReadyFor schema.now run.now }
+    requires able { IsAble schema.now (length run.now.entries.items) run.now.log session.now.begin session.now.ops }
+    requires asked { request_of session.now ≡ Some request.now }
+    ensures { IfOk result (λ v. IsVerdict schema.now run.now.log v
+        (outcome (world schema.now run.now) session.now.begin session.now.genids session.now.ops) (named_by session.now) session.now.ops) }
+{
+    let now = run.entries.len() as u64;
+    if LAST_POSITION <= now {
+        return Err(AllocError);
+    }
+    the_first_broken_key_has_its_name();
+    match decide(alloc, request, &run.log, GENERATION)? {
+        Decision::Repeat(_) => Err(AllocError),
+        Decision::Conflict {
+            position,
+            item: Item::Genid(item),
+        } => conflict(alloc, schema, position, item),
+        Decision::Conflict {
+            item: Item::Range { .. },
+            ..
+        } => Err(AllocError),
+        Decision::Duplicate {
+            position,
+            table,
+            key,
+        } => duplicate(schema, position, table, key),
+        Decision::Commit(entry) => Ok(Verdict {
+            outcome: ReplyLine::Committed(now + 1),
+            added: Some(entry),
+        }),
+    }
+}
+
+/// Tells that an entry took a version away.
+fn conflict(
+    alloc: Global,
+    schema: &Schema,
+    position: u64,
+    item: GenidItem,
+) -> Result<Verdict, AllocError>
+    ensures told { IfOk result (λ v. v.outcome ≡ conflict_told schema.now (touched position item)) }
+    ensures added { IfOk result (λ v. v.added ≡ None) }
+{
+    let table = name_at(alloc, schema, item.table)?;
+    Ok(Verdict {
+        outcome: ReplyLine::ConflictGenid {
+            position,
+            table,
+            genid: item.genid,
+        },
+        added: None,
+    })
+}
+
+/// The name of the table at a place; the empty one where there is no table.
+fn name_at(alloc: Global, schema: &Schema, table: u16) -> Result<Name, AllocError>
+    ensures { IfOk result (λ name. name ≡ unwrap_or (name_of_table schema.now table) []) }
+{
+    match schema.at(table) {
+        None => Name::copied(alloc, b""),
+        Some(table) => Name::copied(alloc, table.name.as_bytes()),
+    }
+}
+
+/// Tells that a key would be broken, by the names of its place. Where there is none the error comes, which is want of
+/// memory otherwise.
+fn duplicate(schema: &Schema, position: u64, table: u16, key: u8) -> Result<Verdict, AllocError>
+    ensures told { IfOk result (λ v. (name : KeyName) → named schema.now (Some (key_place table key)) ≡ Some name
+        → v.outcome ≡ by_key position (Some name)) }
+    ensures added { IfOk result (λ v. v.added ≡ None) }
+{
+    let Some(table) = schema.at(table) else {
+        return Err(AllocError);
+    };
+    let Some(key) = table.keys.as_slice().get(key as usize) else {
+        return Err(AllocError);
+    };
+    Ok(Verdict {
+        outcome: ReplyLine::Duplicate {
+            position,
+            table: table.name.clone()?,
+            key: key.name.clone()?,
+        },
+        added: None,
+    })
+}
