@@ -1,7 +1,7 @@
 //! The changes of a commit.
-ghost use Rattle.std.specs.Prelude.{◌∷◌, IfOk, MatchOption};
-ghost use Rattle.frame_code.specs.Codes.{change_code};
-ghost use Rattle.frame_code.specs.Spelled.{IsChange};
+ghost use Rattle.std.specs.Prelude.{◌≡◌, ◌∷◌, ◌++◌, IfOk, OnOk, MatchOption};
+ghost use Rattle.frame_code.specs.Codes.{two_bytes, number, stored_row, change_code};
+ghost use Rattle.frame_code.specs.Spelled.{IsStoredRow, IsChange};
 ghost use Rattle.frame_code.specs.Tells.{Lacks, Begins};
 
 use crate::parts::{Part, read_many, write_many};
@@ -14,6 +14,30 @@ type OneRow = (u16, (u64, Row));
 
 /// The table, the old genid, the old row, the genid and the row of an update.
 type TwoRows = (u16, (u64, (Row, (u64, Row))));
+
+/// Adds a genid and a row.
+fn write_version(alloc: Global, out: &mut Vec<u8>, genid: u64, row: &Row) -> Result<(), AllocError>
+    requires { IsStoredRow row.now }
+    ensures { OnOk result (out.new.items ≡ out.old.items ++ (number genid ++ stored_row row.now)) }
+{
+    put_u64(out, genid)?;
+    row.write(alloc, out)
+}
+
+/// Adds a table, a genid and a row.
+fn write_row(
+    alloc: Global,
+    out: &mut Vec<u8>,
+    table: u16,
+    genid: u64,
+    row: &Row,
+) -> Result<(), AllocError>
+    requires { IsStoredRow row.now }
+    ensures { OnOk result (out.new.items ≡ out.old.items ++ (two_bytes table ++ (number genid ++ stored_row row.now))) }
+{
+    put_u16(out, table)?;
+    write_version(alloc, out, genid, row)
+}
 
 impl Part for Change {
     ghost use Rattle.frame_code.specs.Codes.{change_code};
@@ -30,9 +54,7 @@ impl Part for Change {
         match self {
             Change::Insert { table, genid, row } => {
                 out.push(1)?;
-                put_u16(out, *table)?;
-                put_u64(out, *genid)?;
-                row.write(alloc, out)
+                write_row(alloc, out, *table, *genid, row)
             }
             Change::Update {
                 table,
@@ -42,11 +64,8 @@ impl Part for Change {
                 row,
             } => {
                 out.push(2)?;
-                put_u16(out, *table)?;
-                put_u64(out, *old_genid)?;
-                old.write(alloc, out)?;
-                put_u64(out, *genid)?;
-                row.write(alloc, out)
+                write_row(alloc, out, *table, *old_genid, old)?;
+                write_version(alloc, out, *genid, row)
             }
             Change::Delete {
                 table,
@@ -54,9 +73,7 @@ impl Part for Change {
                 old,
             } => {
                 out.push(3)?;
-                put_u16(out, *table)?;
-                put_u64(out, *old_genid)?;
-                old.write(alloc, out)
+                write_row(alloc, out, *table, *old_genid, old)
             }
         }
     }

@@ -1,7 +1,7 @@
 //! Entries: a setup or a commit behind its generation.
-ghost use Rattle.std.specs.Prelude.{◌≡◌, ◌∷◌, ◌++◌, IfOk, OnOk, MatchOption};
-ghost use Rattle.frame_code.specs.Codes.{number, name_code, level_code, entry_code};
-ghost use Rattle.frame_code.specs.Spelled.{IsNumber, IsNameBytes, IsEntry};
+ghost use Rattle.std.specs.Prelude.{◌≡◌, [], ◌∷◌, ◌++◌, IfOk, OnOk, MatchOption};
+ghost use Rattle.frame_code.specs.Codes.{number, name_code, level_code, many, change_code, record_code, entry_code};
+ghost use Rattle.frame_code.specs.Spelled.{IsNumber, IsNameBytes, AreMany, IsChange, IsRecord, IsEntry};
 ghost use Rattle.frame_code.specs.Tells.{Lacks, Begins};
 
 use crate::parts::Part;
@@ -24,6 +24,30 @@ fn level_byte(level: Level) -> u8
         Level::Snapshot => 1,
         Level::Serializable => 2,
     }
+}
+
+/// Adds a generation, and the byte that tells a setup or a commit's level.
+fn write_tag(out: &mut Vec<u8>, generation: u64, tag: u8) -> Result<(), AllocError>
+    ensures { OnOk result (out.new.items ≡ out.old.items ++ (number generation ++ (tag ∷ []))) }
+{
+    put_u64(out, generation)?;
+    out.push(tag)?;
+    Ok(())
+}
+
+/// Adds a commit's changes and records.
+fn write_work(
+    alloc: Global,
+    out: &mut Vec<u8>,
+    changes: &List<Change>,
+    records: &List<LogRecord>,
+) -> Result<(), AllocError>
+    requires changes { AreMany IsChange changes.now }
+    requires records { AreMany IsRecord records.now }
+    ensures { OnOk result (out.new.items ≡ out.old.items ++ (many change_code changes.now ++ many record_code records.now)) }
+{
+    changes.write(alloc, out)?;
+    records.write(alloc, out)
 }
 
 /// Adds what tells a transaction from others, and its begin.
@@ -56,8 +80,7 @@ impl Part for Entry {
                 schema,
                 records,
             } => {
-                put_u64(out, *generation)?;
-                out.push(0)?;
+                write_tag(out, *generation, 0)?;
                 schema.write(alloc, out)?;
                 records.write(alloc, out)
             }
@@ -69,11 +92,9 @@ impl Part for Entry {
                 changes,
                 records,
             } => {
-                put_u64(out, *generation)?;
-                out.push(level_byte(*level))?;
+                write_tag(out, *generation, level_byte(*level))?;
                 write_id(alloc, out, id, *begin)?;
-                changes.write(alloc, out)?;
-                records.write(alloc, out)
+                write_work(alloc, out, changes, records)
             }
         }
     }

@@ -1,7 +1,7 @@
 //! Records, their edits, and the heads of pages.
-ghost use Rattle.std.specs.Prelude.{◌∷◌, IfOk, MatchOption};
-ghost use Rattle.frame_code.specs.Codes.{edit_code};
-ghost use Rattle.frame_code.specs.Spelled.{IsEdit};
+ghost use Rattle.std.specs.Prelude.{◌≡◌, ◌∷◌, ◌++◌, IfOk, OnOk, MatchOption};
+ghost use Rattle.frame_code.specs.Codes.{two_bytes, cell_code, head_code, edit_code};
+ghost use Rattle.frame_code.specs.Spelled.{IsCellBytes, IsHead, IsEdit};
 ghost use Rattle.frame_code.specs.Tells.{Lacks, Begins};
 
 use crate::parts::{Part, read_many, write_many};
@@ -73,6 +73,30 @@ impl Part for Head {
     }
 }
 
+/// Adds a place and a cell.
+fn write_placed(alloc: Global, out: &mut Vec<u8>, at: u16, cell: &Cell) -> Result<(), AllocError>
+    requires { IsCellBytes cell.now }
+    ensures { OnOk result (out.new.items ≡ out.old.items ++ (two_bytes at ++ cell_code cell.now)) }
+{
+    put_u16(out, at)?;
+    cell.write(alloc, out)
+}
+
+/// Adds two heads.
+fn write_heads(
+    alloc: Global,
+    out: &mut Vec<u8>,
+    before: &Head,
+    after: &Head,
+) -> Result<(), AllocError>
+    requires before { IsHead before.now }
+    requires after { IsHead after.now }
+    ensures { OnOk result (out.new.items ≡ out.old.items ++ (head_code before.now ++ head_code after.now)) }
+{
+    before.write(alloc, out)?;
+    after.write(alloc, out)
+}
+
 impl Part for Edit {
     ghost use Rattle.frame_code.specs.Codes.{edit_code};
     ghost use Rattle.frame_code.specs.Spelled.{IsEdit};
@@ -88,24 +112,20 @@ impl Part for Edit {
         match self {
             Edit::PutCell { at, cell } => {
                 out.push(1)?;
-                put_u16(out, *at)?;
-                cell.write(alloc, out)
+                write_placed(alloc, out, *at, cell)
             }
             Edit::TakeCell { at, cell } => {
                 out.push(2)?;
-                put_u16(out, *at)?;
-                cell.write(alloc, out)
+                write_placed(alloc, out, *at, cell)
             }
             Edit::SwapCell { at, before, after } => {
                 out.push(3)?;
-                put_u16(out, *at)?;
-                before.write(alloc, out)?;
+                write_placed(alloc, out, *at, before)?;
                 after.write(alloc, out)
             }
             Edit::SetHead { before, after } => {
                 out.push(4)?;
-                before.write(alloc, out)?;
-                after.write(alloc, out)
+                write_heads(alloc, out, before, after)
             }
         }
     }

@@ -1,6 +1,6 @@
 ghost use Rattle.byte_words.specs.Answers.{Finds, Gives};
 ghost use Rattle.report_read.specs.Reading.{added, empty_draft, finished, may_tell, may_enter, may_end};
-ghost use Rattle.std.specs.Prelude.{◌≡◌};
+ghost use Rattle.std.specs.Prelude.{◌≡◌, Some, None, Ok, Err, MatchResult};
 
 use cdb_values::List;
 use report_text::{EntryLine, FeedLine, Line, Report};
@@ -24,6 +24,24 @@ pub struct Draft {
     pub entries: List<EntryLine>,
     pub feeds: List<FeedLine>,
     pub end: Option<u64>,
+}
+
+/// A draft, where what was to be added was pushed. It is let go here where it was not, so that the
+/// steps of its destructor are no part of who adds.
+fn kept<T: Drop>(draft: T, pushed: Result<(), AllocError>) -> Result<Option<T>, AllocError>
+    ensures { MatchResult pushed (λ _. result ≡ Ok (Some draft)) (λ e. result ≡ Err e) }
+{
+    match pushed {
+        Ok(()) => Ok(Some(draft)),
+        Err(stop) => Err(stop),
+    }
+}
+
+/// No draft, where the part of an item has passed: both are let go.
+fn refused<T: Drop, U: Drop>(_draft: T, _item: U) -> Result<Option<T>, AllocError>
+    ensures { result ≡ Ok None }
+{
+    Ok(None)
 }
 
 impl Draft {
@@ -81,10 +99,10 @@ impl Draft {
         ensures { Gives (λ d. d) result (added self (Item.Event line)) }
     {
         if self.may_tell() {
-            self.lines.push(line)?;
-            Ok(Some(self))
+            let pushed = self.lines.push(line);
+            kept(self, pushed)
         } else {
-            Ok(None)
+            refused(self, line)
         }
     }
 
@@ -107,10 +125,10 @@ impl Draft {
         ensures { Gives (λ d. d) result (added self (Item.Entry entry)) }
     {
         if self.may_enter() {
-            self.entries.push(entry)?;
-            Ok(Some(self))
+            let pushed = self.entries.push(entry);
+            kept(self, pushed)
         } else {
-            Ok(None)
+            refused(self, entry)
         }
     }
 
@@ -120,10 +138,10 @@ impl Draft {
         ensures { Gives (λ d. d) result (added self (Item.Feed feed)) }
     {
         if self.may_end() {
-            self.feeds.push(feed)?;
-            Ok(Some(self))
+            let pushed = self.feeds.push(feed);
+            kept(self, pushed)
         } else {
-            Ok(None)
+            refused(self, feed)
         }
     }
 

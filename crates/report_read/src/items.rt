@@ -1,16 +1,34 @@
-ghost use Rattle.std.specs.Prelude.{◌≡◌};
+ghost use Rattle.std.specs.Prelude.{◌≡◌, ◌∷◌, []};
 ghost use Rattle.report_text.specs.Grammar.{is_ending};
 ghost use Rattle.byte_words.specs.Answers.{Finds, Gives};
-ghost use Rattle.report_read.specs.Reading.{only, name_then_at, is_table, session_at, cause_at, down_at, barrier_at, node_line_at, setup_at, commit_at, feed_at, mark_at, entry_at, item_at};
+ghost use Rattle.report_read.specs.Reading.{only, both, before, reply_at, number_then_at, name_then_at, is_table, session_at, cause_at, down_at, barrier_at, node_line_at, setup_at, commit_at, feed_at, mark_at, entry_at, item_at};
 
 use super::drafts::Item;
 use super::replies::{read_reply, take_level};
 use super::words::{
-    take_counted, take_name_then, take_number, take_number_then, take_numbered_line, take_word,
+    ended, take_counted, take_name_then, take_number, take_number_then, take_numbered_line,
+    take_word,
 };
 use cdb_values::Name;
-use report_text::{EntryLine, FeedLine, Line};
+use report_text::{EntryLine, FeedLine, Line, ReplyLine};
 use std::alloc::{AllocError, Global};
+
+/// What a session was told in a transaction of that number, to the end of the line, and what stands
+/// behind it.
+fn read_reply_line(
+    alloc: Global,
+    bytes: &[u8],
+) -> Result<Option<((u64, ReplyLine), &[u8])>, AllocError>
+    ensures { Gives (λ x. (x.0, x.1.now)) result (both number_then_at (before reply_at (10 ∷ [])) bytes.now) }
+{
+    let Some((txn, rest)) = take_number_then(bytes) else {
+        return Ok(None);
+    };
+    let Some((reply, rest)) = read_reply(alloc, rest)? else {
+        return Ok(None);
+    };
+    Ok(ended((txn, reply), rest))
+}
 
 /// The line of a session, and what stands behind it.
 #[tactic(auto, unfolding(crate::specs::Reading::session_at))]
@@ -20,16 +38,10 @@ fn read_session(alloc: Global, bytes: &[u8]) -> Result<Option<(Line, &[u8])>, Al
     let Some((name, rest)) = take_name_then(bytes) else {
         return Ok(None);
     };
-    let Some((txn, rest)) = take_number_then(rest) else {
-        return Ok(None);
-    };
-    let Some((reply, rest)) = read_reply(alloc, rest)? else {
-        return Ok(None);
-    };
-    let Some(rest) = take_word(b"\n", rest) else {
-        return Ok(None);
-    };
     let name = Name::copied(alloc, name)?;
+    let Some(((txn, reply), rest)) = read_reply_line(alloc, rest)? else {
+        return Ok(None);
+    };
     Ok(Some((Line::Session { name, txn, reply }, rest)))
 }
 
@@ -53,8 +65,7 @@ fn take_down(bytes: &[u8]) -> Option<(Line, &[u8])>
     let (count, rest) = take_counted(b"down ", bytes)?;
     let (node, rest) = take_number_then(rest)?;
     let (fault, rest) = take_cause(rest)?;
-    let rest = take_word(b"\n", rest)?;
-    Some((Line::Down { count, node, fault }, rest))
+    ended(Line::Down { count, node, fault }, rest)
 }
 
 /// The line `barrier`, and what stands behind it.
@@ -91,8 +102,7 @@ fn take_setup(bytes: &[u8]) -> Option<(EntryLine, &[u8])>
 {
     let (position, rest) = take_counted(b"entry ", bytes)?;
     let rest = take_word(b"schema", rest)?;
-    let rest = take_word(b"\n", rest)?;
-    Some((EntryLine::Setup { position }, rest))
+    ended(EntryLine::Setup { position }, rest)
 }
 
 /// The entry of a transaction, and what stands behind it.
@@ -115,9 +125,6 @@ fn read_commit(alloc: Global, bytes: &[u8]) -> Result<Option<(EntryLine, &[u8])>
     let Some((level, rest)) = take_level(rest) else {
         return Ok(None);
     };
-    let Some(rest) = take_word(b"\n", rest) else {
-        return Ok(None);
-    };
     let session = Name::copied(alloc, session)?;
     let commit = EntryLine::Commit {
         position,
@@ -126,7 +133,7 @@ fn read_commit(alloc: Global, bytes: &[u8]) -> Result<Option<(EntryLine, &[u8])>
         begin,
         level,
     };
-    Ok(Some((commit, rest)))
+    Ok(ended(commit, rest))
 }
 
 /// An entry, and what stands behind it.
@@ -176,9 +183,6 @@ fn read_feed(alloc: Global, bytes: &[u8]) -> Result<Option<(FeedLine, &[u8])>, A
     let Some((dropped, rest)) = take_number(rest) else {
         return Ok(None);
     };
-    let Some(rest) = take_word(b"\n", rest) else {
-        return Ok(None);
-    };
     let table = Name::copied(alloc, table)?;
     let feed = FeedLine {
         place,
@@ -186,7 +190,7 @@ fn read_feed(alloc: Global, bytes: &[u8]) -> Result<Option<(FeedLine, &[u8])>, A
         taken,
         dropped,
     };
-    Ok(Some((feed, rest)))
+    Ok(ended(feed, rest))
 }
 
 /// The base, the end or an event that is no session's, and what stands behind it.

@@ -1,7 +1,7 @@
-ghost use Rattle.std.specs.Prelude.{◌≡◌, ◌≤◌, IfSome};
+ghost use Rattle.std.specs.Prelude.{◌≡◌, ◌≤◌, ◌∷◌, [], Some, IfSome};
 ghost use Rattle.byte_words.specs.Answers.{Finds};
 ghost use Rattle.report_text.specs.Grammar.{is_name_byte, is_begun};
-ghost use Rattle.report_read.specs.Reading.{behind_word, number_within, number_at, name_of, name_at, number_then_at, name_then_at, numbered_at, counted_at, pair_at, numbered_line_at};
+ghost use Rattle.report_read.specs.Reading.{before, behind_word, number_within, number_at, name_of, name_at, number_then_at, name_then_at, numbered_at, counted_at, pair_at, numbered_line_at};
 
 use byte_words::{Digit, Kind, is_lower_case, numeral_value, split_while};
 
@@ -132,12 +132,19 @@ pub fn take_pair<'a>(word: &[u8], bytes: &'a [u8]) -> Option<((u64, u64), &'a [u
     Some(((first, second), rest))
 }
 
+/// A value that was read before the end of its line, and what stands behind that end.
+pub fn ended<T: Drop>(value: T, rest: &[u8]) -> Option<(T, &[u8])>
+    ensures { Finds (λ x. (x.0, x.1.now)) result (before (λ bytes. Some (value, bytes)) (10 ∷ []) rest.now) }
+{
+    let rest = take_word(b"\n", rest)?;
+    Some((value, rest))
+}
+
 /// The number of a line that is that word and the number, and what stands behind the line.
 #[tactic(auto, unfolding(crate::specs::Reading::numbered_line_at))]
 pub fn take_numbered_line<'a>(word: &[u8], bytes: &'a [u8]) -> Option<(u64, &'a [u8])>
     ensures { Finds (λ x. (x.0, x.1.now)) result (numbered_line_at word.now bytes.now) }
 {
     let (number, rest) = take_numbered(word, bytes)?;
-    let rest = take_word(b"\n", rest)?;
-    Some((number, rest))
+    ended(number, rest)
 }

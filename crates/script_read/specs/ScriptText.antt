@@ -82,6 +82,12 @@ if_built draft line said = if is_built said then Ok (with_said draft line said) 
 abbrev pub tables_with : Draft → ℕ → TableDef → Result Draft Refusal
 tables_with draft line table = if length table.columns == 0 then Err (refusal line 7) else Ok (with_table draft line table)
 
+-- the same where the schema has the table
+abbrev pub tables_more : Draft → ℕ → TableDef → Result Draft Refusal
+tables_more draft line table =
+    if length table.columns == 0 then Err (refusal line 7)
+    else Ok (record draft { part = 5; tables = draft.tables ++ record { line = line; table = table } ∷ [] })
+
 -- a line of that kind, where it may come
 abbrev pub read_placed : Draft → ℕ → List ℕ → LineKind → Result Draft Refusal
 read_placed draft line text (lines.Told keyword) = and_then (told draft line (after_piece text) keyword) (if_built draft line)

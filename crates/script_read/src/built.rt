@@ -62,7 +62,11 @@ fn statement_runs(alloc: Global, text: &str) -> Result<bool, AllocError>
     ensures { IfOk result (λ built. built ≡ not (reads_later (reading text.now))) }
 {
     match read(alloc, text) {
-        Ok(statement) => Ok(!runs_later(&statement)),
+        Ok(statement) => {
+            let later = runs_later(&statement);
+            drop(statement);
+            Ok(!later)
+        }
         Err(ReadStop::Syntax { at: _ }) => Ok(true),
         Err(ReadStop::NoMemory) => Err(AllocError),
     }

@@ -6,7 +6,8 @@ ghost use Rattle.table_read.specs.Verdict.{table_of};
 ghost use Rattle.script_read.specs.Answers.{Answers};
 ghost use Rattle.script_read.specs.Heads.{table_said};
 ghost use Rattle.script_read.specs.Kinds.{kind_of, part_of};
-ghost use Rattle.script_read.specs.ScriptText.{no_draft, told, with_said, with_table, if_built, tables_with, read_placed, read_kind, read_line, finished, cluster_name, and_then, most_line_bytes};
+ghost use Rattle.script_read.specs.declared.said.Said.TheVariants as says;
+ghost use Rattle.script_read.specs.ScriptText.{no_draft, told, with_said, with_table, if_built, tables_with, tables_more, read_placed, read_kind, read_line, finished, cluster_name, and_then, most_line_bytes};
 
 use super::bodies::{arm_line, barrier_line, feed_line, say_line, start_line, stop_line};
 use super::built::runs_today;
@@ -17,7 +18,7 @@ use super::said::Said;
 use super::scripts::ScriptStop;
 use byte_words::{is_comment, line_text, next_piece};
 use cdb_values::{List, Name, Schema, TableDef};
-use script_form::{BodyLine, Script, SessionLine, TableLine};
+use script_form::{Act, BodyLine, Script, SessionLine, TableLine};
 use std::alloc::{AllocError, Global};
 use table_read::{TableStop, read_table};
 
@@ -73,12 +74,14 @@ pub fn line_after(alloc: Global, draft: Draft, line: u64, bytes: &[u8]) -> Resul
     ensures { Answers (λ d. d) result (read_line draft line bytes.now) }
 {
     let Some(_) = as_text(bytes) else {
+        drop(draft);
         return Err(ScriptStop::Refused {
             line,
             why: NOT_TEXT,
         });
     };
     if MOST_LINE_BYTES < bytes.len() {
+        drop(draft);
         return Err(ScriptStop::Refused {
             line,
             why: LONG_LINE,
@@ -108,9 +111,11 @@ fn text_after(alloc: Global, draft: Draft, line: u64, text: &[u8]) -> Result<Dra
     ensures { Answers (λ d. d) result (read_kind draft line text.now (kind_of text.now)) }
 {
     let Some(kind) = line_kind(text) else {
+        drop(draft);
         return Err(ScriptStop::Refused { line, why: NO_LINE });
     };
     if !may_follow(draft.part, line_part(kind)) {
+        drop(draft);
         return Err(ScriptStop::Refused { line, why: NO_LINE });
     }
     kind_after(alloc, draft, line, text, kind)
@@ -129,13 +134,32 @@ fn kind_after(
 {
     match kind {
         LineKind::Create => table_after(alloc, draft, line, text),
-        LineKind::Say => {
-            let said = say_line(alloc, &draft, line, text)?;
-            said_after(alloc, draft, line, said)
-        }
-        LineKind::Told(keyword) => {
-            let said = keyword_line(alloc, &draft, line, keyword, next_piece(text).1)?;
-            said_after(alloc, draft, line, said)
+        LineKind::Say => match say_line(alloc, &draft, line, text) {
+            Ok(said) => said_after(alloc, draft, line, said),
+            Err(stop) => {
+                drop(draft);
+                Err(stop)
+            }
+        },
+        LineKind::Told(keyword) => told_after(alloc, draft, line, text, keyword),
+    }
+}
+
+/// A line that a keyword begins, where it may come.
+fn told_after(
+    alloc: Global,
+    draft: Draft,
+    line: u64,
+    text: &[u8],
+    keyword: Keyword,
+) -> Result<Draft, ScriptStop>
+    ensures { Answers (λ d. d) result (and_then (told draft line (after_piece text.now) keyword) (if_built draft line)) }
+{
+    match keyword_line(alloc, &draft, line, keyword, next_piece(text).1) {
+        Ok(said) => said_after(alloc, draft, line, said),
+        Err(stop) => {
+            drop(draft);
+            Err(stop)
         }
     }
 }
@@ -168,13 +192,21 @@ fn keyword_line(
 fn said_after(alloc: Global, draft: Draft, line: u64, said: Said) -> Result<Draft, ScriptStop>
     ensures { Answers (λ d. d) result (if_built draft line said) }
 {
-    if runs_today(alloc, &said)? {
-        added(draft, line, said)
-    } else {
-        Err(ScriptStop::Refused {
-            line,
-            why: NOT_BUILT,
-        })
+    match runs_today(alloc, &said) {
+        Ok(true) => added(draft, line, said),
+        Ok(false) => {
+            drop(draft);
+            drop(said);
+            Err(ScriptStop::Refused {
+                line,
+                why: NOT_BUILT,
+            })
+        }
+        Err(_) => {
+            drop(draft);
+            drop(said);
+            Err(ScriptStop::NoMemory)
+        }
     }
 }
 
@@ -199,20 +231,56 @@ fn added(draft: Draft, line: u64, said: Said) -> Result<Draft, ScriptStop>
             draft.workers = workers;
             Ok(draft)
         }
-        Said::Session(session) => {
-            draft.part = 4;
-            draft.sessions.push(session)?;
-            Ok(draft)
+        Said::Session(session) => with_session(draft, session),
+        Said::Watch(place) => with_watch(draft, place),
+        Said::Runs(act) => with_act(draft, line, act),
+    }
+}
+
+/// A session added to what was read.
+fn with_session(draft: Draft, session: SessionLine) -> Result<Draft, ScriptStop>
+    ensures { Answers (λ d. d) result (Ok (with_said draft 0 (says.Session session))) }
+{
+    let mut draft = draft;
+    draft.part = 4;
+    match draft.sessions.push(session) {
+        Ok(()) => Ok(draft),
+        Err(left) => {
+            drop(left);
+            drop(draft);
+            Err(ScriptStop::NoMemory)
         }
-        Said::Watch(place) => {
-            draft.part = 6;
-            draft.watches.push(place)?;
-            Ok(draft)
+    }
+}
+
+/// A watch added to what was read.
+fn with_watch(draft: Draft, place: u16) -> Result<Draft, ScriptStop>
+    ensures { Answers (λ d. d) result (Ok (with_said draft 0 (says.Watch place))) }
+{
+    let mut draft = draft;
+    draft.part = 6;
+    match draft.watches.push(place) {
+        Ok(()) => Ok(draft),
+        Err(left) => {
+            drop(left);
+            drop(draft);
+            Err(ScriptStop::NoMemory)
         }
-        Said::Runs(act) => {
-            draft.part = 7;
-            draft.body.push(BodyLine { line, act })?;
-            Ok(draft)
+    }
+}
+
+/// A line to be run added to what was read.
+fn with_act(draft: Draft, line: u64, act: Act) -> Result<Draft, ScriptStop>
+    ensures { Answers (λ d. d) result (Ok (with_said draft line (says.Runs act))) }
+{
+    let mut draft = draft;
+    draft.part = 7;
+    match draft.body.push(BodyLine { line, act }) {
+        Ok(()) => Ok(draft),
+        Err(left) => {
+            drop(left);
+            drop(draft);
+            Err(ScriptStop::NoMemory)
         }
     }
 }
@@ -223,16 +291,37 @@ fn table_after(alloc: Global, draft: Draft, line: u64, text: &[u8]) -> Result<Dr
     ensures { Answers (λ d. d) result (and_then (table_said draft.schema line text.now) (tables_with draft line)) }
 {
     let mut draft = draft;
-    let table = table_line(alloc, &mut draft.schema, line, text)?;
+    match table_line(alloc, &mut draft.schema, line, text) {
+        Ok(table) => table_added(draft, line, table),
+        Err(stop) => {
+            drop(draft);
+            Err(stop)
+        }
+    }
+}
+
+/// A table that the schema has added to the tables of what was read.
+fn table_added(draft: Draft, line: u64, table: TableDef) -> Result<Draft, ScriptStop>
+    ensures { Answers (λ d. d) result (tables_more draft line table) }
+{
     if table.columns.is_empty() {
+        drop(draft);
+        drop(table);
         return Err(ScriptStop::Refused {
             line,
             why: WRONG_TABLE,
         });
     }
+    let mut draft = draft;
     draft.part = 5;
-    draft.tables.push(TableLine { line, table })?;
-    Ok(draft)
+    match draft.tables.push(TableLine { line, table }) {
+        Ok(()) => Ok(draft),
+        Err(left) => {
+            drop(left);
+            drop(draft);
+            Err(ScriptStop::NoMemory)
+        }
+    }
 }
 
 /// The table of a line, which is added to the schema.
@@ -268,20 +357,43 @@ pub fn finish(alloc: Global, draft: Draft, line: u64) -> Result<Script, ScriptSt
     ensures { Answers (λ s. s) result (finished draft line) }
 {
     if draft.part == 0 {
+        drop(draft);
         return Err(ScriptStop::Refused {
             line,
             why: NO_NODES,
         });
     }
-    Ok(Script {
+    let mut draft = draft;
+    match named_cluster(alloc, draft.cluster.take()) {
+        Ok(cluster) => Ok(script_in(draft, cluster)),
+        Err(_) => {
+            drop(draft);
+            Err(ScriptStop::NoMemory)
+        }
+    }
+}
+
+/// What was read, for a cluster of this name.
+fn script_in(draft: Draft, cluster: Name) -> Script
+    ensures { result ≡ record {
+      nodes = draft.nodes;
+      cluster = cluster;
+      workers = draft.workers;
+      sessions = draft.sessions;
+      tables = draft.tables;
+      watches = draft.watches;
+      body = draft.body;
+    } }
+{
+    Script {
         nodes: draft.nodes,
-        cluster: named_cluster(alloc, draft.cluster)?,
+        cluster,
         workers: draft.workers,
         sessions: draft.sessions,
         tables: draft.tables,
         watches: draft.watches,
         body: draft.body,
-    })
+    }
 }
 
 /// The name of the cluster: `main` where no line says it.

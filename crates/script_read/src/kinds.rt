@@ -5,7 +5,7 @@ ghost use Rattle.script_read.specs.Kinds.{head_keyword, keyword_of, begins_with,
 use byte_words::{WordByte, next_piece, split_while};
 
 /// The words that begin lines of a script, but for `create`.
-#[derive(Clone, Copy, PartialEq, Eq, Debug)]
+#[derive(Clone, Copy)]
 pub enum Keyword {
     Nodes,
     Cluster,
@@ -20,7 +20,7 @@ pub enum Keyword {
 }
 
 /// What kind of line a text is.
-#[derive(Clone, Copy, PartialEq, Eq, Debug)]
+#[derive(Clone, Copy)]
 pub enum LineKind {
     /// A line that this keyword begins.
     Told(Keyword),

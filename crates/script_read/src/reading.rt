@@ -1,4 +1,4 @@
-ghost use Rattle.std.specs.Prelude.{◌≡◌, ◌+◌, length, take, List, ℕ, [], ◌∷◌, ◌≤◌};
+ghost use Rattle.std.specs.Prelude.{◌≡◌, ◌+◌, length, take, List, ℕ, [], ◌∷◌, ◌≤◌, ◌<◌};
 ghost use Rattle.script_read.specs.Answers.{Answers};
 ghost use Rattle.byte_words.specs.Lines.{lines_of, but_last};
 ghost use Rattle.script_read.specs.ScriptText.{script_of, read_lines, no_draft, most_bytes, past_limit, whole_script};
@@ -26,12 +26,25 @@ pub fn read_script(
     ensures { Answers (λ s. s) result (script_of stores consumers bytes.now) }
 {
     if MOST_BYTES < bytes.len() {
-        let (held, _) = bytes.split_at(MOST_BYTES + 1);
-        let (_, line) = lines_read(alloc, before_last_line(held), stores, consumers)?;
-        return Err(ScriptStop::Refused { line, why: LIMIT });
+        return past_end(alloc, bytes, stores, consumers);
     }
     let (draft, line) = lines_read(alloc, bytes, stores, consumers)?;
     finish(alloc, draft, line)
+}
+
+/// The refusal of more bytes than a script has, at the line of the first one past them.
+fn past_end(alloc: Global, bytes: &[u8], stores: u64, consumers: u64) -> Result<Script, ScriptStop>
+    requires { most_bytes < length bytes.now }
+    ensures { Answers (λ s. s) result (past_limit (no_draft stores consumers) (but_last (lines_of (take (most_bytes + 1) bytes.now)))) }
+{
+    let (held, _) = bytes.split_at(MOST_BYTES + 1);
+    match lines_read(alloc, before_last_line(held), stores, consumers) {
+        Ok((draft, line)) => {
+            drop(draft);
+            Err(ScriptStop::Refused { line, why: LIMIT })
+        }
+        Err(stop) => Err(stop),
+    }
 }
 
 /// All lines of these bytes read one after the other, and the number of the line after them.

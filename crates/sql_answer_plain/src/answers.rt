@@ -5,7 +5,7 @@ ghost use Rattle.sql_answer.specs.Combinations.{seen as seen_of, met};
 ghost use Rattle.sql_bind.specs.Views.{bound_in};
 ghost use Rattle.sql_answer_plain.specs.Views.{combinations_in, meaning_in, outcome_in};
 
-use crate::combinations::{found, rows_met};
+use crate::combinations::{alone, found, rows_met};
 use crate::outcomes::Outcome;
 use crate::queries::selected;
 use crate::seen::Seen;
@@ -84,7 +84,6 @@ fn all_found(
     ensures { IfOk result (λ all. combinations_in all ≡ met (seen_of versions.now ops.now)
         (tables_of (bound_in statement.now)) (filter_of (bound_in statement.now))) }
 {
-    let nothing = None;
     match statement {
         Bound::Update { table, filter, .. } | Bound::Delete { table, filter } => {
             found(alloc, versions, ops, &[*table], filter)
@@ -92,7 +91,7 @@ fn all_found(
         Bound::Select(query) => {
             found(alloc, versions, ops, query.tables.as_slice(), &query.filter)
         }
-        _ => found(alloc, versions, ops, &[], &nothing),
+        _ => alone(alloc),
     }
 }
 

@@ -53,14 +53,21 @@ fn stepped(row: &Row, first: Value, steps: &[BoundStep]) -> Result<Option<Value>
     let mut value = first;
     let mut rest = steps;
     'steps: while let Some((step, others)) = rest.split_first() {
-        let operand = operand_value(row, &step.operand)?;
-        let Some(next) = changed(step.minus, &value, &operand) else {
+        let Some(next) = changed_by(row, &value, step)? else {
             return Ok(None);
         };
         value = next;
         rest = others;
     }
     Ok(Some(value))
+}
+
+/// A value after a step.
+fn changed_by(row: &Row, value: &Value, step: &BoundStep) -> Result<Option<Value>, AllocError>
+    ensures { IfOk result (λ new. new ≡ changed_of step.now.minus value.now (operand_value_of (row.now ∷ []) step.now.operand)) }
+{
+    let operand = operand_value(row, &step.operand)?;
+    Ok(changed(step.minus, value, &operand))
 }
 
 /// The value of an operand on a row.

@@ -1,10 +1,11 @@
 //! INSERT, UPDATE and DELETE: what they write.
 ghost use Rattle.std.specs.Prelude.{◌≡◌, ◌++◌, ◌∷◌, [], List as Many, map, IfOk, OnOk, Some};
 ghost use Rattle.std.specs.List.{filter_map};
+ghost use Rattle.std.specs.Option.{option_copied};
 ghost use Rattle.cdb_values.specs.declared.rows.RowOp.{RowOp as OneOp};
 ghost use Rattle.cdb_values.specs.declared.rows.RowOp.TheVariants as op;
 ghost use Rattle.sql_answer.specs.Answers.{inserted as inserted_of, updated as updated_of, deleted as deleted_of, updating, deleting};
-ghost use Rattle.sql_answer.specs.Writes.{set_row as set_row_of};
+ghost use Rattle.sql_answer.specs.Writes.{set_row as set_row_of, rows_error as rows_error_of};
 ghost use Rattle.sql_answer_plain.specs.Views.{all_seen_in, seen_in, outcome_in};
 
 use crate::copies::copied_row;
@@ -12,7 +13,7 @@ use crate::outcomes::Outcome;
 use crate::seen::Seen;
 use crate::sizes::rows_error;
 use crate::steps::set_row;
-use cdb_values::{List, Row, RowOp, TableDef};
+use cdb_values::{List, Row, RowOp, StatementError, TableDef};
 use report_text::ReplyLine;
 use sql_bind::BoundAssign;
 use std::alloc::{AllocError, Global};
@@ -26,11 +27,22 @@ pub(crate) fn inserted(
 ) -> Result<Outcome, AllocError>
     ensures { IfOk result (λ outcome. (ops : Many OneOp) → outcome_in ops outcome ≡ inserted_of tables.now table rows.now ops) }
 {
-    let made = each_made(alloc, rows)?;
-    match rows_error(alloc, tables.get(table as usize), made.as_slice())? {
+    match insert_error(alloc, tables.get(table as usize), rows)? {
         Some(cause) => Ok(Outcome::Fails(cause)),
         None => Ok(Outcome::Writes(inserts(alloc, table, rows)?)),
     }
+}
+
+/// The first error of an INSERT of these rows.
+fn insert_error(
+    alloc: Global,
+    table: Option<&TableDef>,
+    rows: &[Row],
+) -> Result<Option<StatementError>, AllocError>
+    ensures { IfOk result (λ error. error ≡ rows_error_of (option_copied table.entry) (map (λ row. Some row) rows.now)) }
+{
+    let made = each_made(alloc, rows)?;
+    rows_error(alloc, table, made.as_slice())
 }
 
 /// Copies of rows, each of which is there.
@@ -78,11 +90,24 @@ pub(crate) fn updated(
     ensures { IfOk result (λ outcome. (ops : Many OneOp) → outcome_in ops outcome
         ≡ updated_of tables.now table assigns.now ops (all_seen_in rows.now)) }
 {
-    let made = each_set(alloc, assigns, rows)?;
-    match rows_error(alloc, tables.get(table as usize), made.as_slice())? {
+    match update_error(alloc, tables.get(table as usize), assigns, rows)? {
         Some(cause) => Ok(Outcome::Fails(cause)),
         None => Ok(Outcome::Writes(updates(alloc, table, assigns, rows)?)),
     }
+}
+
+/// The first error of an UPDATE of these rows.
+fn update_error(
+    alloc: Global,
+    table: Option<&TableDef>,
+    assigns: &[BoundAssign],
+    rows: &[Seen],
+) -> Result<Option<StatementError>, AllocError>
+    ensures { IfOk result (λ error. error
+        ≡ rows_error_of (option_copied table.entry) (map (λ s. set_row_of assigns.now s.row) (all_seen_in rows.now))) }
+{
+    let made = each_set(alloc, assigns, rows)?;
+    rows_error(alloc, table, made.as_slice())
 }
 
 /// The rows that SET makes of rows.

@@ -1,5 +1,5 @@
 -- Tests of lists that are seen through a view, and lists of lists.
-use Rattle.std.proofs.Common.{◌≡◌, ℕ, suc, ◌+◌, ◌<◌, ◌≤◌, List, [], ◌∷◌, ◌++◌, Bool, true, false, cond, ◌||◌, map, take, flat_map, length, drop, get_or, drop-cons, append-nil, refl, sym, ap, ◌∙◌}
+use Rattle.std.proofs.Common.{◌≡◌, ℕ, suc, ◌+◌, ◌<◌, ◌≤◌, List, [], ◌∷◌, ◌++◌, Bool, true, false, cond, ◌||◌, map, take, flat_map, length, drop, get_or, drop-cons, append-nil, append_assoc, add-one, refl, sym, ap, ◌∙◌}
 use Rattle.std.specs.List.{list_any, count_by, take-map}
 use Rattle.std.proofs.lemmas.List.{drop_all}
 use Rattle.std.proofs.lemmas.List.Folds.{list_any-append}
@@ -61,3 +61,35 @@ any_of_query p read view xs filter column group =
     list_any-append p (flat_map read (map view xs)) (filter ++ map column group)
     ∙ ap (λ b. b || list_any p (filter ++ map column group)) (any_joined p read (map view xs) ∙ any_seen (λ s. list_any p (read s)) view xs)
     ∙ ap (λ b. list_any (λ x. list_any p (read (view x))) xs || b) (list_any-append p filter (map column group) ∙ ap (λ b. list_any p filter || b) (any_seen p column group))
+
+-- what is left of a list at an item
+pub next_of : {X : Type 0} (xs : List X) (i : ℕ) (x : X) → i < length xs → get_or xs i x ∷ drop (i + 1) xs ≡ drop i xs
+next_of xs i x within = ap (λ k. get_or xs i x ∷ drop k xs) (add-one i) ∙ sym (drop-cons xs i x within)
+
+-- one more item is made, of those that are left
+pub one_more : {X Z : Type 0} (left : List X → List Z) (made new whole : List Z) (z : Z) (xs : List X) (i : ℕ) (x : X) → i < length xs → x ≡ get_or xs i x → new ≡ made ++ (z ∷ [])
+    → ((ys : List X) → z ∷ left ys ≡ left (x ∷ ys)) → made ++ left (drop i xs) ≡ whole → new ++ left (drop (i + 1) xs) ≡ whole
+one_more left made new whole z xs i x within is added head rest =
+    ap (λ zs. zs ++ left (drop (i + 1) xs)) added
+    ∙ append_assoc made (z ∷ []) (left (drop (i + 1) xs))
+    ∙ ap (λ zs. made ++ zs) (head (drop (i + 1) xs))
+    ∙ ap (λ y. made ++ left (y ∷ drop (i + 1) xs)) is
+    ∙ ap (λ ys. made ++ left ys) (next_of xs i x within)
+    ∙ rest
+
+-- none is left
+pub no_more : {X Z : Type 0} (left : List X → List Z) (made whole : List Z) (xs : List X) (i : ℕ) → left [] ≡ [] → length xs ≤ i → made ++ left (drop i xs) ≡ whole → made ≡ whole
+no_more left made whole xs i none past rest = sym (append-nil made) ∙ ap (λ zs. made ++ zs) (sym none) ∙ ap (λ ys. made ++ left ys) (sym (drop_all i xs past)) ∙ rest
+
+-- one more item, as it is seen
+one_seen : {W Z : Type 0} (seen : W → Z) (made : List W) (w : W) → map seen (made ++ (w ∷ [])) ≡ map seen made ++ (seen w ∷ [])
+one_seen seen [] w = refl
+one_seen seen (m ∷ ms) w = ap (λ zs. seen m ∷ zs) (one_seen seen ms w)
+
+pub seen_too : {W Z : Type 0} (seen : W → Z) (made new : List W) (w : W) → new ≡ made ++ (w ∷ []) → map seen new ≡ map seen made ++ (seen w ∷ [])
+seen_too seen made new w added = ap (map seen) added ∙ one_seen seen made w
+
+-- a loop over a list goes on past an item that does not pass
+pub any_goes_on : {X : Type 0} (left : List X → Bool) (whole : Bool) (xs : List X) (i : ℕ) (x : X) → i < length xs → x ≡ get_or xs i x
+    → ((ys : List X) → left (x ∷ ys) ≡ left ys) → left (drop i xs) ≡ whole → left (drop (i + 1) xs) ≡ whole
+any_goes_on left whole xs i x within is head rest = sym (head (drop (i + 1) xs)) ∙ ap (λ y. left (y ∷ drop (i + 1) xs)) is ∙ ap left (next_of xs i x within) ∙ rest

@@ -11,9 +11,7 @@ ghost use Rattle.sql_bind.specs.Views.{bound_in};
 use crate::columns::{Doubt, filter_has_doubt};
 use crate::conditions::filter as bound_filter;
 use crate::faults::BindFault;
-use crate::inserts::{
-    has_wrong_count, has_wrong_type, kinds, lists_twice, lists_unknown, rows, width,
-};
+use crate::inserts::{has_wrong_count, has_wrong_value, lists_twice, lists_unknown, rows, width};
 use crate::items::{all_items, has_wrong_item, is_badly_grouped, query_has_doubt};
 use crate::kinds::filter_differs;
 use crate::names::is_twice;
@@ -71,8 +69,8 @@ fn insert(
     if twice {
         return Err(BindFault::Ambiguous);
     }
-    let kinds = kinds(alloc, &table, columns)?;
-    if has_wrong_type(kinds.as_slice(), tuples) {
+    let wrong = has_wrong_value(alloc, &table, columns, tuples)?;
+    if wrong {
         return Err(BindFault::Type_);
     }
     if has_wrong_count(width(&table, columns), tuples) {

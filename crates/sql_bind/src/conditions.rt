@@ -38,6 +38,22 @@ pub(crate) fn operand(
     }
 }
 
+/// What the operands of a comparison mean.
+fn sides(
+    alloc: Global,
+    scope: &[VisibleTable],
+    left: &Operand,
+    right: &Operand,
+) -> Result<(BoundOperand, BoundOperand), AllocError>
+    requires { length scope.now ≤ 256 }
+    ensures { IfOk result (λ both. (both.0 ≡ bound_side (map visible_in scope.now) (operand_in left.now))
+        × (both.1 ≡ bound_side (map visible_in scope.now) (operand_in right.now))) }
+{
+    let left = operand(alloc, scope, left)?;
+    let right = operand(alloc, scope, right)?;
+    Ok((left, right))
+}
+
 /// The comparison of a sign.
 fn comparison(sign: Sign) -> Cmp
     ensures { result ≡ cmp_of sign }
@@ -78,11 +94,14 @@ pub(crate) fn condition(
         }
         Test::Not(part) => Ok(Condition::Not(Box::new(alloc, condition(alloc, scope, part)?)?)),
         Test::Group(part) => Ok(Condition::Group(Box::new(alloc, condition(alloc, scope, part)?)?)),
-        Test::Compare { op, left, right } => Ok(Condition::Compare {
-            op: comparison(*op),
-            left: operand(alloc, scope, left)?,
-            right: operand(alloc, scope, right)?,
-        }),
+        Test::Compare { op, left, right } => {
+            let both = sides(alloc, scope, left, right)?;
+            Ok(Condition::Compare {
+                op: comparison(*op),
+                left: both.0,
+                right: both.1,
+            })
+        }
         Test::IsNull { side, negated } => Ok(Condition::IsNull {
             side: operand(alloc, scope, side)?,
             negated: *negated,

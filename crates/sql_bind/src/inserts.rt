@@ -58,8 +58,22 @@ fn names_of<'a>(alloc: Global, names: &'a [Name]) -> Result<Vec<&'a [u8]>, Alloc
     Ok(found)
 }
 
+/// Whether a value of these tuples is not of the type of its column of the table.
+pub(crate) fn has_wrong_value(
+    alloc: Global,
+    table: &VisibleTable,
+    columns: &Option<Seq<Name>>,
+    tuples: &[Seq<Literal>],
+) -> Result<bool, AllocError>
+    ensures { IfOk result (λ wrong. wrong
+        ≡ list_any (tuple_differs (kinds_of_tuple (visible_in table.now) (names_in_list columns.now))) (map tuple_in tuples.now)) }
+{
+    let kinds = kinds(alloc, table, columns)?;
+    Ok(has_wrong_type(kinds.as_slice(), tuples))
+}
+
 /// The types of a tuple's columns: of those that are listed, or of all columns of the table.
-pub(crate) fn kinds(
+fn kinds(
     alloc: Global,
     table: &VisibleTable,
     columns: &Option<Seq<Name>>,
@@ -103,7 +117,7 @@ fn kinds_of_names(
 
 /// Whether a value of these tuples is not of its column's type.
 #[tactic(auto, using(crate::proofs::ListLemmas::any_seen))]
-pub(crate) fn has_wrong_type(kinds: &[Option<ColumnType>], tuples: &[Seq<Literal>]) -> bool
+fn has_wrong_type(kinds: &[Option<ColumnType>], tuples: &[Seq<Literal>]) -> bool
     ensures { result ≡ list_any (tuple_differs kinds.now) (map tuple_in tuples.now) }
 {
     any_wrong(kinds, tuples)

@@ -1,10 +1,11 @@
 -- A part and what may stand behind it, as a whole list.
-use Rattle.std.proofs.Common.{◌≡◌, List, [], ◌∷◌, Option, refl, ap, ◌∙◌}
+use Rattle.std.proofs.Common.{◌≡◌, List, [], ◌∷◌, Option, Result, Ok, Err, refl, ap, ◌∙◌}
+use Rattle.std.specs.Result.{result_and}
 use Rattle.grammar_forms.specs.Forms.{Reader, Outcome, Read, Refused, and_then, only}
 use Rattle.grammar_forms.specs.Parts.{first_of_two}
 use Rattle.sql_tokens.specs.declared.kinds.Token.{Token}
 use Rattle.sql_grammar.specs.Readers.{closed, closing, ended}
-use Rattle.sql_reader.specs.Gives.{Fails}
+use Rattle.sql_reader.specs.Gives.{Fails, Gives}
 use Rattle.sql_reader.specs.declared.cursor.ReadError.{ReadError}
 use Rattle.sql_reader.specs.declared.cursor.ReadError.TheVariants as errors
 
@@ -33,13 +34,18 @@ module _ {A : Type 0} where
     then_closing : (x : A) (k : List Token) → r ts ≡ Read x k → only (closed r ts) ≡ with_value x (closing k)
     then_closing x k e = ap (λ o. only (and_then o (λ z i. and_then (closing i) (λ y j. Read (first_of_two z y) j)))) e
 
-    pub closed_read : (x : A) (k : List Token) → r ts ≡ Read x k → ended k ≡ read_unit [] → only (closed r ts) ≡ Read x []
+    closed_read : (x : A) (k : List Token) → r ts ≡ Read x k → ended k ≡ read_unit [] → only (closed r ts) ≡ Read x []
     closed_read x k e h = then_closing x k e ∙ ends x (closing k) h
 
-    pub end_fails : (stop : ReadError) (x : A) (k : List Token) → r ts ≡ Read x k → Fails stop (ended k) → Fails stop (only (closed r ts))
+    end_fails : (stop : ReadError) (x : A) (k : List Token) → r ts ≡ Read x k → Fails stop (ended k) → Fails stop (only (closed r ts))
     end_fails errors.Memory x k e f = tt
     end_fails (errors.Refused j) x k e f = then_closing x k e ∙ stops x (closing k) j.now f
 
     pub part_fails : (stop : ReadError) → Fails stop (r ts) → Fails stop (only (closed r ts))
     part_fails errors.Memory f = tt
     part_fails (errors.Refused j) f = ap (λ o. only (and_then o (λ z i. and_then (closing i) (λ y j. Read (first_of_two z y) j)))) f
+
+    -- a part that was read, and what was found behind it
+    pub with_end : {X U : Type 0} (value : X → A) (y : X) (k : List Token) → r ts ≡ Read (value y) k → (found : Result U ReadError) → Gives (λ _. tt) (λ _. []) found (ended k) → Gives value (λ _. []) (result_and found (Ok y)) (only (closed r ts))
+    with_end value y k e (Ok u) h = closed_read (value y) k e h
+    with_end value y k e (Err stop) h = end_fails stop (value y) k e h

@@ -1,15 +1,17 @@
 //! INSERT, UPDATE, DELETE and SET TRANSACTION.
-ghost use Rattle.std.specs.Prelude.{◌≡◌, ℕ, option_map};
-ghost use Rattle.grammar_forms.specs.Parts.{optional};
+ghost use Rattle.std.specs.Prelude.{◌≡◌, ℕ, map, option_map};
+ghost use Rattle.grammar_forms.specs.Parts.{after, optional};
+ghost use Rattle.sql_tokens.specs.declared.kinds.Keyword.TheVariants as words;
 ghost use Rattle.sql_tokens.specs.declared.kinds.Sign.TheVariants as sign;
-ghost use Rattle.sql_grammar.specs.Words.{sign_is};
-ghost use Rattle.grammar_forms.specs.Forms.{next_is};
-ghost use Rattle.sql_grammar.specs.Readers.{begins_step, names_r, tuple_r, change_r, setting_r, insert_r, update_r, delete_r, level_r};
+ghost use Rattle.sql_grammar.specs.Words.{keyword, sign_is};
+ghost use Rattle.grammar_forms.specs.Forms.{next_is, both};
+ghost use Rattle.sql_grammar.specs.Grammar.{pair};
+ghost use Rattle.sql_grammar.specs.Readers.{listed, begins_step, names_r, tuple_r, change_r, setting_r, insert_r, update_r, delete_r, level_r};
 ghost use Rattle.sql_grammar.specs.Views.{name_in, names_in, tuple_in, change_in, setting_in, statement_in};
 ghost use Rattle.sql_reader.specs.Gives.{Gives};
 
 use crate::conditions::filter;
-use crate::cursor::{ReadError, expect, expect_sign, is_next, is_same_sign, is_sign, name};
+use crate::cursor::{ReadError, beside, expect, expect_sign, is_next, is_same_sign, is_sign, name};
 use crate::lists::{comma_list, in_parentheses, series};
 use crate::operands::operand;
 use crate::rules::{ChangeRule, LiteralRule, NameRule, SettingRule, TupleRule};
@@ -88,7 +90,7 @@ pub(crate) fn setting(alloc: Global, tokens: &[Token]) -> Result<(Assign, &[Toke
     let (column, rest) = name(alloc, tokens)?;
     let rest = expect_sign(rest, Sign::Equal)?;
     let (first, rest) = operand(alloc, rest)?;
-    let (changes, rest) = series::<ChangeRule>(alloc, rest)?;
+    let (first, (changes, rest)) = beside(first, series::<ChangeRule>(alloc, rest))?;
     Ok((
         Assign {
             column,
@@ -110,6 +112,27 @@ fn columns(alloc: Global, tokens: &[Token]) -> Result<(Option<Seq<Name>>, &[Toke
     Ok((None, tokens))
 }
 
+/// The rows of an INSERT.
+fn rows(alloc: Global, tokens: &[Token]) -> Result<(Seq<Seq<Literal>>, &[Token]), ReadError<'_>>
+    ensures { Gives (λ x. map tuple_in x.0.items.items) (λ x. x.1.now) result (after (keyword words.Values) (listed tuple_r) tokens.now) }
+{
+    let rest = expect(tokens, Keyword::Values)?;
+    let (rows, rest) = comma_list::<TupleRule>(alloc, rest)?;
+    Ok((rows, rest))
+}
+
+/// The rows of an INSERT, and the columns that it names, if it names any.
+fn values(
+    alloc: Global,
+    tokens: &[Token],
+) -> Result<((Option<Seq<Name>>, Seq<Seq<Literal>>), &[Token]), ReadError<'_>>
+    ensures { Gives (λ x. pair (option_map names_in x.0.0) (map tuple_in x.0.1.items.items)) (λ x. x.1.now) result (both pair (optional (sign_is sign.Open) names_r) (after (keyword words.Values) (listed tuple_r)) tokens.now) }
+{
+    let (columns, rest) = columns(alloc, tokens)?;
+    let (columns, (rows, rest)) = beside(columns, rows(alloc, rest))?;
+    Ok(((columns, rows), rest))
+}
+
 /// INSERT.
 #[tactic(auto, unfolding(sql_grammar::specs::Readers::insert_r))]
 pub(crate) fn insert(alloc: Global, tokens: &[Token]) -> Result<(Stmt, &[Token]), ReadError<'_>>
@@ -118,9 +141,7 @@ pub(crate) fn insert(alloc: Global, tokens: &[Token]) -> Result<(Stmt, &[Token])
     let rest = expect(tokens, Keyword::Insert)?;
     let rest = expect(rest, Keyword::Into)?;
     let (table, rest) = name(alloc, rest)?;
-    let (columns, rest) = columns(alloc, rest)?;
-    let rest = expect(rest, Keyword::Values)?;
-    let (rows, rest) = comma_list::<TupleRule>(alloc, rest)?;
+    let (table, ((columns, rows), rest)) = beside(table, values(alloc, rest))?;
     Ok((
         Stmt::Insert {
             table,
@@ -171,7 +192,9 @@ pub(crate) fn level(tokens: &[Token]) -> Result<(Stmt, &[Token]), ReadError<'_>>
     let rest = expect(tokens, Keyword::Set)?;
     let rest = expect(rest, Keyword::Transaction)?;
     if is_next(rest, Keyword::Snapshot) {
-        return Ok((Stmt::SetSnapshot, expect(rest, Keyword::Snapshot)?));
+        let rest = expect(rest, Keyword::Snapshot)?;
+        return Ok((Stmt::SetSnapshot, rest));
     }
-    Ok((Stmt::SetSerializable, expect(rest, Keyword::Serializable)?))
+    let rest = expect(rest, Keyword::Serializable)?;
+    Ok((Stmt::SetSerializable, rest))
 }

@@ -1,12 +1,17 @@
 //! Comparisons and conditions.
 ghost use Rattle.std.specs.Prelude.{◌≡◌, ℕ, ◌≤◌};
-ghost use Rattle.sql_grammar.specs.Readers.{sign_r, negation_r, comparison_r, not_r, and_r, condition_r, where_r};
-ghost use Rattle.sql_grammar.specs.Views.{condition_in, filter_in};
+ghost use Rattle.grammar_forms.specs.Forms.{both};
+ghost use Rattle.grammar_forms.specs.Parts.{after, before};
+ghost use Rattle.sql_tokens.specs.declared.kinds.Keyword.TheVariants as words;
+ghost use Rattle.sql_grammar.specs.Words.{keyword};
+ghost use Rattle.sql_grammar.specs.Grammar.{CompareTest};
+ghost use Rattle.sql_grammar.specs.Readers.{sign_r, negation_r, operand_r, comparison_r, not_r, and_r, condition_r, where_r};
+ghost use Rattle.sql_grammar.specs.Views.{operand_in, condition_in, filter_in};
 ghost use Rattle.sql_reader.specs.Gives.{Gives};
 
-use crate::cursor::{ReadError, expect, expect_sign, is_next, is_sign};
+use crate::cursor::{ReadError, beside, expect, expect_sign, is_next, is_sign, sign_as, word_as};
 use crate::operands::operand;
-use sql_grammar::{Seq, Sign as Comparison, Test};
+use sql_grammar::{Operand, Seq, Sign as Comparison, Test};
 use sql_tokens::{Keyword, Sign, Token};
 use std::alloc::Global;
 
@@ -19,21 +24,21 @@ fn comparison_sign(tokens: &[Token]) -> Result<(Comparison, &[Token]), ReadError
     ensures { Gives (λ x. x.0) (λ x. x.1.now) result (sign_r tokens.now) }
 {
     if is_sign(tokens, Sign::Equal) {
-        return Ok((Comparison::Eq, expect_sign(tokens, Sign::Equal)?));
+        return sign_as(tokens, Sign::Equal, Comparison::Eq);
     }
     if is_sign(tokens, Sign::NotEqual) {
-        return Ok((Comparison::Ne, expect_sign(tokens, Sign::NotEqual)?));
+        return sign_as(tokens, Sign::NotEqual, Comparison::Ne);
     }
     if is_sign(tokens, Sign::Less) {
-        return Ok((Comparison::Lt, expect_sign(tokens, Sign::Less)?));
+        return sign_as(tokens, Sign::Less, Comparison::Lt);
     }
     if is_sign(tokens, Sign::LessEqual) {
-        return Ok((Comparison::Le, expect_sign(tokens, Sign::LessEqual)?));
+        return sign_as(tokens, Sign::LessEqual, Comparison::Le);
     }
     if is_sign(tokens, Sign::Greater) {
-        return Ok((Comparison::Gt, expect_sign(tokens, Sign::Greater)?));
+        return sign_as(tokens, Sign::Greater, Comparison::Gt);
     }
-    Ok((Comparison::Ge, expect_sign(tokens, Sign::GreaterEqual)?))
+    sign_as(tokens, Sign::GreaterEqual, Comparison::Ge)
 }
 
 /// Whether `not` stands here, and the tokens behind it.
@@ -42,9 +47,29 @@ fn negation(tokens: &[Token]) -> Result<(bool, &[Token]), ReadError<'_>>
     ensures { Gives (λ x. x.0) (λ x. x.1.now) result (negation_r tokens.now) }
 {
     if is_next(tokens, Keyword::Not) {
-        return Ok((true, expect(tokens, Keyword::Not)?));
+        return word_as(tokens, Keyword::Not, true);
     }
     Ok((false, tokens))
+}
+
+/// Whether a test for NULL is negated.
+fn null_test(tokens: &[Token]) -> Result<(bool, &[Token]), ReadError<'_>>
+    ensures { Gives (λ x. x.0) (λ x. x.1.now) result (after (keyword words.Is) (before (keyword words.Null) negation_r) tokens.now) }
+{
+    let (negated, rest) = negation(expect(tokens, Keyword::Is)?)?;
+    word_as(rest, Keyword::Null, negated)
+}
+
+/// The sign of a comparison, and what stands behind it.
+fn compared(
+    alloc: Global,
+    tokens: &[Token],
+) -> Result<((Comparison, Operand), &[Token]), ReadError<'_>>
+    ensures { Gives (λ x. CompareTest x.0.0 (operand_in x.0.1)) (λ x. x.1.now) result (both CompareTest sign_r operand_r tokens.now) }
+{
+    let (op, rest) = comparison_sign(tokens)?;
+    let (right, rest) = operand(alloc, rest)?;
+    Ok(((op, right), rest))
 }
 
 /// Two operands, or one that is tested for NULL.
@@ -54,18 +79,10 @@ fn comparison(alloc: Global, tokens: &[Token]) -> Result<(Test, &[Token]), ReadE
 {
     let (left, rest) = operand(alloc, tokens)?;
     if is_next(rest, Keyword::Is) {
-        let (negated, rest) = negation(expect(rest, Keyword::Is)?)?;
-        let rest = expect(rest, Keyword::Null)?;
-        return Ok((
-            Test::IsNull {
-                side: left,
-                negated,
-            },
-            rest,
-        ));
+        let (side, (negated, rest)) = beside(left, null_test(rest))?;
+        return Ok((Test::IsNull { side, negated }, rest));
     }
-    let (op, rest) = comparison_sign(rest)?;
-    let (right, rest) = operand(alloc, rest)?;
+    let (left, ((op, right), rest)) = beside(left, compared(alloc, rest))?;
     Ok((Test::Compare { op, left, right }, rest))
 }
 
@@ -84,7 +101,7 @@ fn not(alloc: Global, tokens: &[Token], levels: u8) -> Result<(Test, &[Token]), 
     }
     if is_sign(tokens, Sign::Open) {
         let (inner, rest) = any_of(alloc, expect_sign(tokens, Sign::Open)?, levels - 1)?;
-        let rest = expect_sign(rest, Sign::Close)?;
+        let (inner, rest) = beside(inner, expect_sign(rest, Sign::Close))?;
         return Ok((Test::Group(Box::new(alloc, inner)?), rest));
     }
     comparison(alloc, tokens)

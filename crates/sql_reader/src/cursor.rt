@@ -1,6 +1,6 @@
 //! The tokens that are still to be read: steps over one of them, and why a reader stops.
-ghost use Rattle.std.specs.Prelude.{◌≡◌, ℕ};
-ghost use Rattle.grammar_forms.specs.Forms.{next_is};
+ghost use Rattle.std.specs.Prelude.{◌≡◌, ℕ, Ok, Err, MatchResult};
+ghost use Rattle.grammar_forms.specs.Forms.{next_is, as_of};
 ghost use Rattle.grammar_forms.specs.Parts.{word};
 ghost use Rattle.sql_grammar.specs.Words.{keyword, sign_is};
 ghost use Rattle.sql_grammar.specs.Readers.{name_r, is_name};
@@ -34,6 +34,20 @@ impl<T: Drop> From<AllocFailed<T>> for ReadError<'_> {
 
     fn from(_e: AllocFailed<T>) -> Self {
         ReadError::Memory
+    }
+}
+
+/// What was read, beside a value from before it. The value is let go here where nothing was read, so that the steps of
+/// its destructor are no part of the reader that holds it.
+pub(crate) fn beside<T: Drop, U>(
+    value: T,
+    read: Result<U, ReadError<'_>>,
+) -> Result<(T, U), ReadError<'_>>
+    ensures { MatchResult result (λ x. (x.0 ≡ value) × (read.entry ≡ Ok x.1)) (λ e. read.entry ≡ Err e) }
+{
+    match read {
+        Ok(found) => Ok((value, found)),
+        Err(stop) => Err(stop),
     }
 }
 
@@ -95,6 +109,30 @@ pub(crate) fn expect_sign(tokens: &[Token], expected: Sign) -> Result<&[Token], 
         Some((token, rest)) if is_same_sign(token, expected) => Ok(rest),
         _ => Err(ReadError::Refused(tokens)),
     }
+}
+
+/// What this reserved word stands for, and the tokens behind it.
+pub(crate) fn word_as<T: Drop>(
+    tokens: &[Token],
+    expected: Keyword,
+    meaning: T,
+) -> Result<(T, &[Token]), ReadError<'_>>
+    ensures { Gives (λ x. x.0) (λ x. x.1.now) result (as_of (λ _. meaning) (word (keyword expected)) tokens.now) }
+{
+    let rest = expect(tokens, expected)?;
+    Ok((meaning, rest))
+}
+
+/// What this sign stands for, and the tokens behind it.
+pub(crate) fn sign_as<T: Drop>(
+    tokens: &[Token],
+    expected: Sign,
+    meaning: T,
+) -> Result<(T, &[Token]), ReadError<'_>>
+    ensures { Gives (λ x. x.0) (λ x. x.1.now) result (as_of (λ _. meaning) (word (sign_is expected)) tokens.now) }
+{
+    let rest = expect_sign(tokens, expected)?;
+    Ok((meaning, rest))
 }
 
 /// A name, copied.

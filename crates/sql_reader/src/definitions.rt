@@ -6,7 +6,7 @@ ghost use Rattle.sql_grammar.specs.Views.{part_in, definition_in};
 ghost use Rattle.sql_reader.specs.Gives.{Gives};
 
 use crate::changes::names;
-use crate::cursor::{ReadError, expect, is_keyword, is_name_next, is_next, name};
+use crate::cursor::{ReadError, expect, is_keyword, is_name_next, is_next, name, word_as};
 use crate::lists::{in_parentheses, series};
 use crate::rules::{MarkRule, PartRule};
 use sql_grammar::{CreatePart, CreateTable, Kind, Mark};
@@ -40,13 +40,13 @@ pub(crate) fn mark(tokens: &[Token]) -> Result<(Mark, &[Token]), ReadError<'_>>
 {
     if is_next(tokens, Keyword::Not) {
         let rest = expect(tokens, Keyword::Not)?;
-        return Ok((Mark::NotNull, expect(rest, Keyword::Null)?));
+        return word_as(rest, Keyword::Null, Mark::NotNull);
     }
     if is_next(tokens, Keyword::Primary) {
         let rest = expect(tokens, Keyword::Primary)?;
-        return Ok((Mark::PrimaryKey, expect(rest, Keyword::Key)?));
+        return word_as(rest, Keyword::Key, Mark::PrimaryKey);
     }
-    Ok((Mark::Unique, expect(tokens, Keyword::Unique)?))
+    word_as(tokens, Keyword::Unique, Mark::Unique)
 }
 
 /// The type of a column.
@@ -55,15 +55,15 @@ fn kind(tokens: &[Token]) -> Result<(Kind, &[Token]), ReadError<'_>>
     ensures { Gives (λ x. x.0) (λ x. x.1.now) result (type_r tokens.now) }
 {
     if is_next(tokens, Keyword::Integer) {
-        return Ok((Kind::Integer, expect(tokens, Keyword::Integer)?));
+        return word_as(tokens, Keyword::Integer, Kind::Integer);
     }
     if is_next(tokens, Keyword::Int) {
-        return Ok((Kind::Integer, expect(tokens, Keyword::Int)?));
+        return word_as(tokens, Keyword::Int, Kind::Integer);
     }
     if is_next(tokens, Keyword::Text) {
-        return Ok((Kind::Text, expect(tokens, Keyword::Text)?));
+        return word_as(tokens, Keyword::Text, Kind::Text);
     }
-    Ok((Kind::Blob, expect(tokens, Keyword::Blob)?))
+    word_as(tokens, Keyword::Blob, Kind::Blob)
 }
 
 /// Whether a key is unique.
@@ -72,9 +72,9 @@ fn uniqueness(tokens: &[Token]) -> Result<(bool, &[Token]), ReadError<'_>>
     ensures { Gives (λ x. x.0) (λ x. x.1.now) result (uniqueness_r tokens.now) }
 {
     if is_next(tokens, Keyword::Unique) {
-        return Ok((true, expect(tokens, Keyword::Unique)?));
+        return word_as(tokens, Keyword::Unique, true);
     }
-    Ok((false, expect(tokens, Keyword::Key)?))
+    word_as(tokens, Keyword::Key, false)
 }
 
 /// A column or a key of a table.

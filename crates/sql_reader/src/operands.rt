@@ -64,7 +64,8 @@ pub(crate) fn literal(alloc: Global, tokens: &[Token]) -> Result<(Literal, &[Tok
         return Ok((number, rest));
     }
     if is_next(tokens, Keyword::Null) {
-        return Ok((Literal::Null, expect(tokens, Keyword::Null)?));
+        let rest = expect(tokens, Keyword::Null)?;
+        return Ok((Literal::Null, rest));
     }
     constant(alloc, tokens)
 }

@@ -8,7 +8,9 @@ ghost use Rattle.sql_reader.specs.Ending.{ending_in};
 ghost use Rattle.sql_reader.specs.Gives.{Gives};
 
 use crate::conditions::filter;
-use crate::cursor::{ReadError, expect, expect_sign, is_name_next, is_next, is_sign, name};
+use crate::cursor::{
+    ReadError, beside, expect, expect_sign, is_name_next, is_next, is_sign, name, word_as,
+};
 use crate::lists::comma_list;
 use crate::operands::column;
 use crate::rules::{ColumnRule, ItemRule, KeyRule};
@@ -24,7 +26,8 @@ fn argument(alloc: Global, tokens: &[Token]) -> Result<(ColumnName, &[Token]), R
 {
     let rest = expect_sign(tokens, Sign::Open)?;
     let (column, rest) = column(alloc, rest)?;
-    Ok((column, expect_sign(rest, Sign::Close)?))
+    let rest = expect_sign(rest, Sign::Close)?;
+    Ok((column, rest))
 }
 
 /// What stands behind `count`.
@@ -35,7 +38,8 @@ fn count(tokens: &[Token]) -> Result<(SelectItem, &[Token]), ReadError<'_>>
     let rest = expect(tokens, Keyword::Count)?;
     let rest = expect_sign(rest, Sign::Open)?;
     let rest = expect_sign(rest, Sign::Star)?;
-    Ok((SelectItem::Count, expect_sign(rest, Sign::Close)?))
+    let rest = expect_sign(rest, Sign::Close)?;
+    Ok((SelectItem::Count, rest))
 }
 
 /// A column of the answer.
@@ -71,7 +75,8 @@ fn items(
     ensures { Gives (λ x. items_in x.0) (λ x. x.1.now) result (items_r tokens.now) }
 {
     if is_sign(tokens, Sign::Star) {
-        return Ok((None, expect_sign(tokens, Sign::Star)?));
+        let rest = expect_sign(tokens, Sign::Star)?;
+        return Ok((None, rest));
     }
     let (items, rest) = comma_list::<ItemRule>(alloc, tokens)?;
     Ok((Some(items), rest))
@@ -130,10 +135,10 @@ fn direction(tokens: &[Token]) -> Result<(bool, &[Token]), ReadError<'_>>
     ensures { Gives (λ x. x.0) (λ x. x.1.now) result (direction_r tokens.now) }
 {
     if is_next(tokens, Keyword::Desc) {
-        return Ok((true, expect(tokens, Keyword::Desc)?));
+        return word_as(tokens, Keyword::Desc, true);
     }
     if is_next(tokens, Keyword::Asc) {
-        return Ok((false, expect(tokens, Keyword::Asc)?));
+        return word_as(tokens, Keyword::Asc, false);
     }
     Ok((false, tokens))
 }
@@ -144,7 +149,7 @@ pub(crate) fn key(alloc: Global, tokens: &[Token]) -> Result<(OrderKey, &[Token]
     ensures { Gives (λ x. key_in x.0) (λ x. x.1.now) result (key_r tokens.now) }
 {
     let (item, rest) = item(alloc, tokens)?;
-    let (descending, rest) = direction(rest)?;
+    let (item, (descending, rest)) = beside(item, direction(rest))?;
     Ok((OrderKey { item, descending }, rest))
 }
 
@@ -213,9 +218,9 @@ fn behind_from(alloc: Global, tokens: &[Token]) -> Result<(Ending, &[Token]), Re
     ensures { Gives (λ x. ending_in x.0) (λ x. x.1.now) result (tail_r tokens.now) }
 {
     let (filter, rest) = filter(alloc, tokens)?;
-    let (group, rest) = group(alloc, rest)?;
-    let (order, rest) = order(alloc, rest)?;
-    let (limit, rest) = limit(rest)?;
+    let (filter, (group, rest)) = beside(filter, group(alloc, rest))?;
+    let (filter, (order, rest)) = beside(filter, order(alloc, rest))?;
+    let (filter, (limit, rest)) = beside(filter, limit(rest))?;
     Ok((
         Ending {
             filter,
@@ -232,9 +237,9 @@ fn verb(tokens: &[Token]) -> Result<(bool, &[Token]), ReadError<'_>>
     ensures { Gives (λ x. x.0) (λ x. x.1.now) result (verb_r tokens.now) }
 {
     if is_next(tokens, Keyword::Selectv) {
-        return Ok((true, expect(tokens, Keyword::Selectv)?));
+        return word_as(tokens, Keyword::Selectv, true);
     }
-    Ok((false, expect(tokens, Keyword::Select)?))
+    word_as(tokens, Keyword::Select, false)
 }
 
 /// SELECT.

@@ -80,8 +80,7 @@ pub(crate) fn statement(alloc: Global, tokens: &[Token]) -> Result<Stmt, ReadErr
     ensures { Gives statement_in (λ _. []) result (only (statement_r tokens.now)) }
 {
     let (found, rest) = one(alloc, tokens)?;
-    end(rest)?;
-    Ok(found)
+    end(rest).and(Ok(found))
 }
 
 /// The definition that all the tokens are.
@@ -89,6 +88,5 @@ pub(crate) fn definition(alloc: Global, tokens: &[Token]) -> Result<CreateTable,
     ensures { Gives definition_in (λ _. []) result (only (create_r tokens.now)) }
 {
     let (found, rest) = table(alloc, tokens)?;
-    end(rest)?;
-    Ok(found)
+    end(rest).and(Ok(found))
 }

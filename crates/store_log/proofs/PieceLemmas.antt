@@ -1,12 +1,17 @@
 -- A log, and what an open adoption leaves out of it.
-use Rattle.std.proofs.Common.{◌≡◌, ℕ, zero, suc, ◌+◌, ◌≤◌, List, [], ◌∷◌, ◌++◌, length, take, drop, min, Option, Some, None, refl, sym, ap, ◌∙◌, subst, append_assoc, arith, length-append}
+use Rattle.std.proofs.Common.{◌≡◌, ℕ, zero, suc, ◌+◌, ◌≤◌, List, [], ◌∷◌, ◌++◌, length, take, drop, min, Option, Some, None, Result, Err, refl, sym, ap, ◌∙◌, subst, append_assoc, arith, length-append}
 use Rattle.std.proofs.lemmas.List.{append-nil, take-append-drop, take-append-le, length-take}
 use Rattle.std.proofs.Math.Logic.{∥∥₁_map}
 use Rattle.phys_log.specs.Logs.{Fits, IsLog}
 use Rattle.phys_log.specs.declared.entries.Entry.{Entry}
 use Rattle.phys_log.proofs.LogLaws.{log_more, log_front, log_fits}
+use Rattle.log_replay.specs.Answers.{TellsFits}
+use Rattle.log_replay.specs.declared.logs.AppendFault.{AppendFault}
+use Rattle.log_replay.specs.declared.logs.AppendFault.TheVariants as append
 use Rattle.log_replay.proofs.LogLemmas.{log_out}
 use Rattle.store_log.specs.declared.asides.Aside.{Aside}
+use Rattle.store_log.specs.declared.held_logs.TakeFault.{TakeFault}
+use Rattle.store_log.specs.Steps.{TellsMay, told}
 use Rattle.store_log.specs.Asides.{log_of, IsWithin, ArePieces}
 
 pub take_twice : (n : ℕ) (xs : List Entry) → take n (take n xs) ≡ take n xs
@@ -42,8 +47,18 @@ one_more live e a p fits =
     }
 
 -- an entry is added to a log
-pub log_and_entry : (live : List Entry) (e : Entry) → ∥ IsLog live ∥₁ → Fits live e → ∥ IsLog (live ++ e ∷ []) ∥₁
-log_and_entry live e h fits = ∥∥₁_map h (λ log. log_more live e log fits)
+pub log_and_entry : (live log : List Entry) (e : Entry) → log ≡ live ++ e ∷ [] → ∥ IsLog live ∥₁ → Fits live e → ∥ IsLog log ∥₁
+log_and_entry live log e same h fits =
+    subst (λ (l : List Entry). ∥ IsLog l ∥₁) (sym same) (∥∥₁_map h (λ is_log. log_more live e is_log fits))
+
+pub told_may : {T : Type 0} (U : Type 0) (r : Result T AppendFault) (f : AppendFault) (t : TakeFault) (fits : Type 0) → r ≡ Err f → t ≡ told f
+    → TellsFits r fits → TellsMay {T = U} (Err t) fits
+told_may {T} U r f t fits is why tells =
+    subst (λ (w : TakeFault). TellsMay {T = U} (Err w) fits) (sym why) (by_cases f (subst (λ (q : Result T AppendFault). TellsFits q fits) is tells))
+  where
+    by_cases : (g : AppendFault) → TellsFits {T = T} (Err g) fits → TellsMay {T = U} (Err (told g)) fits
+    by_cases (append.Unfit e) h = h
+    by_cases (append.NoMemory e) h = tt
 
 -- a log is cut
 pub cut_log : (log : List Entry) (kept : ℕ) → log_of (take kept log) (Some record { kept = kept; tail = drop kept log }) ≡ log

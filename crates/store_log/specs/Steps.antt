@@ -5,6 +5,8 @@ use Rattle.frame_code.specs.Codes.{frame_code}
 use Rattle.frame_code.specs.Fronts.{IsFront}
 use Rattle.frame_code.specs.Spelled.{IsSpelled}
 use Rattle.frame_code.specs.declared.frames.Frame.{Frame}
+use Rattle.log_replay.specs.declared.logs.AppendFault.{AppendFault}
+use Rattle.log_replay.specs.declared.logs.AppendFault.TheVariants as append
 use Rattle.store_log.specs.declared.held_logs.TakeFault.{TakeFault}
 use Rattle.store_log.specs.declared.held_logs.TakeFault.TheVariants.{Misplaced, NoMemory}
 use Rattle.store_log.specs.declared.steps.Step.{Step}
@@ -16,6 +18,11 @@ abbrev pub TellsMay : {T : Type 0} → Result T TakeFault → Type 0 → Type 0
 TellsMay (Ok x) may = may
 TellsMay (Err Misplaced) may = may → ⊥
 TellsMay (Err NoMemory) may = Unit {0}
+
+-- what an entry that was not appended tells of its frame
+abbrev pub told : AppendFault → TakeFault
+told (append.Unfit entry) = Misplaced
+told (append.NoMemory entry) = NoMemory
 
 -- a frame that may stand there is at the front of the bytes
 pub record IsMore (before now : Held) (n : ℕ) (bytes : List ℕ) : Type 0 where

@@ -4,7 +4,7 @@ ghost use Rattle.frame_code.specs.declared.frames.Frame.TheVariants as frame;
 ghost use Rattle.phys_log.specs.Logs.{Fits, IsLog};
 ghost use Rattle.store_log.specs.Asides.{log_of, ArePieces};
 ghost use Rattle.store_log.specs.Held.{at_first, May, after, generation_of};
-ghost use Rattle.store_log.specs.Steps.{TellsMay};
+ghost use Rattle.store_log.specs.Steps.{TellsMay, told};
 
 use crate::asides::Aside;
 use cdb_values::List;
@@ -245,13 +245,44 @@ fn generation_in(entry: &Entry) -> u64
     }
 }
 
+/// A log with an entry more. Where there is none, both are let go here, so that the steps of their destructors stand in
+/// no other function.
+fn appended(alloc: Global, mut live: PagedLog, entry: Entry) -> Result<PagedLog, TakeFault>
+    ensures taken { IfOk result (λ log. log ≡ live ++ entry ∷ []) }
+    ensures may { TellsMay result (Fits live entry) }
+{
+    match live.append(alloc, entry) {
+        Ok(()) => Ok(live),
+        Err(fault) => {
+            drop(live);
+            Err(why_not(fault))
+        }
+    }
+}
+
+/// Why an entry was not added, which is let go.
+fn why_not(fault: AppendFault) -> TakeFault
+    ensures { result ≡ told fault }
+{
+    match fault {
+        AppendFault::Unfit(entry) => {
+            drop(entry);
+            TakeFault::Misplaced
+        }
+        AppendFault::NoMemory(entry) => {
+            drop(entry);
+            TakeFault::NoMemory
+        }
+    }
+}
+
 /// Adds an entry to a log.
 #[tactic(auto, using(crate::proofs::PieceLemmas::log_and_entry))]
 fn add_to_log(
     alloc: Global,
     promised: u64,
     accepted: u64,
-    mut live: PagedLog,
+    live: PagedLog,
     entry: Entry,
 ) -> Result<HeldLog, TakeFault>
     requires { ∥ IsLog live ∥₁ }
@@ -260,13 +291,12 @@ fn add_to_log(
     ensures may { TellsMay result ((generation_of entry ≡ accepted) × Fits live entry) }
 {
     if generation_in(&entry) != accepted {
+        drop(live);
+        drop(entry);
         return Err(TakeFault::Misplaced);
     }
-    match live.append(alloc, entry) {
-        Ok(()) => Ok(plain(promised, accepted, live)),
-        Err(AppendFault::Unfit(_)) => Err(TakeFault::Misplaced),
-        Err(AppendFault::NoMemory(_)) => Err(TakeFault::NoMemory),
-    }
+    let log = appended(alloc, live, entry)?;
+    Ok(plain(promised, accepted, log))
 }
 
 /// Adds an entry to an open adoption.
@@ -275,7 +305,7 @@ fn add_to_adoption(
     alloc: Global,
     promised: u64,
     accepted: u64,
-    mut live: PagedLog,
+    live: PagedLog,
     aside: Aside,
     entry: Entry,
 ) -> Result<HeldLog, TakeFault>
@@ -288,15 +318,17 @@ fn add_to_adoption(
     }) }
     ensures may { TellsMay result (Fits live entry) }
 {
-    match live.append(alloc, entry) {
-        Ok(()) => Ok(HeldLog {
+    match appended(alloc, live, entry) {
+        Ok(live) => Ok(HeldLog {
             promised,
             accepted,
             live,
             aside: Some(aside),
         }),
-        Err(AppendFault::Unfit(_)) => Err(TakeFault::Misplaced),
-        Err(AppendFault::NoMemory(_)) => Err(TakeFault::NoMemory),
+        Err(why) => {
+            drop(aside);
+            Err(why)
+        }
     }
 }
 

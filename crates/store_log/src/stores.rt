@@ -6,7 +6,7 @@ ghost use Rattle.cdb_outside.specs.Parts.{IsFront};
 ghost use Rattle.cdb_outside.specs.Stores.{JoinsFront};
 ghost use Rattle.frame_code.specs.Codes.{frame_code};
 ghost use Rattle.frame_code.specs.Spelled.{IsSpelled};
-ghost use Rattle.store_log.specs.Keeps.{IsKept};
+ghost use Rattle.store_log.specs.Keeps.{AreKept, AreLeft, IsKept};
 
 use cdb_outside::{Failed, LogStore};
 use frame_code::Frame;
@@ -56,10 +56,20 @@ impl<D: LogStore> Held<D> {
             Ok(bytes) => bytes,
             Err(_) => return Err(KeepFault::NoMemory),
         };
-        match write_synced(&mut self.store, bytes.as_slice()) {
+        match self.keep_bytes(bytes.as_slice()) {
             Ok(()) => Ok(()),
             Err(_) => Err(KeepFault::StoreFault),
         }
+    }
+
+    /// Keeps bytes of frames, which `write_frame` wrote, behind those that stand in the store, synced. Takes no memory.
+    /// After `Failed` the store can only be given back.
+    pub fn keep_bytes(&mut self, bytes: &[u8]) -> Result<(), Failed>
+        requires settled { self.old.pending ≡ [] }
+        ensures kept { OnOk result (AreKept self.old self.new bytes.now) }
+        ensures left { OnErr result (AreLeft self.old self.new bytes.now) }
+    {
+        write_synced(&mut self.store, bytes)
     }
 
     /// Stops the store and gives it back. Takes no memory.

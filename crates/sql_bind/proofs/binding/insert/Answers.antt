@@ -27,17 +27,17 @@ pub returns-then-twice-clause-refused : goal.returns-then-twice-clause-refused
 returns-then-twice-clause-refused c =
     two_meanings c.args.schema.now (InsertInto (name_in c.args.table.now) (names_in_list c.args.columns.now) (map tuple_in c.args.tuples.now)) (ap (λ b. b || false) c.in_ok-table.ensures.known) (sym (ap (λ (t : Visible). list_any (is_unknown (t ∷ [])) (own_columns (names_in_list c.args.columns.now))) c.in_ok-table.ensures.found) ∙ sym c.lists_unknown.ensures ∙ c.if-lists_unknown.false) (ap₂ (λ a b. a || b) (sym c.in_ok-twice.ensures ∙ c.if-twice.true) (never_ambiguous (target c.args.schema.now (name_in c.args.table.now)) (own_columns (names_in_list c.args.columns.now))))
 
-pub returns-then-has_wrong_type-clause-refused : goal.returns-then-has_wrong_type-clause-refused
-returns-then-has_wrong_type-clause-refused c =
-    wrong_type c.args.schema.now (InsertInto (name_in c.args.table.now) (names_in_list c.args.columns.now) (map tuple_in c.args.tuples.now)) (ap (λ b. b || false) c.in_ok-table.ensures.known) (sym (ap (λ (t : Visible). list_any (is_unknown (t ∷ [])) (own_columns (names_in_list c.args.columns.now))) c.in_ok-table.ensures.found) ∙ sym c.lists_unknown.ensures ∙ c.if-lists_unknown.false) (ap₂ (λ a b. a || b) (sym c.in_ok-twice.ensures ∙ c.if-twice.false) (never_ambiguous (target c.args.schema.now (name_in c.args.table.now)) (own_columns (names_in_list c.args.columns.now)))) (sym (ap (λ (t : Visible). list_any (tuple_differs (tuple_kinds t (names_in_list c.args.columns.now))) (map tuple_in c.args.tuples.now)) c.in_ok-table.ensures.found) ∙ ap (λ ks. list_any (tuple_differs ks) (map tuple_in c.args.tuples.now)) (sym (c.as_slice.ensures.value ∙ c.in_ok-kinds.ensures)) ∙ sym c.has_wrong_type.ensures ∙ c.if-has_wrong_type.true)
+pub returns-then-wrong-clause-refused : goal.returns-then-wrong-clause-refused
+returns-then-wrong-clause-refused c =
+    wrong_type c.args.schema.now (InsertInto (name_in c.args.table.now) (names_in_list c.args.columns.now) (map tuple_in c.args.tuples.now)) (ap (λ b. b || false) c.in_ok-table.ensures.known) (sym (ap (λ (t : Visible). list_any (is_unknown (t ∷ [])) (own_columns (names_in_list c.args.columns.now))) c.in_ok-table.ensures.found) ∙ sym c.lists_unknown.ensures ∙ c.if-lists_unknown.false) (ap₂ (λ a b. a || b) (sym c.in_ok-twice.ensures ∙ c.if-twice.false) (never_ambiguous (target c.args.schema.now (name_in c.args.table.now)) (own_columns (names_in_list c.args.columns.now)))) (sym (ap (λ (t : Visible). list_any (tuple_differs (tuple_kinds t (names_in_list c.args.columns.now))) (map tuple_in c.args.tuples.now)) c.in_ok-table.ensures.found) ∙ sym c.in_ok-wrong.ensures ∙ c.if-wrong.true)
 
 pub returns-then-has_wrong_count-clause-refused : goal.returns-then-has_wrong_count-clause-refused
 returns-then-has_wrong_count-clause-refused c =
-    wrong_count c.args.schema.now (InsertInto (name_in c.args.table.now) (names_in_list c.args.columns.now) (map tuple_in c.args.tuples.now)) (ap (λ b. b || false) c.in_ok-table.ensures.known) (sym (ap (λ (t : Visible). list_any (is_unknown (t ∷ [])) (own_columns (names_in_list c.args.columns.now))) c.in_ok-table.ensures.found) ∙ sym c.lists_unknown.ensures ∙ c.if-lists_unknown.false) (ap₂ (λ a b. a || b) (sym c.in_ok-twice.ensures ∙ c.if-twice.false) (never_ambiguous (target c.args.schema.now (name_in c.args.table.now)) (own_columns (names_in_list c.args.columns.now)))) (sym (ap (λ (t : Visible). list_any (tuple_differs (tuple_kinds t (names_in_list c.args.columns.now))) (map tuple_in c.args.tuples.now)) c.in_ok-table.ensures.found) ∙ ap (λ ks. list_any (tuple_differs ks) (map tuple_in c.args.tuples.now)) (sym (c.as_slice.ensures.value ∙ c.in_ok-kinds.ensures)) ∙ sym c.has_wrong_type.ensures ∙ c.if-has_wrong_type.false) (sym (ap (λ (t : Visible). list_any (λ row. not (length row == width t (names_in_list c.args.columns.now))) (map tuple_in c.args.tuples.now)) c.in_ok-table.ensures.found) ∙ ap (λ n. list_any (λ row. not (length row == n)) (map tuple_in c.args.tuples.now)) (sym c.width.ensures) ∙ sym c.has_wrong_count.ensures ∙ c.if-has_wrong_count.true)
+    wrong_count c.args.schema.now (InsertInto (name_in c.args.table.now) (names_in_list c.args.columns.now) (map tuple_in c.args.tuples.now)) (ap (λ b. b || false) c.in_ok-table.ensures.known) (sym (ap (λ (t : Visible). list_any (is_unknown (t ∷ [])) (own_columns (names_in_list c.args.columns.now))) c.in_ok-table.ensures.found) ∙ sym c.lists_unknown.ensures ∙ c.if-lists_unknown.false) (ap₂ (λ a b. a || b) (sym c.in_ok-twice.ensures ∙ c.if-twice.false) (never_ambiguous (target c.args.schema.now (name_in c.args.table.now)) (own_columns (names_in_list c.args.columns.now)))) (sym (ap (λ (t : Visible). list_any (tuple_differs (tuple_kinds t (names_in_list c.args.columns.now))) (map tuple_in c.args.tuples.now)) c.in_ok-table.ensures.found) ∙ sym c.in_ok-wrong.ensures ∙ c.if-wrong.false) (sym (ap (λ (t : Visible). list_any (λ row. not (length row == width t (names_in_list c.args.columns.now))) (map tuple_in c.args.tuples.now)) c.in_ok-table.ensures.found) ∙ ap (λ n. list_any (λ row. not (length row == n)) (map tuple_in c.args.tuples.now)) (sym c.width.ensures) ∙ sym c.has_wrong_count.ensures ∙ c.if-has_wrong_count.true)
 
 pub returns-clause-bound : goal.returns-clause-bound
 unfolding bound_as
 returns-clause-bound c =
-    is_bound c.args.schema.now (InsertInto (name_in c.args.table.now) (names_in_list c.args.columns.now) (map tuple_in c.args.tuples.now)) (ap (λ b. b || false) c.in_ok-table.ensures.known) (sym (ap (λ (t : Visible). list_any (is_unknown (t ∷ [])) (own_columns (names_in_list c.args.columns.now))) c.in_ok-table.ensures.found) ∙ sym c.lists_unknown.ensures ∙ c.if-lists_unknown.false) (ap₂ (λ a b. a || b) (sym c.in_ok-twice.ensures ∙ c.if-twice.false) (never_ambiguous (target c.args.schema.now (name_in c.args.table.now)) (own_columns (names_in_list c.args.columns.now)))) (sym (ap (λ (t : Visible). list_any (tuple_differs (tuple_kinds t (names_in_list c.args.columns.now))) (map tuple_in c.args.tuples.now)) c.in_ok-table.ensures.found) ∙ ap (λ ks. list_any (tuple_differs ks) (map tuple_in c.args.tuples.now)) (sym (c.as_slice.ensures.value ∙ c.in_ok-kinds.ensures)) ∙ sym c.has_wrong_type.ensures ∙ c.if-has_wrong_type.false) (sym (ap (λ (t : Visible). list_any (λ row. not (length row == width t (names_in_list c.args.columns.now))) (map tuple_in c.args.tuples.now)) c.in_ok-table.ensures.found) ∙ ap (λ n. list_any (λ row. not (length row == n)) (map tuple_in c.args.tuples.now)) (sym c.width.ensures) ∙ sym c.has_wrong_count.ensures ∙ c.if-has_wrong_count.false)
+    is_bound c.args.schema.now (InsertInto (name_in c.args.table.now) (names_in_list c.args.columns.now) (map tuple_in c.args.tuples.now)) (ap (λ b. b || false) c.in_ok-table.ensures.known) (sym (ap (λ (t : Visible). list_any (is_unknown (t ∷ [])) (own_columns (names_in_list c.args.columns.now))) c.in_ok-table.ensures.found) ∙ sym c.lists_unknown.ensures ∙ c.if-lists_unknown.false) (ap₂ (λ a b. a || b) (sym c.in_ok-twice.ensures ∙ c.if-twice.false) (never_ambiguous (target c.args.schema.now (name_in c.args.table.now)) (own_columns (names_in_list c.args.columns.now)))) (sym (ap (λ (t : Visible). list_any (tuple_differs (tuple_kinds t (names_in_list c.args.columns.now))) (map tuple_in c.args.tuples.now)) c.in_ok-table.ensures.found) ∙ sym c.in_ok-wrong.ensures ∙ c.if-wrong.false) (sym (ap (λ (t : Visible). list_any (λ row. not (length row == width t (names_in_list c.args.columns.now))) (map tuple_in c.args.tuples.now)) c.in_ok-table.ensures.found) ∙ ap (λ n. list_any (λ row. not (length row == n)) (map tuple_in c.args.tuples.now)) (sym c.width.ensures) ∙ sym c.has_wrong_count.ensures ∙ c.if-has_wrong_count.false)
     ∙ ap (λ (t : Visible). Ok (bounds.InsertInto t.table (map (bound_row t (names_in_list c.args.columns.now)) (map tuple_in c.args.tuples.now)))) (sym c.in_ok-table.ensures.found)
     ∙ ap (λ rows. Ok (bounds.InsertInto c.in_ok-table.table.place rows)) (sym c.in_ok-rows.ensures)

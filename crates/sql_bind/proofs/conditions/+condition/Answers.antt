@@ -40,11 +40,11 @@ returns-in_ok-new-in-Group t c =
     ∙ ap Grouped (c.in_ok-condition-in-Group.ensures ∙ ap (λ x. bound_cond (map visible_in c.args.scope.now) (condition_in x)) c.deref-in-Group.ensures)
     ∙ sym (ap (λ x. bound_cond (map visible_in c.args.scope.now) (condition_in x)) c.in-Group.is ∙ ap (bound_cond (map visible_in c.args.scope.now)) (written_group c.in-Group.part))
 
-pub returns-in_ok-operand-in-Compare-2 : goal.returns-in_ok-operand-in-Compare-2
-returns-in_ok-operand-in-Compare-2 t c =
-    bound_compare c.comparison.result c.in_ok-operand-in-Compare.field-0 c.in_ok-operand-in-Compare-2.field-0
-    ∙ ap (λ op. Compares op c.in_ok-operand-in-Compare.field-0 c.in_ok-operand-in-Compare-2.field-0) c.comparison.ensures
-    ∙ ap₂ (λ a b. Compares (cmp_of c.in-Compare.op) a b) c.in_ok-operand-in-Compare.ensures c.in_ok-operand-in-Compare-2.ensures
+pub returns-in_ok-both-in-Compare : goal.returns-in_ok-both-in-Compare
+returns-in_ok-both-in-Compare t c =
+    bound_compare c.comparison.result c.in_ok-both-in-Compare.both.0 c.in_ok-both-in-Compare.both.1
+    ∙ ap (λ op. Compares op c.in_ok-both-in-Compare.both.0 c.in_ok-both-in-Compare.both.1) c.comparison.ensures
+    ∙ ap₂ (λ a b. Compares (cmp_of c.in-Compare.op) a b) c.in_ok-both-in-Compare.ensures.0 c.in_ok-both-in-Compare.ensures.1
     ∙ sym (ap (λ x. bound_cond (map visible_in c.args.scope.now) (condition_in x)) c.in-Compare.is ∙ ap (bound_cond (map visible_in c.args.scope.now)) (written_compare c.in-Compare.op c.in-Compare.left c.in-Compare.right))
 
 pub returns-in_ok-operand-in-IsNull : goal.returns-in_ok-operand-in-IsNull

@@ -1,19 +1,21 @@
 -- One part stands as itself. Each turn of a loop reads a word and a part.
-use Rattle.std.proofs.Common.{◌≡◌, ◌+◌, ◌≤◌, true, false, ◌∷◌, ◌++◌, [], map, length, not, refl, sym, ap, ◌∙◌, arith, length-append, true≢false}
+use Rattle.std.proofs.Common.{◌≡◌, ◌+◌, ◌≤◌, true, false, ◌∷◌, ◌++◌, [], map, length, not, refl, sym, ap, subst, ◌∙◌, arith, length-append, true≢false}
 use Rattle.std.proofs.lemmas.Result.{err_from_is_err_and}
 use Rattle.std.proofs.lemmas.List.{map_push, length-map}
 use Rattle.grammar_forms.specs.Forms.{Read, many}
-use Rattle.grammar_forms.specs.Parts.{After, after}
+use Rattle.grammar_forms.specs.Parts.{After, after, word}
 use Rattle.grammar_forms.proofs.Repeat.{part_takes}
 use Rattle.grammar_forms.proofs.Loops.{with_front, loop_turn}
 use Rattle.sql_tokens.specs.declared.kinds.Keyword.TheVariants as words
+use Rattle.sql_tokens.specs.declared.kinds.Sign.TheVariants as sign
 use Rattle.sql_grammar.specs.Trees.{AllOf, AnyOf, NotOf, Grouped, conds}
-use Rattle.sql_grammar.specs.Words.{kind, keyword}
+use Rattle.sql_grammar.specs.Words.{kind, keyword, sign_is}
 use Rattle.sql_grammar.specs.Grammar.{NotS, AndS}
 use Rattle.sql_grammar.specs.Readers.{not_r, and_r, condition_r}
 use Rattle.sql_grammar.specs.Views.{condition_in}
 use Rattle.sql_grammar.proofs.OperandLaws.{after_word}
 use Rattle.sql_grammar.proofs.ConditionLaws.{exact_not, exact_all}
+use Rattle.sql_reader.specs.Gives.{Gives}
 use Rattle.sql_reader.proofs.StepLemmas.{after_read, after_fails}
 use Rattle.sql_reader.proofs.JoinedLemmas.{first_fails, joined_one, joined_all, joined_fails, seen_and, seen_or, seen_not, seen_group}
 use Rattle.sql_reader.proofs.LevelLemmas.{take_not, take_group}
@@ -135,6 +137,7 @@ not-returns-then-is_next t c =
 
 pub not-returns-then-is_sign : goal.not-returns-then-is_sign
 not-returns-then-is_sign t c =
-    take_group c.args.levels c.args.tokens.now c.in_ok-expect_sign.field-0.now (condition_in c.in_ok-inner-2.inner) (omega arith) c.in_ok-inner-2.rest.now c.in_ok-rest.rest.now
-    (sym c.is_next.ensures ∙ c.if-is_next.false) (sym c.is_sign.ensures ∙ c.if-is_sign.true) c.in_ok-expect_sign.ensures c.in_ok-inner-2.ensures c.in_ok-rest.ensures
-    ∙ ap (λ d. Read d c.in_ok-rest.rest.now) (sym (seen_group c.in_ok-new-2.field-0 ∙ ap (λ d. Grouped (condition_in d)) c.in_ok-new-2.ensures.ok))
+    let closed : word (sign_is sign.Close) c.in_ok-inner-2.rest.now ≡ Read tt c.in_ok-inner-3.rest.now = subst (λ r. Gives (λ _. tt) (λ x. x.now) r (word (sign_is sign.Close) c.in_ok-inner-2.rest.now)) c.in_ok-inner-3.ensures.1 c.expect_sign-then-is_sign.ensures in
+    take_group c.args.levels c.args.tokens.now c.in_ok-expect_sign.field-0.now (condition_in c.in_ok-inner-2.inner) (omega arith) c.in_ok-inner-2.rest.now c.in_ok-inner-3.rest.now
+    (sym c.is_next.ensures ∙ c.if-is_next.false) (sym c.is_sign.ensures ∙ c.if-is_sign.true) c.in_ok-expect_sign.ensures c.in_ok-inner-2.ensures closed
+    ∙ ap (λ d. Read d c.in_ok-inner-3.rest.now) (sym (seen_group c.in_ok-new-2.field-0 ∙ ap (λ d. Grouped (condition_in d)) (c.in_ok-new-2.ensures.ok ∙ c.in_ok-inner-3.ensures.0)))

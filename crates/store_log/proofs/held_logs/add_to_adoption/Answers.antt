@@ -7,7 +7,7 @@ use Rattle.store_log.proofs.held_logs.add_to_adoption.Goals as goal
 
 pub invariant_of-result : goal.invariant_of-result
 invariant_of-result c =
-    let added : c.append.new.self ≡ c.args.live ++ c.args.entry ∷ [] = rw c.in-Ok.is at c.append.ensures.added in
-    let fits : Fits c.args.live c.args.entry = rw c.in-Ok.is at c.append.ensures.fits in
+    let added : c.in-Ok.live ≡ c.args.live ++ c.args.entry ∷ [] = rw c.in-Ok.is at c.appended.ensures.taken in
+    let fits : Fits c.args.live c.args.entry = rw c.in-Ok.is at c.appended.ensures.may in
     subst (λ (l : List Entry). ArePieces l (Some c.args.aside)) (sym added)
     (one_more c.args.live c.args.entry c.args.aside c.requires fits)
