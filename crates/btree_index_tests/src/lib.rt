@@ -10,6 +10,8 @@ mod cases;
 #[cfg(test)]
 mod drawn;
 #[cfg(test)]
+mod lists;
+#[cfg(test)]
 mod losing;
 #[cfg(test)]
 mod orders;

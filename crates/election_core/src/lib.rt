@@ -47,6 +47,3 @@ pub mod votes;
 pub use decisions::{on_message, stand};
 pub use messages::{Action, Message};
 pub use votes::NodeVote;
-
-#[cfg(test)]
-mod tests;

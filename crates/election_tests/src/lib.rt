@@ -15,4 +15,6 @@ mod schedules;
 #[cfg(test)]
 mod steps;
 #[cfg(test)]
+mod votes;
+#[cfg(test)]
 mod walks;

@@ -5,6 +5,7 @@ use super::logs::Log;
 use super::schedules::*;
 use super::steps::Step;
 use std::alloc::{AllocError, Global};
+use std::process::Abort;
 use std::test::Fail;
 
 /// What many walks met.
@@ -61,15 +62,19 @@ fn walked(alloc: Global, nodes: usize) -> Result<Met, AllocError> {
     Ok(met)
 }
 
+/// Asserts that many walks of so many nodes met no wrong state, and got somewhere. An assertion in a test of its own is
+/// far dearer to prove.
+fn gets_on<R: Abort>(rt: &R, met: Met, nodes: usize) {
+    assert_eq!(rt; met.wrong, 0, "of {nodes}");
+    assert!(rt; met.durables > 0, "of {nodes}");
+    assert!(rt; met.begins > 0, "of {nodes}");
+}
+
 /// 100,000 steps of three nodes and of five meet no wrong state, and get somewhere.
 #[test]
 fn nodes_agree(rt: HostRuntime) -> Result<(), Fail> {
-    for nodes in [3, 5] {
-        let met = walked(rt.alloc(), nodes)?;
-        assert_eq!(rt; met.wrong, 0, "of {nodes}");
-        assert!(rt; met.durables > 0, "of {nodes}");
-        assert!(rt; met.begins > 0, "of {nodes}");
-    }
+    gets_on(&rt, walked(rt.alloc(), 3)?, 3);
+    gets_on(&rt, walked(rt.alloc(), 5)?, 5);
     Ok(())
 }
 
@@ -99,15 +104,24 @@ fn is_missed(alloc: Global, stores: &[Store], missing: Missing) -> Result<bool, 
     Ok(false)
 }
 
+/// Asserts that a rule was needed.
+fn needed<R: Abort>(rt: &R, is_needed: bool) {
+    assert!(rt; is_needed);
+}
+
 /// Walks with one of four rules left out find a wrong state.
 #[test]
 fn walks_miss_a_rule(rt: HostRuntime) -> Result<(), Fail> {
     let stores = [empty_store(); 3];
-    for missing in [Missing::Comparison, Missing::OneVote, Missing::OwnAcks] {
-        assert!(rt; is_missed(rt.alloc(), stores.as_slice(), missing)?);
-    }
+    let stores = stores.as_slice();
+    needed(&rt, is_missed(rt.alloc(), stores, Missing::Comparison)?);
+    needed(&rt, is_missed(rt.alloc(), stores, Missing::OneVote)?);
+    needed(&rt, is_missed(rt.alloc(), stores, Missing::OwnAcks)?);
     let stores = unfit_stores();
-    assert!(rt; is_missed(rt.alloc(), stores.as_slice(), Missing::Fitting)?);
+    needed(
+        &rt,
+        is_missed(rt.alloc(), stores.as_slice(), Missing::Fitting)?,
+    );
     Ok(())
 }
 
@@ -138,11 +152,17 @@ fn is_shown(alloc: Global, missing: Missing, steps: &[Step]) -> Result<bool, All
 #[test]
 fn each_rule_of_elections_is_needed(rt: HostRuntime) -> Result<(), Fail> {
     let alloc = rt.alloc();
-    assert!(rt; is_shown(alloc, Missing::Fitting, &FITTING)?);
-    assert!(rt; is_shown(alloc, Missing::Comparison, &COMPARISON)?);
-    assert!(rt; is_shown(alloc, Missing::GenerationFirst, &GENERATION_FIRST)?);
-    assert!(rt; is_shown(alloc, Missing::OneVote, &ONE_VOTE)?);
-    assert!(rt; is_shown(alloc, Missing::AcceptedBelow, &ACCEPTED_BELOW)?);
+    needed(&rt, is_shown(alloc, Missing::Fitting, &FITTING)?);
+    needed(&rt, is_shown(alloc, Missing::Comparison, &COMPARISON)?);
+    needed(
+        &rt,
+        is_shown(alloc, Missing::GenerationFirst, &GENERATION_FIRST)?,
+    );
+    needed(&rt, is_shown(alloc, Missing::OneVote, &ONE_VOTE)?);
+    needed(
+        &rt,
+        is_shown(alloc, Missing::AcceptedBelow, &ACCEPTED_BELOW)?,
+    );
     Ok(())
 }
 
@@ -150,11 +170,14 @@ fn each_rule_of_elections_is_needed(rt: HostRuntime) -> Result<(), Fail> {
 #[test]
 fn each_rule_of_logs_is_needed(rt: HostRuntime) -> Result<(), Fail> {
     let alloc = rt.alloc();
-    assert!(rt; is_shown(alloc, Missing::WholeLog, &WHOLE_LOG)?);
-    assert!(rt; is_shown(alloc, Missing::TakingPromises, &TAKING_PROMISES)?);
-    assert!(rt; is_shown(alloc, Missing::OwnAcks, &OWN_ACKS)?);
-    assert!(rt; is_shown(alloc, Missing::NotAbove, &NOT_ABOVE)?);
-    assert!(rt; is_shown(alloc, Missing::Following, &FOLLOWING)?);
+    needed(&rt, is_shown(alloc, Missing::WholeLog, &WHOLE_LOG)?);
+    needed(
+        &rt,
+        is_shown(alloc, Missing::TakingPromises, &TAKING_PROMISES)?,
+    );
+    needed(&rt, is_shown(alloc, Missing::OwnAcks, &OWN_ACKS)?);
+    needed(&rt, is_shown(alloc, Missing::NotAbove, &NOT_ABOVE)?);
+    needed(&rt, is_shown(alloc, Missing::Following, &FOLLOWING)?);
     Ok(())
 }
 
@@ -162,9 +185,18 @@ fn each_rule_of_logs_is_needed(rt: HostRuntime) -> Result<(), Fail> {
 #[test]
 fn each_rule_of_answers_is_needed(rt: HostRuntime) -> Result<(), Fail> {
     let alloc = rt.alloc();
-    assert!(rt; is_shown(alloc, Missing::AdoptedLength, &ADOPTED_LENGTH)?);
-    assert!(rt; is_shown(alloc, Missing::NoPromiseAbove, &NO_PROMISE_ABOVE)?);
-    assert!(rt; is_shown(alloc, Missing::OwnRound, &OWN_ROUND)?);
-    assert!(rt; is_shown(alloc, Missing::OwnGeneration, &OWN_GENERATION)?);
+    needed(
+        &rt,
+        is_shown(alloc, Missing::AdoptedLength, &ADOPTED_LENGTH)?,
+    );
+    needed(
+        &rt,
+        is_shown(alloc, Missing::NoPromiseAbove, &NO_PROMISE_ABOVE)?,
+    );
+    needed(&rt, is_shown(alloc, Missing::OwnRound, &OWN_ROUND)?);
+    needed(
+        &rt,
+        is_shown(alloc, Missing::OwnGeneration, &OWN_GENERATION)?,
+    );
     Ok(())
 }

@@ -10,6 +10,7 @@ use osql_session::{CommitId, OsqlSession};
 use plan_run::{MemRows, RowFault, RowSource};
 use report_text::ReplyLine;
 use std::alloc::{AllocError, Global};
+use std::process::Abort;
 use std::test::Fail;
 use table_read::read_table;
 
@@ -178,33 +179,38 @@ fn copied_table(table: &TableDef) -> Result<TableDef, AllocError>
     table.clone()
 }
 
+/// Asserts that there is nothing that differs. An assertion in a test of its own is far dearer to prove.
+fn none_differs<R: Abort>(rt: &R, differs: &str) {
+    assert_eq!(rt; differs, "");
+}
+
 #[test]
 fn used_versions_come_once(rt: HostRuntime) -> Result<(), Fail> {
-    assert_eq!(rt; over_base(rt.alloc(), &USED)?.as_str(), "");
+    none_differs(&rt, over_base(rt.alloc(), &USED)?.as_str());
     Ok(())
 }
 
 #[test]
 fn own_writes_are_seen(rt: HostRuntime) -> Result<(), Fail> {
-    assert_eq!(rt; over_base(rt.alloc(), &OWN)?.as_str(), "");
+    none_differs(&rt, over_base(rt.alloc(), &OWN)?.as_str());
     Ok(())
 }
 
 #[test]
 fn failures_leave_nothing(rt: HostRuntime) -> Result<(), Fail> {
-    assert_eq!(rt; over_base(rt.alloc(), &FAILED)?.as_str(), "");
+    none_differs(&rt, over_base(rt.alloc(), &FAILED)?.as_str());
     Ok(())
 }
 
 #[test]
 fn nothing_is_asked_without_operations(rt: HostRuntime) -> Result<(), Fail> {
-    assert_eq!(rt; over_base(rt.alloc(), &NOTHING)?.as_str(), "");
+    none_differs(&rt, over_base(rt.alloc(), &NOTHING)?.as_str());
     Ok(())
 }
 
 #[test]
 fn a_statement_is_asked_again(rt: HostRuntime) -> Result<(), Fail> {
-    assert_eq!(rt; over_flickering(rt.alloc(), &USED)?.as_str(), "");
-    assert_eq!(rt; over_flickering(rt.alloc(), &FAILED)?.as_str(), "");
+    none_differs(&rt, over_flickering(rt.alloc(), &USED)?.as_str());
+    none_differs(&rt, over_flickering(rt.alloc(), &FAILED)?.as_str());
     Ok(())
 }

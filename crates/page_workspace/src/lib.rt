@@ -18,6 +18,3 @@ mod takes;
 mod workspaces;
 
 pub use workspaces::{EditFault, Workspace};
-
-#[cfg(test)]
-mod tests;

@@ -40,6 +40,3 @@ pub use laws::{
     chains_are_linked, first_entries_decide, first_lsns_tell, logs_grow, undoing_gives_the_page_at,
 };
 pub use requests::{CommitRequest, Decision};
-
-#[cfg(test)]
-mod tests;

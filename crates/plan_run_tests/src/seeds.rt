@@ -2,6 +2,7 @@
 
 use crate::drawn::{Draws, TABLES, statement, versions};
 use crate::sessions::{Session, Told, asked, schema_of};
+use crate::tests::none_differs;
 use cdb_values::List;
 use report_text::ReplyLine;
 use std::alloc::{AllocError, Global};
@@ -125,18 +126,18 @@ fn put_seldom(
 
 #[test]
 fn drawn_statements_come_to_the_same_by_their_plans(rt: HostRuntime) -> Result<(), Fail> {
-    assert_eq!(rt; all_otherwise(rt.alloc(), 0)?.as_str(), "");
+    none_differs(&rt, all_otherwise(rt.alloc(), 0)?.as_str());
     Ok(())
 }
 
 #[test]
 fn more_drawn_statements_do(rt: HostRuntime) -> Result<(), Fail> {
-    assert_eq!(rt; all_otherwise(rt.alloc(), 20)?.as_str(), "");
+    none_differs(&rt, all_otherwise(rt.alloc(), 20)?.as_str());
     Ok(())
 }
 
 #[test]
 fn other_drawn_statements_do(rt: HostRuntime) -> Result<(), Fail> {
-    assert_eq!(rt; all_otherwise(rt.alloc(), 40)?.as_str(), "");
+    none_differs(&rt, all_otherwise(rt.alloc(), 40)?.as_str());
     Ok(())
 }

@@ -1,8 +1,10 @@
 //! A rich report, cut and changed at each byte: the reader takes what the slower one takes.
 
+use super::cases::{holds, none_found};
 use super::slow::{Pattern, all_patterns, is_report};
 use report_read::read_report;
 use std::alloc::{AllocError, Global};
+use std::process::Abort;
 use std::test::Fail;
 
 /// A report of sixteen lines, one of them in two by the LF of a text.
@@ -75,21 +77,31 @@ fn unlike_changed(
     Ok(None)
 }
 
+/// `RICH`. A proof that calls this does not carry its bytes.
+fn rich() -> &'static [u8] {
+    RICH
+}
+
+/// Asserts that there is no place with a byte whose change makes the readers differ.
+fn none_changed<R: Abort>(rt: &R, at: Option<(usize, u8)>) {
+    assert_eq!(rt; at, None);
+}
+
 #[test]
 fn each_cut_is_told_as_by_the_slower_reader(rt: HostRuntime) -> Result<(), Fail> {
     let patterns = all_patterns(rt.alloc())?;
     let patterns = patterns.as_slice();
-    assert!(rt; is_report(rt.alloc(), patterns, RICH)?);
-    assert_eq!(rt; unlike_cut(rt.alloc(), patterns, RICH)?, None);
+    holds(&rt, is_report(rt.alloc(), patterns, rich())?);
+    none_found(&rt, unlike_cut(rt.alloc(), patterns, rich())?);
     Ok(())
 }
 
 #[test]
 fn each_changed_byte_is_told_as_by_the_slower_reader(rt: HostRuntime) -> Result<(), Fail> {
     let patterns = all_patterns(rt.alloc())?;
-    assert_eq!(rt;
-        unlike_changed(rt.alloc(), patterns.as_slice(), RICH)?,
-        None
+    none_changed(
+        &rt,
+        unlike_changed(rt.alloc(), patterns.as_slice(), rich())?,
     );
     Ok(())
 }

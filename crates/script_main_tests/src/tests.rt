@@ -1,6 +1,7 @@
 //! Drawn scripts have the reports that the slow computation gives.
 
 use super::drawn::turn_of;
+use super::runs::{has_status, has_written, is_so};
 use super::slow::Expected;
 use cdb_outside::{MemSink, MemSource, MemStore};
 use script_main::{Outside, Status, run};
@@ -41,8 +42,13 @@ fn drawn_scripts_have_the_reports_of_a_slower_computation(rt: HostRuntime) -> Re
         let expected = drawn(alloc, seed)?;
         let (status, text) = played(alloc, expected.script.as_bytes())?;
         let want = expected.report(alloc)?;
-        assert_eq!(rt; status, Status::Done);
-        assert_eq!(rt; text.as_slice(), want.as_bytes(), "at seed {seed}");
+        has_status(&rt, status, Status::Done);
+        has_written(
+            &rt,
+            text.as_slice(),
+            want.as_bytes(),
+            expected.script.as_str(),
+        );
         all.push_str(want.as_str())?;
     }
     for kind in [
@@ -52,7 +58,7 @@ fn drawn_scripts_have_the_reports_of_a_slower_computation(rt: HostRuntime) -> Re
         "error state",
         "level",
     ] {
-        assert!(rt; all.as_str().contains(kind), "no script has {kind}");
+        is_so(&rt, all.as_str().contains(kind), kind);
     }
     Ok(())
 }

@@ -1,5 +1,6 @@
 use script_read::*;
 use std::alloc::{AllocError, Global};
+use std::process::Abort;
 use std::test::*;
 
 /// Two sessions and a table, on four lines.
@@ -67,225 +68,301 @@ fn numbered(alloc: Global, before: &[u8], count: u64, after: &[u8]) -> Result<Ve
     Ok(bytes)
 }
 
+/// Asserts that these are the same bytes. An assertion in a test of its own is far dearer to prove.
+fn same_bytes<R: Abort>(rt: &R, found: &[u8], told: &[u8]) {
+    assert_eq!(rt; found, told);
+}
+
+/// Asserts that these are the same number.
+fn same_number<R: Abort>(rt: &R, found: u64, told: u64) {
+    assert_eq!(rt; found, told);
+}
+
+/// Looks at the head of a script that was read.
+fn look_at_head<R: Abort>(rt: &R, script: &Script) {
+    same_number(rt, u64::from(script.nodes), 1);
+    same_bytes(rt, script.cluster.as_bytes(), b"main");
+    same_number(rt, script.sessions.len() as u64, 2);
+    same_number(rt, script.tables.len() as u64, 1);
+}
+
+/// Looks at the body of a script that was read.
+fn look_at_body<R: Abort>(rt: &R, script: &Script) -> Result<(), Fail> {
+    let [first, second, third] = script.body.as_slice() else {
+        return Err("the body has three lines".into());
+    };
+    same_number(rt, first.line, 7);
+    same_number(rt, second.line, 8);
+    same_number(rt, third.line, 9);
+    look_at_second(rt, &second.act)
+}
+
+/// Looks at the act of the second line.
+fn look_at_second<R: Abort>(rt: &R, act: &Act) -> Result<(), Fail> {
+    let Act::Say { session, text } = act else {
+        return Err("the second line is a statement".into());
+    };
+    same_bytes(rt, session.as_bytes(), b"b");
+    same_bytes(rt, text.as_bytes(), b"select * from t where v = 1");
+    Ok(())
+}
+
+/// Looks at a script that is read from these bytes.
+fn look_at<R: Abort>(rt: &R, alloc: Global, bytes: &[u8]) -> Result<(), Fail> {
+    match read_script(alloc, bytes, 1, 0) {
+        Ok(script) => look_at_script(rt, script),
+        Err(_) => Err("the bytes are a script".into()),
+    }
+}
+
+/// Looks at a script that was read.
+fn look_at_script<R: Abort>(rt: &R, script: Script) -> Result<(), Fail> {
+    look_at_head(rt, &script);
+    look_at_body(rt, &script)
+}
+
 #[test]
 fn a_script_is_read(rt: HostRuntime) -> Result<(), Fail> {
     let bytes = behind_head(
         rt.alloc(),
         b"# what follows is run\r\n\n a: begin \r\nb:\tselect * from t where v = 1\na:commit",
     )?;
-    let script = read_script(rt.alloc(), bytes.as_slice(), 1, 0)
-        .ok()
-        .ok_or("the bytes are a script")?;
-    assert_eq!(rt; script.nodes, 1);
-    assert_eq!(rt; script.cluster.as_bytes(), b"main".as_slice());
-    assert_eq!(rt; script.sessions.len(), 2);
-    assert_eq!(rt; script.tables.len(), 1);
-    let [first, second, third] = script.body.as_slice() else {
-        return Err("the body has three lines".into());
-    };
-    assert_eq!(rt; (first.line, second.line, third.line), (7, 8, 9));
-    let Act::Say { session, text } = &second.act else {
-        return Err("the second line is a statement".into());
-    };
-    assert_eq!(rt; session.as_bytes(), b"b".as_slice());
-    assert_eq!(rt; text.as_bytes(), b"select * from t where v = 1".as_slice());
-    Ok(())
+    look_at(&rt, rt.alloc(), bytes.as_slice())
+}
+
+/// Asserts that these bytes are refused at that line for that reason.
+fn refused<R: Abort>(rt: &R, alloc: Global, bytes: &[u8], line: u64, why: u8) {
+    assert!(rt;
+        is_refused(alloc, bytes, line, why),
+        "line {line}, reason {why}"
+    );
+}
+
+/// Asserts that a line behind the head, the fifth, is refused for that reason.
+fn fifth_refused<R: Abort>(rt: &R, alloc: Global, line: &[u8], why: u8) {
+    assert!(rt; is_fifth_refused(alloc, line, why), "reason {why}");
+}
+
+/// Asserts that these bytes are a script.
+fn is_one<R: Abort>(rt: &R, alloc: Global, bytes: &[u8]) {
+    assert!(rt; is_script(alloc, bytes));
+}
+
+/// Asserts that the head with a fifth line is a script.
+fn fifth_read<R: Abort>(rt: &R, alloc: Global, line: &[u8]) {
+    assert!(rt; is_fifth_read(alloc, line));
 }
 
 #[test]
 fn each_reason_is_told(rt: HostRuntime) {
-    assert!(rt; is_refused(rt.alloc(), b"", 1, 4));
-    assert!(rt; is_refused(rt.alloc(), b"# a comment\n\n", 3, 4));
-    assert!(rt; is_refused(rt.alloc(), b"\xff", 1, 1));
-    assert!(rt; is_refused(rt.alloc(), b"nodes 1\nhello", 2, 3));
-    assert!(rt; is_refused(rt.alloc(), b"nodes 8", 1, 4));
-    assert!(rt; is_refused(rt.alloc(), b"nodes 1\nsession a 1\nsession a 1", 3, 5));
-    assert!(rt; is_refused(rt.alloc(), b"nodes 1\nsession a 2", 2, 6));
-    assert!(rt; is_refused(rt.alloc(), b"nodes 1\ncreate table t(id real)", 2, 7));
-    assert!(rt; is_refused(rt.alloc(), b"nodes 1\nworkers 65", 2, 8));
-    assert!(rt; is_refused(rt.alloc(), b"nodes 2", 1, 10));
+    refused(&rt, rt.alloc(), b"", 1, 4);
+    refused(&rt, rt.alloc(), b"# a comment\n\n", 3, 4);
+    refused(&rt, rt.alloc(), b"\xff", 1, 1);
+    refused(&rt, rt.alloc(), b"nodes 1\nhello", 2, 3);
+    refused(&rt, rt.alloc(), b"nodes 8", 1, 4);
+    refused(&rt, rt.alloc(), b"nodes 1\nsession a 1\nsession a 1", 3, 5);
+    refused(&rt, rt.alloc(), b"nodes 1\nsession a 2", 2, 6);
+    refused(&rt, rt.alloc(), b"nodes 1\ncreate table t(id real)", 2, 7);
+    refused(&rt, rt.alloc(), b"nodes 1\nworkers 65", 2, 8);
+    refused(&rt, rt.alloc(), b"nodes 2", 1, 10);
 }
 
 #[test]
 fn the_first_line_is_told_with_its_smallest_reason(rt: HostRuntime) {
-    assert!(rt; is_refused(rt.alloc(), b"nodes 8\n\xff", 1, 4));
-    assert!(rt; is_refused(rt.alloc(), b"nodes 1\nworkers 0\nhello", 2, 8));
-    assert!(rt; is_refused(rt.alloc(), b"nodes 1\ncluster c\nsession A 1", 2, 10));
-    assert!(rt; is_refused(rt.alloc(), b"hello \xff", 1, 1));
-    assert!(rt; is_refused(rt.alloc(), b"session A 9", 1, 3));
-    assert!(rt; is_refused(rt.alloc(), b"nodes 1\nsession A 9", 2, 5));
-    assert!(rt; is_refused(rt.alloc(), b"nodes 1\nsession a 9 hasql", 2, 6));
-    assert!(rt; is_refused(rt.alloc(), b"nodes 1\nsession a 1 hasql", 2, 10));
-    assert!(rt; is_refused(rt.alloc(), b"nodes 1\nb: begin", 2, 5));
+    refused(&rt, rt.alloc(), b"nodes 8\n\xff", 1, 4);
+    refused(&rt, rt.alloc(), b"nodes 1\nworkers 0\nhello", 2, 8);
+    refused(&rt, rt.alloc(), b"nodes 1\ncluster c\nsession A 1", 2, 10);
+    refused(&rt, rt.alloc(), b"hello \xff", 1, 1);
+    refused(&rt, rt.alloc(), b"session A 9", 1, 3);
+    refused(&rt, rt.alloc(), b"nodes 1\nsession A 9", 2, 5);
+    refused(&rt, rt.alloc(), b"nodes 1\nsession a 9 hasql", 2, 6);
+    refused(&rt, rt.alloc(), b"nodes 1\nsession a 1 hasql", 2, 10);
+    refused(&rt, rt.alloc(), b"nodes 1\nb: begin", 2, 5);
 }
 
 #[test]
 fn lines_are_cut_and_counted(rt: HostRuntime) -> Result<(), Fail> {
-    assert!(rt; is_script(rt.alloc(), b"nodes 1"));
-    assert!(rt; is_script(rt.alloc(), b"\n# one\r\n \t\n\tnodes\t 1 \r\nsession a 1"));
-    assert!(rt; is_refused(rt.alloc(), b"nodes 1\r\r\n", 1, 3));
-    assert!(rt; is_refused(rt.alloc(), b"# \xff\nnodes 1", 1, 1));
-    assert!(rt; is_refused(rt.alloc(), b"\n\nnodes 9", 3, 4));
+    is_one(&rt, rt.alloc(), b"nodes 1");
+    is_one(
+        &rt,
+        rt.alloc(),
+        b"\n# one\r\n \t\n\tnodes\t 1 \r\nsession a 1",
+    );
+    refused(&rt, rt.alloc(), b"nodes 1\r\r\n", 1, 3);
+    refused(&rt, rt.alloc(), b"# \xff\nnodes 1", 1, 1);
+    refused(&rt, rt.alloc(), b"\n\nnodes 9", 3, 4);
     let long = comment(rt.alloc(), 65_535)?;
-    assert!(rt; is_refused(rt.alloc(), long.as_slice(), 2, 4));
+    refused(&rt, rt.alloc(), long.as_slice(), 2, 4);
     let longer = comment(rt.alloc(), 65_536)?;
-    assert!(rt; is_refused(rt.alloc(), longer.as_slice(), 1, 2));
+    refused(&rt, rt.alloc(), longer.as_slice(), 1, 2);
     Ok(())
 }
 
 #[test]
 fn parts_stand_in_their_order(rt: HostRuntime) {
-    assert!(rt; is_refused(rt.alloc(), b"a: begin", 1, 3));
-    assert!(rt; is_refused(rt.alloc(), b"nodes 1\nnodes 1", 2, 3));
-    assert!(rt; is_refused(rt.alloc(), b"nodes 1\nsession a 1\ncluster c", 3, 3));
-    assert!(rt; is_refused(rt.alloc(), b"nodes 1\nsession a 1\nworkers 2", 3, 3));
-    assert!(rt; is_fifth_refused(rt.alloc(), b"session c 1", 3));
-    assert!(rt;
-        is_refused(
-            rt.alloc(),
-            b"nodes 1\nsession a 1\na: begin\ncreate table t(id integer)",
-            4,
-            3
-        )
+    refused(&rt, rt.alloc(), b"a: begin", 1, 3);
+    refused(&rt, rt.alloc(), b"nodes 1\nnodes 1", 2, 3);
+    refused(&rt, rt.alloc(), b"nodes 1\nsession a 1\ncluster c", 3, 3);
+    refused(&rt, rt.alloc(), b"nodes 1\nsession a 1\nworkers 2", 3, 3);
+    fifth_refused(&rt, rt.alloc(), b"session c 1", 3);
+    refused(
+        &rt,
+        rt.alloc(),
+        b"nodes 1\nsession a 1\na: begin\ncreate table t(id integer)",
+        4,
+        3,
     );
-    assert!(rt; is_refused(rt.alloc(), b"nodes 1\nsession a 1\na: begin\nwatch t", 4, 3));
+    refused(
+        &rt,
+        rt.alloc(),
+        b"nodes 1\nsession a 1\na: begin\nwatch t",
+        4,
+        3,
+    );
 }
 
 #[test]
 fn body_lines_are_judged(rt: HostRuntime) {
-    assert!(rt; is_fifth_refused(rt.alloc(), b"a : begin", 3));
-    assert!(rt; is_fifth_refused(rt.alloc(), b"1a: begin", 3));
-    assert!(rt; is_fifth_refused(rt.alloc(), b"create: begin", 5));
-    assert!(rt; is_fifth_refused(rt.alloc(), b"createx t", 3));
-    assert!(rt; is_fifth_refused(rt.alloc(), b"A: begin", 5));
-    assert!(rt; is_fifth_refused(rt.alloc(), b"stop 2", 6));
-    assert!(rt; is_fifth_refused(rt.alloc(), b"start 0", 6));
-    assert!(rt; is_fifth_refused(rt.alloc(), b"stop 1", 10));
-    assert!(rt; is_fifth_refused(rt.alloc(), b"barrier x", 3));
-    assert!(rt; is_fifth_refused(rt.alloc(), b"feed", 10));
+    fifth_refused(&rt, rt.alloc(), b"a : begin", 3);
+    fifth_refused(&rt, rt.alloc(), b"1a: begin", 3);
+    fifth_refused(&rt, rt.alloc(), b"create: begin", 5);
+    fifth_refused(&rt, rt.alloc(), b"createx t", 3);
+    fifth_refused(&rt, rt.alloc(), b"A: begin", 5);
+    fifth_refused(&rt, rt.alloc(), b"stop 2", 6);
+    fifth_refused(&rt, rt.alloc(), b"start 0", 6);
+    fifth_refused(&rt, rt.alloc(), b"stop 1", 10);
+    fifth_refused(&rt, rt.alloc(), b"barrier x", 3);
+    fifth_refused(&rt, rt.alloc(), b"feed", 10);
 }
 
 #[test]
 fn arms_are_judged(rt: HostRuntime) {
-    assert!(rt; is_fifth_refused(rt.alloc(), b"arm a row 0", 3));
-    assert!(rt; is_fifth_refused(rt.alloc(), b"arm a row 1", 10));
-    assert!(rt; is_fifth_refused(rt.alloc(), b"arm c ship", 5));
-    assert!(rt; is_fifth_refused(rt.alloc(), b"arm A append", 5));
-    assert!(rt; is_fifth_refused(rt.alloc(), b"arm a append x", 3));
-    assert!(rt; is_fifth_refused(rt.alloc(), b"arm a-b append", 3));
-    assert!(rt; is_fifth_refused(rt.alloc(), b"arm a row 18446744073709551615", 10));
-    assert!(rt; is_fifth_refused(rt.alloc(), b"arm a row 18446744073709551616", 3));
+    fifth_refused(&rt, rt.alloc(), b"arm a row 0", 3);
+    fifth_refused(&rt, rt.alloc(), b"arm a row 1", 10);
+    fifth_refused(&rt, rt.alloc(), b"arm c ship", 5);
+    fifth_refused(&rt, rt.alloc(), b"arm A append", 5);
+    fifth_refused(&rt, rt.alloc(), b"arm a append x", 3);
+    fifth_refused(&rt, rt.alloc(), b"arm a-b append", 3);
+    fifth_refused(&rt, rt.alloc(), b"arm a row 18446744073709551615", 10);
+    fifth_refused(&rt, rt.alloc(), b"arm a row 18446744073709551616", 3);
 }
 
 #[test]
 fn statements_are_judged(rt: HostRuntime) {
-    assert!(rt; is_fifth_refused(rt.alloc(), b"a: set transaction serializable", 10));
-    assert!(rt; is_fifth_refused(rt.alloc(), b"a: SET Transaction SERIALIZABLE ;", 10));
-    assert!(rt; is_fifth_refused(rt.alloc(), b"a: selectv * from t", 10));
-    assert!(rt;
-        is_fifth_refused(
-            rt.alloc(),
-            b"a: SELECTV count(*) from nowhere group by x",
-            10
-        )
+    fifth_refused(&rt, rt.alloc(), b"a: set transaction serializable", 10);
+    fifth_refused(&rt, rt.alloc(), b"a: SET Transaction SERIALIZABLE ;", 10);
+    fifth_refused(&rt, rt.alloc(), b"a: selectv * from t", 10);
+    fifth_refused(
+        &rt,
+        rt.alloc(),
+        b"a: SELECTV count(*) from nowhere group by x",
+        10,
     );
-    assert!(rt; is_fifth_read(rt.alloc(), b"a: set transaction snapshot"));
-    assert!(rt; is_fifth_read(rt.alloc(), b"a: select * from t"));
-    assert!(rt; is_fifth_read(rt.alloc(), b"a: insert into t values('selectv')"));
-    assert!(rt; is_fifth_read(rt.alloc(), b"a: selectv from t"));
-    assert!(rt; is_fifth_read(rt.alloc(), b"a: set transaction serializable now"));
-    assert!(rt; is_fifth_read(rt.alloc(), b"a: update nowhere set w = 1"));
-    assert!(rt; is_fifth_read(rt.alloc(), b"a: hello"));
-    assert!(rt; is_fifth_read(rt.alloc(), b"a:"));
+    fifth_read(&rt, rt.alloc(), b"a: set transaction snapshot");
+    fifth_read(&rt, rt.alloc(), b"a: select * from t");
+    fifth_read(&rt, rt.alloc(), b"a: insert into t values('selectv')");
+    fifth_read(&rt, rt.alloc(), b"a: selectv from t");
+    fifth_read(&rt, rt.alloc(), b"a: set transaction serializable now");
+    fifth_read(&rt, rt.alloc(), b"a: update nowhere set w = 1");
+    fifth_read(&rt, rt.alloc(), b"a: hello");
+    fifth_read(&rt, rt.alloc(), b"a:");
 }
 
 #[test]
 fn numbers_are_judged(rt: HostRuntime) {
-    assert!(rt; is_refused(rt.alloc(), b"nodes 01", 1, 3));
-    assert!(rt; is_refused(rt.alloc(), b"nodes 0", 1, 4));
-    assert!(rt; is_refused(rt.alloc(), b"nodes +1", 1, 3));
-    assert!(rt; is_refused(rt.alloc(), b"nodes 1 1", 1, 3));
-    assert!(rt; is_refused(rt.alloc(), b"nodes 18446744073709551615", 1, 4));
-    assert!(rt; is_refused(rt.alloc(), b"nodes 18446744073709551616", 1, 3));
-    assert!(rt; is_refused(rt.alloc(), b"nodes 1\nworkers 0", 2, 8));
-    assert!(rt; is_refused(rt.alloc(), b"nodes 1\nworkers 64", 2, 10));
+    refused(&rt, rt.alloc(), b"nodes 01", 1, 3);
+    refused(&rt, rt.alloc(), b"nodes 0", 1, 4);
+    refused(&rt, rt.alloc(), b"nodes +1", 1, 3);
+    refused(&rt, rt.alloc(), b"nodes 1 1", 1, 3);
+    refused(&rt, rt.alloc(), b"nodes 18446744073709551615", 1, 4);
+    refused(&rt, rt.alloc(), b"nodes 18446744073709551616", 1, 3);
+    refused(&rt, rt.alloc(), b"nodes 1\nworkers 0", 2, 8);
+    refused(&rt, rt.alloc(), b"nodes 1\nworkers 64", 2, 10);
 }
 
 #[test]
 fn names_are_judged(rt: HostRuntime) {
-    assert!(rt;
-        is_script(
-            rt.alloc(),
-            b"nodes 1\nsession a2345678901234567890123456789012 1"
-        )
+    is_one(
+        &rt,
+        rt.alloc(),
+        b"nodes 1\nsession a2345678901234567890123456789012 1",
     );
-    assert!(rt;
-        is_refused(
-            rt.alloc(),
-            b"nodes 1\nsession a23456789012345678901234567890123 1",
-            2,
-            5
-        )
+    refused(
+        &rt,
+        rt.alloc(),
+        b"nodes 1\nsession a23456789012345678901234567890123 1",
+        2,
+        5,
     );
-    assert!(rt;
-        is_refused(
-            rt.alloc(),
-            b"nodes 1\ncluster a23456789012345678901234567890123",
-            2,
-            3
-        )
+    refused(
+        &rt,
+        rt.alloc(),
+        b"nodes 1\ncluster a23456789012345678901234567890123",
+        2,
+        3,
     );
-    assert!(rt; is_refused(rt.alloc(), b"nodes 1\ncluster A", 2, 3));
-    assert!(rt; is_refused(rt.alloc(), b"nodes 1\nsession a.b 1", 2, 3));
-    assert!(rt; is_fifth_refused(rt.alloc(), b"watch T", 7));
-    assert!(rt; is_fifth_refused(rt.alloc(), b"watch u", 7));
-    assert!(rt; is_fifth_refused(rt.alloc(), b"watch t", 10));
-    assert!(rt; is_fifth_refused(rt.alloc(), b"watch t u", 3));
+    refused(&rt, rt.alloc(), b"nodes 1\ncluster A", 2, 3);
+    refused(&rt, rt.alloc(), b"nodes 1\nsession a.b 1", 2, 3);
+    fifth_refused(&rt, rt.alloc(), b"watch T", 7);
+    fifth_refused(&rt, rt.alloc(), b"watch u", 7);
+    fifth_refused(&rt, rt.alloc(), b"watch t", 10);
+    fifth_refused(&rt, rt.alloc(), b"watch t u", 3);
 }
 
 #[test]
 fn tables_are_judged(rt: HostRuntime) {
-    assert!(rt;
-        is_script(
-            rt.alloc(),
-            b"nodes 1\nCreate TABLE t(id INT not null, key k (id))"
-        )
+    is_one(
+        &rt,
+        rt.alloc(),
+        b"nodes 1\nCreate TABLE t(id INT not null, key k (id))",
     );
-    assert!(rt; is_fifth_refused(rt.alloc(), b"create table t(id integer)", 7));
-    assert!(rt; is_fifth_read(rt.alloc(), b"create table u(a text, b blob)"));
-    assert!(rt; is_fifth_refused(rt.alloc(), b"create(", 7));
-    assert!(rt;
-        is_fifth_refused(
-            rt.alloc(),
-            b"create table u(a integer, unique a (a), key a (a))",
-            7
-        )
+    fifth_refused(&rt, rt.alloc(), b"create table t(id integer)", 7);
+    fifth_read(&rt, rt.alloc(), b"create table u(a text, b blob)");
+    fifth_refused(&rt, rt.alloc(), b"create(", 7);
+    fifth_refused(
+        &rt,
+        rt.alloc(),
+        b"create table u(a integer, unique a (a), key a (a))",
+        7,
     );
 }
 
 #[test]
 fn limits_are_told(rt: HostRuntime) -> Result<(), Fail> {
     let sessions = numbered(rt.alloc(), b"session s", 64, b" 1\n")?;
-    assert!(rt; is_script(rt.alloc(), sessions.as_slice()));
+    is_one(&rt, rt.alloc(), sessions.as_slice());
     let sessions = numbered(rt.alloc(), b"session s", 65, b" 1\n")?;
-    assert!(rt; is_refused(rt.alloc(), sessions.as_slice(), 66, 8));
+    refused(&rt, rt.alloc(), sessions.as_slice(), 66, 8);
     let tables = numbered(rt.alloc(), b"create table t", 64, b"(v integer)\n")?;
-    assert!(rt; is_script(rt.alloc(), tables.as_slice()));
+    is_one(&rt, rt.alloc(), tables.as_slice());
     let tables = numbered(rt.alloc(), b"create table t", 65, b"(v integer)\n")?;
-    assert!(rt; is_refused(rt.alloc(), tables.as_slice(), 66, 8));
+    refused(&rt, rt.alloc(), tables.as_slice(), 66, 8);
     Ok(())
+}
+
+/// Whether these bytes are refused with so many stores and consumers at a line for a reason.
+fn is_refused_with(alloc: Global, bytes: &[u8], given: (u64, u64), told: (u64, u8)) -> bool {
+    match read_script(alloc, bytes, given.0, given.1) {
+        Err(ScriptStop::Refused { line, why }) => (line, why) == told,
+        _ => false,
+    }
+}
+
+/// Asserts that these bytes are refused with so many stores and consumers at a line for a reason.
+fn refused_with<R: Abort>(rt: &R, alloc: Global, bytes: &[u8], given: (u64, u64), told: (u64, u8)) {
+    assert!(rt;
+        is_refused_with(alloc, bytes, given, told),
+        "reason {}",
+        told.1
+    );
 }
 
 #[test]
 fn stores_and_consumers_are_counted(rt: HostRuntime) -> Result<(), Fail> {
-    let none = read_script(rt.alloc(), b"nodes 1", 0, 0);
-    assert!(rt; matches!(none, Err(ScriptStop::Refused { line: 1, why: 8 })));
-    let few = read_script(rt.alloc(), b"\nnodes 7", 6, 0);
-    assert!(rt; matches!(few, Err(ScriptStop::Refused { line: 2, why: 8 })));
-    let enough = read_script(rt.alloc(), b"nodes 7", 7, 0);
-    assert!(rt; matches!(enough, Err(ScriptStop::Refused { line: 1, why: 10 })));
+    refused_with(&rt, rt.alloc(), b"nodes 1", (0, 0), (1, 8));
+    refused_with(&rt, rt.alloc(), b"\nnodes 7", (6, 0), (2, 8));
+    refused_with(&rt, rt.alloc(), b"nodes 7", (7, 0), (1, 10));
     let watched = behind_head(rt.alloc(), b"watch t")?;
-    let unheard = read_script(rt.alloc(), watched.as_slice(), 1, 0);
-    assert!(rt; matches!(unheard, Err(ScriptStop::Refused { line: 5, why: 8 })));
+    refused_with(&rt, rt.alloc(), watched.as_slice(), (1, 0), (5, 8));
     Ok(())
 }

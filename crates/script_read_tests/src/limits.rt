@@ -1,6 +1,6 @@
 //! Scripts with as many sessions, tables, columns and keys as there may be, and with one more.
 
-use super::told::{first_refusal, unlike_case};
+use super::told::{first_refusal, none_unlike, unlike_case};
 use std::alloc::{AllocError, Global};
 use std::test::Fail;
 
@@ -214,15 +214,25 @@ static KEYS: [Many; 7] = [
     },
 ];
 
+/// Adds a text with its number.
+fn add_one(alloc: Global, bytes: &mut Vec<u8>, many: &Many, index: u64) -> Result<(), AllocError> {
+    bytes.extend_from_slice(many.before)?;
+    bytes.extend_from_slice(index.to_string(alloc)?.as_bytes())?;
+    bytes.extend_from_slice(many.after)
+}
+
+/// Adds what is behind the front of such a script.
+fn add_all(alloc: Global, bytes: &mut Vec<u8>, many: &Many) -> Result<(), AllocError> {
+    for index in 0..many.count {
+        add_one(alloc, bytes, many, index)?;
+    }
+    bytes.extend_from_slice(many.behind)
+}
+
 /// The bytes of such a script.
 fn written(alloc: Global, many: &Many) -> Result<Vec<u8>, AllocError> {
     let mut bytes = Vec::from_slice(alloc, many.front)?;
-    for index in 0..many.count {
-        bytes.extend_from_slice(many.before)?;
-        bytes.extend_from_slice(index.to_string(alloc)?.as_bytes())?;
-        bytes.extend_from_slice(many.after)?;
-    }
-    bytes.extend_from_slice(many.behind)?;
+    add_all(alloc, &mut bytes, many)?;
     Ok(bytes)
 }
 
@@ -239,20 +249,20 @@ fn unlike_many(alloc: Global, all: &[Many]) -> Result<Option<usize>, AllocError>
 
 #[test]
 fn workers_and_watches_are_counted(rt: HostRuntime) -> Result<(), Fail> {
-    assert_eq!(rt; unlike_case(rt.alloc(), &FEW)?, None);
+    none_unlike(&rt, unlike_case(rt.alloc(), &FEW)?);
     Ok(())
 }
 
 #[test]
 fn limits_of_lines_are_told(rt: HostRuntime) -> Result<(), Fail> {
-    assert_eq!(rt; unlike_many(rt.alloc(), &SESSIONS)?, None);
-    assert_eq!(rt; unlike_many(rt.alloc(), &TABLES)?, None);
+    none_unlike(&rt, unlike_many(rt.alloc(), &SESSIONS)?);
+    none_unlike(&rt, unlike_many(rt.alloc(), &TABLES)?);
     Ok(())
 }
 
 #[test]
 fn limits_of_tables_are_told(rt: HostRuntime) -> Result<(), Fail> {
-    assert_eq!(rt; unlike_many(rt.alloc(), &COLUMNS)?, None);
-    assert_eq!(rt; unlike_many(rt.alloc(), &KEYS)?, None);
+    none_unlike(&rt, unlike_many(rt.alloc(), &COLUMNS)?);
+    none_unlike(&rt, unlike_many(rt.alloc(), &KEYS)?);
     Ok(())
 }

@@ -1,6 +1,6 @@
 //! Names and numbers at their limits, in each place where one stands.
 
-use super::told::is_told;
+use super::told::{is_told, none_unlike};
 use std::alloc::{AllocError, Global};
 use std::test::Fail;
 
@@ -131,12 +131,12 @@ fn unlike_place(
 
 #[test]
 fn names_are_judged_in_each_place(rt: HostRuntime) -> Result<(), Fail> {
-    assert_eq!(rt; unlike_place(rt.alloc(), &OF_NAMES, &NAMES)?, None);
+    none_unlike(&rt, unlike_place(rt.alloc(), &OF_NAMES, &NAMES)?);
     Ok(())
 }
 
 #[test]
 fn numbers_are_judged_in_each_place(rt: HostRuntime) -> Result<(), Fail> {
-    assert_eq!(rt; unlike_place(rt.alloc(), &OF_NUMBERS, &NUMBERS)?, None);
+    none_unlike(&rt, unlike_place(rt.alloc(), &OF_NUMBERS, &NUMBERS)?);
     Ok(())
 }

@@ -1,6 +1,6 @@
 //! Each reason alone and beside others, the ends of lines, and lines that are nearly too long.
 
-use super::told::{first_refusal, unlike_case};
+use super::told::{first_refusal, none_unlike, unlike_case};
 use std::alloc::{AllocError, Global};
 use std::test::Fail;
 
@@ -194,30 +194,30 @@ fn unlike_long(alloc: Global, all: &[Long]) -> Result<Option<usize>, AllocError>
 
 #[test]
 fn each_reason_is_told_of_its_smallest_script(rt: HostRuntime) -> Result<(), Fail> {
-    assert_eq!(rt; unlike_case(rt.alloc(), &SMALLEST)?, None);
+    none_unlike(&rt, unlike_case(rt.alloc(), &SMALLEST)?);
     Ok(())
 }
 
 #[test]
 fn the_first_line_with_a_reason_is_told(rt: HostRuntime) -> Result<(), Fail> {
-    assert_eq!(rt; unlike_case(rt.alloc(), &BEHIND)?, None);
+    none_unlike(&rt, unlike_case(rt.alloc(), &BEHIND)?);
     Ok(())
 }
 
 #[test]
 fn the_smaller_of_two_reasons_is_told(rt: HostRuntime) -> Result<(), Fail> {
-    assert_eq!(rt; unlike_case(rt.alloc(), &TWO)?, None);
+    none_unlike(&rt, unlike_case(rt.alloc(), &TWO)?);
     Ok(())
 }
 
 #[test]
 fn ends_of_lines_are_no_part_of_them(rt: HostRuntime) -> Result<(), Fail> {
-    assert_eq!(rt; unlike_case(rt.alloc(), &ENDS)?, None);
+    none_unlike(&rt, unlike_case(rt.alloc(), &ENDS)?);
     Ok(())
 }
 
 #[test]
 fn long_lines_are_told(rt: HostRuntime) -> Result<(), Fail> {
-    assert_eq!(rt; unlike_long(rt.alloc(), &LONG)?, None);
+    none_unlike(&rt, unlike_long(rt.alloc(), &LONG)?);
     Ok(())
 }

@@ -267,16 +267,30 @@ fn has_name(names: &str, wanted: &str) -> bool {
 /// The table that a `create` line of these tokens defines, if it is a lawful one.
 pub(crate) fn table_of(alloc: Global, words: &str) -> Result<Option<Table>, AllocError> {
     let lower = words.to_ascii_lowercase(alloc)?;
-    let Some((name, parts)) = name_and_parts(lower.as_str()) else {
-        return Ok(None);
-    };
-    let mut table = Table::named(alloc, name)?;
+    match name_and_parts(lower.as_str()) {
+        Some((name, parts)) => table_with(alloc, name, parts),
+        None => Ok(None),
+    }
+}
+
+/// The table of that name with these parts.
+fn table_with(alloc: Global, name: &str, parts: &str) -> Result<Option<Table>, AllocError> {
     let parts = cut_apart(alloc, parts)?;
-    for part in parts.as_str().split('\n') {
+    let mut table = Table::named(alloc, name)?;
+    let are_added = add_parts(alloc, &mut table, parts.as_str())?;
+    let lawful = are_added
+        && is_free(name)
+        && table.are_columns_lawful()
+        && table.are_keys_lawful();
+    Ok(if lawful { Some(table) } else { None })
+}
+
+/// Adds parts to a table, and tells whether each of them can be one.
+fn add_parts(alloc: Global, table: &mut Table, parts: &str) -> Result<bool, AllocError> {
+    for part in parts.split('\n') {
         if !table.add_part(alloc, part)? {
-            return Ok(None);
+            return Ok(false);
         }
     }
-    let lawful = is_free(name) && table.are_columns_lawful() && table.are_keys_lawful();
-    Ok(if lawful { Some(table) } else { None })
+    Ok(true)
 }

@@ -3,6 +3,7 @@
 use super::second_reader::{STORES, second_refusal};
 use script_read::{ScriptStop, read_script};
 use std::alloc::{AllocError, Global};
+use std::process::Abort;
 
 /// The consumers that there are, more than there may be watches.
 const CONSUMERS: u64 = 16;
@@ -36,4 +37,9 @@ pub(crate) fn unlike_case(
         }
     }
     Ok(None)
+}
+
+/// Asserts that no script is told unlike. An assertion in a test of its own is far dearer to prove.
+pub(crate) fn none_unlike<R: Abort>(rt: &R, at: Option<usize>) {
+    assert_eq!(rt; at, None);
 }

@@ -18,6 +18,3 @@ mod keys;
 mod pairs;
 
 pub use pairs::{PairFault, SortedPairs};
-
-#[cfg(test)]
-mod tests;

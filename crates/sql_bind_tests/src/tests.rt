@@ -9,6 +9,7 @@ use sql_bind::{BindFault, bind};
 use sql_grammar::Stmt;
 use sql_reader::{ReadStop, read};
 use std::alloc::{AllocError, Global};
+use std::process::Abort;
 use std::test::Fail;
 use table_read::{TableStop, read_table};
 
@@ -61,30 +62,45 @@ fn told(alloc: Global, schema: &Schema, text: &str) -> Result<String, Fail> {
     Ok(first)
 }
 
+/// The first of these statements of which something else is told. Each stands in a line of its own, with what it means
+/// behind an arrow.
+fn first_otherwise(alloc: Global, schema: &Schema, lines: &str) -> Result<String, Fail> {
+    for line in lines.split("\n") {
+        let (text, want) = line.split_once(" => ").unwrap_or((line, ""));
+        let found = told(alloc, schema, text)?;
+        if found.as_str() != want {
+            return Ok(format!(in alloc; "{text} => {found}")?);
+        }
+    }
+    Ok(String::new(alloc))
+}
+
+/// Asserts that there is nothing that differs. An assertion in a test of its own is far dearer to prove.
+fn none_differs<R: Abort>(rt: &R, differs: &str) {
+    assert_eq!(rt; differs, "");
+}
+
 #[test]
 fn kinds_of_errors(rt: HostRuntime) -> Result<(), Fail> {
     let schema = schema(rt.alloc(), &TABLES)?;
-    for (text, want) in &ALONE {
-        assert_eq!(rt; told(rt.alloc(), &schema, *text)?.as_str(), *want, "{text}");
-    }
+    none_differs(&rt, first_otherwise(rt.alloc(), &schema, ALONE)?.as_str());
     Ok(())
 }
 
 #[test]
 fn pairs_of_errors(rt: HostRuntime) -> Result<(), Fail> {
     let schema = schema(rt.alloc(), &TABLES)?;
-    for (text, want) in &PAIRS {
-        assert_eq!(rt; told(rt.alloc(), &schema, *text)?.as_str(), *want, "{text}");
-    }
+    none_differs(&rt, first_otherwise(rt.alloc(), &schema, PAIRS)?.as_str());
     Ok(())
 }
 
 #[test]
 fn meanings(rt: HostRuntime) -> Result<(), Fail> {
     let schema = schema(rt.alloc(), &TABLES)?;
-    for (text, want) in &MEANINGS {
-        assert_eq!(rt; told(rt.alloc(), &schema, *text)?.as_str(), *want, "{text}");
-    }
+    none_differs(
+        &rt,
+        first_otherwise(rt.alloc(), &schema, MEANINGS)?.as_str(),
+    );
     Ok(())
 }
 
@@ -92,8 +108,9 @@ fn meanings(rt: HostRuntime) -> Result<(), Fail> {
 #[test]
 fn documented_errors(rt: HostRuntime) -> Result<(), Fail> {
     let schema = schema(rt.alloc(), &ORDERS)?;
-    for (text, want) in &DOCUMENTED {
-        assert_eq!(rt; told(rt.alloc(), &schema, *text)?.as_str(), *want, "{text}");
-    }
+    none_differs(
+        &rt,
+        first_otherwise(rt.alloc(), &schema, DOCUMENTED)?.as_str(),
+    );
     Ok(())
 }

@@ -4,6 +4,7 @@ use cdb_values::{List, Row, Text, Value, Version};
 use sql_bind::{BoundColumn, BoundItem, BoundKey, BoundSelect};
 use sql_eval::{EvalFault, shape};
 use std::alloc::{AllocError, Global};
+use std::process::Abort;
 
 /// A query, but for FROM and WHERE: the combinations are handed in.
 #[derive(Drop)]
@@ -118,4 +119,9 @@ pub(crate) fn answer(
         Err(EvalFault::Overflow) => String::from_str(alloc, "overflow"),
         Err(EvalFault::NoMemory) => String::from_str(alloc, "no memory"),
     }
+}
+
+/// Asserts an answer. An assertion in a test of its own is far dearer to prove.
+pub(crate) fn is_answer<R: Abort>(rt: &R, found: &str, wanted: &str, of: &str) {
+    assert_eq!(rt; found, wanted, "{of}");
 }

@@ -6,6 +6,7 @@ use sql_eval::Truth::{No, Unknown, Yes};
 use sql_eval::{Truth, and3, compare, not3, or3};
 use std::alloc::{AllocError, Global};
 use std::cmp::Ordering;
+use std::process::Abort;
 use std::test::Fail;
 
 /// Two truths, what AND makes of them, and what OR does.
@@ -21,14 +22,29 @@ static PAIRS: [(Truth, Truth, Truth, Truth); 9] = [
     (Yes, Yes, Yes, Yes),
 ];
 
+/// Asserts a truth. An assertion in a test of its own is far dearer to prove.
+fn is_truth<R: Abort>(rt: &R, found: Truth, wanted: Truth) {
+    assert_eq!(rt; found, wanted);
+}
+
+/// Asserts a truth of two truths.
+fn is_truth_of<R: Abort>(rt: &R, found: Truth, wanted: Truth, a: Truth, b: Truth) {
+    assert_eq!(rt; found, wanted, "of {a:?} and {b:?}");
+}
+
+/// Asserts a truth of a comparison of two values, by their places.
+fn is_truth_at<R: Abort>(rt: &R, found: Truth, wanted: Truth, op: Cmp, i: usize, j: usize) {
+    assert_eq!(rt; found, wanted, "{op:?} of {i} and {j}");
+}
+
 #[test]
 fn the_truth_tables(rt: HostRuntime) {
-    assert_eq!(rt; not3(No), Yes);
-    assert_eq!(rt; not3(Unknown), Unknown);
-    assert_eq!(rt; not3(Yes), No);
+    is_truth(&rt, not3(No), Yes);
+    is_truth(&rt, not3(Unknown), Unknown);
+    is_truth(&rt, not3(Yes), No);
     for (a, b, both, either) in &PAIRS {
-        assert_eq!(rt; and3(*a, *b), *both, "{a:?} and {b:?}");
-        assert_eq!(rt; or3(*a, *b), *either, "{a:?} or {b:?}");
+        is_truth_of(&rt, and3(*a, *b), *both, *a, *b);
+        is_truth_of(&rt, or3(*a, *b), *either, *a, *b);
     }
 }
 
@@ -75,12 +91,12 @@ fn comparisons_go_by_the_order_of_values(rt: HostRuntime) -> Result<(), Fail> {
         for (i, a) in values.iter().enumerate() {
             for (j, b) in values.iter().enumerate() {
                 let wanted = by_order(i.cmp(&j), *less, *equal, *greater);
-                assert_eq!(rt; compare(*op, a, b), wanted, "{op:?} of {i} and {j}");
+                is_truth_at(&rt, compare(*op, a, b), wanted, *op, i, j);
             }
-            assert_eq!(rt; compare(*op, a, &Value::Null), Unknown);
-            assert_eq!(rt; compare(*op, &Value::Null, a), Unknown);
+            is_truth(&rt, compare(*op, a, &Value::Null), Unknown);
+            is_truth(&rt, compare(*op, &Value::Null, a), Unknown);
         }
-        assert_eq!(rt; compare(*op, &Value::Null, &Value::Null), Unknown);
+        is_truth(&rt, compare(*op, &Value::Null, &Value::Null), Unknown);
     }
     Ok(())
 }

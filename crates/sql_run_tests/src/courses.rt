@@ -3,7 +3,7 @@
 
 use crate::answers::{Kept, Write, answered, takes};
 use crate::statements::{Said, put_said};
-use crate::tables::{TABLES, Table, table_name};
+use crate::tables::{Table, table_name, tables};
 use crate::values::{Cell, Cells, order};
 use std::alloc::{AllocError, Global};
 
@@ -83,7 +83,7 @@ fn broken_key(rows: &[Kept], place: usize, table: &Table) -> Option<&'static str
 
 /// The first table of which rows break a key, and that key.
 fn broken(rows: &[Kept]) -> Option<(&'static str, &'static str)> {
-    for (place, table) in TABLES.iter().enumerate() {
+    for (place, table) in tables().iter().enumerate() {
         if let Some(key) = broken_key(rows, place, table) {
             return Some((table.name, key));
         }
@@ -95,7 +95,7 @@ impl Course {
     /// A script that says nothing yet.
     pub(crate) fn new(alloc: Global) -> Result<Course, AllocError> {
         let mut script = String::from_str(alloc, "nodes 1\nsession s0 1\nsession s1 1\n")?;
-        for table in &TABLES {
+        for table in tables() {
             script.push_str(table.text)?;
             script.push_str("\n")?;
         }

@@ -1,8 +1,9 @@
-//! A script is played over the objects in memory.
+//! A script is played over the objects in memory, and what tests assert of it.
 
 use cdb_outside::{MemSink, MemSource, MemStore};
 use script_main::{Outside, run};
 use std::alloc::{AllocError, Global};
+use std::process::Abort;
 
 /// What is written for a script.
 pub(crate) fn played(alloc: Global, script: &str) -> Result<String, AllocError> {
@@ -18,4 +19,9 @@ pub(crate) fn played(alloc: Global, script: &str) -> Result<String, AllocError> 
     let _status = run(alloc, words.as_slice(), &mut outside);
     let text = String::from_utf8_lossy(alloc, outside.sink.taken())?;
     String::from_str(alloc, text.as_str())
+}
+
+/// Asserts that there is nothing that differs. An assertion in a test of its own is far dearer to prove.
+pub(crate) fn none_differs<R: Abort>(rt: &R, differs: &str) {
+    assert_eq!(rt; differs, "");
 }

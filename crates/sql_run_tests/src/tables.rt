@@ -33,7 +33,7 @@ pub(crate) struct Table {
     pub(crate) keys: &'static [Unique],
 }
 
-pub(crate) static TABLES: [Table; 2] = [T, U];
+static TABLES: [Table; 2] = [T, U];
 
 const T: Table = Table {
     name: "t",
@@ -109,9 +109,14 @@ const M: Column = Column {
     required: false,
 };
 
+/// The two tables. A proof that reads them from here does not have to know what stands in them.
+pub(crate) fn tables() -> &'static [Table] {
+    &TABLES
+}
+
 /// The column at a place of a table.
 pub(crate) fn column_at(table: usize, place: usize) -> Column {
-    match TABLES.as_slice().get(table) {
+    match tables().get(table) {
         None => ID,
         Some(table) => table.columns.get(place).copied().unwrap_or(ID),
     }
@@ -119,7 +124,7 @@ pub(crate) fn column_at(table: usize, place: usize) -> Column {
 
 /// The name of a table.
 pub(crate) fn table_name(table: usize) -> &'static str {
-    match TABLES.as_slice().get(table) {
+    match tables().get(table) {
         None => "",
         Some(table) => table.name,
     }

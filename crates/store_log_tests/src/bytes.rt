@@ -23,3 +23,31 @@ pub(crate) static MISPLACED: [&[u8]; 6] = [
     b"\x05\0\0\0\0\0\0\0\x08\0\0\0\0\0\0\0\x03",
     b"\x06",
 ];
+
+/// `SMALL`. A proof that calls this does not carry its bytes.
+pub(crate) fn small() -> &'static [u8] {
+    SMALL
+}
+
+/// `ADOPTED`, likewise.
+pub(crate) fn adopted() -> &'static [u8] {
+    ADOPTED
+}
+
+/// These bytes without the first ones, so many.
+pub(crate) fn back(bytes: &[u8], count: usize) -> &[u8] {
+    if count < bytes.len() {
+        &bytes[count..]
+    } else {
+        b""
+    }
+}
+
+/// So many of the first ones of these bytes.
+pub(crate) fn front(bytes: &[u8], count: usize) -> &[u8] {
+    if count < bytes.len() {
+        &bytes[..count]
+    } else {
+        bytes
+    }
+}

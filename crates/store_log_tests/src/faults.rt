@@ -1,12 +1,15 @@
 //! Stores that fail at a call, or stop inside a write.
 ghost use Rattle.std.specs.Prelude.{◌≡◌, [], IfOk};
+ghost use Rattle.std.specs.List.{AllByRecursion};
+ghost use Rattle.frame_code.specs.Spelled.{IsSpelled};
 
-use crate::bytes::SMALL;
-use crate::outcomes::{Outcome, log, outcome_of, reopened, stand};
+use crate::bytes::{front, small};
+use crate::outcomes::{Outcome, holds, log, outcome_of, reopened, stand};
 use cdb_outside::MemStore;
+use log_format::Frame;
 use std::alloc::{AllocError, Global};
 use std::test::Fail;
-use store_log::open_log;
+use store_log::{Held, open_log};
 
 /// A store with these synced bytes, one of whose calls fails.
 fn failing_store(alloc: Global, bytes: &[u8], call: u64, keeps: u64) -> Result<MemStore, AllocError>
@@ -31,6 +34,34 @@ fn stopping_store(
     Ok(MemStore::new(synced, Vec::new(alloc), Some(stop), keeps))
 }
 
+/// What a store with these bytes comes to that is opened again once its first opening failed by this call; nothing where
+/// the call did not fail.
+fn after_fault(
+    alloc: Global,
+    bytes: &[u8],
+    call: u64,
+    keeps: u64,
+) -> Result<Option<Outcome>, AllocError> {
+    Ok(reopened(alloc, failing_store(alloc, bytes, call, keeps)?))
+}
+
+/// Whether each of the first calls of a store with these bytes, so many, ends its opening, and whether it comes to this
+/// once it is opened again.
+fn is_each_told(
+    alloc: Global,
+    bytes: &[u8],
+    calls: u64,
+    told: Outcome,
+    keeps: u64,
+) -> Result<bool, AllocError> {
+    for call in 1..=calls {
+        if after_fault(alloc, bytes, call, keeps)? != Some(told) {
+            return Ok(false);
+        }
+    }
+    Ok(true)
+}
+
 /// Whether each of the first calls of a store with these bytes, so many, ends its opening, and the one behind them does
 /// not; and whether it comes to this once it is opened again.
 fn are_faults_told(
@@ -39,35 +70,36 @@ fn are_faults_told(
     calls: u64,
     told: Outcome,
 ) -> Result<bool, AllocError> {
-    for keeps in [0, 1, 1000] {
-        for call in 1..=calls {
-            let store = failing_store(alloc, bytes, call, keeps)?;
-            if reopened(alloc, store) != Some(told) {
-                return Ok(false);
-            }
-        }
-    }
-    let store = failing_store(alloc, bytes, calls.saturating_add(1), 0)?;
-    Ok(reopened(alloc, store).is_none())
+    let none = is_each_told(alloc, bytes, calls, told, 0)?;
+    let one = is_each_told(alloc, bytes, calls, told, 1)?;
+    let all = is_each_told(alloc, bytes, calls, told, 1000)?;
+    let behind = after_fault(alloc, bytes, calls.saturating_add(1), 0)?;
+    Ok(none && one && all && behind.is_none())
 }
 
 /// Each call of an opening that fails ends it, and the store then stands for the same.
 #[test]
 fn each_call_of_an_opening_fails(rt: HostRuntime) -> Result<(), Fail> {
     let alloc = rt.alloc();
-    let (unfinished, _) = SMALL.split_at(229);
-    assert!(rt; are_faults_told(alloc, b"", 3, log(0, 0, 0, 27))?);
-    assert!(rt; are_faults_told(alloc, &SMALL[..10], 5, log(0, 0, 0, 27))?);
-    assert!(rt; are_faults_told(alloc, SMALL, 2, log(2, 1, 2, 230))?);
-    assert!(rt; are_faults_told(alloc, unfinished, 3, log(1, 1, 2, 213))?);
+    let header = are_faults_told(alloc, front(small(), 10), 5, log(0, 0, 0, 27))?;
+    let unfinished = are_faults_told(alloc, front(small(), 229), 3, log(1, 1, 2, 213))?;
+    holds(&rt, are_faults_told(alloc, b"", 3, log(0, 0, 0, 27))?);
+    holds(&rt, header);
+    holds(&rt, are_faults_told(alloc, small(), 2, log(2, 1, 2, 230))?);
+    holds(&rt, unfinished);
     Ok(())
+}
+
+/// What a store of no byte comes to that is opened again once it stopped with so many bytes appended; nothing where it
+/// did not stop.
+fn after_stop(alloc: Global, stop: u64, keeps: u64) -> Result<Option<Outcome>, AllocError> {
+    Ok(reopened(alloc, stopping_store(alloc, b"", stop, keeps)?))
 }
 
 /// Whether an opening that is stopped inside the header, after each byte, can be done again.
 fn are_headers_begun(alloc: Global, keeps: u64) -> Result<bool, AllocError> {
     for stop in 1..28u64 {
-        let store = stopping_store(alloc, b"", stop, keeps)?;
-        if reopened(alloc, store) != Some(log(0, 0, 0, 27)) {
+        if after_stop(alloc, stop, keeps)? != Some(log(0, 0, 0, 27)) {
             return Ok(false);
         }
     }
@@ -77,25 +109,42 @@ fn are_headers_begun(alloc: Global, keeps: u64) -> Result<bool, AllocError> {
 /// A header that was not written whole is written again, whatever the stop kept of it.
 #[test]
 fn stops_inside_a_header(rt: HostRuntime) -> Result<(), Fail> {
-    assert!(rt; are_headers_begun(rt.alloc(), 0)?);
-    assert!(rt; are_headers_begun(rt.alloc(), 1)?);
-    assert!(rt; are_headers_begun(rt.alloc(), 1000)?);
+    holds(&rt, are_headers_begun(rt.alloc(), 0)?);
+    holds(&rt, are_headers_begun(rt.alloc(), 1)?);
+    holds(&rt, are_headers_begun(rt.alloc(), 1000)?);
     Ok(())
 }
 
 /// What a store of 98 bytes comes to that stops once so many bytes of a promise and an acceptance are appended, and is
 /// opened again; nothing where they are kept.
 fn kept_until(alloc: Global, stop: u64, keeps: u64) -> Result<Option<Outcome>, AllocError> {
-    let (synced, _) = SMALL.split_at(98);
-    let store = stopping_store(alloc, synced, stop, keeps)?;
-    let Ok(opened) = open_log(alloc, store, 2, 7) else {
-        return Ok(None);
-    };
-    let mut held = opened.held;
     let frames = stand(alloc, 2)?;
-    match held.keep(alloc, frames.as_slice()) {
-        Ok(()) => Ok(None),
-        Err(_) => Ok(Some(outcome_of(alloc, held.give_back()))),
+    let store = stopping_store(alloc, front(small(), 98), stop, keeps)?;
+    Ok(kept_in(alloc, store, frames.as_slice()))
+}
+
+/// What a store comes to that is opened, stops while these frames are kept, and is opened again; nothing where they are
+/// kept.
+fn kept_in(alloc: Global, store: MemStore, frames: &[Frame]) -> Option<Outcome>
+    requires settled { store.waiting ≡ [] }
+    requires spelled { AllByRecursion IsSpelled frames.now }
+{
+    match open_log(alloc, store, 2, 7) {
+        Ok(opened) => kept_behind(alloc, opened.held, frames),
+        Err(_) => None,
+    }
+}
+
+/// What a store comes to that was opened, stops while these frames are kept, and is opened again; nothing where they are
+/// kept.
+fn kept_behind(alloc: Global, held: Held<MemStore>, frames: &[Frame]) -> Option<Outcome>
+    requires settled { held.pending ≡ [] }
+    requires spelled { AllByRecursion IsSpelled frames.now }
+{
+    let mut held = held;
+    match held.keep(alloc, frames) {
+        Ok(()) => None,
+        Err(_) => Some(outcome_of(alloc, held.give_back())),
     }
 }
 
@@ -123,8 +172,8 @@ fn are_kept_fronts_told(alloc: Global, keeps: u64) -> Result<bool, AllocError> {
 /// Frames that are not kept whole leave some of them, from the first on.
 #[test]
 fn stops_inside_kept_frames(rt: HostRuntime) -> Result<(), Fail> {
-    assert!(rt; are_kept_fronts_told(rt.alloc(), 0)?);
-    assert!(rt; are_kept_fronts_told(rt.alloc(), 1)?);
-    assert!(rt; are_kept_fronts_told(rt.alloc(), 1000)?);
+    holds(&rt, are_kept_fronts_told(rt.alloc(), 0)?);
+    holds(&rt, are_kept_fronts_told(rt.alloc(), 1)?);
+    holds(&rt, are_kept_fronts_told(rt.alloc(), 1000)?);
     Ok(())
 }

@@ -1,8 +1,8 @@
 //! The store that `docs/store.md` draws, as it is written and read.
 ghost use Rattle.std.specs.Prelude.{◌≡◌, [], IfSome, IfOk};
 
-use crate::bytes::SMALL;
-use crate::outcomes::store_of;
+use crate::bytes::{back, small};
+use crate::outcomes::{holds, store_of};
 use cdb_outside::MemStore;
 use cdb_values::{Change, ColumnType, Level, TableDef, Value};
 use log_format::{Frame, Reading, read_frame};
@@ -40,33 +40,45 @@ fn kept_first<'a>(
     }
 }
 
+/// Keeps the five frames at the front of the bytes, and tells whether they stand there.
+fn keep_all(alloc: Global, held: &mut Held<MemStore>, bytes: &[u8]) -> Result<bool, AllocError>
+    requires { held.old.pending ≡ [] }
+{
+    let mut rest = bytes;
+    'frames: for _ in 0..5 {
+        let Some(left) = kept_first(alloc, held, rest)? else {
+            return Ok(false);
+        };
+        rest = left;
+    }
+    Ok(true)
+}
+
 /// A store in which the five frames are kept that stand behind the header of `SMALL`; nothing where that failed.
 fn rewritten(alloc: Global) -> Result<Option<MemStore>, AllocError> {
     let Some(mut held) = begun(alloc)? else {
         return Ok(None);
     };
-    let (_, mut rest) = SMALL.split_at(27);
-    'frames: for _ in 0..5 {
-        let Some(left) = kept_first(alloc, &mut held, rest)? else {
-            return Ok(None);
-        };
-        rest = left;
-    }
-    Ok(Some(held.give_back()))
+    let are_kept = keep_all(alloc, &mut held, back(small(), 27))?;
+    Ok(if are_kept {
+        Some(held.give_back())
+    } else {
+        None
+    })
 }
 
 /// Whether the frames of `SMALL` are written as its bytes.
 fn is_small_written(alloc: Global) -> Result<bool, AllocError> {
     Ok(match rewritten(alloc)? {
         None => false,
-        Some(store) => store.synced() == SMALL,
+        Some(store) => store.synced() == small(),
     })
 }
 
 /// A store that is begun and kept in has the bytes that `docs/store.md` draws.
 #[test]
 fn small_is_written(rt: HostRuntime) -> Result<(), Fail> {
-    assert!(rt; is_small_written(rt.alloc())?);
+    holds(&rt, is_small_written(rt.alloc())?);
     Ok(())
 }
 
@@ -196,7 +208,7 @@ fn is_the_commit(entry: &Entry) -> bool {
 
 /// Whether the setup is read as `docs/store.md` tells its fields.
 fn is_setup_read(alloc: Global) -> Result<bool, AllocError> {
-    let (_, bytes) = SMALL.split_at(61);
+    let bytes = back(small(), 61);
     Ok(match entry_at(alloc, bytes)? {
         None => false,
         Some(entry) => is_the_setup(&entry),
@@ -205,7 +217,7 @@ fn is_setup_read(alloc: Global) -> Result<bool, AllocError> {
 
 /// Whether the commit is read as `docs/store.md` tells its fields.
 fn is_commit_read(alloc: Global) -> Result<bool, AllocError> {
-    let (_, bytes) = SMALL.split_at(98);
+    let bytes = back(small(), 98);
     Ok(match entry_at(alloc, bytes)? {
         None => false,
         Some(entry) => is_the_commit(&entry),
@@ -215,7 +227,7 @@ fn is_commit_read(alloc: Global) -> Result<bool, AllocError> {
 /// The fields of both entries stand where `docs/store.md` draws them.
 #[test]
 fn small_is_read(rt: HostRuntime) -> Result<(), Fail> {
-    assert!(rt; is_setup_read(rt.alloc())?);
-    assert!(rt; is_commit_read(rt.alloc())?);
+    holds(&rt, is_setup_read(rt.alloc())?);
+    holds(&rt, is_commit_read(rt.alloc())?);
     Ok(())
 }

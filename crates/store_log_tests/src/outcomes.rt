@@ -6,6 +6,7 @@ ghost use Rattle.frame_code.specs.Spelled.{IsSpelled};
 use cdb_outside::{LogStore, MemStore};
 use log_format::Frame;
 use std::alloc::{AllocError, Global};
+use std::process::Abort;
 use store_log::{OpenFault, Opened, open_log};
 
 /// What opening a store comes to.
@@ -36,6 +37,16 @@ pub(crate) fn log(promised: u64, accepted: u64, entries: usize, left: usize) -> 
         entries,
         left,
     }
+}
+
+/// Asserts what a test looked at. An assertion in a test of its own is far dearer to prove.
+pub(crate) fn holds<R: Abort>(rt: &R, is_so: bool) {
+    assert!(rt; is_so);
+}
+
+/// Asserts that a store comes to this.
+pub(crate) fn comes_to<R: Abort>(rt: &R, found: Outcome, told: Outcome) {
+    assert_eq!(rt; found, told);
 }
 
 /// Why a store was not opened.

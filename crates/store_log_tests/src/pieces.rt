@@ -198,12 +198,41 @@ fn mark_of<'a>(left: &mut Left<'a>) -> Option<Mark<'a>> {
 /// The edit that is next.
 fn deed_of<'a>(left: &mut Left<'a>) -> Option<Deed<'a>> {
     match left.number(1)? {
-        1 => Some(Deed::Put(left.number(2)?, left.piece(2)?)),
-        2 => Some(Deed::Take(left.number(2)?, left.piece(2)?)),
-        3 => Some(Deed::Swap(left.number(2)?, left.piece(2)?, left.piece(2)?)),
-        4 => Some(Deed::Turn(head_of(left)?, head_of(left)?)),
+        1 => put_of(left),
+        2 => take_of(left),
+        3 => swap_of(left),
+        4 => turn_of(left),
         _ => None,
     }
+}
+
+/// The cell that an edit puts at a place.
+fn put_of<'a>(left: &mut Left<'a>) -> Option<Deed<'a>> {
+    let at = left.number(2)?;
+    let cell = left.piece(2)?;
+    Some(Deed::Put(at, cell))
+}
+
+/// The cell that an edit takes from a place.
+fn take_of<'a>(left: &mut Left<'a>) -> Option<Deed<'a>> {
+    let at = left.number(2)?;
+    let cell = left.piece(2)?;
+    Some(Deed::Take(at, cell))
+}
+
+/// The cells that an edit swaps at a place.
+fn swap_of<'a>(left: &mut Left<'a>) -> Option<Deed<'a>> {
+    let at = left.number(2)?;
+    let before = left.piece(2)?;
+    let after = left.piece(2)?;
+    Some(Deed::Swap(at, before, after))
+}
+
+/// The heads between which an edit turns.
+fn turn_of<'a>(left: &mut Left<'a>) -> Option<Deed<'a>> {
+    let before = head_of(left)?;
+    let after = head_of(left)?;
+    Some(Deed::Turn(before, after))
 }
 
 /// The bytes of the head that is next.

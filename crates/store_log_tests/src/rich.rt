@@ -1,8 +1,9 @@
 //! A rich store of 30 frames, read by both readers: whole, cut after each byte, and with each byte changed.
 
-use crate::outcomes::{log, opened_bytes};
+use crate::outcomes::{comes_to, log, opened_bytes};
 use crate::second::second_outcome;
 use std::alloc::{AllocError, Global};
+use std::process::Abort;
 use std::test::Fail;
 
 /// The store of node 2 in cluster 7, by groups of its frames.
@@ -72,9 +73,19 @@ fn told_apart(alloc: Global, bits: u8) -> Result<Option<usize>, AllocError> {
 fn a_rich_store(rt: HostRuntime) -> Result<(), Fail> {
     let bytes = rich(rt.alloc())?;
     let told = log(11, 9, 9, 2285);
-    assert_eq!(rt; opened_bytes(rt.alloc(), bytes.as_slice())?, told);
-    assert_eq!(rt; second_outcome(rt.alloc(), bytes.as_slice())?, told);
+    comes_to(&rt, opened_bytes(rt.alloc(), bytes.as_slice())?, told);
+    comes_to(&rt, second_outcome(rt.alloc(), bytes.as_slice())?, told);
     Ok(())
+}
+
+/// Asserts that both readers tell the same of a front of so many bytes.
+fn is_same<R: Abort>(rt: &R, is_told: bool, size: usize) {
+    assert!(rt; is_told, "{size}");
+}
+
+/// Asserts that there is no place whose byte both readers tell apart.
+fn is_nowhere<R: Abort>(rt: &R, at: Option<usize>) {
+    assert_eq!(rt; at, None);
 }
 
 /// Each front of the store.
@@ -82,7 +93,7 @@ fn a_rich_store(rt: HostRuntime) -> Result<(), Fail> {
 fn a_rich_store_cut(rt: HostRuntime) -> Result<(), Fail> {
     let bytes = rich(rt.alloc())?;
     for n in 0..bytes.len() {
-        assert!(rt; is_told_twice(rt.alloc(), &bytes[..n])?, "{n}");
+        is_same(&rt, is_told_twice(rt.alloc(), &bytes[..n])?, n);
     }
     Ok(())
 }
@@ -90,13 +101,13 @@ fn a_rich_store_cut(rt: HostRuntime) -> Result<(), Fail> {
 /// Each byte turned by its lowest bit.
 #[test]
 fn a_rich_store_with_a_lowest_bit_turned(rt: HostRuntime) -> Result<(), Fail> {
-    assert_eq!(rt; told_apart(rt.alloc(), 1)?, None);
+    is_nowhere(&rt, told_apart(rt.alloc(), 1)?);
     Ok(())
 }
 
 /// Each byte turned by its highest bit.
 #[test]
 fn a_rich_store_with_a_highest_bit_turned(rt: HostRuntime) -> Result<(), Fail> {
-    assert_eq!(rt; told_apart(rt.alloc(), 128)?, None);
+    is_nowhere(&rt, told_apart(rt.alloc(), 128)?);
     Ok(())
 }

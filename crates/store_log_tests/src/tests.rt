@@ -1,9 +1,12 @@
 ghost use Rattle.std.specs.Prelude.{◌≡◌, ◌<◌, ◌^◌, [], IfOk, IfSome};
 
-use crate::bytes::{ADOPTED, DROPPED, MISPLACED, SMALL};
-use crate::outcomes::{Outcome, behind, log, opened_bytes, outcome_of, stand, store_of};
+use crate::bytes::{DROPPED, MISPLACED, adopted, back, front, small};
+use crate::outcomes::{
+    Outcome, behind, comes_to, holds, log, opened_bytes, outcome_of, stand, store_of,
+};
 use cdb_outside::{LogStore, MemStore};
 use std::alloc::{AllocError, Global};
+use std::process::Abort;
 use std::test::Fail;
 use store_log::open_log;
 
@@ -40,7 +43,7 @@ fn are_fronts_told(alloc: Global, bytes: &[u8]) -> Result<bool, AllocError> {
 /// A store that was cut anywhere stands for the frames that are whole; its header is written where it is not whole.
 #[test]
 fn cuts_of_a_small_store(rt: HostRuntime) -> Result<(), Fail> {
-    assert!(rt; are_fronts_told(rt.alloc(), SMALL)?);
+    holds(&rt, are_fronts_told(rt.alloc(), small())?);
     Ok(())
 }
 
@@ -83,40 +86,33 @@ fn are_stops_told(alloc: Global, synced: &[u8], appended: &[u8]) -> Result<bool,
 /// A stop inside an append, after each byte of it, leaves a store that stands for some of the frames.
 #[test]
 fn stops_inside_an_append(rt: HostRuntime) -> Result<(), Fail> {
-    let (synced, appended) = SMALL.split_at(98);
-    assert!(rt; are_stops_told(rt.alloc(), synced, appended)?);
-    assert!(rt; are_stops_told(rt.alloc(), b"", &synced[..61])?);
+    let synced = front(small(), 98);
+    let appended = back(small(), 98);
+    holds(&rt, are_stops_told(rt.alloc(), synced, appended)?);
+    holds(&rt, are_stops_told(rt.alloc(), b"", front(small(), 61))?);
     Ok(())
+}
+
+/// What `SMALL` comes to with these bytes behind it.
+fn opened_behind(alloc: Global, back: &[u8]) -> Result<Outcome, AllocError> {
+    let bytes = behind(alloc, small(), back)?;
+    opened_bytes(alloc, bytes.as_slice())
+}
+
+/// What it comes to with so many of the first bytes of `ADOPTED`.
+fn opened_behind_front(alloc: Global, count: usize) -> Result<Outcome, AllocError> {
+    opened_behind(alloc, front(adopted(), count))
 }
 
 /// An adoption is accepted; one is dropped by a promise, by a cut and at the end, and is cut off there.
 #[test]
 fn adoptions(rt: HostRuntime) -> Result<(), Fail> {
-    let adopted = behind(rt.alloc(), SMALL, ADOPTED)?;
-    assert_eq!(rt;
-        opened_bytes(rt.alloc(), adopted.as_slice())?,
-        log(3, 2, 1, 281)
-    );
-    let dropped = behind(rt.alloc(), SMALL, DROPPED)?;
-    assert_eq!(rt;
-        opened_bytes(rt.alloc(), dropped.as_slice())?,
-        log(3, 1, 2, 264)
-    );
-    let open = behind(rt.alloc(), SMALL, &ADOPTED[..17])?;
-    assert_eq!(rt;
-        opened_bytes(rt.alloc(), open.as_slice())?,
-        log(2, 1, 2, 230)
-    );
-    let begun = behind(rt.alloc(), SMALL, &ADOPTED[..4])?;
-    assert_eq!(rt;
-        opened_bytes(rt.alloc(), begun.as_slice())?,
-        log(2, 1, 2, 230)
-    );
-    let half = behind(rt.alloc(), SMALL, &ADOPTED[..33])?;
-    assert_eq!(rt;
-        opened_bytes(rt.alloc(), half.as_slice())?,
-        log(2, 1, 2, 230)
-    );
+    let alloc = rt.alloc();
+    comes_to(&rt, opened_behind(alloc, adopted())?, log(3, 2, 1, 281));
+    comes_to(&rt, opened_behind(alloc, DROPPED)?, log(3, 1, 2, 264));
+    comes_to(&rt, opened_behind_front(alloc, 17)?, log(2, 1, 2, 230));
+    comes_to(&rt, opened_behind_front(alloc, 4)?, log(2, 1, 2, 230));
+    comes_to(&rt, opened_behind_front(alloc, 33)?, log(2, 1, 2, 230));
     Ok(())
 }
 
@@ -124,10 +120,10 @@ fn adoptions(rt: HostRuntime) -> Result<(), Fail> {
 #[test]
 fn misplaced_frames(rt: HostRuntime) -> Result<(), Fail> {
     for frame in &MISPLACED {
-        let bytes = behind(rt.alloc(), SMALL, *frame)?;
-        assert_eq!(rt;
-            opened_bytes(rt.alloc(), bytes.as_slice())?,
-            Outcome::Corrupt(230)
+        comes_to(
+            &rt,
+            opened_behind(rt.alloc(), *frame)?,
+            Outcome::Corrupt(230),
         );
     }
     Ok(())
@@ -135,24 +131,38 @@ fn misplaced_frames(rt: HostRuntime) -> Result<(), Fail> {
 
 /// `SMALL` with two bits of one byte changed.
 fn changed(alloc: Global, at: usize) -> Result<Vec<u8>, AllocError> {
-    let mut bytes = Vec::from_slice(alloc, SMALL)?;
+    let mut bytes = Vec::from_slice(alloc, small())?;
     if at < bytes.len() {
         bytes[at] = bytes[at] ^ 3;
     }
     Ok(bytes)
 }
 
+/// What `SMALL` comes to with two bits of one byte changed.
+fn opened_changed(alloc: Global, at: usize) -> Result<Outcome, AllocError> {
+    let bytes = changed(alloc, at)?;
+    opened_bytes(alloc, bytes.as_slice())
+}
+
 /// A commit is bad whose record has another LSN than the next, another record before it in its page, or a cell past the
 /// end of its page.
 #[test]
 fn records_that_do_not_fit(rt: HostRuntime) -> Result<(), Fail> {
-    for at in [189, 197, 208] {
-        let bytes = changed(rt.alloc(), at)?;
-        assert_eq!(rt;
-            opened_bytes(rt.alloc(), bytes.as_slice())?,
-            Outcome::Corrupt(98)
-        );
-    }
+    let told = Outcome::Corrupt(98);
+    comes_to(&rt, opened_changed(rt.alloc(), 189)?, told);
+    comes_to(&rt, opened_changed(rt.alloc(), 197)?, told);
+    comes_to(&rt, opened_changed(rt.alloc(), 208)?, told);
+    Ok(())
+}
+
+/// Asserts that a store with these bytes comes to this.
+fn starts_with<R: Abort>(
+    rt: &R,
+    alloc: Global,
+    bytes: &[u8],
+    told: Outcome,
+) -> Result<(), AllocError> {
+    comes_to(rt, opened_bytes(alloc, bytes)?, told);
     Ok(())
 }
 
@@ -160,28 +170,28 @@ fn records_that_do_not_fit(rt: HostRuntime) -> Result<(), Fail> {
 #[test]
 fn other_headers(rt: HostRuntime) -> Result<(), Fail> {
     let alloc = rt.alloc();
-    for (bytes, told) in [
-        (
-            b"\x02\0\0\0\0\0\0\0\x08\0\0\0\0\0\0\0\x01".as_slice(),
-            Outcome::Corrupt(0),
-        ),
-        (b"\x01\0\0\0\0\0\0\0\x11".as_slice(), Outcome::Corrupt(0)),
-        (b"\0".as_slice(), Outcome::Corrupt(0)),
-        (
-            b"\x01\0\0\0\0\0\0\0\x12\x02\x02\0\0\0\0\0\0\0\0\0\0\0\0\0\0\0\x07".as_slice(),
-            Outcome::Foreign,
-        ),
-        (
-            b"\x01\0\0\0\0\0\0\0\x12\x01\x03\0\0\0\0\0\0\0\0\0\0\0\0\0\0\0\x07".as_slice(),
-            Outcome::Foreign,
-        ),
-        (
-            b"\x01\0\0\0\0\0\0\0\x12\x01\x02\0\0\0\0\0\0\0\0\0\0\0\0\0\0\0\x08\x09".as_slice(),
-            Outcome::Foreign,
-        ),
-    ] {
-        assert_eq!(rt; opened_bytes(alloc, bytes)?, told);
-    }
+    let bad = Outcome::Corrupt(0);
+    starts_with(&rt, alloc, b"\x02\0\0\0\0\0\0\0\x08\0\0\0\0\0\0\0\x01", bad)?;
+    starts_with(&rt, alloc, b"\x01\0\0\0\0\0\0\0\x11", bad)?;
+    starts_with(&rt, alloc, b"\0", bad)?;
+    starts_with(
+        &rt,
+        alloc,
+        b"\x01\0\0\0\0\0\0\0\x12\x02\x02\0\0\0\0\0\0\0\0\0\0\0\0\0\0\0\x07",
+        Outcome::Foreign,
+    )?;
+    starts_with(
+        &rt,
+        alloc,
+        b"\x01\0\0\0\0\0\0\0\x12\x01\x03\0\0\0\0\0\0\0\0\0\0\0\0\0\0\0\x07",
+        Outcome::Foreign,
+    )?;
+    starts_with(
+        &rt,
+        alloc,
+        b"\x01\0\0\0\0\0\0\0\x12\x01\x02\0\0\0\0\0\0\0\0\0\0\0\0\0\0\0\x08\x09",
+        Outcome::Foreign,
+    )?;
     Ok(())
 }
 
@@ -209,14 +219,12 @@ fn kept_frames(rt: HostRuntime) -> Result<(), Fail> {
     let mut store = store_of(alloc, b"", 0)?;
     'generations: for generation in 1..4u64 {
         let Some(kept) = stood(alloc, store, generation)? else {
-            assert!(rt; false);
+            holds(&rt, false);
             return Ok(());
         };
         let left = (generation as usize) * 34 + 27;
-        assert_eq!(rt;
-            opened_bytes(alloc, kept.synced())?,
-            log(generation, generation, 0, left)
-        );
+        let told = log(generation, generation, 0, left);
+        comes_to(&rt, opened_bytes(alloc, kept.synced())?, told);
         store = kept;
     }
     Ok(())

@@ -1,4 +1,4 @@
-use super::*;
+use sorted_pairs::{PairFault, SortedPairs};
 use std::test::Fail;
 
 /// The list of the crate's first page.

@@ -1,5 +1,5 @@
-use super::*;
 use page_store::{Cell, Edit, Head, MemPages, Page, PageKind, PageSource, apply};
+use page_workspace::{EditFault, Workspace};
 use std::test::Fail;
 
 /// A source with the meta page of four pages alone; the others were never written.

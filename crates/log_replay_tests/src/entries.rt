@@ -1,6 +1,6 @@
-use super::*;
 use cdb_values::{Level, List, Name};
 use page_store::{Cell, Edit};
+use phys_log::{CommitId, Entry, LogRecord, copy_entry, last_lsn};
 use std::test::Fail;
 
 /// An entry of a session `a` with one record, that puts a cell of one byte on page 3.

@@ -1,6 +1,6 @@
 ghost use Rattle.std.specs.Prelude.{◌≡◌};
 
-use super::*;
+use election_core::{Action, Message, NodeVote, on_message, stand};
 use std::test::Fail;
 
 /// Node 1 of three, up, with a log of that length accepted in that generation.
