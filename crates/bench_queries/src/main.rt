@@ -17,7 +17,7 @@ mod sources;
 
 use cdb_values::{List, Row, RowOp, RowRef, Value, Version};
 use net_writes::Overlay;
-use plans::Work;
+use plans::{Work, beside, kept, two_numbers, with_no};
 use sql_bind::{BoundColumn, BoundItem, BoundKey, BoundSelect};
 use sql_eval::shape;
 use std::alloc::{AllocError, Global};
@@ -46,28 +46,51 @@ fn main(rt: HostRuntime) -> io::Result<()> {
 
 /// What is printed of some work.
 fn told(clock: &impl Clock, alloc: Global, work: &str, count: u64) -> io::Result<String> {
-    if work == "updates" {
-        let kept = keep_up(clock, alloc, count)?;
-        let took = kept.took.as_micros();
-        return Ok(format!(in alloc; "in {took} us, {} net operations", kept.rows)?);
+    match work {
+        "updates" => updates_told(clock, alloc, count),
+        "plans" => timed(alloc, by_plans(clock, alloc, count)),
+        "scans" => timed(alloc, by_scans(clock, alloc, count)),
+        "shape" => shape_told(clock, alloc, count),
+        _ => counts_told(clock, alloc, count),
     }
-    if work == "plans" {
-        return timed(alloc, by_plans(clock, alloc, count)?.as_slice());
-    }
-    if work == "scans" {
-        return timed(alloc, by_scans(clock, alloc, count)?.as_slice());
-    }
+}
+
+/// What is printed of updates.
+fn updates_told(clock: &impl Clock, alloc: Global, count: u64) -> io::Result<String> {
+    let kept = keep_up(clock, alloc, count)?;
+    let took = kept.took.as_micros();
+    Ok(format!(in alloc; "in {took} us, {} net operations", kept.rows)?)
+}
+
+/// What is printed of a query.
+fn shape_told(clock: &impl Clock, alloc: Global, count: u64) -> io::Result<String> {
     let shaped = group_and_order(clock, alloc, count)?;
-    if work == "shape" {
-        let took = shaped.took.as_millis();
-        return Ok(format!(in alloc; "in {took} ms, {} rows", shaped.rows)?);
-    }
-    let mut out = format!(in alloc; "{} rows", shaped.rows)?;
-    for (name, work) in by_plans(clock, alloc, count)?.as_slice() {
+    let took = shaped.took.as_millis();
+    Ok(format!(in alloc; "in {took} ms, {} rows", shaped.rows)?)
+}
+
+/// What is printed of a query and of statements over rows in blocks, without their times.
+fn counts_told(clock: &impl Clock, alloc: Global, count: u64) -> io::Result<String> {
+    let rows = group_and_order(clock, alloc, count)?.rows;
+    let works = by_plans(clock, alloc, count)?;
+    let told = with_rows(alloc, rows, works.as_slice());
+    with_no(works, told)
+}
+
+/// So many rows of a query, and works below them, one in each line.
+fn with_rows(alloc: Global, rows: usize, works: &[(&'static str, Work)]) -> io::Result<String> {
+    let mut out = format!(in alloc; "{rows} rows")?;
+    let put = put_works(alloc, &mut out, works);
+    kept(out, put)
+}
+
+/// Adds works, each in a line of its own.
+fn put_works(alloc: Global, out: &mut String, works: &[(&'static str, Work)]) -> io::Result<()> {
+    for (name, work) in works {
         out.push('\n')?;
-        put_work(alloc, &mut out, *name, work)?;
+        put_work(alloc, out, *name, work)?;
     }
-    Ok(out)
+    Ok(())
 }
 
 /// What came of statements over rows in blocks.
@@ -76,11 +99,10 @@ fn by_plans(
     alloc: Global,
     count: u64,
 ) -> io::Result<Vec<(&'static str, Work)>> {
-    let mut works = Vec::new(alloc);
-    works.push(("selects", plans::selects(clock, alloc, count)?))?;
-    works.push(("join", plans::join(clock, alloc, count / 10)?))?;
-    works.push(("range", plans::range(clock, alloc, count)?))?;
-    Ok(works)
+    let works = Vec::new(alloc);
+    let works = with_work(works, "selects", plans::selects(clock, alloc, count))?;
+    let works = with_work(works, "join", plans::join(clock, alloc, count / 10))?;
+    with_work(works, "range", plans::range(clock, alloc, count))
 }
 
 /// What came of statements over rows in one block.
@@ -89,24 +111,50 @@ fn by_scans(
     alloc: Global,
     count: u64,
 ) -> io::Result<Vec<(&'static str, Work)>> {
-    let mut works = Vec::new(alloc);
-    works.push(("selects", plans::scanned_selects(clock, alloc, count)?))?;
-    works.push(("join", plans::scanned_join(clock, alloc, count / 10)?))?;
+    let works = Vec::new(alloc);
+    let works = with_work(
+        works,
+        "selects",
+        plans::scanned_selects(clock, alloc, count),
+    )?;
+    with_work(works, "join", plans::scanned_join(clock, alloc, count / 10))
+}
+
+/// Works with one more.
+fn with_work(
+    works: Vec<(&'static str, Work)>,
+    name: &'static str,
+    work: io::Result<Work>,
+) -> io::Result<Vec<(&'static str, Work)>> {
+    let (mut works, work) = beside(works, work)?;
+    works.push((name, work))?;
     Ok(works)
 }
 
 /// Works, one in each line, with their times.
-fn timed(alloc: Global, works: &[(&'static str, Work)]) -> io::Result<String> {
+fn timed(alloc: Global, works: io::Result<Vec<(&'static str, Work)>>) -> io::Result<String> {
+    let works = works?;
     let mut out = String::new(alloc);
+    let put = put_timed(alloc, &mut out, works.as_slice());
+    with_no(works, kept(out, put))
+}
+
+/// Adds works, one in each line, with their times.
+fn put_timed(alloc: Global, out: &mut String, works: &[(&'static str, Work)]) -> io::Result<()> {
     let mut before = "";
     for (name, work) in works {
         out.push_str(before)?;
-        put_work(alloc, &mut out, *name, work)?;
-        let took = work.took.as_millis();
-        out.push_str(format!(in alloc; " in {took} ms")?.as_str())?;
+        put_work(alloc, out, *name, work)?;
+        put_time(alloc, out, work)?;
         before = "\n";
     }
-    Ok(out)
+    Ok(())
+}
+
+/// Adds how long work took.
+fn put_time(alloc: Global, out: &mut String, work: &Work) -> Result<(), AllocError> {
+    let took = work.took.as_millis();
+    out.push_str(format!(in alloc; " in {took} ms")?.as_str())
 }
 
 /// Adds what came of work.
@@ -125,9 +173,20 @@ struct Shaped {
 /// Groups and orders that many combinations.
 fn group_and_order(clock: &impl Clock, alloc: Global, count: u64) -> io::Result<Shaped> {
     let combinations = combinations(alloc, count)?;
-    let query = query(alloc)?;
+    let (combinations, query) = beside(combinations, query(alloc))?;
+    let shaped = measured(clock, alloc, &query, &combinations);
+    with_no(combinations, with_no(query, shaped))
+}
+
+/// Groups and orders combinations.
+fn measured(
+    clock: &impl Clock,
+    alloc: Global,
+    query: &BoundSelect,
+    combinations: &List<List<Version>>,
+) -> io::Result<Shaped> {
     let start = Instant::now(clock)?;
-    let rows = match shape(alloc, &query, &combinations) {
+    let rows = match shape(alloc, query, combinations) {
         Ok(rows) => rows.len(),
         Err(_) => 0,
     };
@@ -139,14 +198,21 @@ fn group_and_order(clock: &impl Clock, alloc: Global, count: u64) -> io::Result<
 fn keep_up(clock: &impl Clock, alloc: Global, count: u64) -> io::Result<Shaped> {
     let start = Instant::now(clock)?;
     let mut overlay = Overlay::new(alloc);
-    for n in 0..count {
-        overlay.write(update(alloc, n)?)?;
-    }
+    let done = keep_all(alloc, &mut overlay, count);
+    let overlay = kept(overlay, done)?;
     let took = start.elapsed(clock)?;
     Ok(Shaped {
         rows: overlay.count(),
         took,
     })
+}
+
+/// Keeps up net operations over that many updates more.
+fn keep_all(alloc: Global, overlay: &mut Overlay, count: u64) -> Result<(), AllocError> {
+    for n in 0..count {
+        overlay.write(update(alloc, n)?)?;
+    }
+    Ok(())
 }
 
 /// An update of a row of the base, or of the row that the update before wrote.
@@ -176,23 +242,47 @@ fn combinations(alloc: Global, count: u64) -> Result<List<List<Version>>, AllocE
     let mut combinations = List::new(alloc);
     for n in 0..count {
         let group = n.wrapping_mul(7919) % groups;
-        let mut row = List::new(alloc);
-        row.push(Value::Int(i64::try_from(group).unwrap_or(0)))?;
-        row.push(Value::Int(i64::try_from(n % 1000).unwrap_or(0)))?;
-        let mut combination = List::new(alloc);
-        combination.push(Version { genid: n, row })?;
-        combinations.push(combination)?;
+        combinations.push(combination(alloc, n, group)?)?;
     }
     Ok(combinations)
 }
 
+/// A combination of one row with a group.
+fn combination(alloc: Global, n: u64, group: u64) -> Result<List<Version>, AllocError> {
+    let row = two_numbers(alloc, group, n % 1000)?;
+    let mut combination = List::new(alloc);
+    let pushed = combination.push(Version { genid: n, row });
+    kept(combination, pushed)
+}
+
 /// `select a, count(*), sum(b) from t group by a order by sum(b) desc, a`
 fn query(alloc: Global) -> Result<BoundSelect, AllocError> {
+    let items = List::from_vec(items(alloc)?);
+    let (items, order) = beside(items, order(alloc))?;
+    let ((items, order), group) = beside((items, order), Vec::from_slice(alloc, &[GROUP]))?;
+    Ok(BoundSelect {
+        selectv: false,
+        items,
+        tables: List::new(alloc),
+        filter: None,
+        group: List::from_vec(group),
+        order,
+        limit: None,
+    })
+}
+
+/// `a, count(*), sum(b)`
+fn items(alloc: Global) -> Result<Vec<BoundItem>, AllocError> {
     let items = [
         BoundItem::Column(GROUP),
         BoundItem::Count,
         BoundItem::Sum(NUMBER),
     ];
+    Vec::from_slice(alloc, &items)
+}
+
+/// `sum(b) desc, a`
+fn order(alloc: Global) -> Result<List<BoundKey>, AllocError> {
     let order = [
         BoundKey {
             item: BoundItem::Sum(NUMBER),
@@ -203,13 +293,5 @@ fn query(alloc: Global) -> Result<BoundSelect, AllocError> {
             descending: false,
         },
     ];
-    Ok(BoundSelect {
-        selectv: false,
-        items: List::from_vec(Vec::from_slice(alloc, &items)?),
-        tables: List::new(alloc),
-        filter: None,
-        group: List::from_vec(Vec::from_slice(alloc, &[GROUP])?),
-        order: List::from_vec(Vec::from_slice(alloc, &order)?),
-        limit: None,
-    })
+    Ok(List::from_vec(Vec::from_slice(alloc, &order)?))
 }

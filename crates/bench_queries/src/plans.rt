@@ -1,12 +1,14 @@
 //! Statements that are answered by their plans: over rows in blocks, and over rows in one block, which are all read.
 //!
 //! The tables are orders(id, owner) and owners(id, v), each with the key pk(id).
-ghost use Rattle.std.specs.Prelude.{◌≡◌, IfOk};
+ghost use Rattle.std.specs.Prelude.{◌≡◌, IfOk, MatchResult, Ok, Err};
 
 use crate::blocks::Block;
 use crate::sources::Blocks;
-use cdb_values::{ColumnDef, ColumnType, KeyDef, List, Name, Schema, TableDef, Value, Version};
-use plan_run::{MemRows, execute};
+use cdb_values::{
+    ColumnDef, ColumnType, KeyDef, List, Name, Row, Schema, TableDef, Value, Version,
+};
+use plan_run::{Executed, MemRows, RowFault, execute};
 use query_plan::Plan;
 use sql_answer_plain::Outcome;
 use sql_bind::{Bound, BoundColumn, BoundItem, BoundOperand, BoundSelect, Cmp, Condition};
@@ -57,6 +59,31 @@ enum Asked {
     Range { first: u64, end: u64 },
 }
 
+/// An answer, after which a value that it came from is let go: the steps of its destructor are no part of who answers.
+pub(crate) fn with_no<T: Drop, U>(_value: T, answer: U) -> U
+    ensures { result ≡ answer }
+{
+    answer
+}
+
+/// A value beside what was built after it. The value is let go here where that failed.
+pub(crate) fn beside<T: Drop, U, E>(value: T, built: Result<U, E>) -> Result<(T, U), E>
+    ensures { MatchResult built (λ x. result ≡ Ok (value, x)) (λ e. result ≡ Err e) }
+{
+    match built {
+        Ok(other) => Ok((value, other)),
+        Err(stop) => Err(stop),
+    }
+}
+
+/// A value that was filled. It is let go here where that failed.
+pub(crate) fn kept<T: Drop, E>(value: T, filled: Result<(), E>) -> Result<T, E> {
+    match filled {
+        Ok(()) => Ok(value),
+        Err(stop) => Err(stop),
+    }
+}
+
 /// That many selects of one order by its key, over as many orders in blocks.
 pub(crate) fn selects(clock: &impl Clock, alloc: Global, count: u64) -> io::Result<Work> {
     worked(clock, alloc, &Asked::Keys(count), count, count / 100, SIZE)
@@ -95,9 +122,38 @@ fn worked(
     size: u64,
 ) -> io::Result<Work> {
     let schema = schema(alloc)?;
-    let mut source = in_blocks(alloc, &schema, orders, owners, size)?;
+    let worked = worked_in(clock, alloc, &schema, asked, orders, owners, size);
+    with_no(schema, worked)
+}
+
+/// What comes of what is asked of that many orders and owners of these tables, in blocks of a size.
+fn worked_in(
+    clock: &impl Clock,
+    alloc: Global,
+    schema: &Schema,
+    asked: &Asked,
+    orders: u64,
+    owners: u64,
+    size: u64,
+) -> io::Result<Work> {
+    let mut source = in_blocks(alloc, schema, orders, owners, size)?;
+    let worked = worked_on(clock, alloc, schema, &mut source, asked, orders);
+    with_no(source, worked)
+}
+
+/// What comes of what is asked of a source, over so many orders.
+fn worked_on(
+    clock: &impl Clock,
+    alloc: Global,
+    schema: &Schema,
+    source: &mut Blocks,
+    asked: &Asked,
+    orders: u64,
+) -> io::Result<Work>
+    requires { source.old.window.tables ≡ schema.now }
+{
     let start = Instant::now(clock)?;
-    let rows = rows_given(alloc, &schema, &mut source, asked, orders)?;
+    let rows = rows_given(alloc, schema, source, asked, orders)?;
     let took = start.elapsed(clock)?;
     let read = source.read;
     Ok(Work { rows, read, took })
@@ -115,9 +171,9 @@ fn rows_given(
 {
     match asked {
         Asked::Keys(count) => select_each(alloc, schema, source, orders, *count),
-        Asked::Join => answered(alloc, schema, &joined(alloc)?, source),
+        Asked::Join => answered(alloc, schema, joined(alloc)?, source),
         Asked::Range { first, end } => {
-            answered(alloc, schema, &in_range(alloc, *first, *end)?, source)
+            answered(alloc, schema, in_range(alloc, *first, *end)?, source)
         }
     }
 }
@@ -135,13 +191,27 @@ fn select_each(
     let mut rows: usize = 0;
     'selects: for n in 0..count {
         let bound = by_key(alloc, n.wrapping_mul(7919) % orders.max(1))?;
-        rows = rows.saturating_add(answered(alloc, schema, &bound, source)?);
+        rows = rows.saturating_add(answered(alloc, schema, bound, source)?);
     }
     Ok(rows)
 }
 
 /// How many rows a statement gives.
 fn answered(
+    alloc: Global,
+    schema: &Schema,
+    bound: Bound,
+    source: &mut Blocks,
+) -> Result<usize, AllocError>
+    requires { source.old.window.tables ≡ schema.now }
+    ensures { source.new.window.tables ≡ source.old.window.tables }
+{
+    let rows = rows_of(alloc, schema, &bound, source);
+    with_no(bound, rows)
+}
+
+/// How many rows a statement gives by its plan.
+fn rows_of(
     alloc: Global,
     schema: &Schema,
     bound: &Bound,
@@ -151,7 +221,14 @@ fn answered(
     ensures { source.new.window.tables ≡ source.old.window.tables }
 {
     let plan = Plan::new(alloc, bound, schema)?;
-    match execute(alloc, schema.tables(), bound, &plan, source, &[]) {
+    let executed = execute(alloc, schema.tables(), bound, &plan, source, &[]);
+    let rows = rows_told(&executed);
+    with_no(plan, with_no(executed, rows))
+}
+
+/// How many rows a statement gave.
+fn rows_told(executed: &Result<Executed, RowFault>) -> Result<usize, AllocError> {
+    match executed {
         Ok(executed) => Ok(count_of(&executed.outcome)),
         // No one can be gone from rows in memory, so this is want of memory.
         Err(_) => Err(AllocError),
@@ -168,31 +245,35 @@ fn count_of(outcome: &Outcome) -> usize {
 
 /// `select owner from orders where id = KEY`
 fn by_key(alloc: Global, key: u64) -> Result<Bound, AllocError> {
-    query(alloc, &[0], ORDER_OWNER, compared(Cmp::Eq, ORDER_ID, key))
+    let said = columns_said(alloc, &[0], ORDER_OWNER)?;
+    Ok(query(alloc, said, compared(Cmp::Eq, ORDER_ID, key)))
 }
 
 /// `select owner from orders where id >= FIRST and id < END`
 fn in_range(alloc: Global, first: u64, end: u64) -> Result<Bound, AllocError> {
+    let said = columns_said(alloc, &[0], ORDER_OWNER)?;
+    let (said, condition) = beside(said, from_to(alloc, first, end))?;
+    Ok(query(alloc, said, condition))
+}
+
+/// `id >= FIRST and id < END`
+fn from_to(alloc: Global, first: u64, end: u64) -> Result<Condition, AllocError> {
     let parts = vec![in alloc;
         compared(Cmp::Ge, ORDER_ID, first),
         compared(Cmp::Lt, ORDER_ID, end),
     ]?;
-    query(
-        alloc,
-        &[0],
-        ORDER_OWNER,
-        Condition::And(Seq::from_vec(parts)),
-    )
+    Ok(Condition::And(Seq::from_vec(parts)))
 }
 
 /// `select owners.v from orders, owners where owners.id = orders.owner`
 fn joined(alloc: Global) -> Result<Bound, AllocError> {
+    let said = columns_said(alloc, &[0, 1], OWNER_V)?;
     let condition = Condition::Compare {
         op: Cmp::Eq,
         left: BoundOperand::Column(OWNER_ID),
         right: BoundOperand::Column(ORDER_OWNER),
     };
-    query(alloc, &[0, 1], OWNER_V, condition)
+    Ok(query(alloc, said, condition))
 }
 
 fn compared(op: Cmp, column: BoundColumn, number: u64) -> Condition {
@@ -203,21 +284,30 @@ fn compared(op: Cmp, column: BoundColumn, number: u64) -> Condition {
     }
 }
 
-fn query(
-    alloc: Global,
-    tables: &[u16],
-    item: BoundColumn,
-    condition: Condition,
-) -> Result<Bound, AllocError> {
-    Ok(Bound::Select(BoundSelect {
+/// What a query says before its condition.
+#[derive(Drop)]
+struct Said {
+    items: List<BoundItem>,
+    tables: List<u16>,
+}
+
+/// One column of tables.
+fn columns_said(alloc: Global, tables: &[u16], item: BoundColumn) -> Result<Said, AllocError> {
+    let items = List::from_vec(vec![in alloc; BoundItem::Column(item)]?);
+    let tables = List::from_vec(Vec::from_slice(alloc, tables)?);
+    Ok(Said { items, tables })
+}
+
+fn query(alloc: Global, said: Said, condition: Condition) -> Bound {
+    Bound::Select(BoundSelect {
         selectv: false,
-        items: List::from_vec(vec![in alloc; BoundItem::Column(item)]?),
-        tables: List::from_vec(Vec::from_slice(alloc, tables)?),
+        items: said.items,
+        tables: said.tables,
         filter: Some(condition),
         group: List::new(alloc),
         order: List::new(alloc),
         limit: None,
-    }))
+    })
 }
 
 /// That many orders and owners, in blocks of rising keys with a size.
@@ -230,11 +320,10 @@ fn in_blocks(
 ) -> Result<Blocks, AllocError>
     ensures { IfOk result (λ s. s.window.tables ≡ schema.now) }
 {
-    let mut blocks = List::new(alloc);
-    blocks.push(blocks_of(alloc, orders, owners, size)?)?;
-    blocks.push(blocks_of(alloc, owners, owners, size)?)?;
+    let blocks = both_blocks(alloc, orders, owners, size)?;
+    let (blocks, tables) = beside(blocks, copied(alloc, schema.tables()))?;
     let window = MemRows {
-        tables: copied(alloc, schema.tables())?,
+        tables,
         versions: List::new(alloc),
     };
     Ok(Blocks {
@@ -244,6 +333,30 @@ fn in_blocks(
     })
 }
 
+/// The blocks of orders and those of owners.
+fn both_blocks(
+    alloc: Global,
+    orders: u64,
+    owners: u64,
+    size: u64,
+) -> Result<List<List<Block>>, AllocError> {
+    let mut blocks = List::new(alloc);
+    let added = add_both(alloc, &mut blocks, orders, owners, size);
+    kept(blocks, added)
+}
+
+/// Adds the blocks of orders and those of owners.
+fn add_both(
+    alloc: Global,
+    blocks: &mut List<List<Block>>,
+    orders: u64,
+    owners: u64,
+    size: u64,
+) -> Result<(), AllocError> {
+    blocks.push(blocks_of(alloc, orders, owners, size)?)?;
+    blocks.push(blocks_of(alloc, owners, owners, size)?)
+}
+
 /// Blocks of that many rows, with a size.
 fn blocks_of(alloc: Global, count: u64, owners: u64, size: u64) -> Result<List<Block>, AllocError> {
     let size = size.max(1);
@@ -251,12 +364,24 @@ fn blocks_of(alloc: Global, count: u64, owners: u64, size: u64) -> Result<List<B
     for at in 0..count.div_ceil(size) {
         let first = at.saturating_mul(size);
         let end = first.saturating_add(size).min(count);
-        let versions = versions_of(alloc, first, end, owners)?;
-        if let Some(block) = Block::new(versions, int(first), int(end.saturating_sub(1))) {
-            blocks.push(block)?;
-        }
+        add_block(alloc, &mut blocks, first, end, owners)?;
     }
     Ok(blocks)
+}
+
+/// Adds the block of the rows with these keys.
+fn add_block(
+    alloc: Global,
+    blocks: &mut List<Block>,
+    first: u64,
+    end: u64,
+    owners: u64,
+) -> Result<(), AllocError> {
+    let versions = versions_of(alloc, first, end, owners)?;
+    match Block::new(versions, int(first), int(end.saturating_sub(1))) {
+        Some(block) => blocks.push(block),
+        None => Ok(()),
+    }
 }
 
 /// The rows with these keys. The second column has a mixed one among so many numbers.
@@ -267,16 +392,39 @@ fn versions_of(
     owners: u64,
 ) -> Result<List<Version>, AllocError> {
     let mut versions = List::new(alloc);
+    let added = add_versions(alloc, &mut versions, first, end, owners);
+    kept(versions, added)
+}
+
+/// Adds the rows with these keys.
+fn add_versions(
+    alloc: Global,
+    versions: &mut List<Version>,
+    first: u64,
+    end: u64,
+    owners: u64,
+) -> Result<(), AllocError> {
     for key in first..end {
-        let mut row = List::new(alloc);
-        row.push(int(key))?;
-        row.push(int(key.wrapping_mul(7919) % owners.max(1)))?;
+        let row = two_numbers(alloc, key, key.wrapping_mul(7919) % owners.max(1))?;
         versions.push(Version {
             genid: key.saturating_add(1),
             row,
         })?;
     }
-    Ok(versions)
+    Ok(())
+}
+
+/// A row of two numbers.
+pub(crate) fn two_numbers(alloc: Global, first: u64, second: u64) -> Result<Row, AllocError> {
+    let mut row = List::new(alloc);
+    let added = add_numbers(&mut row, first, second);
+    kept(row, added)
+}
+
+/// Adds two numbers to a row.
+fn add_numbers(row: &mut Row, first: u64, second: u64) -> Result<(), AllocError> {
+    row.push(int(first))?;
+    row.push(int(second))
 }
 
 fn int(number: u64) -> Value {
@@ -285,28 +433,72 @@ fn int(number: u64) -> Value {
 
 fn schema(alloc: Global) -> Result<Schema, AllocError> {
     let mut schema = Schema::new(alloc);
-    let orders = table(alloc, b"orders", b"owner")?;
-    schema.add(orders).map_err(|_| AllocError)?;
-    let owners = table(alloc, b"owners", b"v")?;
-    schema.add(owners).map_err(|_| AllocError)?;
-    Ok(schema)
+    let added = add_tables(alloc, &mut schema);
+    kept(schema, added)
+}
+
+/// Adds both tables.
+fn add_tables(alloc: Global, schema: &mut Schema) -> Result<(), AllocError> {
+    add_table(alloc, schema, b"orders", b"owner")?;
+    add_table(alloc, schema, b"owners", b"v")
+}
+
+/// Adds a table with the columns `id` and another one.
+fn add_table(
+    alloc: Global,
+    schema: &mut Schema,
+    name: &[u8],
+    other: &[u8],
+) -> Result<(), AllocError> {
+    let table = table(alloc, name, other)?;
+    schema.add(table).map_err(|_| AllocError)
 }
 
 /// A table with the columns `id` and another one, and the key pk(id).
 fn table(alloc: Global, name: &[u8], other: &[u8]) -> Result<TableDef, AllocError> {
-    let mut columns = List::new(alloc);
-    columns.push(column(alloc, b"id", false)?)?;
-    columns.push(column(alloc, other, true)?)?;
-    let mut keys = List::new(alloc);
-    keys.push(KeyDef {
-        name: Name::copied(alloc, b"pk")?,
-        columns: List::from_vec(vec![in alloc; 0u8]?),
-        unique: true,
-    })?;
+    let name = Name::copied(alloc, name)?;
+    let (name, columns) = beside(name, columns(alloc, other))?;
+    let ((name, columns), keys) = beside((name, columns), keys(alloc))?;
     Ok(TableDef {
-        name: Name::copied(alloc, name)?,
+        name,
         columns,
         keys,
+    })
+}
+
+/// The columns `id` and another one.
+fn columns(alloc: Global, other: &[u8]) -> Result<List<ColumnDef>, AllocError> {
+    let mut columns = List::new(alloc);
+    let added = add_columns(alloc, &mut columns, other);
+    kept(columns, added)
+}
+
+/// Adds the columns `id` and another one.
+fn add_columns(
+    alloc: Global,
+    columns: &mut List<ColumnDef>,
+    other: &[u8],
+) -> Result<(), AllocError> {
+    columns.push(column(alloc, b"id", false)?)?;
+    columns.push(column(alloc, other, true)?)
+}
+
+/// The key pk(id) alone.
+fn keys(alloc: Global) -> Result<List<KeyDef>, AllocError> {
+    let key = key(alloc)?;
+    let mut keys = List::new(alloc);
+    let pushed = keys.push(key);
+    kept(keys, pushed)
+}
+
+/// The key pk(id).
+fn key(alloc: Global) -> Result<KeyDef, AllocError> {
+    let columns = List::from_vec(vec![in alloc; 0u8]?);
+    let (columns, name) = beside(columns, Name::copied(alloc, b"pk"))?;
+    Ok(KeyDef {
+        name,
+        columns,
+        unique: true,
     })
 }
 
