@@ -2,7 +2,7 @@
 use Rattle.std.proofs.Common.{◌≡◌, ℕ, ◌+◌, ◌-◌, ◌<◌, ◌∷◌, [], List, refl, sym, ◌∙◌, ap, arith, length, drop, zero, suc}
 use Rattle.std.specs.Prelude.{slice_get, unwrap_or, Option, Some, None}
 use Rattle.std.proofs.lemmas.List.{length-drop}
-use Rattle.report_laws.specs.View.{first_touched}
+use Rattle.session_language.specs.Touched.{first_touched}
 use Rattle.cdb_values.specs.declared.items.GenidItem.{GenidItem}
 use Rattle.block_processor.specs.Conflicts.{Touched, first_conflict, or_later, IsFirstSince, AreUntouched}
 

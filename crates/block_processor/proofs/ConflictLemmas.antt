@@ -15,7 +15,7 @@ use Rattle.phys_log.specs.declared.entries.Entry.{Entry}
 use Rattle.phys_log.specs.declared.entries.Entry.TheVariants.{Setup, Commit}
 use Rattle.range_validate.specs.Touches.{changes_in, first_item, first_touch_from, first_touch_of, or_range, or_later as touch_or}
 use Rattle.range_validate.specs.declared.touches.Touch.{Touch}
-use Rattle.report_laws.specs.View.{first_touched, is_same_item, is_touched}
+use Rattle.session_language.specs.Touched.{first_touched, is_same_item, is_touched}
 use Rattle.table_store.specs.Listings.{IsAmong}
 use Rattle.log_rows.specs.History.{takes_of, takes_in, IsUntaken}
 use Rattle.block_processor.specs.Conflicts.{Touched, first_conflict, or_later}

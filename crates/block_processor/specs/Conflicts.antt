@@ -5,7 +5,7 @@
 -- the version 1, at position 4.
 use Rattle.std.specs.Prelude.{◌≡◌, ℕ, ◌+◌, ◌-◌, ◌<◌, ◌≤◌, List, [], ◌∷◌, length, slice_get, unwrap_or, Option, Some, None}
 use Rattle.cdb_values.specs.declared.items.GenidItem.{GenidItem}
-use Rattle.report_laws.specs.View.{first_touched}
+use Rattle.session_language.specs.Touched.{first_touched}
 
 -- a position whose entry touches a used version, and the first such version
 pub record Touched : Type 0 where

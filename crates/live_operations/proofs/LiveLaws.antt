@@ -10,7 +10,7 @@ use Rattle.cdb_values.specs.declared.rows.RowRef.TheVariants.{Base, Own}
 use Rattle.cdb_values.specs.declared.rows.Version.{Version}
 use Rattle.cdb_values.specs.declared.values.Value.{Value}
 use Rattle.net_writes.specs.Net.{rewritten, undone, net_of}
-use Rattle.report_laws.proofs.EachLaws.{all_append}
+use Rattle.session_language.proofs.EachLaws.{all_append}
 use Rattle.sql_answer.specs.Answers.{updating, deleting}
 use Rattle.sql_answer.specs.Combinations.{Seen, of_table}
 use Rattle.sql_answer.specs.Language.{sql_language}

@@ -10,7 +10,7 @@ use Rattle.cdb_values.specs.declared.rows.RowOp.TheVariants.{Insert, Update, Del
 use Rattle.cdb_values.specs.declared.rows.RowRef.TheVariants.{Base, Own}
 use Rattle.cdb_values.specs.declared.values.Value.{Value}
 use Rattle.net_writes.specs.Net.{held_of, held_at, taken_out, rewritten, undone, held_with, held_after, standing, net_of}
-use Rattle.report_laws.proofs.EachLaws.{all_append}
+use Rattle.session_language.proofs.EachLaws.{all_append}
 use Rattle.table_store.specs.Operations.{gone}
 use Rattle.live_operations.proofs.TimesLemmas.{times, taken_by, gone_first}
 

@@ -12,8 +12,8 @@ use Rattle.cdb_values.specs.declared.values.Value.{Value}
 use Rattle.cdb_values.specs.declared.values.Value.TheVariants.{Null, Int, Text, Blob}
 use Rattle.key_code.specs.Codes.{IsInRange}
 use Rattle.net_writes.specs.Net.{rewritten, undone}
-use Rattle.report_laws.proofs.EachLaws.{all_append}
-use Rattle.report_laws.proofs.SpelledLaws.{all_got, all_exchanged, all_filtered}
+use Rattle.session_language.proofs.EachLaws.{all_append}
+use Rattle.session_language.proofs.AllLaws.{all_got, all_exchanged, all_filtered}
 use Rattle.sql_answer.specs.Aggregates.{int_value}
 use Rattle.sql_answer.specs.Answers.{updating, deleting}
 use Rattle.sql_answer.specs.Combinations.{Seen, seen_version, own_or, own_from, is_left, of_table, seen, rows_of}

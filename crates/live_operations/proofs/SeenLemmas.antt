@@ -11,8 +11,8 @@ use Rattle.cdb_values.specs.declared.rows.RowRef.{RowRef}
 use Rattle.cdb_values.specs.declared.rows.RowRef.TheVariants.{Base, Own}
 use Rattle.cdb_values.specs.declared.rows.Version.{Version}
 use Rattle.cdb_values.specs.declared.values.Value.{Value}
-use Rattle.report_laws.proofs.EachLaws.{all_append}
-use Rattle.report_laws.proofs.SpelledLaws.{all_got}
+use Rattle.session_language.proofs.EachLaws.{all_append}
+use Rattle.session_language.proofs.AllLaws.{all_got}
 use Rattle.sql_answer.specs.Answers.{rows_met, updating, deleting}
 use Rattle.sql_answer.specs.Combinations.{Seen, seen_version, own_or, own_from, is_left, of_table, seen, rows_of, extended, met}
 use Rattle.sql_answer.specs.Conditions.{meets}

@@ -11,7 +11,7 @@ use Rattle.cdb_values.specs.declared.rows.RowOp.TheVariants.{Insert, Update, Del
 use Rattle.cdb_values.specs.declared.rows.RowRef.TheVariants.{Base, Own}
 use Rattle.cdb_values.specs.declared.rows.Version.{Version}
 use Rattle.cdb_values.specs.declared.values.Value.{Value}
-use Rattle.report_laws.specs.View.{first_touched, is_same_item, is_touched}
+use Rattle.session_language.specs.Touched.{first_touched, is_same_item, is_touched}
 use Rattle.sql_answer.specs.Combinations.{of_table}
 use Rattle.table_store.specs.Listings.{IsAmong}
 use Rattle.table_store.specs.Operations.{NoTwice}

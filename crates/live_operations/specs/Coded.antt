@@ -14,8 +14,8 @@ use Rattle.cdb_values.specs.declared.rows.RowOp.TheVariants.{Insert, Update, Del
 use Rattle.cdb_values.specs.declared.rows.Version.{Version}
 use Rattle.cdb_values.specs.declared.tables.TableDef.{TableDef}
 use Rattle.key_code.specs.Codes.{IsRowValue}
-use Rattle.report_laws.specs.Language.{alone_from}
-use Rattle.report_laws.specs.Spelled.{WritesRow, HaveRows}
+use Rattle.session_language.specs.Language.{alone_from}
+use Rattle.session_language.specs.Spelled.{WritesRow, HaveRows}
 use Rattle.sql_answer.specs.Language.{sql_language}
 use Rattle.sql_run.specs.Sound.{AreSound, HasDistinctColumns, IsSoundOp}
 use Rattle.sql_run.specs.Spelled.{HasColumns}

@@ -7,8 +7,8 @@ use Rattle.cdb_values.specs.declared.rows.RowOp.TheVariants.{Insert, Update, Del
 use Rattle.cdb_values.specs.declared.rows.RowRef.TheVariants.{Base, Own}
 use Rattle.cdb_values.specs.declared.values.Value.{Value}
 use Rattle.net_writes.specs.Net.{held_of, held_at, taken_out, rewritten, undone, held_with, held_after, standing, net_of}
-use Rattle.report_laws.proofs.EachLaws.{all_append}
-use Rattle.report_laws.proofs.SpelledLaws.{all_exchanged}
+use Rattle.session_language.proofs.EachLaws.{all_append}
+use Rattle.session_language.proofs.AllLaws.{all_exchanged}
 use Rattle.sql_answer_plain.specs.Laid.{is_on_base}
 
 -- what a write is held as names no own write

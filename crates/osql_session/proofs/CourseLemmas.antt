@@ -12,7 +12,7 @@ use Rattle.query_laws.specs.Alone.{replies_of, uses_of, run_answered}
 use Rattle.query_laws.specs.Intervals.{Interval}
 use Rattle.query_laws.specs.Runs.{ranges_of, used_if, Run, run_from}
 use Rattle.query_laws.proofs.AloneLemmas.{alone_is_run}
-use Rattle.report_laws.specs.Language.{alone_from}
+use Rattle.session_language.specs.Language.{alone_from}
 use Rattle.report_text.specs.declared.reports.ReplyLine.{ReplyLine}
 use Rattle.sql_answer.specs.Answers.{Outcome, Fails, Gives, Meaning, answer, ops_after}
 use Rattle.sql_answer.specs.Language.{meaning, bound_in, answered, sql_language}

@@ -8,7 +8,7 @@ use Rattle.cdb_values.specs.declared.rows.RowOp.{RowOp}
 use Rattle.cdb_values.specs.declared.rows.RowOp.TheVariants.{Insert, Update, Delete}
 use Rattle.cdb_values.specs.declared.rows.RowRef.TheVariants.{Base, Own}
 use Rattle.indexmap.specs.IndexSet.{insert_key}
-use Rattle.report_laws.specs.View.{is_same_item}
+use Rattle.session_language.specs.Touched.{is_same_item}
 use Rattle.osql_session.specs.Items.{with_item, with_items, without_repeats, item_in, items_in}
 
 with_both : (items a b : List GenidItem) → with_items (with_items items a) b ≡ with_items items (a ++ b)

@@ -2,7 +2,7 @@
 use Rattle.std.proofs.Common.{◌≡◌, ◌==◌, ◌&&◌, ◌||◌, Bool, true, false, List, [], ◌∷◌, ◌++◌, if◌then◌else◌, refl, sym, ap, ◌∙◌}
 use Rattle.std.proofs.lemmas.Bool.{eqb-true}
 use Rattle.cdb_values.specs.declared.items.GenidItem.{GenidItem}
-use Rattle.report_laws.specs.View.{is_same_item}
+use Rattle.session_language.specs.Touched.{is_same_item}
 use Rattle.osql_session.specs.Items.{with_item, with_items, without_repeats, is_among, AreApart}
 
 both_first : (a b : Bool) → (a && b) ≡ true → a ≡ true

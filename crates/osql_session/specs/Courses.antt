@@ -6,7 +6,7 @@ use Rattle.cdb_values.specs.declared.tables.TableDef.{TableDef}
 use Rattle.plan_run.specs.PlanWalks.{intervals_in}
 use Rattle.query_laws.specs.Alone.{run_answered}
 use Rattle.query_laws.specs.Runs.{run_from}
-use Rattle.report_laws.specs.Language.{alone_from}
+use Rattle.session_language.specs.Language.{alone_from}
 use Rattle.report_text.specs.declared.reports.ReplyLine.{ReplyLine}
 use Rattle.sql_answer.specs.Answers.{Meaning}
 use Rattle.sql_answer.specs.Language.{meaning, bound_in, sql_language}

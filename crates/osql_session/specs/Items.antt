@@ -3,7 +3,7 @@ use Rattle.std.specs.Prelude.{◌≡◌, ℕ, ◌++◌, ◌∷◌, [], List, Boo
 use Rattle.std.specs.List.{list_any}
 use Rattle.cdb_values.specs.Changes.{genid_item}
 use Rattle.cdb_values.specs.declared.items.GenidItem.{GenidItem}
-use Rattle.report_laws.specs.View.{is_same_item}
+use Rattle.session_language.specs.Touched.{is_same_item}
 
 -- these versions with one more, where it is not among them
 abbrev pub with_item : List GenidItem → GenidItem → List GenidItem

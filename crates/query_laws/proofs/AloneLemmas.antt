@@ -3,7 +3,7 @@ use Rattle.std.proofs.Common.{◌≡◌, ℕ, List, [], ◌∷◌, ◌++◌, ref
 use Rattle.cdb_values.specs.declared.rows.RowOp.{RowOp}
 use Rattle.cdb_values.specs.declared.rows.Version.{Version}
 use Rattle.cdb_values.specs.declared.tables.TableDef.{TableDef}
-use Rattle.report_laws.specs.Language.{Answered, alone_from}
+use Rattle.session_language.specs.Language.{Answered, alone_from}
 use Rattle.sql_answer.specs.Answers.{Outcome, Fails, Gives, answer, ops_after}
 use Rattle.sql_answer.specs.Language.{Binder, meaning, answered, language_of}
 use Rattle.query_laws.specs.Alone.{run_answered}

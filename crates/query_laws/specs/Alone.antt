@@ -2,7 +2,7 @@
 use Rattle.std.specs.Prelude.{◌∷◌, [], List, Bool, true, false}
 use Rattle.std.specs.List.{flat_map, list_any}
 use Rattle.cdb_values.specs.declared.items.GenidItem.{GenidItem}
-use Rattle.report_laws.specs.Language.{Answered}
+use Rattle.session_language.specs.Language.{Answered}
 use Rattle.report_text.specs.declared.reports.ReplyLine.{ReplyLine}
 use Rattle.report_text.specs.declared.reports.ReplyLine.TheVariants as reply
 use Rattle.sql_answer.specs.Answers.{Outcome, Fails, Gives}

@@ -5,7 +5,7 @@ ghost use Rattle.cdb_values.specs.Rows.{Rows, apply_all};
 ghost use Rattle.cdb_values.specs.declared.rows.RowOp.{RowOp};
 ghost use Rattle.cdb_values.specs.declared.rows.Version.{Version};
 ghost use Rattle.cdb_values.specs.declared.tables.TableDef.{TableDef};
-ghost use Rattle.report_laws.specs.Language.{alone_from};
+ghost use Rattle.session_language.specs.Language.{alone_from};
 ghost use Rattle.sql_answer.specs.Answers.{Meaning, answer};
 ghost use Rattle.sql_answer.specs.Combinations.{Seen, met};
 ghost use Rattle.sql_answer.specs.Language.{Binder, meaning, language_of};

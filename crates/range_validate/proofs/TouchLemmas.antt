@@ -12,7 +12,7 @@ use Rattle.cdb_values.specs.declared.rows.Change.{Change}
 use Rattle.cdb_values.specs.declared.rows.Change.TheVariants.{Insert, Update, Delete}
 use Rattle.cdb_values.specs.declared.tables.TableDef.{TableDef}
 use Rattle.phys_log.specs.declared.entries.Entry.{Entry}
-use Rattle.report_laws.specs.View.{is_same_item, is_touched}
+use Rattle.session_language.specs.Touched.{is_same_item, is_touched}
 use Rattle.range_validate.specs.Touches.{changes_in, takes_item, first_item, or_later, first_touch_from, item_at, IsFirst}
 use Rattle.range_validate.specs.declared.touches.Touch.{Touch}
 

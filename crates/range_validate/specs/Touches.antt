@@ -21,7 +21,7 @@ use Rattle.cdb_values.specs.declared.tables.TableDef.{TableDef}
 use Rattle.phys_log.specs.declared.entries.Entry.{Entry}
 use Rattle.phys_log.specs.declared.entries.Entry.TheVariants.{Setup, Commit}
 use Rattle.query_plan.specs.Views.{interval_in}
-use Rattle.report_laws.specs.View.{first_touched, is_same_item}
+use Rattle.session_language.specs.Touched.{first_touched, is_same_item}
 use Rattle.serial_laws.specs.Changed.{changes_touch}
 use Rattle.range_validate.specs.declared.touches.Touch.{Touch}
 

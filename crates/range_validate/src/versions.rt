@@ -2,7 +2,7 @@
 ghost use Rattle.std.specs.Prelude.{◌≡◌};
 ghost use Rattle.std.specs.List.{list_any};
 ghost use Rattle.cdb_values.specs.Changes.{genid_item, genids_taken};
-ghost use Rattle.report_laws.specs.View.{is_same_item, is_touched as is_touched_of, first_touched as first_touched_of};
+ghost use Rattle.session_language.specs.Touched.{is_same_item, is_touched as is_touched_of, first_touched as first_touched_of};
 ghost use Rattle.range_validate.specs.Touches.{takes_item as takes_item_of};
 
 use cdb_values::{Change, GenidItem};

@@ -6,7 +6,8 @@ use Rattle.cdb_values.specs.Rows.{Rows, apply_all}
 use Rattle.cdb_values.specs.declared.rows.Level.{Level}
 use Rattle.cdb_values.specs.declared.rows.RowOp.{RowOp}
 use Rattle.report_laws.specs.History.{Basis, alone_on, rows_at, rows_after, rows_among, ops_alone, states_of, entry_at, last_position, taken_at, view_of}
-use Rattle.report_laws.specs.View.{first_touched, IsUntouched}
+use Rattle.report_laws.specs.View.{IsUntouched}
+use Rattle.session_language.specs.Touched.{first_touched}
 use Rattle.report_laws.specs.Outcome.{IsRight, IsCommitted, IsConflict, IsDuplicate, IsDecided, conflict_line, key_name}
 use Rattle.report_laws.specs.Play.{IsTimely}
 use Rattle.report_laws.specs.Work.{Transaction, transaction_of}

@@ -3,7 +3,7 @@
 use Rattle.std.proofs.Common.{◌≡◌, ℕ, ◌≤◌, List, [], ◌∷◌, ◌++◌, refl, sym, subst, ap, arith, ◌∙◌, append_assoc, Bool, true, false, if◌then◌else◌}
 use Rattle.std.proofs.lemmas.Slice.Eq.{bytes_eq-Decides}
 use Rattle.std.specs.Str.{bytes_eq}
-use Rattle.report_laws.specs.Each.{StandsIn}
+use Rattle.session_language.specs.Each.{StandsIn}
 use Rattle.report_laws.specs.History.{Basis, last_position, view_of}
 use Rattle.report_laws.specs.Told.{told, Numbered, numbered, EndsAt, IsCommitTold, IsEntryTold}
 use Rattle.report_laws.specs.View.{View}
@@ -15,7 +15,7 @@ use Rattle.report_text.specs.declared.reports.ReplyLine.{ReplyLine}
 use Rattle.report_text.specs.declared.reports.ReplyLine.TheVariants as reply
 use Rattle.report_laws.proofs.GrowLaws.{alone_stays}
 use Rattle.report_laws.proofs.HistoryLaws.{last_more}
-use Rattle.report_laws.proofs.PieceLaws.{same_head, same_tail}
+use Rattle.session_language.proofs.UpToLaws.{same_head, same_tail}
 use Rattle.report_laws.proofs.ToldLaws.{told_append, numbered_append}
 
 -- what a session was told stands among the lines

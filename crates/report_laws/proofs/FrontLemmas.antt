@@ -5,10 +5,11 @@ use Rattle.std.specs.List.{slice_get}
 use Rattle.cdb_values.specs.Changes.{genids_taken}
 use Rattle.cdb_values.specs.Rows.{Rows}
 use Rattle.report_laws.specs.History.{Origin, Basis, rows_after, rows_among, states_from, states_of, rows_at, entry_at, entries_before, last_position, changes_by, changes_at, taken_at, view_of}
-use Rattle.report_laws.specs.View.{first_touched, IsUntouched}
+use Rattle.report_laws.specs.View.{IsUntouched}
+use Rattle.session_language.specs.Touched.{first_touched}
 use Rattle.cdb_values.specs.declared.items.GenidItem.{GenidItem}
 use Rattle.report_text.specs.declared.reports.EntryLine.{EntryLine}
-use Rattle.report_laws.proofs.EachLaws.{get_front, get_next}
+use Rattle.session_language.proofs.EachLaws.{get_front, get_next}
 
 pub states_count : (basis : Basis) (states : List Rows) (es : List EntryLine) → length (states_from basis states es) ≡ length states + length es
 states_count basis states [] = omega arith

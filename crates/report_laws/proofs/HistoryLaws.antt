@@ -7,11 +7,12 @@ use Rattle.cdb_values.specs.Rows.{Rows}
 use Rattle.cdb_values.specs.Changes.{genids_taken, taken_by}
 use Rattle.cdb_values.proofs.ChangeLaws.{take_the_same}
 use Rattle.report_laws.specs.History.{is_entry_of, Origin, Basis, rows_after, rows_among, states_of, rows_at, ops_of, entry_at, changes_by, changes_at, taken_at, last_position, view_of}
-use Rattle.report_laws.specs.View.{first_touched, IsUntouched}
+use Rattle.report_laws.specs.View.{IsUntouched}
+use Rattle.session_language.specs.Touched.{first_touched}
 use Rattle.cdb_values.specs.declared.items.GenidItem.{GenidItem}
 use Rattle.report_text.specs.declared.reports.EntryLine.{EntryLine}
 use Rattle.report_text.specs.declared.reports.EntryLine.TheVariants.{Setup, Commit}
-use Rattle.report_laws.proofs.EachLaws.{all_found}
+use Rattle.session_language.proofs.EachLaws.{all_found}
 use Rattle.report_laws.proofs.FrontLemmas.{rows_front, entry_front, taken_front, entry_next, rows_next}
 
 -- the history with an entry more is one position longer

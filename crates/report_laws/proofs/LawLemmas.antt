@@ -3,9 +3,9 @@ use Rattle.std.proofs.Common.{◌≡◌, ◌==◌, ◌&&◌, ℕ, ◌+◌, arith
 use Rattle.std.proofs.lemmas.Bool.{eq-eqb}
 use Rattle.std.specs.Str.{bytes_eq}
 use Rattle.cdb_values.specs.declared.rows.Level.{Level}
-use Rattle.report_laws.specs.Each.{EachAfter, StandsIn}
+use Rattle.session_language.specs.Each.{EachAfter, StandsIn}
 use Rattle.report_laws.specs.History.{Basis, IsEntryAfter, alone_on, rows_at, last_position, view_of}
-use Rattle.report_laws.specs.Language.{Answered}
+use Rattle.session_language.specs.Language.{Answered}
 use Rattle.report_laws.specs.Lawful.{Lawful, IsFreshLine, NameUpTo}
 use Rattle.report_laws.specs.Places.{HasItsPlace}
 use Rattle.report_laws.specs.Play.{InPlayOrder}

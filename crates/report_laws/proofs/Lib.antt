@@ -1,7 +1,5 @@
 pub mod AlongLaws
-pub mod AnswerLaws
 pub mod DecideLemmas
-pub mod EachLaws
 pub mod EntryToldLaws
 pub mod FrontLemmas
 pub mod GrowLaws

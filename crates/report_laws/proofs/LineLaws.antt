@@ -4,7 +4,7 @@ use Rattle.std.proofs.lemmas.List.{append-nil}
 use Rattle.std.specs.List.{AllByRecursion}
 use Rattle.script_form.specs.declared.scripts.BodyLine.{BodyLine}
 use Rattle.script_form.specs.declared.scripts.Act.{Act}
-use Rattle.report_laws.specs.Each.{EachAfter}
+use Rattle.session_language.specs.Each.{EachAfter}
 use Rattle.report_laws.specs.History.{Origin, Basis, last_position}
 use Rattle.report_laws.specs.Lawful.{IsFresh, IsFreshLine, NameUpTo, positions, named_by}
 use Rattle.report_laws.specs.Paced.{Paced}
@@ -16,7 +16,7 @@ use Rattle.report_text.specs.declared.reports.Line.{Line}
 use Rattle.report_text.specs.declared.reports.Line.TheVariants as line
 use Rattle.report_text.specs.declared.reports.ReplyLine.{ReplyLine}
 use Rattle.report_text.specs.declared.reports.ReplyLine.TheVariants as reply
-use Rattle.report_laws.proofs.EachLaws.{all_append, all_front}
+use Rattle.session_language.proofs.EachLaws.{all_append, all_front}
 
 -- the positions that were named stay within a greater bound
 pub named_more : (b c : ℕ) (lines : List Line) → b ≤ c → NameUpTo b lines → NameUpTo c lines

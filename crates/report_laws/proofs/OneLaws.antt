@@ -6,8 +6,8 @@ use Rattle.script_form.specs.declared.scripts.BodyLine.{BodyLine}
 use Rattle.script_form.specs.declared.scripts.Act.{Act}
 use Rattle.script_form.specs.declared.scripts.Act.TheVariants as act
 use Rattle.report_laws.specs.History.{Basis, last_position, view_of}
-use Rattle.report_laws.specs.Answers.{Answers}
-use Rattle.report_laws.specs.Language.{Language}
+use Rattle.session_language.specs.Answers.{Answers}
+use Rattle.session_language.specs.Language.{Language}
 use Rattle.report_laws.specs.Lawful.{Lawful}
 use Rattle.report_laws.specs.One.{IsUncutLine, IsUncut}
 use Rattle.report_laws.specs.Play.{InPlayOrder, InTurns, IsTurnOf, piece, opening, number_told}
@@ -18,7 +18,7 @@ use Rattle.report_text.specs.declared.reports.EntryLine.{EntryLine}
 use Rattle.report_text.specs.declared.reports.EntryLine.TheVariants.{Setup, Commit}
 use Rattle.report_text.specs.declared.reports.Line.{Line}
 use Rattle.report_text.specs.declared.reports.ReplyLine.{ReplyLine}
-use Rattle.report_laws.proofs.EachLaws.{all_front, all_map, all_found}
+use Rattle.session_language.proofs.EachLaws.{all_front, all_map, all_found}
 use Rattle.report_laws.proofs.PieceLaws.{under, under_append, under_own}
 use Rattle.report_laws.proofs.RestLemmas.{items_are, rest_of, rest_rises, Rising, of_its_rest, told_lones, lones, lones_append}
 use Rattle.report_laws.proofs.SoFarLemmas.{IsEnded, IsHeard, SoFar, same_name, so_far_next}

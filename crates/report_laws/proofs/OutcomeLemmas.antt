@@ -6,7 +6,7 @@ use Rattle.cdb_values.specs.Good.{IsGood, first_broken}
 use Rattle.cdb_values.specs.Rows.{Rows, apply_all}
 use Rattle.cdb_values.specs.declared.rows.RowOp.{RowOp}
 use Rattle.report_laws.specs.History.{Origin, Basis, entry_at, last_position, view_of}
-use Rattle.report_laws.specs.View.{first_touched}
+use Rattle.session_language.specs.Touched.{first_touched}
 use Rattle.cdb_values.specs.declared.items.GenidItem.{GenidItem}
 use Rattle.report_laws.specs.Outcome.{IsRight, IsCommitted, IsConflict, IsDuplicate, IsEntered}
 use Rattle.report_laws.specs.Work.{Transaction}

@@ -3,12 +3,12 @@ use Rattle.std.proofs.Common.{ℕ, List, [], ◌∷◌, ◌++◌, refl}
 use Rattle.cdb_values.specs.declared.rows.RowOp.{RowOp}
 use Rattle.cdb_values.specs.declared.rows.Version.{Version}
 use Rattle.cdb_values.specs.declared.tables.TableDef.{TableDef}
-use Rattle.report_laws.specs.Answers.{Answers, IsPlain, ArePlain}
-use Rattle.report_laws.specs.Language.{Language, alone_from}
+use Rattle.session_language.specs.Answers.{Answers, IsPlain, ArePlain}
+use Rattle.session_language.specs.Language.{Language, alone_from}
 use Rattle.report_laws.specs.Paced.{Paced}
 use Rattle.report_text.specs.declared.reports.ReplyLine.{ReplyLine}
 use Rattle.report_text.specs.declared.reports.ReplyLine.TheVariants as reply
-use Rattle.report_laws.proofs.EachLaws.{all_append}
+use Rattle.session_language.proofs.EachLaws.{all_append}
 
 -- plain replies and then others have the pace of these
 pub plain_then : (now after : ℕ) (rs last : List ReplyLine) → ArePlain rs → Paced now after last → Paced now after (rs ++ last)

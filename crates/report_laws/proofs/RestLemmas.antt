@@ -5,7 +5,7 @@ use Rattle.std.proofs.lemmas.List.{append-nil}
 use Rattle.std.specs.List.{AllByRecursion}
 use Rattle.cdb_values.specs.declared.rows.Level.{Level}
 use Rattle.cdb_values.specs.declared.rows.StatementError.TheVariants.{State}
-use Rattle.report_laws.specs.Language.{Language, Kind, BeginText, CommitText, RollbackText, LevelText, OtherText}
+use Rattle.session_language.specs.Language.{Language, Kind, BeginText, CommitText, RollbackText, LevelText, OtherText}
 use Rattle.report_laws.specs.Told.{Along, Numbered}
 use Rattle.report_laws.specs.Work.{Transaction, Item, Does, Lone, Place, End, ByCommit, ByRollback, WithItsLine, Nowhere, transaction, with_open, next_by, next_place, place_from, open_item, items_at}
 use Rattle.report_text.specs.declared.reports.ReplyLine.{ReplyLine}

@@ -7,7 +7,7 @@ use Rattle.std.specs.Str.{bytes_eq}
 use Rattle.cdb_values.specs.Rows.{Rows}
 use Rattle.cdb_values.specs.declared.rows.RowOp.{RowOp}
 use Rattle.cdb_values.specs.declared.rows.StatementError.TheVariants.{State}
-use Rattle.report_laws.specs.Language.{Language, Kind, BeginText, CommitText, RollbackText, LevelText, OtherText}
+use Rattle.session_language.specs.Language.{Language, Kind, BeginText, CommitText, RollbackText, LevelText, OtherText}
 use Rattle.script_form.specs.declared.scripts.BodyLine.{BodyLine}
 use Rattle.script_form.specs.declared.scripts.Act.TheVariants as act
 use Rattle.report_laws.specs.History.{Basis, alone_on, rows_at}
@@ -20,9 +20,9 @@ use Rattle.report_text.specs.declared.reports.EntryLine.TheVariants.{Setup, Comm
 use Rattle.report_text.specs.declared.reports.Line.{Line}
 use Rattle.report_text.specs.declared.reports.ReplyLine.{ReplyLine}
 use Rattle.report_text.specs.declared.reports.ReplyLine.TheVariants as reply
-use Rattle.report_laws.proofs.AnswerLaws.{replies_more}
+use Rattle.session_language.proofs.AnswerLaws.{replies_more}
 use Rattle.report_laws.proofs.DecideLemmas.{Decides, Commits}
-use Rattle.report_laws.proofs.EachLaws.{all_append, all_map}
+use Rattle.session_language.proofs.EachLaws.{all_append, all_map}
 use Rattle.report_laws.proofs.FrontLemmas.{rows_front}
 use Rattle.report_laws.proofs.PieceLaws.{under, under_append, under_own, under_number, under_other}
 use Rattle.report_laws.proofs.RestLemmas.{lones, lones_append}

@@ -19,13 +19,14 @@ use Rattle.script_form.specs.declared.scripts.Act.{Act}
 use Rattle.script_form.specs.declared.scripts.Act.TheVariants as act
 use Rattle.script_form.specs.declared.scripts.BodyLine.{BodyLine}
 use Rattle.report_laws.specs.Cut.{cuts}
-use Rattle.report_laws.specs.Each.{StandsIn}
+use Rattle.session_language.specs.Each.{StandsIn}
 use Rattle.report_laws.specs.History.{Basis, ops_alone, ops_of, rows_after, rows_among, states_from, states_of, rows_at, used_by, view_of}
-use Rattle.report_laws.specs.Language.{Language, Answered, Kind, BeginText, CommitText, RollbackText, LevelText, OtherText, alone_from}
+use Rattle.session_language.specs.Language.{Language, Answered, Kind, BeginText, CommitText, RollbackText, LevelText, OtherText, alone_from}
 use Rattle.report_laws.specs.Lawful.{Lawful}
 use Rattle.report_laws.specs.Outcome.{IsRight, Ends, IsOneDecision, IsDecided, line_by, name_or_none, key_name}
 use Rattle.report_laws.specs.Play.{InPlayOrder, InTurns, piece, opening}
-use Rattle.report_laws.specs.Spelled.{IsToldValue, IsToldRow, SpellsReply, WritesRow, HaveRows, KeepsRows, IsNamedTable, SaysAsNamed, IsSpelled}
+use Rattle.report_laws.specs.Spelled.{IsNamedTable, SaysAsNamed, IsSpelled}
+use Rattle.session_language.specs.Spelled.{IsToldValue, IsToldRow, SpellsReply, WritesRow, HaveRows, KeepsRows}
 use Rattle.report_laws.specs.Told.{Along, Numbered, numbered, told, told_by, lines_of, IsTold, IsWhole, IsCut, IsEntryTold, alone_at}
 use Rattle.report_laws.specs.View.{View}
 use Rattle.report_laws.specs.Work.{Transaction, End, ByCommit, ByRollback, WithItsLine, Nowhere, Item, Does, Lone, Place, start, next_by, next_place, place_from, place_after, said, said_by, open_item, work, number_of, numbered_among, transaction_of}
@@ -39,36 +40,9 @@ use Rattle.report_text.specs.declared.reports.ReplyLine.{ReplyLine}
 use Rattle.report_text.specs.declared.reports.ReplyLine.TheVariants as reply
 use Rattle.report_text.specs.declared.reports.Report.{Report}
 use Rattle.report_laws.proofs.EntryToldLaws.{begin_stands}
-use Rattle.report_laws.proofs.EachLaws.{all_append, all_front}
+use Rattle.session_language.proofs.AllLaws.{all_got, all_exchanged, all_filtered, all_behind, all_standing}
+use Rattle.session_language.proofs.EachLaws.{all_append, all_front}
 use Rattle.report_laws.proofs.SoFarLemmas.{same_name}
-
--- what holds of each item holds of one that is looked up, and of a list with one exchanged
-pub all_got : {A : Type 0} (P : A → Type 0) (xs : List A) (i : ℕ) (other : A) → AllByRecursion P xs → P other → P (unwrap_or (slice_get xs i) other)
-all_got P [] i other all is = is
-all_got P (x ∷ xs) zero other all is = all.0
-all_got P (x ∷ xs) (suc i) other all is = all_got P xs i other all.1 is
-
-pub all_exchanged : {A : Type 0} (P : A → Type 0) (xs : List A) (i : ℕ) (x : A) → AllByRecursion P xs → P x → AllByRecursion P (slice_set xs i x)
-all_exchanged P [] i x all is = tt
-all_exchanged P (y ∷ xs) zero x all is = (is, all.1)
-all_exchanged P (y ∷ xs) (suc i) x all is = (all.0, all_exchanged P xs i x all.1 is)
-
-all_or : {A : Type 0} (P : A → Type 0) (b : Bool) (x : A) (xs : List A) → P x → AllByRecursion P xs → AllByRecursion P (if b then x ∷ xs else xs)
-all_or P true x xs is all = (is, all)
-all_or P false x xs is all = all
-
-pub all_filtered : {A : Type 0} (P : A → Type 0) (test : A → Bool) (xs : List A) → AllByRecursion P xs → AllByRecursion P (filter test xs)
-all_filtered P test [] all = tt
-all_filtered P test (x ∷ xs) all = all_or P (test x) x (filter test xs) all.0 (all_filtered P test xs all.1)
-
-all_behind : {A : Type 0} (P : A → Type 0) (xs ys : List A) → AllByRecursion P (xs ++ ys) → AllByRecursion P ys
-all_behind P [] ys all = all
-all_behind P (x ∷ xs) ys all = all_behind P xs ys all.1
-
--- what stands in a list has what each has
-all_standing : {A : Type 0} (P : A → Type 0) (front back : List A) (x : A) → AllByRecursion P (front ++ x ∷ back) → P x
-all_standing P [] back x all = all.0
-all_standing P (y ∷ front) back x all = all_standing P front back x all.1
 
 -- rows
 

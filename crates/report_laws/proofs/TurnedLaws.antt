@@ -6,14 +6,15 @@ use Rattle.cdb_values.specs.Rows.{Rows}
 use Rattle.cdb_values.specs.declared.rows.Level.{Level}
 use Rattle.cdb_values.specs.declared.rows.Version.{Version}
 use Rattle.cdb_values.specs.declared.rows.StatementError.TheVariants.{State}
-use Rattle.report_laws.specs.Language.{Answered, alone_from, Kind, BeginText, CommitText, RollbackText, LevelText, OtherText}
-use Rattle.report_laws.specs.Answers.{Answers}
+use Rattle.session_language.specs.Language.{Answered, alone_from, Kind, BeginText, CommitText, RollbackText, LevelText, OtherText}
+use Rattle.session_language.specs.Answers.{Answers}
 use Rattle.report_laws.specs.Cut.{cuts}
-use Rattle.report_laws.specs.Each.{StandsIn}
+use Rattle.session_language.specs.Each.{StandsIn}
 use Rattle.report_laws.specs.History.{Basis, alone_on, used_by, rows_at, entry_at, last_position, view_of}
 use Rattle.report_laws.specs.One.{IsUncutLine}
 use Rattle.report_laws.specs.Outcome.{IsRight, IsDecided, IsOneDecision, Ends}
-use Rattle.report_laws.specs.Play.{IsTurn, WasCut, IsTimely, IsAppended, number_by, is_own_by, is_last_of, is_outcome, are_up_to}
+use Rattle.report_laws.specs.Play.{IsTurn, WasCut, IsTimely, IsAppended, number_by, is_own_by}
+use Rattle.session_language.specs.Replies.{is_last_of, is_outcome, are_up_to}
 use Rattle.report_laws.specs.Told.{IsTold, IsWhole, alone_at}
 use Rattle.report_laws.specs.Work.{Transaction, Item, Does, Lone, Place, ByCommit, ByRollback, WithItsLine, transaction, with_open, next_by, transaction_of}
 use Rattle.report_text.specs.declared.reports.EntryLine.{EntryLine}
@@ -21,11 +22,12 @@ use Rattle.report_text.specs.declared.reports.EntryLine.TheVariants.{Commit}
 use Rattle.report_text.specs.declared.reports.Line.{Line}
 use Rattle.report_text.specs.declared.reports.ReplyLine.{ReplyLine}
 use Rattle.report_text.specs.declared.reports.ReplyLine.TheVariants as reply
-use Rattle.report_laws.proofs.AnswerLaws.{replies_append}
+use Rattle.session_language.proofs.AnswerLaws.{replies_append}
 use Rattle.report_laws.proofs.DecideLemmas.{Decides, IsOutcomes, one_decision, decided}
 use Rattle.report_laws.proofs.FrontLemmas.{rows_front}
 use Rattle.report_laws.proofs.GrowLaws.{first_begin}
-use Rattle.report_laws.proofs.PieceLaws.{up_to_same, up_to_last, up_to_one, one_of_one, plain_all_quiet, commit_is_last, no_commit, under, are_uncut, all_at}
+use Rattle.report_laws.proofs.PieceLaws.{one_of_one, plain_all_quiet, commit_is_last, no_commit, under, are_uncut, all_at}
+use Rattle.session_language.proofs.UpToLaws.{up_to_same, up_to_last, up_to_one}
 use Rattle.report_laws.proofs.PlainLaws.{plain_alone}
 use Rattle.report_laws.proofs.RestLemmas.{over_by, rest_of, rest_opened, IsOpened, lones}
 use Rattle.report_laws.proofs.WorkLaws.{first_left}

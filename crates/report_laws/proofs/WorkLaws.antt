@@ -4,13 +4,13 @@ use Rattle.std.proofs.lemmas.Bool.{eq-eqb, ne_eqb}
 use Rattle.std.proofs.lemmas.List.{append-nil, append_cancel_left}
 use Rattle.std.specs.List.{AllByRecursion}
 use Rattle.std.specs.Str.{bytes_eq}
-use Rattle.report_laws.specs.Language.{Language, Kind, BeginText, CommitText, RollbackText, LevelText, OtherText}
+use Rattle.session_language.specs.Language.{Language, Kind, BeginText, CommitText, RollbackText, LevelText, OtherText}
 use Rattle.script_form.specs.declared.scripts.BodyLine.{BodyLine}
 use Rattle.script_form.specs.declared.scripts.Act.{Act}
 use Rattle.script_form.specs.declared.scripts.Act.TheVariants as act
 use Rattle.report_laws.specs.Work.{Transaction, Item, Does, Lone, Place, start, next_by, next_place, place_from, place_after, said, said_by, open_item, items_at, numbered_among, transaction_of}
 use Rattle.report_text.specs.declared.reports.ReplyLine.{ReplyLine}
-use Rattle.report_laws.proofs.EachLaws.{all_append, all_map}
+use Rattle.session_language.proofs.EachLaws.{all_append, all_map}
 
 pub said_append : (name : List ℕ) (xs ys : List BodyLine) → said name (xs ++ ys) ≡ said name xs ++ said name ys
 said_append name [] ys = refl

@@ -15,7 +15,7 @@ use Rattle.cdb_values.specs.declared.rows.Level.{Level}
 use Rattle.cdb_values.specs.declared.rows.RowOp.{RowOp}
 use Rattle.cdb_values.specs.declared.tables.TableDef.{TableDef}
 use Rattle.script_form.specs.declared.scripts.Script.{Script}
-use Rattle.report_laws.specs.Language.{Language, Answered, alone}
+use Rattle.session_language.specs.Language.{Language, Answered, alone}
 use Rattle.report_laws.specs.View.{View, IsUntouched}
 use Rattle.report_laws.specs.Work.{Transaction, transaction_of}
 use Rattle.cdb_values.specs.declared.items.GenidItem.{GenidItem}

@@ -4,7 +4,7 @@
 use Rattle.std.specs.Prelude.{◌≡◌, ℕ, ◌≤◌, ◌++◌, ◌∷◌, ◌==◌, [], List, Bool, true, false, Option, Some, None, if◌then◌else◌}
 use Rattle.std.specs.List.{AllByRecursion}
 use Rattle.std.specs.Str.{bytes_eq}
-use Rattle.report_laws.specs.Each.{EachAfter}
+use Rattle.session_language.specs.Each.{EachAfter}
 use Rattle.report_laws.specs.History.{Origin, Basis, IsEntryAfter, view_of}
 use Rattle.report_laws.specs.Places.{HasItsPlace}
 use Rattle.report_laws.specs.Told.{told, Along, IsTold, IsEntryTold}

@@ -1,8 +1,5 @@
-pub mod Answers
 pub mod Cut
-pub mod Each
 pub mod History
-pub mod Language
 pub mod Lawful
 pub mod One
 pub mod Outcome

@@ -12,7 +12,8 @@ use Rattle.cdb_values.specs.Rows.{apply_all}
 use Rattle.cdb_values.specs.declared.rows.RowOp.{RowOp}
 use Rattle.cdb_values.specs.declared.tables.TableDef.{TableDef}
 use Rattle.report_laws.specs.History.{Basis}
-use Rattle.report_laws.specs.View.{View, taken_in, first_touched, IsUntouched}
+use Rattle.report_laws.specs.View.{View, taken_in, IsUntouched}
+use Rattle.session_language.specs.Touched.{first_touched}
 use Rattle.report_laws.specs.Work.{Transaction, End, ByCommit, ByRollback, WithItsLine, Nowhere}
 use Rattle.cdb_values.specs.declared.items.GenidItem.{GenidItem}
 use Rattle.report_text.specs.declared.reports.EntryLine.TheVariants.{Commit}

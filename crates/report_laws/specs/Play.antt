@@ -6,18 +6,19 @@
 -- line of a transaction that was cut short before is told nothing. What is told at a line
 -- speaks of the history of that moment: a begin is at its last position, a conflict within it, a
 -- duplicate at its last position; and a line that appends an entry tells that it is committed there.
-use Rattle.std.specs.Prelude.{◌≡◌, ℕ, ◌+◌, ◌≤◌, ◌++◌, ◌∷◌, ◌==◌, [], List, length, Bool, true, false, not, Option, Some, None, if◌then◌else◌, ◌⊎◌}
+use Rattle.std.specs.Prelude.{◌≡◌, ℕ, ◌+◌, ◌≤◌, ◌++◌, ◌∷◌, ◌==◌, [], List, length, Bool, true, false, Option, Some, None, if◌then◌else◌, ◌⊎◌}
 use Rattle.std.specs.List.{AllByRecursion}
 use Rattle.cdb_values.specs.declared.rows.Level.{Level}
 use Rattle.script_form.specs.declared.scripts.BodyLine.{BodyLine}
 use Rattle.script_form.specs.declared.scripts.Act.{Act}
 use Rattle.script_form.specs.declared.scripts.Act.TheVariants as act
-use Rattle.report_laws.specs.Each.{StandsIn}
+use Rattle.session_language.specs.Each.{StandsIn}
 use Rattle.report_laws.specs.Cut.{cuts}
 use Rattle.report_laws.specs.History.{Origin, Basis, view_of}
 use Rattle.report_laws.specs.Told.{lines_of}
 use Rattle.report_laws.specs.Work.{Place, place_after}
-use Rattle.report_laws.specs.Language.{Language, Kind, BeginText, CommitText, RollbackText, LevelText, OtherText}
+use Rattle.session_language.specs.Replies.{are_up_to, is_last_of}
+use Rattle.session_language.specs.Language.{Language, Kind, BeginText, CommitText, RollbackText, LevelText, OtherText}
 use Rattle.report_text.specs.declared.reports.Report.{Report}
 use Rattle.report_text.specs.declared.reports.EntryLine.{EntryLine}
 use Rattle.report_text.specs.declared.reports.EntryLine.TheVariants.{Setup, Commit}
@@ -49,41 +50,6 @@ is_own_by _ (Some texts) = false
 
 abbrev pub is_own : Language → Place → List ℕ → Bool
 is_own language p text = is_own_by (language.kind text) p.pending
-
-abbrev pub is_row : ReplyLine → Bool
-is_row (reply.Row row) = true
-is_row _ = false
-
--- whether a reply is the outcome of a transaction
-abbrev pub is_outcome : ReplyLine → Bool
-is_outcome (reply.Begin position) = false
-is_outcome (reply.Row row) = false
-is_outcome (reply.Done rows) = false
-is_outcome (reply.Changed rows) = false
-is_outcome (reply.Error cause) = false
-is_outcome (reply.Level level) = false
-is_outcome reply.RolledBack = true
-is_outcome (reply.Committed position) = true
-is_outcome (reply.ConflictGenid position table genid) = true
-is_outcome (reply.ConflictRange position table key) = true
-is_outcome (reply.Duplicate position table key) = true
-is_outcome (reply.Lost node down) = true
-is_outcome (reply.NoMajority up nodes) = true
-is_outcome reply.NoMemory = true
-
--- whether a reply is the last one to a line of the script: to a transaction of its own, or to another
-abbrev pub is_last_of : Bool → ReplyLine → Bool
-is_last_of true answer = is_outcome answer
-is_last_of false answer = not (is_row answer)
-
-abbrev pub are_none : List ReplyLine → Bool
-are_none [] = true
-are_none (r ∷ rs) = false
-
--- whether replies go up to the first one that is a last one
-abbrev pub are_up_to : (ReplyLine → Bool) → List ReplyLine → Bool
-are_up_to is_last [] = false
-are_up_to is_last (r ∷ rs) = if is_last r then are_none rs else are_up_to is_last rs
 
 -- a reply speaks of the history of that moment, whose last position is `now`, and `after` behind the line
 abbrev pub IsTimely : ℕ → ℕ → ReplyLine → Type 0

@@ -10,7 +10,7 @@ use Rattle.std.specs.Str.{bytes_eq}
 use Rattle.std.specs.List.{AllByRecursion}
 use Rattle.report_laws.specs.Cut.{cuts}
 use Rattle.report_laws.specs.History.{Basis, alone_on, used_by}
-use Rattle.report_laws.specs.Language.{Answered}
+use Rattle.session_language.specs.Language.{Answered}
 use Rattle.report_laws.specs.Outcome.{IsRight, Ends}
 use Rattle.report_laws.specs.View.{View}
 use Rattle.report_laws.specs.Work.{Transaction, Item, Does, Lone, number_of, transaction_of}

@@ -2,13 +2,13 @@
 --
 -- Each of them is decided by the history's front up to the position that is asked for, so a history that
 -- grows keeps what was seen of it. A report's history gives a view by its entries (`view_of`).
-use Rattle.std.specs.Prelude.{◌≡◌, ℕ, ◌<◌, ◌∷◌, ◌==◌, ◌&&◌, [], List, Bool, Option, Some, None, if◌then◌else◌}
-use Rattle.std.specs.List.{list_any}
+use Rattle.std.specs.Prelude.{◌≡◌, ℕ, ◌<◌, List, Option, None}
 use Rattle.cdb_values.specs.Changes.{genids_taken}
 use Rattle.cdb_values.specs.Rows.{Rows}
 use Rattle.cdb_values.specs.declared.rows.Change.{Change}
 use Rattle.cdb_values.specs.declared.items.GenidItem.{GenidItem}
 use Rattle.report_text.specs.declared.reports.EntryLine.{EntryLine}
+use Rattle.session_language.specs.Touched.{first_touched}
 
 pub record View : Type 0 where
   -- the rows at a position
@@ -23,18 +23,6 @@ pub record View : Type 0 where
 -- the versions that the entry at a position takes away
 abbrev pub taken_in : View → ℕ → List GenidItem
 taken_in view position = genids_taken (view.changes position)
-
-abbrev pub is_same_item : GenidItem → GenidItem → Bool
-is_same_item a b = (a.table == b.table) && (a.genid == b.genid)
-
--- whether changes that take these versions away touch a used one
-abbrev pub is_touched : List GenidItem → GenidItem → Bool
-is_touched taken item = list_any (is_same_item item) taken
-
--- the first of the used versions that they touch
-abbrev pub first_touched : List GenidItem → List GenidItem → Option GenidItem
-first_touched taken [] = None
-first_touched taken (item ∷ used) = if is_touched taken item then Some item else first_touched taken used
 
 -- no entry between two positions, both left out, touches a used version
 abbrev pub IsUntouched : View → ℕ → ℕ → List GenidItem → Type 0

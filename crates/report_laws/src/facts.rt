@@ -2,8 +2,8 @@
 
 ghost use Rattle.std.specs.Prelude.{◌≡◌, ◌++◌, ◌∷◌, [], ℕ, List, Bool, Some};
 ghost use Rattle.cdb_values.specs.declared.rows.Level.{Level};
-ghost use Rattle.report_laws.specs.Answers.{Answers};
-ghost use Rattle.report_laws.specs.Each.{StandsIn};
+ghost use Rattle.session_language.specs.Answers.{Answers};
+ghost use Rattle.session_language.specs.Each.{StandsIn};
 ghost use Rattle.report_laws.specs.History.{Basis, alone_on, rows_at};
 ghost use Rattle.report_laws.specs.Lawful.{Lawful, NameUpTo};
 ghost use Rattle.report_laws.specs.One.{IsUncut};

@@ -4,11 +4,11 @@ use Rattle.std.proofs.Common.{◌≡◌, List, [], ◌∷◌, ◌++◌, length, 
 use Rattle.cdb_values.specs.declared.rows.RowOp.{RowOp}
 use Rattle.cdb_values.specs.declared.rows.Version.{Version}
 use Rattle.cdb_values.specs.declared.values.Value.{Value}
-use Rattle.report_laws.specs.Answers.{Answers, ArePlain}
-use Rattle.report_laws.specs.Play.{are_up_to, is_last_of}
+use Rattle.session_language.specs.Answers.{Answers, ArePlain}
+use Rattle.session_language.specs.Replies.{are_up_to, is_last_of}
 use Rattle.report_text.specs.declared.reports.ReplyLine.{ReplyLine}
 use Rattle.report_text.specs.declared.reports.ReplyLine.TheVariants as reply
-use Rattle.report_laws.proofs.PieceLaws.{up_to_rows}
+use Rattle.session_language.proofs.UpToLaws.{up_to_rows}
 use Rattle.report_worked.specs.Small.{Statement, Begin, Commit, Insert, SelectAll, SetWhere, DeleteWhere, statement_of, answer_to, rows_seen, small_language}
 
 plain_rows : (rows : List (List Value)) (last : List ReplyLine) → ArePlain last → ArePlain (map reply.Row rows ++ last)

@@ -3,7 +3,7 @@ use Rattle.std.proofs.Common.{◌≡◌, ℕ, List, [], ◌∷◌, refl, sym, su
 use Rattle.cdb_values.specs.declared.rows.Level.TheVariants.{Snapshot}
 use Rattle.cdb_values.specs.Changes.{genid_item}
 use Rattle.report_laws.specs.History.{rows_at, taken_at, IsCommitAfter, used_by, alone_on, view_of}
-use Rattle.report_laws.specs.View.{first_touched}
+use Rattle.session_language.specs.Touched.{first_touched}
 use Rattle.report_laws.specs.Outcome.{IsConflict, IsRight, conflict_line}
 use Rattle.report_laws.specs.Told.{told, Along, IsTold, alone_at}
 use Rattle.report_laws.specs.Work.{Transaction, Item, Does}
@@ -16,7 +16,7 @@ use Rattle.report_worked.proofs.TwoUpdatesLemmas.{second_update, work_of_b}
 use Rattle.report_worked.proofs.WorkedLemmas.{ToldAt, told_at}
 use Rattle.report_worked.specs.Small.{from_nothing}
 use Rattle.std.specs.List.{AllByRecursion}
-use Rattle.report_laws.specs.Language.{Answered}
+use Rattle.session_language.specs.Language.{Answered}
 use Rattle.report_text.specs.declared.reports.ReplyLine.{ReplyLine}
 use Rattle.report_laws.proofs.AlongLaws.{along_its}
 

@@ -7,7 +7,8 @@ use Rattle.script_form.specs.declared.scripts.BodyLine.{BodyLine}
 use Rattle.script_form.specs.declared.scripts.Act.{Act}
 use Rattle.script_form.specs.declared.scripts.Act.TheVariants as act
 use Rattle.report_laws.specs.History.{Basis, last_position, used_by, view_of}
-use Rattle.report_laws.specs.Play.{InTurns, IsTurn, IsTurnOf, IsTimely, IsAppended, are_up_to, is_last_of, piece}
+use Rattle.report_laws.specs.Play.{InTurns, IsTurn, IsTurnOf, IsTimely, IsAppended, piece}
+use Rattle.session_language.specs.Replies.{are_up_to, is_last_of}
 use Rattle.report_laws.specs.Told.{Along, IsTold, IsCommitTold, told, numbered, Numbered, alone_at}
 use Rattle.report_laws.specs.View.{View}
 use Rattle.report_laws.specs.Work.{Transaction, Item, Does, work, said, said_by, start, place_from, items_at, number_of, transaction_of}
@@ -19,7 +20,7 @@ use Rattle.report_text.specs.declared.reports.ReplyLine.TheVariants as reply
 use Rattle.report_laws.proofs.GrowLaws.{first_begin, first_rest, same_last}
 use Rattle.report_worked.specs.Small.{small_language}
 use Rattle.report_laws.specs.Cut.{cuts}
-use Rattle.report_laws.specs.Language.{Answered}
+use Rattle.session_language.specs.Language.{Answered}
 use Rattle.report_laws.specs.Outcome.{IsRight, Ends}
 
 -- the sessions a and b

@@ -22,7 +22,7 @@ use Rattle.cdb_values.specs.declared.values.Value.TheVariants.{Int}
 use Rattle.script_form.specs.CanRun.{tables_of}
 use Rattle.script_form.specs.declared.scripts.Script.{Script}
 use Rattle.report_laws.specs.History.{Basis, nothing_before}
-use Rattle.report_laws.specs.Language.{Answered, Language, Kind, BeginText, CommitText, OtherText}
+use Rattle.session_language.specs.Language.{Answered, Language, Kind, BeginText, CommitText, OtherText}
 use Rattle.report_text.specs.declared.reports.ReplyLine.{ReplyLine}
 use Rattle.report_text.specs.declared.reports.ReplyLine.TheVariants as reply
 

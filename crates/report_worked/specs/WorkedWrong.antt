@@ -1,7 +1,7 @@
 -- Reports of the worked scripts that are wrong in one place each, and the law that refuses each.
 use Rattle.std.specs.Prelude.{ℕ, ◌++◌, ◌∷◌, [], List, codes}
 use Rattle.script_form.specs.declared.scripts.Script.{Script}
-use Rattle.report_laws.specs.Each.{EachAfter}
+use Rattle.session_language.specs.Each.{EachAfter}
 use Rattle.report_laws.specs.History.{nothing_before, IsEntryAfter, view_of}
 use Rattle.report_laws.specs.Lawful.{Lawful, IsFreshLine}
 use Rattle.report_laws.specs.Places.{HasItsPlace}

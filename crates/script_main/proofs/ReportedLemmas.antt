@@ -25,8 +25,8 @@ use Rattle.report_text.specs.Text.{report_text}
 use Rattle.report_text.specs.Types.{FitsTypes}
 use Rattle.report_text.specs.declared.reports.Report.{Report}
 use Rattle.script_play.specs.Basis.{from_nothing}
-use Rattle.report_laws.specs.Answers.{Answers}
-use Rattle.report_laws.specs.Spelled.{KeepsRows}
+use Rattle.session_language.specs.Answers.{Answers}
+use Rattle.session_language.specs.Spelled.{KeepsRows}
 use Rattle.sql_answer.proofs.LanguageLemmas.{sql_answers}
 use Rattle.sql_answer.specs.Language.{bound_in, sql_language}
 use Rattle.script_main.specs.Run.{IsReported}

@@ -10,8 +10,8 @@ use Rattle.cdb_values.specs.declared.rows.RowRef.TheVariants.{Base, Own}
 use Rattle.cdb_values.specs.declared.rows.Version.{Version}
 use Rattle.cdb_values.specs.declared.tables.TableDef.{TableDef}
 use Rattle.cdb_values.specs.declared.values.Value.{Value}
-use Rattle.report_laws.proofs.SpelledLaws.{all_got, all_exchanged, all_filtered}
-use Rattle.report_laws.specs.Spelled.{HaveRows, IsToldRow, WritesRow}
+use Rattle.session_language.proofs.AllLaws.{all_got, all_exchanged, all_filtered}
+use Rattle.session_language.specs.Spelled.{HaveRows, IsToldRow, WritesRow}
 use Rattle.script_play.proofs.SoundLaws.{sound_later, kept_sound, kept_told}
 use Rattle.script_play.specs.Ready.{AreKept, IsKeptOp}
 use Rattle.sql_run.specs.Sound.{AreSound, IsSoundOp, IsSoundVersion}

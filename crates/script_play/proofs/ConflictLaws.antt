@@ -4,7 +4,7 @@ use Rattle.std.specs.Prelude.{Some, if◌then◌else◌}
 use Rattle.std.specs.List.{AllByRecursion}
 use Rattle.cdb_values.specs.declared.tables.TableDef.{TableDef}
 use Rattle.report_laws.specs.Outcome.{name_of_table}
-use Rattle.report_laws.specs.View.{first_touched, is_same_item, is_touched}
+use Rattle.session_language.specs.Touched.{first_touched, is_same_item, is_touched}
 use Rattle.cdb_values.specs.declared.items.GenidItem.{GenidItem}
 use Rattle.script_play.specs.Decisions.{HasName}
 

@@ -8,14 +8,14 @@ use Rattle.report_text.specs.declared.reports.EntryLine.{EntryLine}
 use Rattle.report_text.specs.declared.reports.ReplyLine.TheVariants as reply
 use Rattle.script_form.specs.CanRun.{tables_of}
 use Rattle.report_laws.specs.History.{rows_at, view_of}
-use Rattle.report_laws.specs.Language.{alone, Kind, BeginText, CommitText, RollbackText, LevelText, OtherText}
+use Rattle.session_language.specs.Language.{alone, Kind, BeginText, CommitText, RollbackText, LevelText, OtherText}
 use Rattle.script_play.specs.Basis.{from_nothing}
 use Rattle.sql_answer.specs.Language.{sql_language}
 use Rattle.report_laws.specs.Play.{number_by}
 use Rattle.report_laws.specs.Told.{Numbered, IsCut, numbered, alone_at}
 use Rattle.report_laws.specs.Work.{Does, Place, End, ByCommit, ByRollback, WithItsLine, Nowhere, transaction, with_open, with_own_line, closed, next_by}
 use Rattle.cdb_values.specs.declared.items.GenidItem.{GenidItem}
-use Rattle.report_laws.proofs.AnswerLaws.{replies_more}
+use Rattle.session_language.proofs.AnswerLaws.{replies_more}
 use Rattle.script_play.specs.SoFar.{Standing}
 use Rattle.script_play.specs.Step.{Cut, cut_by, state}
 use Rattle.script_play.specs.Doing.{Doing}

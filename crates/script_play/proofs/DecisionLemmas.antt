@@ -14,7 +14,7 @@ use Rattle.report_text.specs.declared.reports.ReplyLine.{ReplyLine}
 use Rattle.report_text.specs.declared.reports.ReplyLine.TheVariants as reply
 use Rattle.cdb_values.specs.Changes.{taken_by}
 use Rattle.report_laws.specs.History.{view_of}
-use Rattle.report_laws.specs.View.{first_touched}
+use Rattle.session_language.specs.Touched.{first_touched}
 use Rattle.report_laws.specs.Outcome.{IsRight, IsDecided, IsConflict, IsDuplicate, line_by, name_of_table}
 use Rattle.report_laws.specs.Paced.{Paced}
 use Rattle.script_form.specs.CanRun.{tables_of}

@@ -11,7 +11,7 @@ use Rattle.live_operations.specs.Live.{AreDistinct, AreLive}
 use Rattle.log_rows.specs.History.{IsCommit}
 use Rattle.page_store.specs.Image.{Image}
 use Rattle.phys_log.specs.declared.entries.Entry.{Entry}
-use Rattle.report_laws.specs.Language.{alone_from}
+use Rattle.session_language.specs.Language.{alone_from}
 use Rattle.sql_answer.specs.Language.{sql_language}
 use Rattle.table_store.specs.Stored.{Stands}
 

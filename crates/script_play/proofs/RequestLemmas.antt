@@ -23,8 +23,8 @@ use Rattle.osql_session.specs.Sessions.{Session}
 use Rattle.phys_log.specs.Logs.{pages_of}
 use Rattle.phys_log.specs.declared.entries.Entry.{Entry}
 use Rattle.phys_log.specs.declared.requests.CommitRequest.{CommitRequest}
-use Rattle.report_laws.specs.Spelled.{IsToldRow, IsToldValue, WritesRow}
-use Rattle.report_laws.specs.View.{first_touched, is_same_item, is_touched}
+use Rattle.session_language.specs.Spelled.{IsToldRow, IsToldValue, WritesRow}
+use Rattle.session_language.specs.Touched.{first_touched, is_same_item, is_touched}
 use Rattle.script_play.proofs.SoundLaws.{kept_sound, kept_told}
 use Rattle.script_play.specs.Ready.{IsAble, IsReady}
 use Rattle.table_edits.specs.Fits.{WritesFitting}

@@ -18,16 +18,17 @@ use Rattle.report_text.specs.declared.reports.Line.{Line}
 use Rattle.report_text.specs.declared.reports.ReplyLine.{ReplyLine}
 use Rattle.report_text.specs.declared.reports.ReplyLine.TheVariants as reply
 use Rattle.cdb_values.specs.Changes.{taken_by}
-use Rattle.report_laws.specs.Language.{Kind, BeginText, CommitText, RollbackText, LevelText, OtherText}
+use Rattle.session_language.specs.Language.{Kind, BeginText, CommitText, RollbackText, LevelText, OtherText}
 use Rattle.report_laws.specs.History.{last_position, view_of}
 use Rattle.report_laws.specs.Lawful.{IsFreshLine}
 use Rattle.report_laws.specs.Paced.{Paced}
 use Rattle.report_laws.specs.Places.{HasItsPlace}
-use Rattle.report_laws.specs.Play.{InTurns, IsTurn, IsTurnOf, WasCut, IsTimely, IsAppended, piece, number_told, is_own, are_up_to, is_last_of}
+use Rattle.report_laws.specs.Play.{InTurns, IsTurn, IsTurnOf, WasCut, IsTimely, IsAppended, piece, number_told, is_own}
+use Rattle.session_language.specs.Replies.{are_up_to, is_last_of}
 use Rattle.report_laws.specs.Told.{Numbered, IsEntryTold, alone_at, told, lines_of, numbered}
 use Rattle.report_laws.specs.Work.{Place, next_by, next_place, place_after}
 use Rattle.cdb_values.specs.declared.items.GenidItem.{GenidItem}
-use Rattle.report_laws.proofs.EachLaws.{each_append, all_append, all_map}
+use Rattle.session_language.proofs.EachLaws.{each_append, all_append, all_map}
 use Rattle.report_laws.proofs.EntryToldLaws.{entry_told_more, entry_told_stays, told_stands}
 use Rattle.report_laws.proofs.LineLaws.{ArePaced, paced_laws, named_more, in_turns_more, timely_paced}
 use Rattle.report_laws.proofs.ToldLaws.{told_append, told_own, told_other}

@@ -10,7 +10,7 @@ use Rattle.live_operations.specs.Live.{AreLive}
 use Rattle.log_rows.specs.History.{rows_of, takes_in}
 use Rattle.phys_log.specs.Logs.{page_at}
 use Rattle.phys_log.specs.declared.entries.Entry.{Entry}
-use Rattle.report_laws.specs.Language.{alone, alone_from}
+use Rattle.session_language.specs.Language.{alone, alone_from}
 use Rattle.table_store.specs.Stored.{Stands}
 use Rattle.script_play.specs.RunViews.{seen_in, AreOwn, IsOwn}
 use Rattle.script_play.specs.declared.states.SessionState.{SessionState}

@@ -16,7 +16,7 @@ use Rattle.cdb_values.specs.declared.tables.KeyDef.{KeyDef}
 use Rattle.script_form.specs.CanRun.{AreTaken}
 use Rattle.report_laws.specs.Outcome.{name_of_table}
 use Rattle.script_play.specs.Decisions.{HasName}
-use Rattle.report_laws.specs.Spelled.{WritesRow, HaveRows}
+use Rattle.session_language.specs.Spelled.{WritesRow, HaveRows}
 use Rattle.script_play.specs.Ready.{AreKept, IsKeptOp}
 use Rattle.sql_run.specs.Sound.{AreSound, HasDistinctColumns, IsSoundOp, IsSoundVersion, IsBelow}
 

@@ -10,8 +10,8 @@ use Rattle.cdb_values.specs.declared.rows.Version.{Version}
 use Rattle.cdb_values.specs.declared.tables.TableDef.{TableDef}
 use Rattle.sql_run.specs.Sound.{HasDistinctColumns}
 use Rattle.sql_run.specs.Spelled.{HasColumns}
-use Rattle.report_laws.specs.Answers.{Answers}
-use Rattle.report_laws.specs.Language.{Language, alone_from}
+use Rattle.session_language.specs.Answers.{Answers}
+use Rattle.session_language.specs.Language.{Language, alone_from}
 use Rattle.sql_answer.proofs.LanguageLemmas.{sql_answers}
 use Rattle.sql_answer.specs.Language.{bound_in, sql_language}
 use Rattle.sql_run.proofs.RowLaws.{leaves_such_rows}

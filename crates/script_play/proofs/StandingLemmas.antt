@@ -11,7 +11,7 @@ use Rattle.report_text.specs.declared.reports.ReplyLine.{ReplyLine}
 use Rattle.report_text.specs.declared.reports.ReplyLine.TheVariants as reply
 use Rattle.script_form.specs.CanRun.{tables_of}
 use Rattle.report_laws.specs.History.{rows_at, view_of}
-use Rattle.report_laws.specs.Language.{Answered, alone}
+use Rattle.session_language.specs.Language.{Answered, alone}
 use Rattle.report_laws.specs.Told.{Along, Numbered, IsTold, numbered}
 use Rattle.report_laws.specs.Work.{Item, Place, Nowhere, transaction, with_open, number_of}
 use Rattle.script_play.specs.Basis.{from_nothing}

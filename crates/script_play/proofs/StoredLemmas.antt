@@ -16,7 +16,8 @@ use Rattle.report_text.specs.declared.reports.EntryLine.TheVariants.{Commit}
 use Rattle.report_text.specs.declared.reports.ReplyLine.TheVariants as reply
 use Rattle.cdb_values.specs.Changes.{taken_by}
 use Rattle.report_laws.specs.History.{last_position, entry_at, rows_at, rows_after, states_of, ops_of, ops_alone, taken_at, used_by, IsEntryAfter, IsCommitAfter, is_entry_of, view_of}
-use Rattle.report_laws.specs.View.{first_touched, IsUntouched}
+use Rattle.report_laws.specs.View.{IsUntouched}
+use Rattle.session_language.specs.Touched.{first_touched}
 use Rattle.report_laws.specs.Outcome.{IsRight, IsEntered}
 use Rattle.report_laws.specs.Told.{alone_at}
 use Rattle.script_form.specs.CanRun.{tables_of}
@@ -24,7 +25,7 @@ use Rattle.report_laws.specs.Work.{Transaction, transaction_of}
 use Rattle.script_play.specs.Basis.{from_nothing}
 use Rattle.sql_answer.specs.Language.{sql_language}
 use Rattle.cdb_values.specs.declared.items.GenidItem.{GenidItem}
-use Rattle.report_laws.proofs.EachLaws.{all_append, each_append, get_front, get_next}
+use Rattle.session_language.proofs.EachLaws.{all_append, each_append, get_front, get_next}
 use Rattle.report_laws.proofs.HistoryLaws.{none_stands, rows_stay, rows_new, entry_new, taken_stays, taken_new, untouched_stays}
 use Rattle.block_processor.specs.Conflicts.{first_conflict}
 use Rattle.script_play.specs.Ready.{AreKept, IsKeptOp}

@@ -22,7 +22,7 @@ use Rattle.report_text.specs.declared.reports.Line.{Line}
 use Rattle.report_text.specs.declared.reports.ReplyLine.{ReplyLine}
 use Rattle.report_text.specs.declared.reports.ReplyLine.TheVariants as reply
 use Rattle.cdb_values.specs.Changes.{taken_by}
-use Rattle.report_laws.specs.Language.{Kind}
+use Rattle.session_language.specs.Language.{Kind}
 use Rattle.report_laws.specs.Told.{lines_of}
 use Rattle.cdb_values.specs.declared.items.GenidItem.{GenidItem}
 use Rattle.table_store.specs.Stored.{Stands}

@@ -15,23 +15,25 @@ use Rattle.report_text.specs.declared.reports.EntryLine.{EntryLine}
 use Rattle.report_text.specs.declared.reports.EntryLine.TheVariants.{Setup, Commit}
 use Rattle.report_text.specs.declared.reports.ReplyLine.{ReplyLine}
 use Rattle.report_text.specs.declared.reports.ReplyLine.TheVariants as reply
-use Rattle.report_laws.specs.Language.{Answered, alone, Kind, BeginText, CommitText, RollbackText, LevelText, OtherText}
+use Rattle.session_language.specs.Language.{Answered, alone, Kind, BeginText, CommitText, RollbackText, LevelText, OtherText}
 use Rattle.script_play.specs.Basis.{from_nothing}
 use Rattle.sql_answer.specs.Language.{sql_language}
-use Rattle.report_laws.specs.Each.{StandsIn}
+use Rattle.session_language.specs.Each.{StandsIn}
 use Rattle.cdb_values.specs.Changes.{taken_by}
 use Rattle.report_laws.specs.History.{rows_at, is_entry_of, view_of}
 use Rattle.report_laws.specs.Cut.{cuts}
 use Rattle.report_laws.specs.Outcome.{IsRight, IsDecided, Ends}
 use Rattle.report_laws.specs.Paced.{Paced}
-use Rattle.report_laws.specs.Play.{number_by, is_own_by, are_up_to, is_last_of}
+use Rattle.report_laws.specs.Play.{number_by, is_own_by}
+use Rattle.session_language.specs.Replies.{are_up_to, is_last_of}
 use Rattle.report_laws.specs.Told.{Along, Numbered, IsTold, IsWhole, IsCut, numbered, alone_at}
 use Rattle.report_laws.specs.Work.{Transaction, Does, Lone, Place, End, ByCommit, ByRollback, WithItsLine, Nowhere, transaction, transaction_of, with_open, with_own_line, closed, next_by}
 use Rattle.cdb_values.specs.declared.items.GenidItem.{GenidItem}
-use Rattle.report_laws.proofs.AnswerLaws.{replies_more, ops_more}
-use Rattle.report_laws.proofs.PieceLaws.{up_to_last, up_to_one, plain_all_quiet}
+use Rattle.session_language.proofs.AnswerLaws.{replies_more, ops_more}
+use Rattle.report_laws.proofs.PieceLaws.{plain_all_quiet}
+use Rattle.session_language.proofs.UpToLaws.{up_to_last, up_to_one}
 use Rattle.report_laws.proofs.TurnedLaws.{loud, no_row}
-use Rattle.report_laws.specs.Answers.{ArePlain}
+use Rattle.session_language.specs.Answers.{ArePlain}
 use Rattle.report_laws.proofs.PlainLaws.{plain_then, plain_paced}
 use Rattle.report_laws.proofs.ToldLaws.{numbered_append}
 use Rattle.script_play.specs.Decisions.{added_by}

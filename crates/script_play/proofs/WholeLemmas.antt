@@ -15,7 +15,7 @@ use Rattle.report_text.specs.declared.reports.ReplyLine.{ReplyLine}
 use Rattle.report_text.specs.declared.reports.ReplyLine.TheVariants as reply
 use Rattle.script_form.specs.CanRun.{tables_of}
 use Rattle.report_laws.specs.History.{rows_at, view_of}
-use Rattle.report_laws.specs.Language.{alone}
+use Rattle.session_language.specs.Language.{alone}
 use Rattle.script_play.specs.Basis.{from_nothing}
 use Rattle.sql_answer.specs.Language.{sql_language}
 use Rattle.report_laws.specs.Lawful.{Lawful}

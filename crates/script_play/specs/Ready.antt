@@ -9,7 +9,7 @@ use Rattle.live_operations.specs.Live.{AreLive}
 use Rattle.log_replay.specs.Answers.{schema_of}
 use Rattle.log_rows.specs.History.{rows_of, rows_at, StandsThroughout, IsCommit}
 use Rattle.phys_log.specs.declared.entries.Entry.{Entry}
-use Rattle.report_laws.specs.Spelled.{WritesRow, HaveRows}
+use Rattle.session_language.specs.Spelled.{WritesRow, HaveRows}
 use Rattle.sql_run.specs.Sound.{AreSound, HasDistinctColumns, IsSoundOp}
 use Rattle.sql_run.specs.Spelled.{HasColumns}
 use Rattle.script_play.specs.Doing.{Doing}

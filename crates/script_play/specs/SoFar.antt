@@ -16,10 +16,10 @@ use Rattle.report_text.specs.declared.reports.Line.{Line}
 use Rattle.report_text.specs.declared.reports.Report.{Report}
 use Rattle.report_text.specs.declared.reports.ReplyLine.{ReplyLine}
 use Rattle.report_text.specs.declared.reports.ReplyLine.TheVariants as reply
-use Rattle.report_laws.specs.Language.{alone}
+use Rattle.session_language.specs.Language.{alone}
 use Rattle.sql_answer.specs.Language.{sql_language}
 use Rattle.script_play.specs.Basis.{from_nothing}
-use Rattle.report_laws.specs.Each.{EachAfter}
+use Rattle.session_language.specs.Each.{EachAfter}
 use Rattle.report_laws.specs.History.{rows_at, taken_at, IsEntryAfter, view_of}
 use Rattle.report_laws.specs.Lawful.{IsFreshLine, NameUpTo}
 use Rattle.report_laws.specs.Places.{HasItsPlace}

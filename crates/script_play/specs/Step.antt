@@ -16,7 +16,7 @@ use Rattle.report_text.specs.declared.reports.EntryLine.TheVariants.{Commit}
 use Rattle.report_text.specs.declared.reports.Line.{Line}
 use Rattle.report_text.specs.declared.reports.ReplyLine.{ReplyLine}
 use Rattle.report_text.specs.declared.reports.ReplyLine.TheVariants as reply
-use Rattle.report_laws.specs.Language.{Answered, Kind, BeginText, CommitText, RollbackText, LevelText, OtherText}
+use Rattle.session_language.specs.Language.{Answered, Kind, BeginText, CommitText, RollbackText, LevelText, OtherText}
 use Rattle.sql_answer.specs.Answers.{Meaning}
 use Rattle.sql_answer.specs.Language.{meaning, bound_in}
 use Rattle.sql_answer.specs.Reading.{kind_of_text}

@@ -13,9 +13,9 @@ use Rattle.cdb_values.specs.declared.rows.Version.{Version}
 use Rattle.cdb_values.specs.declared.tables.TableDef.{TableDef}
 use Rattle.cdb_values.specs.declared.values.Value.{Value}
 use Rattle.net_writes.specs.Net.{net_of}
-use Rattle.report_laws.specs.Answers.{Answers, ArePlain}
-use Rattle.report_laws.specs.Play.{are_up_to, is_last_of}
-use Rattle.report_laws.proofs.PieceLaws.{up_to_rows}
+use Rattle.session_language.specs.Answers.{Answers, ArePlain}
+use Rattle.session_language.specs.Replies.{are_up_to, is_last_of}
+use Rattle.session_language.proofs.UpToLaws.{up_to_rows}
 use Rattle.report_text.specs.declared.reports.ReplyLine.{ReplyLine}
 use Rattle.report_text.specs.declared.reports.ReplyLine.TheVariants as reply
 use Rattle.sql_bind.specs.Bound.{BoundStatement, BeginIt, CommitIt, RollbackIt, SetIt, InsertInto, UpdateOf, DeleteFrom, SelectOf}

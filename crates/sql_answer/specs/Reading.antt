@@ -6,7 +6,7 @@
 use Rattle.std.specs.Prelude.{ℕ, zero, suc, ◌+◌, ◌-◌, Bool, true, false, List, [], ◌∷◌, length, drop, map, Option, Some, None, Result, Ok, Err}
 use Rattle.cdb_values.specs.declared.rows.Level.TheVariants.{Snapshot, Serializable}
 use Rattle.grammar_forms.specs.Forms.{Outcome, Read, Refused, only}
-use Rattle.report_laws.specs.Language.{Kind, BeginText, CommitText, RollbackText, LevelText, OtherText}
+use Rattle.session_language.specs.Language.{Kind, BeginText, CommitText, RollbackText, LevelText, OtherText}
 use Rattle.sql_grammar.specs.Readers.{statement_r}
 use Rattle.sql_grammar.specs.Trees.{Statement, BeginIt, CommitIt, RollbackIt, SnapshotIt, SerializableIt, InsertInto, UpdateOf, DeleteFrom, SelectOf}
 use Rattle.sql_reader.specs.Promise.{offset_of}

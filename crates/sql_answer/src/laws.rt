@@ -3,7 +3,7 @@ ghost use Rattle.std.specs.Prelude.{◌≡◌, ℕ, ◌↔◌, List, Ok, Err};
 ghost use Rattle.std.specs.List.Sorted.{IsStableBy};
 ghost use Rattle.cdb_values.specs.Rows.{Rows, view};
 ghost use Rattle.cdb_values.specs.declared.rows.RowOp.{RowOp};
-ghost use Rattle.report_laws.specs.Answers.{Answers};
+ghost use Rattle.session_language.specs.Answers.{Answers};
 ghost use Rattle.sql_bind.specs.declared.types.BoundKey.{BoundKey};
 ghost use Rattle.sql_grammar.specs.Trees.{Statement};
 ghost use Rattle.sql_grammar.specs.Grammar.{StatementS};

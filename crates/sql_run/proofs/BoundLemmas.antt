@@ -10,8 +10,8 @@ use Rattle.cdb_values.specs.Tables.{place_of}
 use Rattle.cdb_values.specs.declared.tables.ColumnDef.{ColumnDef}
 use Rattle.cdb_values.specs.declared.tables.TableDef.{TableDef}
 use Rattle.cdb_values.specs.declared.values.Value.{Value}
-use Rattle.report_laws.proofs.EachLaws.{all_found}
-use Rattle.report_laws.specs.Spelled.{IsToldValue, IsToldRow}
+use Rattle.session_language.proofs.EachLaws.{all_found}
+use Rattle.session_language.specs.Spelled.{IsToldValue, IsToldRow}
 use Rattle.sql_bind.specs.Binding.{binding}
 use Rattle.sql_bind.specs.Bound.{BoundStatement, BeginIt, CommitIt, RollbackIt, SetIt, InsertInto, UpdateOf, DeleteFrom, SelectOf}
 use Rattle.sql_bind.specs.Faults.{Kind, UnknownTable, UnknownColumn, AmbiguousName, WrongType, WrongCount, has_unknown_table, has_unknown_column, has_ambiguous_name, has_wrong_type, has_wrong_count, width}

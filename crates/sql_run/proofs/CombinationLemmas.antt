@@ -3,8 +3,8 @@ use Rattle.std.proofs.Common.{ℕ, List, [], ◌∷◌}
 use Rattle.std.specs.List.{AllByRecursion, flat_map}
 use Rattle.cdb_values.specs.declared.rows.RowOp.{RowOp}
 use Rattle.cdb_values.specs.declared.rows.Version.{Version}
-use Rattle.report_laws.proofs.EachLaws.{all_append}
-use Rattle.report_laws.proofs.SpelledLaws.{all_filtered}
+use Rattle.session_language.proofs.EachLaws.{all_append}
+use Rattle.session_language.proofs.AllLaws.{all_filtered}
 use Rattle.sql_answer.specs.Answers.{Meaning, rows_met, found, tables_read, filter_met}
 use Rattle.sql_answer.specs.Combinations.{Seen, seen, rows_of, extended, combinations_from, combinations}
 use Rattle.sql_answer.specs.Conditions.{meets}

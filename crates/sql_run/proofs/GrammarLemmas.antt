@@ -8,7 +8,7 @@ use Rattle.std.proofs.lemmas.Option.{same_Some}
 use Rattle.std.proofs.lemmas.Str.{IsUtf8-from_is_utf8}
 use Rattle.grammar_forms.specs.Forms.{Spelling, One, Both, Either, As, Many}
 use Rattle.grammar_forms.specs.Parts.{Word, After, Before, Optional, Separated, first_of_two, second_of_two, list_of}
-use Rattle.report_laws.specs.Spelled.{IsToldValue}
+use Rattle.session_language.specs.Spelled.{IsToldValue}
 use Rattle.sql_bind.specs.Meaning.{value_of}
 use Rattle.sql_grammar.specs.Grammar.{pair, setting, insert_into, update_of, query, Tail, LiteralS, OperandS, ChangeS, SettingS, TupleS, InsertS, UpdateS, DeleteS, SourceS, FromS, ItemS, ItemsS, TailS, QueryS, LevelS, OneS, StatementS, WhereS, NameS, NamesS, ColumnS}
 use Rattle.sql_grammar.specs.Trees.{Name, Constant, NullValue, IntValue, TextValue, BlobValue, Side, OfLiteral, OfColumn, Cond, Item, Source, Change, Setting, Statement, BeginIt, CommitIt, RollbackIt, SnapshotIt, SerializableIt, InsertInto, UpdateOf, DeleteFrom, SelectOf}

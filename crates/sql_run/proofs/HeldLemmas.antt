@@ -12,8 +12,8 @@ use Rattle.cdb_values.specs.declared.tables.TableDef.{TableDef}
 use Rattle.cdb_values.specs.declared.values.Value.{Value}
 use Rattle.net_writes.proofs.CountLemmas.{at_suc, out_suc}
 use Rattle.net_writes.specs.Net.{held_of, held_at, taken_out, rewritten, undone, held_with, held_after, standing, net_of}
-use Rattle.report_laws.proofs.EachLaws.{all_append, all_map, get_front}
-use Rattle.report_laws.proofs.SpelledLaws.{all_exchanged}
+use Rattle.session_language.proofs.EachLaws.{all_append, all_map, get_front}
+use Rattle.session_language.proofs.AllLaws.{all_exchanged}
 use Rattle.sql_run.specs.Sound.{IsSoundOp}
 
 abbrev pub Held : Type 0

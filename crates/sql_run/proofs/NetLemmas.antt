@@ -7,9 +7,9 @@ use Rattle.cdb_values.specs.declared.rows.RowOp.TheVariants.{Insert, Update, Del
 use Rattle.cdb_values.specs.declared.rows.RowRef.TheVariants.{Base, Own}
 use Rattle.cdb_values.specs.declared.values.Value.{Value}
 use Rattle.net_writes.specs.Net.{held_at, taken_out, rewritten, undone, held_with, held_after, standing, net_of}
-use Rattle.report_laws.proofs.EachLaws.{all_append}
-use Rattle.report_laws.proofs.SpelledLaws.{all_exchanged}
-use Rattle.report_laws.specs.Spelled.{IsToldRow, WritesRow}
+use Rattle.session_language.proofs.EachLaws.{all_append}
+use Rattle.session_language.proofs.AllLaws.{all_exchanged}
+use Rattle.session_language.specs.Spelled.{IsToldRow, WritesRow}
 
 abbrev Holds : Option RowOp → Type 0
 Holds None = Unit {0}

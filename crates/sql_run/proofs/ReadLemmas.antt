@@ -2,7 +2,7 @@
 use Rattle.std.proofs.Common.{◌≡◌, ℕ, List, sym, ap, Ok, Err}
 use Rattle.cdb_values.specs.declared.rows.StatementError.TheVariants as error
 use Rattle.cdb_values.specs.declared.tables.TableDef.{TableDef}
-use Rattle.report_laws.specs.Language.{OtherText}
+use Rattle.session_language.specs.Language.{OtherText}
 use Rattle.sql_answer.proofs.ReadingLemmas.{spelled_is_read, refused_is_read}
 use Rattle.sql_answer.specs.Language.{bound_in, cause_of, meaning, meant_as, meant_by}
 use Rattle.sql_answer.specs.Reading.{kind_by, kind_of, kind_of_text}

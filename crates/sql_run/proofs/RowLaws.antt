@@ -18,9 +18,9 @@ use Rattle.cdb_values.specs.declared.tables.TableDef.{TableDef}
 use Rattle.cdb_values.specs.declared.values.Value.{Value}
 use Rattle.cdb_values.specs.declared.values.Value.TheVariants.{Null, Int, Text, Blob}
 use Rattle.net_writes.specs.Net.{net_of}
-use Rattle.report_laws.proofs.EachLaws.{all_append}
-use Rattle.report_laws.proofs.SpelledLaws.{all_got, all_exchanged, all_filtered}
-use Rattle.report_laws.specs.Spelled.{IsToldValue, IsToldRow, SpellsReply, WritesRow, HaveRows}
+use Rattle.session_language.proofs.EachLaws.{all_append}
+use Rattle.session_language.proofs.AllLaws.{all_got, all_exchanged, all_filtered}
+use Rattle.session_language.specs.Spelled.{IsToldValue, IsToldRow, SpellsReply, WritesRow, HaveRows}
 use Rattle.report_text.specs.declared.reports.ReplyLine.{ReplyLine}
 use Rattle.report_text.specs.declared.reports.ReplyLine.TheVariants as reply
 use Rattle.sql_answer.specs.Answers.{Meaning, Outcome, Fails, Gives, told_only, net_given, given_unless, rows_met, updating, deleting, items_used, rows_given, finished, finish, found, tables_read}

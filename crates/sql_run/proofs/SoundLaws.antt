@@ -23,8 +23,8 @@ use Rattle.cdb_values.specs.declared.values.Value.{Value}
 use Rattle.cdb_values.specs.declared.values.Value.TheVariants.{Null, Int, Text, Blob}
 use Rattle.net_writes.proofs.CountLemmas.{at_suc}
 use Rattle.net_writes.specs.Net.{held_of, net_of}
-use Rattle.report_laws.proofs.EachLaws.{all_append, all_found as found_in_all}
-use Rattle.report_laws.proofs.SpelledLaws.{all_filtered}
+use Rattle.session_language.proofs.EachLaws.{all_append, all_found as found_in_all}
+use Rattle.session_language.proofs.AllLaws.{all_filtered}
 use Rattle.report_text.specs.declared.reports.ReplyLine.TheVariants as reply
 use Rattle.sql_answer.specs.Answers.{Meaning, Outcome, Fails, Gives, told_only, net_given, given_unless, rows_met, updating, deleting, items_used, rows_given, finished, finish, found, tables_read}
 use Rattle.sql_answer.specs.Combinations.{Seen, seen_version, own_or, own_from, is_left, of_table, seen, rows_of}

@@ -5,7 +5,7 @@ use Rattle.cdb_values.specs.declared.rows.RowOp.{RowOp}
 use Rattle.cdb_values.specs.declared.rows.Version.{Version}
 use Rattle.cdb_values.specs.declared.tables.TableDef.{TableDef}
 use Rattle.query_plan.specs.Planned.{Planned, plan_of}
-use Rattle.report_laws.specs.Language.{Answered, Kind}
+use Rattle.session_language.specs.Language.{Answered, Kind}
 use Rattle.sql_answer.specs.Answers.{Meaning, answer}
 use Rattle.sql_answer.specs.Language.{answered}
 

@@ -1,7 +1,7 @@
 -- What values of the code say.
 use Rattle.std.specs.Prelude.{List, [], Ok, Err}
 use Rattle.query_plan.specs.Planned.{Planned}
-use Rattle.report_laws.specs.Language.{Kind, BeginText, CommitText, RollbackText, LevelText, OtherText}
+use Rattle.session_language.specs.Language.{Kind, BeginText, CommitText, RollbackText, LevelText, OtherText}
 use Rattle.sql_answer.specs.Answers as laws
 use Rattle.sql_bind.specs.Views.{bound_in}
 use Rattle.sql_run.specs.declared.kinds.TextKind.{TextKind}

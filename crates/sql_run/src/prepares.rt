@@ -2,7 +2,7 @@
 ghost use Rattle.std.specs.Prelude.{◌≡◌, ◌<◌, ◌^◌, [], true, length, IfOk};
 ghost use Rattle.std.specs.Str.{is_utf8};
 ghost use Rattle.query_plan.specs.Planned.{plan_of};
-ghost use Rattle.report_laws.specs.Language.{OtherText};
+ghost use Rattle.session_language.specs.Language.{OtherText};
 ghost use Rattle.sql_answer.specs.Language.{meaning as meaning_of, bound_in as bound_as};
 ghost use Rattle.sql_answer.specs.Reading.{kind_of, kind_of_text};
 ghost use Rattle.sql_bind.specs.Views.{bound_in};

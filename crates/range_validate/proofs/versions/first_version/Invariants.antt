@@ -1,6 +1,6 @@
 use Rattle.std.proofs.Common.{◌≡◌, length}
 use Rattle.cdb_values.specs.Changes.{genids_taken}
-use Rattle.report_laws.specs.View.{first_touched}
+use Rattle.session_language.specs.Touched.{first_touched}
 use Rattle.range_validate.proofs.versions.first_version.Given as goal
 
 abbrev pub invariant-used : goal.invariant-used

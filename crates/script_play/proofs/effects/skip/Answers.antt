@@ -1,5 +1,5 @@
 use Rattle.std.proofs.Common.{[], ap, sym, subst}
-use Rattle.report_laws.specs.Language.{Kind}
+use Rattle.session_language.specs.Language.{Kind}
 use Rattle.script_play.specs.Doing.{SessionAt}
 use Rattle.script_play.specs.Doing as doing
 use Rattle.script_play.specs.Effects.{IsEffect}

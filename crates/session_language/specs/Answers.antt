@@ -5,8 +5,8 @@ use Rattle.std.specs.List.{AllByRecursion}
 use Rattle.cdb_values.specs.declared.rows.RowOp.{RowOp}
 use Rattle.cdb_values.specs.declared.rows.Version.{Version}
 use Rattle.cdb_values.specs.declared.tables.TableDef.{TableDef}
-use Rattle.report_laws.specs.Language.{Language}
-use Rattle.report_laws.specs.Play.{are_up_to, is_last_of}
+use Rattle.session_language.specs.Language.{Language}
+use Rattle.session_language.specs.Replies.{are_up_to, is_last_of}
 use Rattle.report_text.specs.declared.reports.ReplyLine.{ReplyLine}
 use Rattle.report_text.specs.declared.reports.ReplyLine.TheVariants as reply
 

@@ -2,7 +2,7 @@
 use Rattle.std.proofs.Common.{◌≡◌, ℕ, zero, suc, ◌<◌, List, [], ◌∷◌, ◌++◌, length, refl, sym, subst, ap, arith, append_assoc, Some, ◌∙◌}
 use Rattle.std.proofs.lemmas.List.{append-nil}
 use Rattle.std.specs.List.{AllByRecursion, slice_get}
-use Rattle.report_laws.specs.Each.{EachAfter, StandsIn}
+use Rattle.session_language.specs.Each.{EachAfter, StandsIn}
 
 -- a list with two ends joined
 pub each_append : {A : Type 0} (P : List A → A → Type 0) (before xs ys : List A) → EachAfter P before xs → EachAfter P (before ++ xs) ys → EachAfter P before (xs ++ ys)

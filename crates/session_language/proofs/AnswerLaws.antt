@@ -4,7 +4,7 @@ use Rattle.std.proofs.lemmas.List.{append-nil}
 use Rattle.cdb_values.specs.declared.rows.RowOp.{RowOp}
 use Rattle.cdb_values.specs.declared.rows.Version.{Version}
 use Rattle.cdb_values.specs.declared.tables.TableDef.{TableDef}
-use Rattle.report_laws.specs.Language.{Language, alone_from}
+use Rattle.session_language.specs.Language.{Language, alone_from}
 use Rattle.report_text.specs.declared.reports.ReplyLine.{ReplyLine}
 
 module _ (language : Language) (tables : List TableDef) (versions : List (List Version)) where

@@ -1,0 +1,4 @@
+pub mod AllLaws
+pub mod AnswerLaws
+pub mod EachLaws
+pub mod UpToLaws

@@ -1,0 +1,6 @@
+pub mod Answers
+pub mod Each
+pub mod Language
+pub mod Replies
+pub mod Spelled
+pub mod Touched
