@@ -20,7 +20,7 @@
 //!
 //! | Notion | Code | Definition |
 //! |---|---|---|
-//! | a version is taken away | `versions` | `first_touched` of `report_laws`, over `genids_taken` |
+//! | a version is taken away | `versions` | `first_touched` of `session_language`, over `genids_taken` |
 //! | a row that goes or comes lies in an interval | `intervals` | `changes_touch` of `serial_laws` |
 //! | the first entry that touches an item | `touches` | `first_touch_of` of `specs/Touches.antt` |
 #![tactic(auto)]

@@ -3,14 +3,12 @@
 //!
 //! | Notion | Definition |
 //! |---|---|
-//! | the language of the sessions, a transaction run alone | `specs/Language.antt` |
-//! | what the laws ask of a language where they compare two reports | `specs/Answers.antt` |
+//! | the language of the sessions, a transaction run alone, and what the laws ask of a language | `session_language` |
 //! | the work of a session: its transactions, and its lines outside one | `specs/Work.antt` |
 //! | the history, the rows at its positions, and what its entries take away | `specs/History.antt` |
 //! | what the laws see of a history: look-ups by position | `specs/View.antt` |
 //! | what a session is told, and what is told of an entry's transaction | `specs/Told.antt` |
 //! | the right outcome of a transaction | `specs/Outcome.antt` |
-//! | each member of a list and what stands before it | `specs/Each.antt` |
 //! | a lawful report | `specs/Lawful.antt` |
 //! | the order of play | `specs/Play.antt` |
 //! | the endings that cut a transaction short | `specs/Cut.antt` |
