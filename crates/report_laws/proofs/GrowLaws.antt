@@ -63,6 +63,7 @@ module _ (basis : Basis) (es : List EntryLine) (e : EntryLine) where
         fits = was.fits;
         cause = was.cause;
         is_cause = was.is_cause;
+        may = was.may;
         says = was.says;
       }
 

@@ -6,6 +6,7 @@ pub mod GrowLaws
 pub mod HistoryLaws
 pub mod LawLemmas
 pub mod LineLaws
+pub mod NodesLaws
 pub mod OneLaws
 pub mod OutcomeLemmas
 pub mod PieceLaws
