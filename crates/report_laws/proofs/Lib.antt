@@ -1,4 +1,5 @@
 pub mod AlongLaws
+pub mod BeginLaws
 pub mod DecideLemmas
 pub mod EntryToldLaws
 pub mod FrontLemmas

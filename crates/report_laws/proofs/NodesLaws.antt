@@ -1,13 +1,13 @@
 -- Which nodes are up: behind lines of which none tells that a node went down all are; and a node that went down stays
 -- down where no line tells that one came up.
 use Rattle.std.proofs.Common.{◌≡◌, ℕ, zero, suc, ◌+◌, ◌*◌, ◌==◌, ◌&&◌, List, [], ◌∷◌, ◌++◌, refl, ap, arith, ◌∙◌, Bool, true, false, if◌then◌else◌, leb, Option, Some, None}
-use Rattle.std.proofs.lemmas.Bool.{eq-eqb, lt-leb, and_right, false≢true}
+use Rattle.std.proofs.lemmas.Bool.{eq-eqb, lt-leb, and_right, false≢true, both_ways}
 use Rattle.std.specs.List.{AllByRecursion}
 use Rattle.session_language.specs.Each.{EachAfter}
 use Rattle.session_language.specs.Language.{Kind}
 use Rattle.script_form.specs.declared.scripts.Script.{Script}
 use Rattle.report_laws.specs.Nodes.{downs, up_after, up_from, is_up, up_count, are_few, first_down}
-use Rattle.report_laws.specs.Places.{HasItsPlace}
+use Rattle.report_laws.specs.Places.{HasItsPlace, IsLost, IsShort}
 use Rattle.report_laws.specs.Play.{is_begin_of, since_begin, was_cut, loss_of, begins, lacks_majority, node_of}
 use Rattle.report_laws.specs.Told.{lines_of}
 use Rattle.report_text.specs.declared.reports.Line.{Line}
@@ -99,6 +99,19 @@ none_lost script before session number (Some texts) none = pick (was_cut before 
 pub none_lacks : (script : Script) (before : List Line) (kind : Kind) (pending : Option (List (List ℕ))) → downs before ≡ 0 → lacks_majority script before kind pending ≡ false
 none_lacks script before kind pending none = and_right (begins kind pending) (are_few script.nodes before) (none_few script.nodes before none)
 
+-- without a down line nothing is lost, and no majority is wanting
+pub lost_needs_down : (before : List Line) (session : List ℕ) (txn node down : ℕ) → downs before ≡ 0 → IsLost before session txn node down → ⊥
+lost_needs_down before session txn node down none is =
+    let split : downs before ≡ downs (is.front ++ line.Down down node is.fault ∷ is.back) = ap downs is.stands in
+    let parts : downs (is.front ++ line.Down down node is.fault ∷ is.back) ≡ downs is.front + (downs is.back + 1) = downs_append is.front (line.Down down node is.fault ∷ is.back) in
+    omega (arith, none, split, parts)
+
+pub short_needs_down : (script : Script) (before : List Line) (session : List ℕ) (up nodes : ℕ) → downs before ≡ 0 → IsShort script before session up nodes → ⊥
+short_needs_down script before session up nodes none is =
+    let split : downs before ≡ downs (is.front ++ is.back) = ap downs is.stands in
+    let parts : downs (is.front ++ is.back) ≡ downs is.front + downs is.back = downs_append is.front is.back in
+    both_ways (are_few nodes is.front) (none_few nodes is.front (omega (arith, none, split, parts))) is.few
+
 -- a line that no node came up
 abbrev pub IsNoUp : Line → Type 0
 IsNoUp (line.Session name txn answer) = Unit {0}
@@ -129,7 +142,7 @@ stays_down node (line.Up other ∷ ls) all = absurd all.0
 stays_down node (line.Barrier ∷ ls) all = stays_down node ls all.1
 stays_down node (line.Fed position ∷ ls) all = stays_down node ls all.1
 
-up_append : (node : ℕ) (was : Bool) (xs ys : List Line) → up_from node was (xs ++ ys) ≡ up_from node (up_from node was xs) ys
+pub up_append : (node : ℕ) (was : Bool) (xs ys : List Line) → up_from node was (xs ++ ys) ≡ up_from node (up_from node was xs) ys
 up_append node was [] ys = refl
 up_append node was (x ∷ xs) ys = up_append node (up_after node was x) xs ys
 

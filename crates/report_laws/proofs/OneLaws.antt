@@ -44,7 +44,7 @@ first_bound number None begun = omega arith
 first_bound number (Some texts) begun = begun
 
 -- a line of the script that says nothing
-abbrev IsQuiet : Act → Type 0
+abbrev pub IsQuiet : Act → Type 0
 IsQuiet (act.Say session text) = ⊥
 IsQuiet (act.Stop node) = Unit {0}
 IsQuiet (act.Start node) = Unit {0}
@@ -52,7 +52,7 @@ IsQuiet (act.Arm session moment) = Unit {0}
 IsQuiet act.Barrier = Unit {0}
 IsQuiet act.Feed = Unit {0}
 
-said_or_quiet : (a : Act) → ((session : List ℕ) × (text : List ℕ) × (a ≡ act.Say session text)) ⊎ IsQuiet a
+pub said_or_quiet : (a : Act) → ((session : List ℕ) × (text : List ℕ) × (a ≡ act.Say session text)) ⊎ IsQuiet a
 said_or_quiet (act.Say session text) = inl (session, text, refl)
 said_or_quiet (act.Stop node) = inr tt
 said_or_quiet (act.Start node) = inr tt
@@ -60,7 +60,7 @@ said_or_quiet (act.Arm session moment) = inr tt
 said_or_quiet act.Barrier = inr tt
 said_or_quiet act.Feed = inr tt
 
-quiet_turn : (basis : Basis) (now : ℕ) (done : List BodyLine) (before : List Line) (a : Act) (mine : List Line) (added : List EntryLine) → IsQuiet a → IsTurnOf basis now done before a mine added → (mine ≡ []) × (added ≡ [])
+pub quiet_turn : (basis : Basis) (now : ℕ) (done : List BodyLine) (before : List Line) (a : Act) (mine : List Line) (added : List EntryLine) → IsQuiet a → IsTurnOf basis now done before a mine added → (mine ≡ []) × (added ≡ [])
 quiet_turn basis now done before (act.Say session text) mine added quiet turn = absurd quiet
 quiet_turn basis now done before (act.Stop node) mine added quiet turn = turn
 quiet_turn basis now done before (act.Start node) mine added quiet turn = turn
@@ -86,7 +86,7 @@ quiet_said name act.Barrier quiet = refl
 quiet_said name act.Feed quiet = refl
 
 -- after such a line each session is where it was
-quiet_place : (language : Language) (name : List ℕ) (done : List BodyLine) (b : BodyLine) → IsQuiet b.act → place_after language name (done ++ b ∷ []) ≡ place_after language name done
+pub quiet_place : (language : Language) (name : List ℕ) (done : List BodyLine) (b : BodyLine) → IsQuiet b.act → place_after language name (done ++ b ∷ []) ≡ place_after language name done
 quiet_place language name done b quiet =
     after_more language name done (b ∷ []) ∙ ap (λ (texts : List (List ℕ)). place_from language (place_after language name done) texts) (quiet_said name b.act quiet)
 

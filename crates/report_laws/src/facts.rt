@@ -59,6 +59,24 @@ pub fn lines_have_their_places()
     ensures fed { (basis : Basis) (report : Report) (position : ℕ) → Lawful basis report → StandsIn report.lines (line.Fed position) → ⊥ }
 {}
 
+/// Where a begin is told, in a lawful report in the order of play, a majority of the nodes is up behind the lines before it,
+/// over a language that answers each text as it should (`Answers`).
+#[tactic(auto, using(crate::proofs::BeginLaws::begin_has_majority))]
+pub fn begins_find_a_majority()
+    ensures majority { (basis : Basis) (report : Report) (front back : List Line) (name : List ℕ) (txn begin : ℕ) → Answers basis.language → Lawful basis report → InPlayOrder basis report → report.lines ≡ front ++ line.Session name txn (reply.Begin begin) ∷ back → are_few basis.script.nodes front ≡ false }
+{}
+
+/// So no transaction begins behind a line that the one node of a script went down.
+pub fn none_begins_behind_a_fault()
+    ensures none { (basis : Basis) (report : Report) (front back : List Line) (count node : ℕ) (fault : Bool) (name : List ℕ) (txn begin : ℕ) → basis.script.nodes ≡ 1 → Answers basis.language → Lawful basis report → InPlayOrder basis report → report.lines ≡ front ++ line.Down count node fault ∷ back → StandsIn back (line.Session name txn (reply.Begin begin)) → ⊥ }
+{}
+
+/// No node goes down twice in a lawful report: none comes up between.
+#[tactic(auto, using(crate::proofs::BeginLaws::down_once))]
+pub fn nodes_go_down_once()
+    ensures once { (basis : Basis) (report : Report) (first second third : List Line) (count other node : ℕ) (fault again : Bool) → Lawful basis report → report.lines ≡ first ++ line.Down count node fault ∷ (second ++ line.Down other node again ∷ third) → ⊥ }
+{}
+
 /// No transaction has two entries in a lawful report.
 #[tactic(auto, using(crate::proofs::LawLemmas::stand_once))]
 pub fn transactions_stand_once()

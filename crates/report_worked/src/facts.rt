@@ -34,8 +34,8 @@ pub fn wrong_insert_selects_are_refused()
     ensures early_row { IsRefusedBy (RepliesAreRight insert_select early_row) insert_select early_row }
     ensures wrong_position { IsRefusedBy (RepliesAreRight insert_select wrong_position) insert_select wrong_position }
     ensures entry_twice { IsRefusedBy (HistoryIsRight insert_select entry_twice) insert_select entry_twice }
-    ensures node_line { IsRefusedBy (LinesHavePlaces node_line) insert_select node_line }
-    ensures lost_line { IsRefusedBy (LinesHavePlaces lost_line) insert_select lost_line }
+    ensures node_line { IsRefusedBy (LinesHavePlaces insert_select node_line) insert_select node_line }
+    ensures lost_line { IsRefusedBy (LinesHavePlaces insert_select lost_line) insert_select lost_line }
 {}
 
 /// Where the select begins before the insert and is told no row, the report is lawful, since what a
