@@ -1,5 +1,5 @@
 -- Reports in which the node goes down, computed.
-use Rattle.std.proofs.Common.{◌≡◌, ℕ, ◌+◌, ◌≤◌, List, [], ◌∷◌, ◌++◌, refl, sym, subst, arith, codes, inl, inr, true, false, Option, None, take, drop}
+use Rattle.std.proofs.Common.{◌≡◌, ℕ, List, [], ◌∷◌, refl, sym, subst, arith, codes, inl, inr, true, false, Option, None, take, drop}
 use Rattle.std.specs.Fmt.{digits}
 use Rattle.cdb_values.specs.declared.rows.Level.TheVariants.{Snapshot}
 use Rattle.report_text.specs.Text.{report_text}
@@ -17,7 +17,7 @@ use Rattle.report_text.specs.declared.reports.Line.TheVariants as line
 use Rattle.report_text.specs.declared.reports.ReplyLine.{ReplyLine}
 use Rattle.report_text.specs.declared.reports.ReplyLine.TheVariants as reply
 use Rattle.report_laws.proofs.LineLaws.{fresh_begin}
-use Rattle.report_worked.specs.Worked.{worked_table, insert_select, insert_text, select_text, lost_insert_report, lost_insert_text, open_insert, open_insert_report, nothing_said, down_at_first_report, row, to_a, to_b}
+use Rattle.report_worked.specs.Worked.{worked_table, insert_select, insert_text, select_text, lost_insert_report, lost_insert_text, open_insert, open_insert_report, nothing_said, down_at_first_report, to_a, to_b}
 use Rattle.report_worked.specs.Small.{from_nothing, small_language}
 use Rattle.report_worked.proofs.InsertSelectLemmas.{items_of_a, work_of_a}
 use Rattle.report_worked.proofs.WorkedLemmas.{along_each, along_parts, EachPart, cut, is_turn}

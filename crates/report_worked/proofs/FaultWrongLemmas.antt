@@ -1,23 +1,31 @@
 -- Reports in which the node goes down, or does not, that are wrong in one place, refuted.
-use Rattle.std.proofs.Common.{◌≡◌, ℕ, ◌+◌, ◌≤◌, List, [], ◌∷◌, ◌++◌, length, refl, sym, subst, ap, arith, codes, inl, inr, true, false, Bool, take, drop, ◌∙◌, if◌then◌else◌}
+use Rattle.std.proofs.Common.{◌≡◌, ℕ, ◌+◌, List, [], ◌∷◌, ◌++◌, refl, sym, subst, ap, arith, codes, inl, true, false, Bool, take, drop, ◌∙◌}
 use Rattle.std.proofs.lemmas.List.{append-nil}
 use Rattle.std.specs.List.{AllByRecursion}
 use Rattle.report_laws.specs.History.{nothing_before, view_of}
 use Rattle.report_laws.specs.Lawful.{Lawful}
-use Rattle.report_laws.specs.Nodes.{downs, are_few}
+use Rattle.report_laws.specs.Nodes.{downs}
 use Rattle.report_laws.specs.Places.{IsLost}
 use Rattle.report_laws.specs.Play.{InPlayOrder, opened_behind}
-use Rattle.report_laws.specs.Told.{told, Numbered}
+use Rattle.report_laws.specs.Told.{told, Along, IsTold, Numbered}
+use Rattle.report_laws.specs.Work.{Item, work}
 use Rattle.report_text.specs.declared.reports.EntryLine.{EntryLine}
 use Rattle.report_text.specs.declared.reports.EntryLine.TheVariants.{Setup}
 use Rattle.report_text.specs.declared.reports.Line.{Line}
 use Rattle.report_text.specs.declared.reports.Line.TheVariants as line
+use Rattle.report_text.specs.declared.reports.ReplyLine.{ReplyLine}
+use Rattle.report_text.specs.declared.reports.ReplyLine.TheVariants as reply
 use Rattle.session_language.proofs.UpToLaws.{same_tail}
+use Rattle.report_laws.proofs.BeginLaws.{none_begins}
+use Rattle.report_laws.proofs.LineLaws.{fresh_begin}
 use Rattle.report_laws.proofs.NodesLaws.{downs_append, short_needs_down}
-use Rattle.report_worked.specs.Worked.{insert_select, nothing_said}
-use Rattle.report_worked.specs.WorkedWrong.{IsRefusedBy, LinesHavePlaces, lost_twice, lost_late, short_while_up, down_misnumbered, down_twice, opened_while_down}
-use Rattle.report_worked.specs.Small.{from_nothing}
-use Rattle.report_worked.proofs.FaultLemmas.{down_at_first_is_lawful}
+use Rattle.report_worked.specs.Worked.{insert_select, nothing_said, worked_table}
+use Rattle.report_worked.specs.WorkedWrong.{IsRefusedBy, LinesHavePlaces, lost_twice, lost_late, short_while_up, down_misnumbered, down_twice, opened_while_down, begun_behind}
+use Rattle.report_worked.specs.Small.{from_nothing, small_language}
+use Rattle.report_worked.proofs.FaultLemmas.{down_at_first_is_lawful, lost_insert_is_lawful}
+use Rattle.report_worked.proofs.InsertSelectLemmas.{items_of_a, work_of_a}
+use Rattle.report_worked.proofs.SmallLaws.{statements_answer}
+use Rattle.report_worked.proofs.WorkedLemmas.{along_each, along_parts, EachPart, cut, whole}
 
 -- lost twice by one down line
 named_twice : LinesHavePlaces insert_select lost_twice → ⊥
@@ -88,3 +96,37 @@ no_entry_left first rest later lines none no_more entries =
 
 pub opened_while_down_is_not_in_order : InPlayOrder (from_nothing nothing_said) opened_while_down → ⊥
 opened_while_down_is_not_in_order order = no_entry_left order.first order.rest order.later order.lines_are order.order.0 order.order.1 order.opened
+
+-- a begin behind the fault: lawful, but not in the order of play
+abbrev behind_of_a : List (List ReplyLine)
+behind_of_a = (reply.Begin 1 ∷ reply.Changed 1 ∷ reply.Lost 1 1 ∷ []) ∷ (reply.Begin 1 ∷ reply.Done 0 ∷ reply.Committed 1 ∷ []) ∷ []
+
+along_behind : (P : List ℕ → Item → List ReplyLine → Type 0) → EachPart (P (codes "a")) items_of_a behind_of_a → (name : List ℕ) → Along (P name) (work small_language name insert_select.body) (told name begun_behind.lines)
+along_behind P is =
+    along_each P insert_select.body begun_behind.lines
+    (inl refl, (inl refl, tt)) (inl refl, (inl refl, (tt, (inl refl, (inl refl, (inl refl, (inl refl, tt)))))))
+    (subst (λ (items : List Item). Along (P (codes "a")) items (told (codes "a") begun_behind.lines)) (sym work_of_a) (along_parts (P (codes "a")) items_of_a behind_of_a is))
+    refl
+
+pub begun_behind_is_lawful : Lawful (from_nothing insert_select) begun_behind
+begun_behind_is_lawful = record {
+  replies = along_behind (IsTold (from_nothing insert_select) (view_of (from_nothing insert_select) (Setup 1 ∷ []))) (
+    cut 1 (reply.Begin 1 ∷ reply.Changed 1 ∷ []) [] (reply.Lost 1 1) (omega arith) (omega arith) refl refl (λ is. cc) refl,
+    (whole 1 (reply.Committed 1) (omega arith) (omega arith) tt refl refl, tt),
+  );
+  begins = (
+    fresh_begin (nothing_before (worked_table ∷ [])) _ (codes "a") 1 (omega arith) (omega arith) tt,
+    (tt, (tt, (tt, (fresh_begin (nothing_before (worked_table ∷ [])) _ (codes "a") 1 (omega arith) (omega arith) ((omega arith, tt), (tt, (tt, (tt, tt)))), (tt, (tt, tt)))))),
+  );
+  history = ((refl, refl, refl), tt);
+  answered = (tt, tt);
+  places = (tt, (tt, (lost_insert_is_lawful.places.1.1.0, (lost_insert_is_lawful.places.1.1.1.0, (tt, (tt, (tt, tt)))))));
+  feeds = refl;
+  base = refl;
+  end = refl;
+}
+
+pub begun_behind_is_not_in_order : InPlayOrder (from_nothing insert_select) begun_behind → ⊥
+begun_behind_is_not_in_order order =
+    none_begins (from_nothing insert_select) begun_behind (take 2 begun_behind.lines) (drop 3 begun_behind.lines) 1 1 true (codes "a") 2 1 refl statements_answer begun_behind_is_lawful order refl
+    (take 1 (drop 3 begun_behind.lines), drop 5 begun_behind.lines, refl)
