@@ -1,7 +1,8 @@
 -- What is told at a line of the script, up to its last reply, and what is told under a number.
 use Rattle.std.proofs.Common.{◌≡◌, ℕ, ◌==◌, List, [], ◌∷◌, ◌++◌, refl, sym, subst, ap, ◌∙◌, Bool, true, false, if◌then◌else◌, ◌&&◌}
-use Rattle.std.proofs.lemmas.Bool.{ne_eqb, and_right, or_from}
+use Rattle.std.proofs.lemmas.Bool.{eq-eqb, ne_eqb, and_right, and_from, or_from, or_left, or_right}
 use Rattle.std.proofs.lemmas.List.{append-nil}
+use Rattle.std.proofs.lemmas.Slice.Eq.{bytes_eq-Decides}
 use Rattle.std.specs.List.{AllByRecursion}
 use Rattle.std.specs.Str.{bytes_eq}
 use Rattle.report_laws.specs.Cut.{cuts}
@@ -119,6 +120,15 @@ uncut_line (line.Fed position) session number uncut = refl
 pub never_cut : (lines : List Line) (session : List ℕ) (number : ℕ) → AllByRecursion IsUncutLine lines → was_cut lines session number ≡ false
 never_cut [] session number all = refl
 never_cut (l ∷ ls) session number all = or_from (is_cut_of session number l) (was_cut ls session number) (uncut_line l session number all.0) (never_cut ls session number all.1)
+
+-- and one that was told what cuts it short was
+pub cut_at : (lines : List Line) (session : List ℕ) (number : ℕ) (cause : ReplyLine) → cuts cause ≡ true → StandsIn lines (line.Session session number cause) → was_cut lines session number ≡ true
+cut_at lines session number cause cut (front, back, is) = subst (λ (ls : List Line). was_cut ls session number ≡ true) (sym is) (among front)
+  where
+    among : (xs : List Line) → was_cut (xs ++ line.Session session number cause ∷ back) session number ≡ true
+    among [] = or_left (is_cut_of session number (line.Session session number cause)) (was_cut back session number)
+        (and_from (bytes_eq session session) ((number == number) && cuts cause) ((bytes_eq-Decides session session).1 refl) (and_from (number == number) (cuts cause) (eq-eqb number number refl) cut))
+    among (x ∷ xs) = or_right (is_cut_of session number x) (was_cut (xs ++ line.Session session number cause ∷ back) session number) (among xs)
 
 -- what holds of each member of a list holds of one that stands in it
 pub all_at : {A : Type 0} (P : A → Type 0) (xs : List A) (x : A) → AllByRecursion P xs → StandsIn xs x → P x
