@@ -1,9 +1,10 @@
 -- What a transaction was told stays right when the history grows by an entry.
 use Rattle.std.proofs.Common.{◌≡◌, ℕ, ◌≤◌, List, [], ◌∷◌, ◌++◌, refl, sym, ap, arith, ◌∙◌, inl, inr}
 use Rattle.cdb_values.specs.Rows.{Rows}
+use Rattle.cdb_values.specs.declared.rows.RowOp.{RowOp}
 use Rattle.report_laws.specs.History.{Basis, alone_on, used_by, last_position, view_of}
-use Rattle.report_laws.specs.Told.{IsTold, IsWhole, IsCut, alone_at}
-use Rattle.report_laws.specs.Work.{Transaction, Item, Does, Lone}
+use Rattle.report_laws.specs.Told.{IsTold, IsWhole, IsCut, MayCut, alone_at}
+use Rattle.report_laws.specs.Work.{Transaction, End, Nowhere, Item, Does, Lone}
 use Rattle.report_text.specs.declared.reports.EntryLine.{EntryLine}
 use Rattle.report_text.specs.declared.reports.ReplyLine.{ReplyLine}
 use Rattle.report_text.specs.declared.reports.ReplyLine.TheVariants as reply
@@ -28,6 +29,14 @@ first_begin a b xs ys is = cc
 
 pub first_rest : (a b : ℕ) (xs ys : List ReplyLine) → reply.Begin a ∷ xs ≡ reply.Begin b ∷ ys → xs ≡ ys
 first_rest a b xs ys is = cc
+
+-- what may cut a transaction short that has no end yet may have done so whatever its end, its further replies and operations are
+pub may_later : (end : End) (ops ops' : List RowOp) (front rest rest' : List ReplyLine) (cause : ReplyLine) → MayCut Nowhere ops front rest cause → MayCut end ops' front rest' cause
+may_later end ops ops' front rest rest' (reply.Lost node down) is = is
+may_later end ops ops' front rest rest' (reply.NoMajority up nodes) (inl first) = inl first
+may_later end ops ops' front rest rest' (reply.NoMajority up nodes) (inr ended) = absurd ended.2
+may_later end ops ops' front rest rest' reply.NoMemory is = tt
+may_later end ops ops' front rest rest' _ is = absurd is
 
 module _ (basis : Basis) (es : List EntryLine) (e : EntryLine) where
   -- a transaction run alone at a position gives what it gave
@@ -63,6 +72,7 @@ module _ (basis : Basis) (es : List EntryLine) (e : EntryLine) where
         fits = was.fits;
         cause = was.cause;
         is_cause = was.is_cause;
+        may = was.may;
         says = was.says;
       }
 

@@ -1,14 +1,16 @@
 -- What a lawful report says of each begin, of each entry, and of two entries.
-use Rattle.std.proofs.Common.{◌≡◌, ◌==◌, ◌&&◌, ℕ, ◌+◌, arith, List, [], ◌∷◌, ◌++◌, refl, sym, subst, ap, ◌∙◌, Bool, true, false, append_assoc, if◌then◌else◌, Some}
-use Rattle.std.proofs.lemmas.Bool.{eq-eqb}
+use Rattle.std.proofs.Common.{◌≡◌, ◌==◌, ◌&&◌, ℕ, ◌+◌, ◌<◌, ◌≤◌, arith, List, [], ◌∷◌, ◌++◌, refl, sym, subst, ap, ◌∙◌, Bool, true, false, append_assoc, if◌then◌else◌, Some, ◌⊎◌, inl, inr}
+use Rattle.std.proofs.lemmas.Bool.{eq-eqb, both_ways}
+use Rattle.std.specs.List.{AllByRecursion}
 use Rattle.std.specs.Str.{bytes_eq}
 use Rattle.cdb_values.specs.declared.rows.Level.{Level}
 use Rattle.session_language.specs.Each.{EachAfter, StandsIn}
 use Rattle.report_laws.specs.History.{Basis, IsEntryAfter, alone_on, rows_at, last_position, view_of}
 use Rattle.session_language.specs.Language.{Answered}
 use Rattle.report_laws.specs.Lawful.{Lawful, IsFreshLine, NameUpTo}
+use Rattle.report_laws.specs.Nodes.{are_few, downs}
 use Rattle.report_laws.specs.Places.{HasItsPlace}
-use Rattle.report_laws.specs.Play.{InPlayOrder}
+use Rattle.report_laws.specs.Play.{InPlayOrder, IsDownLine}
 use Rattle.report_laws.specs.Told.{told, numbered, Numbered, IsCommitTold, IsEntryTold}
 use Rattle.report_laws.specs.Work.{Transaction, transaction_of}
 use Rattle.report_text.specs.declared.reports.Report.{Report}
@@ -20,6 +22,7 @@ use Rattle.report_text.specs.declared.reports.ReplyLine.{ReplyLine}
 use Rattle.report_text.specs.declared.reports.ReplyLine.TheVariants as reply
 use Rattle.report_laws.proofs.EntryToldLaws.{begin_stands, commit_stands, committed_there}
 use Rattle.report_laws.proofs.FrontLemmas.{entry_next}
+use Rattle.report_laws.proofs.NodesLaws.{downs_append, none_few}
 use Rattle.report_laws.proofs.PieceLaws.{all_at}
 use Rattle.report_laws.proofs.SoFarLemmas.{same_name}
 
@@ -65,8 +68,8 @@ told_together basis report position session txn begin level lawful stands =
     )
 
 -- a line has its place behind the lines before it
-pub has_its_place : (basis : Basis) (report : Report) (l : Line) → Lawful basis report → StandsIn report.lines l → (before : List Line) × HasItsPlace before l
-has_its_place basis report l lawful (front, back, is) = (front, each_at HasItsPlace [] front l back (subst (λ (ls : List Line). EachAfter HasItsPlace [] ls) is lawful.places))
+pub has_its_place : (basis : Basis) (report : Report) (front back : List Line) (l : Line) → Lawful basis report → report.lines ≡ front ++ l ∷ back → HasItsPlace basis.script front l
+has_its_place basis report front back l lawful is = each_at (HasItsPlace basis.script) [] front l back (subst (λ (ls : List Line). EachAfter (HasItsPlace basis.script) [] ls) is lawful.places)
 
 not_both : (a b : Bool) → a ≡ true → b ≡ true → (a && b) ≡ false → ⊥
 not_both true true is is' off = cc
@@ -81,6 +84,41 @@ stand_once basis report session txn first second third p q begin begin' level le
     (subst (λ (es : List EntryLine). EachAfter (IsEntryAfter basis) [] es) (is ∙ sym (append_assoc first (Commit p session txn begin level ∷ second) (Commit q session txn begin' level' ∷ third))) lawful.history)).once
     (last_position basis.origin first + 1) (Commit p session txn begin level) (omega arith) (entry_next basis.origin first second (Commit p session txn begin level)))
 
-pub schema_first : (basis : Basis) (report : Report) → basis.origin.position ≡ 0 → InPlayOrder basis report → (later : List EntryLine) × (report.entries ≡ Setup 1 ∷ later)
-schema_first basis report none order =
-    (order.later, order.opened ∙ ap (λ (b : Bool). (if b then Setup 1 ∷ [] else []) ++ order.later) (eq-eqb basis.origin.position 0 none))
+pub schema_first : (basis : Basis) (report : Report) → basis.origin.position ≡ 0 → InPlayOrder basis report →
+    ((later : List EntryLine) × (report.entries ≡ Setup 1 ∷ later)) ⊎ ((first : List Line) × (rest : List Line) × (report.lines ≡ first ++ rest) × AllByRecursion IsDownLine first × (are_few basis.script.nodes first ≡ true))
+schema_first basis report none order = go (are_few basis.script.nodes order.first) refl
+  where
+    go : (few : Bool) → are_few basis.script.nodes order.first ≡ few →
+        ((later : List EntryLine) × (report.entries ≡ Setup 1 ∷ later)) ⊎ ((first : List Line) × (rest : List Line) × (report.lines ≡ first ++ rest) × AllByRecursion IsDownLine first × (are_few basis.script.nodes first ≡ true))
+    go true is = inr (order.first, order.rest, order.lines_are, order.go_down, is)
+    go false is = inl (
+      order.later,
+      order.opened
+          ∙ ap (λ (few : Bool). (if few then [] else if basis.origin.position == 0 then Setup 1 ∷ [] else []) ++ order.later) is
+          ∙ ap (λ (b : Bool). (if b then Setup 1 ∷ [] else []) ++ order.later) (eq-eqb basis.origin.position 0 none),
+    )
+
+-- where no node goes down, the schema's entry stands first
+pub schema_unhurt : (basis : Basis) (report : Report) → basis.origin.position ≡ 0 → downs report.lines ≡ 0 → InPlayOrder basis report → (later : List EntryLine) × (report.entries ≡ Setup 1 ∷ later)
+schema_unhurt basis report none whole order = go (schema_first basis report none order)
+  where
+    go : ((later : List EntryLine) × (report.entries ≡ Setup 1 ∷ later)) ⊎ ((first : List Line) × (rest : List Line) × (report.lines ≡ first ++ rest) × AllByRecursion IsDownLine first × (are_few basis.script.nodes first ≡ true)) →
+        (later : List EntryLine) × (report.entries ≡ Setup 1 ∷ later)
+    go (inl is) = is
+    go (inr (first, rest, are, go_down, few)) =
+        let parts : downs (first ++ rest) ≡ downs first + downs rest = downs_append first rest in
+        let all : downs report.lines ≡ downs (first ++ rest) = ap downs are in
+        absurd (both_ways (are_few basis.script.nodes first) (none_few basis.script.nodes first (omega (arith, parts, all, whole))) few)
+
+-- a history that begins with the run is empty, or begins with the schema's entry
+pub schema_or_none : (basis : Basis) (report : Report) → basis.origin.position ≡ 0 → Lawful basis report → (report.entries ≡ []) ⊎ ((later : List EntryLine) × (report.entries ≡ Setup 1 ∷ later))
+schema_or_none basis report none lawful = go report.entries lawful.history
+  where
+    go : (entries : List EntryLine) → EachAfter (IsEntryAfter basis) [] entries → (entries ≡ []) ⊎ ((later : List EntryLine) × (entries ≡ Setup 1 ∷ later))
+    go [] each = inl refl
+    go (Setup position ∷ es) each = inr (es, ap (λ p. Setup p ∷ es) each.0.2)
+    go (Commit position session txn begin level ∷ es) each =
+        let placed : position ≡ basis.origin.position + 0 + 1 = each.0.placed in
+        let begun : 1 ≤ begin = each.0.begun.0 in
+        let before : begin < position = each.0.begun.2 in
+        absurd (omega (arith, none, placed, begun, before))

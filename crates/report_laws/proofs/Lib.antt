@@ -1,4 +1,5 @@
 pub mod AlongLaws
+pub mod BeginLaws
 pub mod DecideLemmas
 pub mod EntryToldLaws
 pub mod FrontLemmas
@@ -6,6 +7,7 @@ pub mod GrowLaws
 pub mod HistoryLaws
 pub mod LawLemmas
 pub mod LineLaws
+pub mod NodesLaws
 pub mod OneLaws
 pub mod OutcomeLemmas
 pub mod PieceLaws

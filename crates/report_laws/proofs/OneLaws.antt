@@ -1,23 +1,28 @@
 -- The law of one report: two reports of a script in which no transaction is cut short are the same, by induction over the script's lines.
 use Rattle.std.proofs.Common.{◌≡◌, ℕ, ◌+◌, ◌-◌, ◌<◌, ◌≤◌, List, [], ◌∷◌, ◌++◌, refl, sym, subst, ap, arith, ◌∙◌, Option, Some, None, append_assoc, Bool, true, false, ◌==◌, if◌then◌else◌, ◌⊎◌, inl, inr}
+use Rattle.std.proofs.lemmas.Bool.{true≢false}
 use Rattle.std.proofs.lemmas.List.{append-nil}
 use Rattle.std.specs.List.{AllByRecursion}
 use Rattle.script_form.specs.declared.scripts.BodyLine.{BodyLine}
 use Rattle.script_form.specs.declared.scripts.Act.{Act}
 use Rattle.script_form.specs.declared.scripts.Act.TheVariants as act
+use Rattle.script_form.specs.declared.scripts.Script.{Script}
 use Rattle.report_laws.specs.History.{Basis, last_position, view_of}
 use Rattle.session_language.specs.Answers.{Answers}
-use Rattle.session_language.specs.Language.{Language}
+use Rattle.session_language.specs.Language.{Language, Kind}
 use Rattle.report_laws.specs.Lawful.{Lawful}
 use Rattle.report_laws.specs.One.{IsUncutLine, IsUncut}
-use Rattle.report_laws.specs.Play.{InPlayOrder, InTurns, IsTurnOf, piece, opening, number_told}
+use Rattle.report_laws.specs.Nodes.{are_few}
+use Rattle.report_laws.specs.Play.{InPlayOrder, InTurns, IsTurn, IsTurnOf, IsSaid, IsAnswered, IsDownLine, opened_behind, number_told, is_own_by}
 use Rattle.report_laws.specs.Told.{told, Along, IsTold, lines_of}
 use Rattle.report_laws.specs.Work.{Transaction, Item, Does, Lone, Place, start, work, items_at, place_from, place_after, said, said_by, transaction_of, numbered_among}
 use Rattle.report_text.specs.declared.reports.Report.{Report}
 use Rattle.report_text.specs.declared.reports.EntryLine.{EntryLine}
 use Rattle.report_text.specs.declared.reports.EntryLine.TheVariants.{Setup, Commit}
 use Rattle.report_text.specs.declared.reports.Line.{Line}
+use Rattle.report_text.specs.declared.reports.Line.TheVariants as line
 use Rattle.report_text.specs.declared.reports.ReplyLine.{ReplyLine}
+use Rattle.session_language.proofs.AllLaws.{all_behind}
 use Rattle.session_language.proofs.EachLaws.{all_front, all_map, all_found}
 use Rattle.report_laws.proofs.PieceLaws.{under, under_append, under_own}
 use Rattle.report_laws.proofs.RestLemmas.{items_are, rest_of, rest_rises, Rising, of_its_rest, told_lones, lones, lones_append}
@@ -39,7 +44,7 @@ first_bound number None begun = omega arith
 first_bound number (Some texts) begun = begun
 
 -- a line of the script that says nothing
-abbrev IsQuiet : Act → Type 0
+abbrev pub IsQuiet : Act → Type 0
 IsQuiet (act.Say session text) = ⊥
 IsQuiet (act.Stop node) = Unit {0}
 IsQuiet (act.Start node) = Unit {0}
@@ -47,7 +52,7 @@ IsQuiet (act.Arm session moment) = Unit {0}
 IsQuiet act.Barrier = Unit {0}
 IsQuiet act.Feed = Unit {0}
 
-said_or_quiet : (a : Act) → ((session : List ℕ) × (text : List ℕ) × (a ≡ act.Say session text)) ⊎ IsQuiet a
+pub said_or_quiet : (a : Act) → ((session : List ℕ) × (text : List ℕ) × (a ≡ act.Say session text)) ⊎ IsQuiet a
 said_or_quiet (act.Say session text) = inl (session, text, refl)
 said_or_quiet (act.Stop node) = inr tt
 said_or_quiet (act.Start node) = inr tt
@@ -55,21 +60,22 @@ said_or_quiet (act.Arm session moment) = inr tt
 said_or_quiet act.Barrier = inr tt
 said_or_quiet act.Feed = inr tt
 
-quiet_turn : (language : Language) (now : ℕ) (done : List BodyLine) (before : List Line) (a : Act) (rs : List ReplyLine) (added : List EntryLine) → IsQuiet a → IsTurnOf language now done before a rs added → (rs ≡ []) × (added ≡ [])
-quiet_turn language now done before (act.Say session text) rs added quiet turn = absurd quiet
-quiet_turn language now done before (act.Stop node) rs added quiet turn = turn
-quiet_turn language now done before (act.Start node) rs added quiet turn = turn
-quiet_turn language now done before (act.Arm session moment) rs added quiet turn = turn
-quiet_turn language now done before act.Barrier rs added quiet turn = turn
-quiet_turn language now done before act.Feed rs added quiet turn = turn
+pub quiet_turn : (basis : Basis) (now : ℕ) (done : List BodyLine) (before : List Line) (a : Act) (mine : List Line) (added : List EntryLine) → IsQuiet a → IsTurnOf basis now done before a mine added → (mine ≡ []) × (added ≡ [])
+quiet_turn basis now done before (act.Say session text) mine added quiet turn = absurd quiet
+quiet_turn basis now done before (act.Stop node) mine added quiet turn = turn
+quiet_turn basis now done before (act.Start node) mine added quiet turn = turn
+quiet_turn basis now done before (act.Arm session moment) mine added quiet turn = turn
+quiet_turn basis now done before act.Barrier mine added quiet turn = turn
+quiet_turn basis now done before act.Feed mine added quiet turn = turn
 
-quiet_piece : (language : Language) (done : List BodyLine) (a : Act) (rs : List ReplyLine) → IsQuiet a → piece language done a rs ≡ []
-quiet_piece language done (act.Say session text) rs quiet = absurd quiet
-quiet_piece language done (act.Stop node) rs quiet = refl
-quiet_piece language done (act.Start node) rs quiet = refl
-quiet_piece language done (act.Arm session moment) rs quiet = refl
-quiet_piece language done act.Barrier rs quiet = refl
-quiet_piece language done act.Feed rs quiet = refl
+-- a line of a session that cuts nothing short, and by which no node goes down, is answered
+uncut_answer : (script : Script) (now : ℕ) (before : List Line) (session : List ℕ) (number : ℕ) (kind : Kind) (pending : Option (List (List ℕ))) (mine : List Line) (added : List EntryLine) →
+    AllByRecursion IsUncutLine mine → IsSaid script now before session number kind pending mine added → IsAnswered script now before session number kind pending mine added
+uncut_answer script now before session number kind pending mine added uncut (inl is) = is
+uncut_answer script now before session number kind pending mine added uncut (inr (inl is)) = absurd (true≢false (subst (AllByRecursion IsUncutLine) is.says uncut).0)
+uncut_answer script now before session number kind pending mine added uncut (inr (inr (inl is))) = absurd (true≢false (subst (AllByRecursion IsUncutLine) is.says uncut).0)
+uncut_answer script now before session number kind pending mine added uncut (inr (inr (inr is))) =
+    absurd (all_behind IsUncutLine (lines_of session number is.front) _ (subst (AllByRecursion IsUncutLine) is.says uncut)).0
 
 quiet_said : (name : List ℕ) (a : Act) → IsQuiet a → said_by name a [] ≡ []
 quiet_said name (act.Say session text) quiet = absurd quiet
@@ -80,7 +86,7 @@ quiet_said name act.Barrier quiet = refl
 quiet_said name act.Feed quiet = refl
 
 -- after such a line each session is where it was
-quiet_place : (language : Language) (name : List ℕ) (done : List BodyLine) (b : BodyLine) → IsQuiet b.act → place_after language name (done ++ b ∷ []) ≡ place_after language name done
+pub quiet_place : (language : Language) (name : List ℕ) (done : List BodyLine) (b : BodyLine) → IsQuiet b.act → place_after language name (done ++ b ∷ []) ≡ place_after language name done
 quiet_place language name done b quiet =
     after_more language name done (b ∷ []) ∙ ap (λ (texts : List (List ℕ)). place_from language (place_after language name done) texts) (quiet_said name b.act quiet)
 
@@ -96,6 +102,15 @@ quiet_so_far basis done b before history quiet was = record {
 
 said_first : (session text : List ℕ) (b : BodyLine) (bs : List BodyLine) → b.act ≡ act.Say session text → said session (b ∷ bs) ≡ text ∷ said session bs
 said_first session text b bs is = rw is (rw (same_name session) refl)
+
+-- a line of a session is answered, behind the script's lines `done`
+abbrev IsAnsweredAt : Basis → List BodyLine → List Line → List EntryLine → List ℕ → List ℕ → List Line → List EntryLine → Type 0
+IsAnsweredAt basis done before history session text mine added =
+    IsAnswered basis.script (last_position basis.origin history) before session (number_told basis.language (place_after basis.language session done) text) (basis.language.kind text) (place_after basis.language session done).pending mine added
+
+-- a piece of lines of which none cuts a transaction short
+uncut_piece : (before mine others : List Line) → AllByRecursion IsUncutLine (before ++ (mine ++ others)) → AllByRecursion IsUncutLine mine
+uncut_piece before mine others uncut = all_front IsUncutLine mine others (all_behind IsUncutLine before (mine ++ others) uncut)
 
 -- at one line of the script
 module _ (basis : Basis) (answers : Answers basis.language) (done : List BodyLine) (b : BodyLine) (bs : List BodyLine) (session text : List ℕ) (is_act : b.act ≡ act.Say session text) (is_body : basis.script.body ≡ done ++ b ∷ bs) where
@@ -117,7 +132,7 @@ module _ (basis : Basis) (answers : Answers basis.language) (done : List BodyLin
   -- what a report gives there
   given : (before others : List Line) (history added later : List EntryLine) (replies : List ReplyLine) → SoFar basis done before history →
       Laws basis (before ++ (lines_of session (number_told basis.language p text) replies ++ others)) (history ++ (added ++ later)) →
-      IsTurnOf basis.language (last_position basis.origin history) done before (act.Say session text) replies added →
+      IsTurn (last_position basis.origin history) before session (number_told basis.language p text) (is_own_by (basis.language.kind text) p.pending) replies added →
       Given basis history added later (before ++ (lines_of session (number_told basis.language p text) replies ++ others)) before others session p text (said session bs) replies (basis.language.kind text) p.pending
   given before others history added later replies so_far laws turn = record {
     turn = turn;
@@ -165,59 +180,67 @@ module _ (basis : Basis) (answers : Answers basis.language) (done : List BodyLin
           ∙ ap lones (work_is ∙ ap (λ (rest : List Item). p.over ++ rest) is)
           ∙ lones_append p.over (Lone answer ∷ items)
 
--- at a line of a session two reports are told the same and append the same, and what is known of both goes on
-said_step : (basis : Basis) → Answers basis.language → (b : BodyLine) (session text : List ℕ) → b.act ≡ act.Say session text → (bs done : List BodyLine) (before : List Line) (history : List EntryLine) → basis.script.body ≡ done ++ b ∷ bs →
+-- at a line of a session that is answered two reports print the same and append the same, and what is known of both goes on
+answered_step : (basis : Basis) → Answers basis.language → (b : BodyLine) (session text : List ℕ) → b.act ≡ act.Say session text → (bs done : List BodyLine) (before : List Line) (history : List EntryLine) → basis.script.body ≡ done ++ b ∷ bs →
     SoFar basis done before history →
-    (lines lines' : List Line) (entries entries' : List EntryLine) → Laws basis (before ++ lines) (history ++ entries) → Laws basis (before ++ lines') (history ++ entries') →
-    (rs rs' : List ReplyLine) (others others' : List Line) (added added' later later' : List EntryLine) →
-    lines ≡ piece basis.language done b.act rs ++ others → lines' ≡ piece basis.language done b.act rs' ++ others' → entries ≡ added ++ later → entries' ≡ added' ++ later' →
-    IsTurnOf basis.language (last_position basis.origin history) done before b.act rs added → IsTurnOf basis.language (last_position basis.origin history) done before b.act rs' added' →
-    (rs ≡ rs') × (added ≡ added') × SoFar basis (done ++ b ∷ []) (before ++ piece basis.language done b.act rs) (history ++ added)
+    (mine mine' others others' : List Line) (added added' later later' : List EntryLine) → Laws basis (before ++ (mine ++ others)) (history ++ (added ++ later)) → Laws basis (before ++ (mine' ++ others')) (history ++ (added' ++ later')) →
+    IsAnsweredAt basis done before history session text mine added → IsAnsweredAt basis done before history session text mine' added' →
+    (mine ≡ mine') × (added ≡ added') × SoFar basis (done ++ b ∷ []) (before ++ mine) (history ++ added)
 unfolding given
-said_step basis answers b session text is_act bs done before history is_body so_far lines lines' entries entries' laws laws' rs rs' others others' added added' later later' ls_are ls_are' es_are es_are' turn turn' = (same.0, same.1, so_far')
+answered_step basis answers b session text is_act bs done before history is_body so_far mine mine' others others' added added' later later' laws laws' is is' = (says ∙ ap lines_at same.0 ∙ sym says', same.1, so_far')
   where
     at : Place
     at = place_after basis.language session done
 
-    pieces : (r : List ReplyLine) → piece basis.language done b.act r ≡ lines_of session (number_told basis.language at text) r
-    pieces r = ap (λ (a : Act). piece basis.language done a r) is_act
+    rs : List ReplyLine
+    rs = is.replies
 
-    g : Given basis history added later (before ++ (lines_of session (number_told basis.language at text) rs ++ others)) before others session at text (said session bs) rs (basis.language.kind text) at.pending
+    rs' : List ReplyLine
+    rs' = is'.replies
+
+    lines_at : List ReplyLine → List Line
+    lines_at r = lines_of session (number_told basis.language at text) r
+
+    says : mine ≡ lines_at rs
+    says = is.says
+
+    says' : mine' ≡ lines_at rs'
+    says' = is'.says
+
+    g : Given basis history added later (before ++ (lines_at rs ++ others)) before others session at text (said session bs) rs (basis.language.kind text) at.pending
     g = given basis answers done b bs session text is_act is_body before others history added later rs so_far
-        (laws_on basis _ _ _ _ (ap (λ (ls : List Line). before ++ ls) (ls_are ∙ ap (λ (ls : List Line). ls ++ others) (pieces rs))) (ap (λ (es : List EntryLine). history ++ es) es_are) laws)
-        (subst (λ (a : Act). IsTurnOf basis.language (last_position basis.origin history) done before a rs added) is_act turn)
+        (subst (λ (ls : List Line). Laws basis (before ++ (ls ++ others)) (history ++ (added ++ later))) says laws) is.turn
 
-    g' : Given basis history added' later' (before ++ (lines_of session (number_told basis.language at text) rs' ++ others')) before others' session at text (said session bs) rs' (basis.language.kind text) at.pending
+    g' : Given basis history added' later' (before ++ (lines_at rs' ++ others')) before others' session at text (said session bs) rs' (basis.language.kind text) at.pending
     g' = given basis answers done b bs session text is_act is_body before others' history added' later' rs' so_far
-        (laws_on basis _ _ _ _ (ap (λ (ls : List Line). before ++ ls) (ls_are' ∙ ap (λ (ls : List Line). ls ++ others') (pieces rs'))) (ap (λ (es : List EntryLine). history ++ es) es_are') laws')
-        (subst (λ (a : Act). IsTurnOf basis.language (last_position basis.origin history) done before a rs' added') is_act turn')
+        (subst (λ (ls : List Line). Laws basis (before ++ (ls ++ others')) (history ++ (added' ++ later'))) says' laws') is'.turn
 
     begin : ℕ
     begin = begun_at basis history at.pending (under session at.number before) (so_far.heard session).going
 
     does : Turned basis history session at text (basis.language.kind text) at.pending begin rs added
-    does = turned basis history added later (before ++ (lines_of session (number_told basis.language at text) rs ++ others)) before others session at text (said session bs) rs (basis.language.kind text) at.pending g
+    does = turned basis history added later (before ++ (lines_at rs ++ others)) before others session at text (said session bs) rs (basis.language.kind text) at.pending g
 
     does' : Turned basis history session at text (basis.language.kind text) at.pending begin rs' added'
-    does' = turned basis history added' later' (before ++ (lines_of session (number_told basis.language at text) rs' ++ others')) before others' session at text (said session bs) rs' (basis.language.kind text) at.pending g'
+    does' = turned basis history added' later' (before ++ (lines_at rs' ++ others')) before others' session at text (said session bs) rs' (basis.language.kind text) at.pending g'
 
     same : (rs ≡ rs') × (added ≡ added')
     same = one_turn basis history session at text (basis.language.kind text) at.pending begin rs rs' added added' does does'
 
-    so_far' : SoFar basis (done ++ b ∷ []) (before ++ piece basis.language done b.act rs) (history ++ added)
-    so_far' = subst (λ (ls : List Line). SoFar basis (done ++ b ∷ []) (before ++ ls) (history ++ added)) (sym (pieces rs))
+    so_far' : SoFar basis (done ++ b ∷ []) (before ++ mine) (history ++ added)
+    so_far' = subst (λ (ls : List Line). SoFar basis (done ++ b ∷ []) (before ++ ls) (history ++ added)) (sym says)
         (so_far_next basis done b session text is_act before history added rs so_far (are_numbered basis.language (said session done)).begun does)
 
 quiet_step : (basis : Basis) (b : BodyLine) → IsQuiet b.act → (done : List BodyLine) (before : List Line) (history : List EntryLine) → SoFar basis done before history →
-    (rs rs' : List ReplyLine) (added added' : List EntryLine) →
-    IsTurnOf basis.language (last_position basis.origin history) done before b.act rs added → IsTurnOf basis.language (last_position basis.origin history) done before b.act rs' added' →
-    (rs ≡ rs') × (added ≡ added') × SoFar basis (done ++ b ∷ []) (before ++ piece basis.language done b.act rs) (history ++ added)
-quiet_step basis b quiet done before history so_far rs rs' added added' turn turn' =
-    let none : (rs ≡ []) × (added ≡ []) = quiet_turn basis.language (last_position basis.origin history) done before b.act rs added quiet turn in
-    let none' : (rs' ≡ []) × (added' ≡ []) = quiet_turn basis.language (last_position basis.origin history) done before b.act rs' added' quiet turn' in (
+    (mine mine' : List Line) (added added' : List EntryLine) →
+    IsTurnOf basis (last_position basis.origin history) done before b.act mine added → IsTurnOf basis (last_position basis.origin history) done before b.act mine' added' →
+    (mine ≡ mine') × (added ≡ added') × SoFar basis (done ++ b ∷ []) (before ++ mine) (history ++ added)
+quiet_step basis b quiet done before history so_far mine mine' added added' turn turn' =
+    let none : (mine ≡ []) × (added ≡ []) = quiet_turn basis (last_position basis.origin history) done before b.act mine added quiet turn in
+    let none' : (mine' ≡ []) × (added' ≡ []) = quiet_turn basis (last_position basis.origin history) done before b.act mine' added' quiet turn' in (
       none.0 ∙ sym none'.0,
       none.1 ∙ sym none'.1,
-      subst (λ (ls : List Line). SoFar basis (done ++ b ∷ []) ls (history ++ added)) (sym (ap (λ (ls : List Line). before ++ ls) (quiet_piece basis.language done b.act rs quiet) ∙ append-nil before))
+      subst (λ (ls : List Line). SoFar basis (done ++ b ∷ []) ls (history ++ added)) (sym (ap (λ (ls : List Line). before ++ ls) none.0 ∙ append-nil before))
           (subst (λ (es : List EntryLine). SoFar basis (done ++ b ∷ []) before es) (sym (ap (λ (es : List EntryLine). history ++ es) none.1 ∙ append-nil history))
           (quiet_so_far basis done b before history quiet so_far)),
     )
@@ -225,17 +248,17 @@ quiet_step basis b quiet done before history so_far rs rs' added added' turn tur
 -- and at each line of the script
 one_step : (basis : Basis) → Answers basis.language → (b : BodyLine) (bs done : List BodyLine) (before : List Line) (history : List EntryLine) → basis.script.body ≡ done ++ b ∷ bs →
     SoFar basis done before history →
-    (lines lines' : List Line) (entries entries' : List EntryLine) → Laws basis (before ++ lines) (history ++ entries) → Laws basis (before ++ lines') (history ++ entries') →
-    (rs rs' : List ReplyLine) (others others' : List Line) (added added' later later' : List EntryLine) →
-    lines ≡ piece basis.language done b.act rs ++ others → lines' ≡ piece basis.language done b.act rs' ++ others' → entries ≡ added ++ later → entries' ≡ added' ++ later' →
-    IsTurnOf basis.language (last_position basis.origin history) done before b.act rs added → IsTurnOf basis.language (last_position basis.origin history) done before b.act rs' added' →
-    (rs ≡ rs') × (added ≡ added') × SoFar basis (done ++ b ∷ []) (before ++ piece basis.language done b.act rs) (history ++ added)
-one_step basis answers b bs done before history is_body so_far lines lines' entries entries' laws laws' rs rs' others others' added added' later later' ls_are ls_are' es_are es_are' turn turn' = go (said_or_quiet b.act)
+    (mine mine' others others' : List Line) (added added' later later' : List EntryLine) → Laws basis (before ++ (mine ++ others)) (history ++ (added ++ later)) → Laws basis (before ++ (mine' ++ others')) (history ++ (added' ++ later')) →
+    IsTurnOf basis (last_position basis.origin history) done before b.act mine added → IsTurnOf basis (last_position basis.origin history) done before b.act mine' added' →
+    (mine ≡ mine') × (added ≡ added') × SoFar basis (done ++ b ∷ []) (before ++ mine) (history ++ added)
+one_step basis answers b bs done before history is_body so_far mine mine' others others' added added' later later' laws laws' turn turn' = go (said_or_quiet b.act)
   where
-    go : ((session : List ℕ) × (text : List ℕ) × (b.act ≡ act.Say session text)) ⊎ IsQuiet b.act → (rs ≡ rs') × (added ≡ added') × SoFar basis (done ++ b ∷ []) (before ++ piece basis.language done b.act rs) (history ++ added)
+    go : ((session : List ℕ) × (text : List ℕ) × (b.act ≡ act.Say session text)) ⊎ IsQuiet b.act → (mine ≡ mine') × (added ≡ added') × SoFar basis (done ++ b ∷ []) (before ++ mine) (history ++ added)
     go (inl (session, text, is_act)) =
-        said_step basis answers b session text is_act bs done before history is_body so_far lines lines' entries entries' laws laws' rs rs' others others' added added' later later' ls_are ls_are' es_are es_are' turn turn'
-    go (inr quiet) = quiet_step basis b quiet done before history so_far rs rs' added added' turn turn'
+        answered_step basis answers b session text is_act bs done before history is_body so_far mine mine' others others' added added' later later' laws laws'
+        (uncut_answer basis.script _ before session _ _ _ mine added (uncut_piece before mine others laws.uncut) (subst (λ (a : Act). IsTurnOf basis (last_position basis.origin history) done before a mine added) is_act turn))
+        (uncut_answer basis.script _ before session _ _ _ mine' added' (uncut_piece before mine' others' laws'.uncut) (subst (λ (a : Act). IsTurnOf basis (last_position basis.origin history) done before a mine' added') is_act turn'))
+    go (inr quiet) = quiet_step basis b quiet done before history so_far mine mine' added added' turn turn'
 
 -- the lines and entries that are left are the same where those before are
 one_rest : (basis : Basis) → Answers basis.language → (bs done : List BodyLine) (before : List Line) (history : List EntryLine) → basis.script.body ≡ done ++ bs →
@@ -243,43 +266,83 @@ one_rest : (basis : Basis) → Answers basis.language → (bs done : List BodyLi
     (lines lines' : List Line) (entries entries' : List EntryLine) → Laws basis (before ++ lines) (history ++ entries) → Laws basis (before ++ lines') (history ++ entries') →
     InTurns basis done before history bs lines entries → InTurns basis done before history bs lines' entries' → (lines ≡ lines') × (entries ≡ entries')
 one_rest basis answers [] done before history is_body so_far lines lines' entries entries' laws laws' turns turns' = (turns.0 ∙ sym turns'.0, turns.1 ∙ sym turns'.1)
-one_rest basis answers (b ∷ bs) done before history is_body so_far lines lines' entries entries' laws laws' (rs, others, added, later, ls_are, es_are, turn, rest) (rs', others', added', later', ls_are', es_are', turn', rest') =
-    let step : (rs ≡ rs') × (added ≡ added') × SoFar basis (done ++ b ∷ []) (before ++ piece basis.language done b.act rs) (history ++ added) =
-    one_step basis answers b bs done before history is_body so_far lines lines' entries entries' laws laws' rs rs' others others' added added' later later' ls_are ls_are' es_are es_are' turn turn' in
+one_rest basis answers (b ∷ bs) done before history is_body so_far lines lines' entries entries' laws laws' (mine, others, added, later, ls_are, es_are, turn, rest) (mine', others', added', later', ls_are', es_are', turn', rest') =
+    let split : Laws basis (before ++ (mine ++ others)) (history ++ (added ++ later)) = laws_on basis _ _ _ _ (ap (λ (ls : List Line). before ++ ls) ls_are) (ap (λ (es : List EntryLine). history ++ es) es_are) laws in
+    let split' : Laws basis (before ++ (mine' ++ others')) (history ++ (added' ++ later')) = laws_on basis _ _ _ _ (ap (λ (ls : List Line). before ++ ls) ls_are') (ap (λ (es : List EntryLine). history ++ es) es_are') laws' in
+    let step : (mine ≡ mine') × (added ≡ added') × SoFar basis (done ++ b ∷ []) (before ++ mine) (history ++ added) =
+    one_step basis answers b bs done before history is_body so_far mine mine' others others' added added' later later' split split' turn turn' in
     let further : (others ≡ others') × (later ≡ later') =
-    one_rest basis answers bs (done ++ b ∷ []) (before ++ piece basis.language done b.act rs) (history ++ added) (is_body ∙ sym (append_assoc done (b ∷ []) bs)) step.2 others others' later later'
-    (laws_on basis _ _ _ _ (ap (λ (ls : List Line). before ++ ls) ls_are ∙ sym (append_assoc before (piece basis.language done b.act rs) others)) (ap (λ (es : List EntryLine). history ++ es) es_are ∙ sym (append_assoc history added later)) laws)
-    (laws_on basis _ _ _ _ (ap (λ (ls : List Line). before ++ ls) (ls_are' ∙ ap (λ (r : List ReplyLine). piece basis.language done b.act r ++ others') (sym step.0)) ∙ sym (append_assoc before (piece basis.language done b.act rs) others'))
-    (ap (λ (es : List EntryLine). history ++ es) (es_are' ∙ ap (λ (es : List EntryLine). es ++ later') (sym step.1)) ∙ sym (append_assoc history added later')) laws')
+    one_rest basis answers bs (done ++ b ∷ []) (before ++ mine) (history ++ added) (is_body ∙ sym (append_assoc done (b ∷ []) bs)) step.2 others others' later later'
+    (laws_on basis _ _ _ _ (sym (append_assoc before mine others)) (sym (append_assoc history added later)) split)
+    (laws_on basis _ _ _ _ (ap (λ (ls : List Line). before ++ (ls ++ others')) (sym step.0) ∙ sym (append_assoc before mine others'))
+    (ap (λ (es : List EntryLine). history ++ (es ++ later')) (sym step.1) ∙ sym (append_assoc history added later')) split')
     rest
-    (subst (λ (r : List ReplyLine). InTurns basis (done ++ b ∷ []) (before ++ piece basis.language done b.act r) (history ++ added) bs others' later') (sym step.0)
-    (subst (λ (es : List EntryLine). InTurns basis (done ++ b ∷ []) (before ++ piece basis.language done b.act rs') (history ++ es) bs others' later') (sym step.1) rest')) in (
-      ls_are ∙ ap (λ (ls : List Line). piece basis.language done b.act rs ++ ls) further.0 ∙ ap (λ (r : List ReplyLine). piece basis.language done b.act r ++ others') step.0 ∙ sym ls_are',
+    (subst (λ (ls : List Line). InTurns basis (done ++ b ∷ []) (before ++ ls) (history ++ added) bs others' later') (sym step.0)
+    (subst (λ (es : List EntryLine). InTurns basis (done ++ b ∷ []) (before ++ mine') (history ++ es) bs others' later') (sym step.1) rest')) in (
+      ls_are ∙ ap (λ (ls : List Line). mine ++ ls) further.0 ∙ ap (λ (ls : List Line). ls ++ others') step.0 ∙ sym ls_are',
       es_are ∙ ap (λ (es : List EntryLine). added ++ es) further.1 ∙ ap (λ (es : List EntryLine). es ++ later') step.1 ∙ sym es_are',
     )
 
 -- nothing is known, and nothing wrong, before the first line
-so_far_none : (basis : Basis) → SoFar basis [] [] (opening basis.origin)
-so_far_none basis = record { heard = λ name. record { outside = refl; unsaid = λ n new. refl; going = tt }; ended = none (basis.origin.position == 0) }
+so_far_none : (basis : Basis) → SoFar basis [] [] (opened_behind basis [])
+so_far_none basis = record { heard = λ name. record { outside = refl; unsaid = λ n new. refl; going = tt }; ended = none (are_few basis.script.nodes []) (basis.origin.position == 0) }
   where
-    none : (b : Bool) → AllByRecursion (IsEnded basis.language []) (if b then Setup 1 ∷ [] else [])
-    none true = (tt, tt)
-    none false = tt
+    none : (few b : Bool) → AllByRecursion (IsEnded basis.language []) (if few then [] else if b then Setup 1 ∷ [] else [])
+    none true b = tt
+    none false true = (tt, tt)
+    none false false = tt
 
-laws_of : (basis : Basis) (report : Report) (later : List EntryLine) → report.entries ≡ opening basis.origin ++ later → Lawful basis report → IsUncut report → Laws basis report.lines (opening basis.origin ++ later)
-laws_of basis report later is lawful uncut = laws_on basis report.lines report.lines report.entries (opening basis.origin ++ later) refl is (record { replies = lawful.replies; uncut = uncut })
+-- no node goes down before the first line
+no_first : (first rest : List Line) → AllByRecursion IsDownLine first → AllByRecursion IsUncutLine (first ++ rest) → first ≡ []
+no_first [] rest down uncut = refl
+no_first (line.Session name number answer ∷ ls) rest down uncut = absurd down.0
+no_first (line.Down count node fault ∷ ls) rest down uncut = absurd uncut.0
+no_first (line.Up node ∷ ls) rest down uncut = absurd down.0
+no_first (line.Barrier ∷ ls) rest down uncut = absurd down.0
+no_first (line.Fed position ∷ ls) rest down uncut = absurd down.0
+
+-- what a report in which no transaction is cut short is from the first line on
+record Whole (basis : Basis) (report : Report) : Type 0 where
+  later : List EntryLine
+  entries_are : report.entries ≡ opened_behind basis [] ++ later
+  order : InTurns basis [] [] (opened_behind basis []) basis.script.body report.lines later
+  laws : Laws basis report.lines (opened_behind basis [] ++ later)
+
+whole_report : (basis : Basis) (report : Report) → Lawful basis report → InPlayOrder basis report → IsUncut report → Whole basis report
+whole_report basis report lawful order uncut = record {
+  later = order.later;
+  entries_are = entries;
+  order = subst (λ (ls : List Line). InTurns basis [] [] (opened_behind basis []) basis.script.body ls order.later) (sym lines)
+      (subst (λ (ls : List Line). InTurns basis [] ls (opened_behind basis ls) basis.script.body order.rest order.later) none order.order);
+  laws = laws_on basis report.lines report.lines report.entries (opened_behind basis [] ++ order.later) refl entries (record { replies = lawful.replies; uncut = uncut });
+}
+  where
+    none : order.first ≡ []
+    none = no_first order.first order.rest order.go_down (subst (AllByRecursion IsUncutLine) order.lines_are uncut)
+
+    lines : report.lines ≡ order.rest
+    lines = order.lines_are ∙ ap (λ (ls : List Line). ls ++ order.rest) none
+
+    entries : report.entries ≡ opened_behind basis [] ++ order.later
+    entries = order.opened ∙ ap (λ (ls : List Line). opened_behind basis ls ++ order.later) none
 
 pub one_report : (basis : Basis) (report other : Report) → Answers basis.language →
     Lawful basis report → InPlayOrder basis report → IsUncut report → Lawful basis other → InPlayOrder basis other → IsUncut other → report ≡ other
+unfolding whole_report
 one_report basis report other answers lawful order uncut lawful' order' uncut' =
     λ j. record { lines = same.0 j; base = bases j; entries = entries j; feeds = feeds j; end = ends j }
   where
-    same : (report.lines ≡ other.lines) × (order.later ≡ order'.later)
-    same = one_rest basis answers basis.script.body [] [] (opening basis.origin) refl (so_far_none basis) report.lines other.lines order.later order'.later
-        (laws_of basis report order.later order.opened lawful uncut) (laws_of basis other order'.later order'.opened lawful' uncut') order.order order'.order
+    w : Whole basis report
+    w = whole_report basis report lawful order uncut
+
+    w' : Whole basis other
+    w' = whole_report basis other lawful' order' uncut'
+
+    same : (report.lines ≡ other.lines) × (w.later ≡ w'.later)
+    same = one_rest basis answers basis.script.body [] [] (opened_behind basis []) refl (so_far_none basis) report.lines other.lines w.later w'.later w.laws w'.laws w.order w'.order
 
     entries : report.entries ≡ other.entries
-    entries = order.opened ∙ ap (λ (es : List EntryLine). opening basis.origin ++ es) same.1 ∙ sym order'.opened
+    entries = w.entries_are ∙ ap (λ (es : List EntryLine). opened_behind basis [] ++ es) same.1 ∙ sym w'.entries_are
 
     bases : report.base ≡ other.base
     bases = lawful.base ∙ sym lawful'.base

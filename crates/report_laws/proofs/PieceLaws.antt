@@ -1,14 +1,15 @@
 -- What is told at a line of the script, up to its last reply, and what is told under a number.
-use Rattle.std.proofs.Common.{◌≡◌, ℕ, ◌==◌, List, [], ◌∷◌, ◌++◌, refl, sym, subst, ap, ◌∙◌, Bool, true, false, if◌then◌else◌, map}
-use Rattle.std.proofs.lemmas.Bool.{ne_eqb}
+use Rattle.std.proofs.Common.{◌≡◌, ℕ, ◌==◌, List, [], ◌∷◌, ◌++◌, refl, sym, subst, ap, ◌∙◌, Bool, true, false, if◌then◌else◌, ◌&&◌}
+use Rattle.std.proofs.lemmas.Bool.{eq-eqb, ne_eqb, and_right, and_from, or_from, or_left, or_right}
 use Rattle.std.proofs.lemmas.List.{append-nil}
+use Rattle.std.proofs.lemmas.Slice.Eq.{bytes_eq-Decides}
 use Rattle.std.specs.List.{AllByRecursion}
 use Rattle.std.specs.Str.{bytes_eq}
-use Rattle.cdb_values.specs.declared.values.Value.{Value}
 use Rattle.report_laws.specs.Cut.{cuts}
 use Rattle.session_language.specs.Each.{StandsIn}
 use Rattle.report_laws.specs.One.{IsUncutLine}
-use Rattle.session_language.specs.Replies.{are_up_to, are_none, is_outcome, is_row, is_last_of}
+use Rattle.report_laws.specs.Play.{is_cut_of, was_cut}
+use Rattle.session_language.specs.Replies.{are_up_to, is_outcome}
 use Rattle.report_laws.specs.Told.{told, Numbered, numbered, lines_of}
 use Rattle.report_text.specs.declared.reports.Line.{Line}
 use Rattle.report_text.specs.declared.reports.Line.TheVariants as line
@@ -91,7 +92,7 @@ under_number name session n m rs same other =
 pub under_other : (name session : List ℕ) (n m : ℕ) (rs : List ReplyLine) → bytes_eq session name ≡ false → under name n (lines_of session m rs) ≡ []
 under_other name session n m rs other = ap (of_number n) (told_other name session m rs other)
 
--- where no line tells want of memory, no reply under a number is it
+-- where no line cuts a transaction short, no reply under a number does
 pub are_uncut : (name : List ℕ) (n : ℕ) (lines : List Line) → AllByRecursion IsUncutLine lines → AllByRecursion (λ r. cuts r ≡ false) (under name n lines)
 are_uncut name n [] all = tt
 are_uncut name n (line.Session session txn answer ∷ ls) all = go (bytes_eq session name) (are_uncut name n ls all.1)
@@ -103,10 +104,31 @@ are_uncut name n (line.Session session txn answer ∷ ls) all = go (bytes_eq ses
     go : (b : Bool) → AllByRecursion (λ r. cuts r ≡ false) (under name n ls) → AllByRecursion (λ r. cuts r ≡ false) (of_number n ((if b then (txn, answer) ∷ [] else []) ++ told name ls))
     go true later = pick (txn == n) later
     go false later = later
-are_uncut name n (line.Down count node fault ∷ ls) all = are_uncut name n ls all.1
+are_uncut name n (line.Down count node fault ∷ ls) all = absurd all.0
 are_uncut name n (line.Up node ∷ ls) all = are_uncut name n ls all.1
 are_uncut name n (line.Barrier ∷ ls) all = are_uncut name n ls all.1
 are_uncut name n (line.Fed position ∷ ls) all = are_uncut name n ls all.1
+
+-- and no transaction was cut short by then
+uncut_line : (l : Line) (session : List ℕ) (number : ℕ) → IsUncutLine l → is_cut_of session number l ≡ false
+uncut_line (line.Session name txn answer) session number uncut = and_right (bytes_eq name session) ((txn == number) && cuts answer) (and_right (txn == number) (cuts answer) uncut)
+uncut_line (line.Down count node fault) session number uncut = refl
+uncut_line (line.Up node) session number uncut = refl
+uncut_line line.Barrier session number uncut = refl
+uncut_line (line.Fed position) session number uncut = refl
+
+pub never_cut : (lines : List Line) (session : List ℕ) (number : ℕ) → AllByRecursion IsUncutLine lines → was_cut lines session number ≡ false
+never_cut [] session number all = refl
+never_cut (l ∷ ls) session number all = or_from (is_cut_of session number l) (was_cut ls session number) (uncut_line l session number all.0) (never_cut ls session number all.1)
+
+-- and one that was told what cuts it short was
+pub cut_at : (lines : List Line) (session : List ℕ) (number : ℕ) (cause : ReplyLine) → cuts cause ≡ true → StandsIn lines (line.Session session number cause) → was_cut lines session number ≡ true
+cut_at lines session number cause cut (front, back, is) = subst (λ (ls : List Line). was_cut ls session number ≡ true) (sym is) (among front)
+  where
+    among : (xs : List Line) → was_cut (xs ++ line.Session session number cause ∷ back) session number ≡ true
+    among [] = or_left (is_cut_of session number (line.Session session number cause)) (was_cut back session number)
+        (and_from (bytes_eq session session) ((number == number) && cuts cause) ((bytes_eq-Decides session session).1 refl) (and_from (number == number) (cuts cause) (eq-eqb number number refl) cut))
+    among (x ∷ xs) = or_right (is_cut_of session number x) (was_cut (xs ++ line.Session session number cause ∷ back) session number) (among xs)
 
 -- what holds of each member of a list holds of one that stands in it
 pub all_at : {A : Type 0} (P : A → Type 0) (xs : List A) (x : A) → AllByRecursion P xs → StandsIn xs x → P x

@@ -1,7 +1,7 @@
 -- A lawful report in the order of play, whose numbers fit their types, is of the grammar, where what it is
 -- told of is called by names and has rows of the grammar.
-use Rattle.std.proofs.Common.{◌≡◌, ℕ, zero, suc, ◌-◌, ◌==◌, List, [], ◌∷◌, ◌++◌, map, filter, refl, sym, subst, ap, Bool, true, false, not, if◌then◌else◌, Option, Some, None, unwrap_or, inl, inr, pos, negsuc}
-use Rattle.std.specs.Prelude.{slice_get, slice_set}
+use Rattle.std.proofs.Common.{◌≡◌, ℕ, zero, suc, ◌-◌, ◌==◌, List, [], ◌∷◌, ◌++◌, map, refl, sym, subst, ap, Bool, true, false, not, if◌then◌else◌, Option, Some, None, unwrap_or, inl, inr, pos, negsuc}
+use Rattle.std.specs.Prelude.{slice_get}
 use Rattle.std.specs.List.{AllByRecursion}
 use Rattle.std.specs.Str.{bytes_eq, is_utf8}
 use Rattle.cdb_values.specs.Good.{first_broken, broken_key, breaks, or_broken, KeyName}
@@ -24,7 +24,7 @@ use Rattle.report_laws.specs.History.{Basis, ops_alone, ops_of, rows_after, rows
 use Rattle.session_language.specs.Language.{Language, Answered, Kind, BeginText, CommitText, RollbackText, LevelText, OtherText, alone_from}
 use Rattle.report_laws.specs.Lawful.{Lawful}
 use Rattle.report_laws.specs.Outcome.{IsRight, Ends, IsOneDecision, IsDecided, line_by, name_or_none, key_name}
-use Rattle.report_laws.specs.Play.{InPlayOrder, InTurns, piece, opening}
+use Rattle.report_laws.specs.Play.{InPlayOrder, InTurns, IsTurnOf, IsDownLine, opened_behind}
 use Rattle.report_laws.specs.Spelled.{IsNamedTable, SaysAsNamed, IsSpelled}
 use Rattle.session_language.specs.Spelled.{IsToldValue, IsToldRow, SpellsReply, WritesRow, HaveRows, KeepsRows}
 use Rattle.report_laws.specs.Told.{Along, Numbered, numbered, told, told_by, lines_of, IsTold, IsWhole, IsCut, IsEntryTold, alone_at}
@@ -212,8 +212,8 @@ cut_spelled (reply.Committed position) e = cc
 cut_spelled (reply.ConflictGenid position table genid) e = cc
 cut_spelled (reply.ConflictRange position table key) e = cc
 cut_spelled (reply.Duplicate position table key) e = cc
-cut_spelled (reply.Lost node down) e = cc
-cut_spelled (reply.NoMajority up nodes) e = cc
+cut_spelled (reply.Lost node down) e = tt
+cut_spelled (reply.NoMajority up nodes) e = tt
 cut_spelled reply.NoMemory e = tt
 
 module _ (basis : Basis) (spelled : IsSpelled basis) where
@@ -345,21 +345,40 @@ replies_named : (session : List ℕ) (number : ℕ) (replies : List ReplyLine) �
 replies_named session number [] is = tt
 replies_named session number (r ∷ rs) is = (is, replies_named session number rs is)
 
-piece_named : (language : Language) (done : List BodyLine) (a : Act) (replies : List ReplyLine) → SaysAsNamed a → AllByRecursion IsNamedLine (piece language done a replies)
-piece_named language done (act.Say session text) replies is = replies_named session _ replies is.0
-piece_named language done (act.Stop node) replies is = tt
-piece_named language done (act.Start node) replies is = tt
-piece_named language done (act.Arm session moment) replies is = tt
-piece_named language done act.Barrier replies is = tt
-piece_named language done act.Feed replies is = tt
+-- the lines that a line of the script prints are of its session, or of no session
+turn_named : (basis : Basis) (now : ℕ) (done : List BodyLine) (before : List Line) (a : Act) (mine : List Line) (added : List EntryLine) → SaysAsNamed a → IsTurnOf basis now done before a mine added → AllByRecursion IsNamedLine mine
+turn_named basis now done before (act.Say session text) mine added is (inl answered) = subst (AllByRecursion IsNamedLine) (sym answered.says) (replies_named session _ answered.replies is.0)
+turn_named basis now done before (act.Say session text) mine added is (inr (inl lost)) = subst (AllByRecursion IsNamedLine) (sym lost.says) (is.0, tt)
+turn_named basis now done before (act.Say session text) mine added is (inr (inr (inl short))) = subst (AllByRecursion IsNamedLine) (sym short.says) (is.0, tt)
+turn_named basis now done before (act.Say session text) mine added is (inr (inr (inr fails))) =
+    subst (AllByRecursion IsNamedLine) (sym fails.says) (all_append IsNamedLine (lines_of session _ fails.front) _ (replies_named session _ fails.front is.0) (tt, (is.0, tt)))
+turn_named basis now done before (act.Stop node) mine added is (none, same) = subst (AllByRecursion IsNamedLine) (sym none) tt
+turn_named basis now done before (act.Start node) mine added is (none, same) = subst (AllByRecursion IsNamedLine) (sym none) tt
+turn_named basis now done before (act.Arm session moment) mine added is (none, same) = subst (AllByRecursion IsNamedLine) (sym none) tt
+turn_named basis now done before act.Barrier mine added is (none, same) = subst (AllByRecursion IsNamedLine) (sym none) tt
+turn_named basis now done before act.Feed mine added is (none, same) = subst (AllByRecursion IsNamedLine) (sym none) tt
 
 turns_named : (basis : Basis) (done : List BodyLine) (before : List Line) (history : List EntryLine) (body : List BodyLine) (lines : List Line) (entries : List EntryLine) →
     AllByRecursion (λ (b : BodyLine). SaysAsNamed b.act) body → InTurns basis done before history body lines entries → AllByRecursion IsNamedLine lines
 turns_named basis done before history [] lines entries all (none, same) = subst (AllByRecursion IsNamedLine) (sym none) tt
-turns_named basis done before history (b ∷ bs) lines entries all (replies, others, added, later, splits, parts, turn, rest) =
+turns_named basis done before history (b ∷ bs) lines entries all (mine, others, added, later, splits, parts, turn, rest) =
     subst (AllByRecursion IsNamedLine) (sym splits)
-    (all_append IsNamedLine (piece basis.language done b.act replies) others (piece_named basis.language done b.act replies all.0)
-    (turns_named basis (done ++ b ∷ []) (before ++ piece basis.language done b.act replies) (history ++ added) bs others later all.1 rest))
+    (all_append IsNamedLine mine others (turn_named basis _ done before b.act mine added all.0 turn)
+    (turns_named basis (done ++ b ∷ []) (before ++ mine) (history ++ added) bs others later all.1 rest))
+
+downs_named : (lines : List Line) → AllByRecursion IsDownLine lines → AllByRecursion IsNamedLine lines
+downs_named [] all = tt
+downs_named (line.Session name txn answer ∷ ls) all = absurd all.0
+downs_named (line.Down count node fault ∷ ls) all = (tt, downs_named ls all.1)
+downs_named (line.Up node ∷ ls) all = absurd all.0
+downs_named (line.Barrier ∷ ls) all = absurd all.0
+downs_named (line.Fed position ∷ ls) all = absurd all.0
+
+order_named : (basis : Basis) (report : Report) → IsSpelled basis → InPlayOrder basis report → AllByRecursion IsNamedLine report.lines
+order_named basis report spelled order =
+    subst (AllByRecursion IsNamedLine) (sym order.lines_are)
+    (all_append IsNamedLine order.first order.rest (downs_named order.first order.go_down)
+    (turns_named basis [] order.first (opened_behind basis order.first) basis.script.body order.rest order.later spelled.body order.order))
 
 -- what is spelled and whose numbers fit is of the grammar
 
@@ -415,7 +434,7 @@ entries_are basis view lines (Commit position session txn begin level ∷ es) na
 
 pub of_the_grammar : (basis : Basis) (report : Report) → IsSpelled basis → Lawful basis report → InPlayOrder basis report → FitsTypes report → IsReport report
 of_the_grammar basis report spelled lawful order fits =
-    let named : AllByRecursion IsNamedLine report.lines = turns_named basis [] [] (opening basis.origin) basis.script.body report.lines order.later spelled.body order.order in
+    let named : AllByRecursion IsNamedLine report.lines = order_named basis report spelled order in
     let each : (name : List ℕ) → AllByRecursion (λ (n : Numbered). SpellsReply n.1) (told name report.lines)
     = λ name. along_spelled basis spelled report.entries name (work basis.language name basis.script.body) (told name report.lines) (work_spelled basis.language name basis.script.body spelled.body) (lawful.replies name) in
     record {

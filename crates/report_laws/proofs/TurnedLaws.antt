@@ -13,7 +13,7 @@ use Rattle.session_language.specs.Each.{StandsIn}
 use Rattle.report_laws.specs.History.{Basis, alone_on, used_by, rows_at, entry_at, last_position, view_of}
 use Rattle.report_laws.specs.One.{IsUncutLine}
 use Rattle.report_laws.specs.Outcome.{IsRight, IsDecided, IsOneDecision, Ends}
-use Rattle.report_laws.specs.Play.{IsTurn, WasCut, IsTimely, IsAppended, number_by, is_own_by}
+use Rattle.report_laws.specs.Play.{IsTurn, was_cut, IsTimely, IsAppended, number_by, is_own_by}
 use Rattle.session_language.specs.Replies.{is_last_of, is_outcome, are_up_to}
 use Rattle.report_laws.specs.Told.{IsTold, IsWhole, alone_at}
 use Rattle.report_laws.specs.Work.{Transaction, Item, Does, Lone, Place, ByCommit, ByRollback, WithItsLine, transaction, with_open, next_by, transaction_of}
@@ -26,7 +26,7 @@ use Rattle.session_language.proofs.AnswerLaws.{replies_append}
 use Rattle.report_laws.proofs.DecideLemmas.{Decides, IsOutcomes, one_decision, decided}
 use Rattle.report_laws.proofs.FrontLemmas.{rows_front}
 use Rattle.report_laws.proofs.GrowLaws.{first_begin}
-use Rattle.report_laws.proofs.PieceLaws.{one_of_one, plain_all_quiet, commit_is_last, no_commit, under, are_uncut, all_at}
+use Rattle.report_laws.proofs.PieceLaws.{never_cut, one_of_one, plain_all_quiet, commit_is_last, no_commit, under, are_uncut, all_at}
 use Rattle.session_language.proofs.UpToLaws.{up_to_same, up_to_last, up_to_one}
 use Rattle.report_laws.proofs.PlainLaws.{plain_alone}
 use Rattle.report_laws.proofs.RestLemmas.{over_by, rest_of, rest_opened, IsOpened, lones}
@@ -187,9 +187,9 @@ module _ (basis : Basis) (history added later : List EntryLine) (lines before ot
   up_to : (k : Kind) (pending : Option (List (List ℕ))) → Given k pending → are_up_to (is_last_of (is_own_by k pending)) replies ≡ true
   up_to k pending g = go g.turn.told
     where
-      go : (are_up_to (is_last_of (is_own_by k pending)) replies ≡ true) ⊎ ((replies ≡ []) × WasCut before name (number_by p.number k pending)) → are_up_to (is_last_of (is_own_by k pending)) replies ≡ true
+      go : (are_up_to (is_last_of (is_own_by k pending)) replies ≡ true) ⊎ ((replies ≡ []) × (was_cut before name (number_by p.number k pending) ≡ true)) → are_up_to (is_last_of (is_own_by k pending)) replies ≡ true
       go (inl ends) = ends
-      go (inr (none, (cause, is_cause, stands))) = absurd (is_uncut (cuts cause) is_cause (all_at IsUncutLine before _ g.memory_before stands))
+      go (inr (none, cut)) = absurd (is_uncut (was_cut before name (number_by p.number k pending)) cut (never_cut before name (number_by p.number k pending) g.memory_before))
 
   -- outside a transaction, under a new number, a session is told this alone
   only_mine : (k : Kind) (pending : Option (List (List ℕ))) (g : Given k pending) → p.number < number_by p.number k pending →

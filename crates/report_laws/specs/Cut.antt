@@ -1,4 +1,5 @@
--- The endings by which a transaction is cut short, whatever it is doing: today want of memory alone.
+-- The endings by which a transaction is cut short: that its node went down, that no majority of the nodes is
+-- up, and want of memory.
 use Rattle.std.specs.Prelude.{Bool, true, false}
 use Rattle.report_text.specs.declared.reports.ReplyLine.{ReplyLine}
 use Rattle.report_text.specs.declared.reports.ReplyLine.TheVariants as reply
@@ -16,6 +17,6 @@ cuts (reply.Committed position) = false
 cuts (reply.ConflictGenid position table genid) = false
 cuts (reply.ConflictRange position table key) = false
 cuts (reply.Duplicate position table key) = false
-cuts (reply.Lost node down) = false
-cuts (reply.NoMajority up nodes) = false
+cuts (reply.Lost node down) = true
+cuts (reply.NoMajority up nodes) = true
 cuts reply.NoMemory = true

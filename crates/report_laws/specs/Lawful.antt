@@ -83,7 +83,7 @@ pub record Lawful (basis : Basis) (report : Report) : Type 0 where
   -- every entry's transaction was told whole, in one segment of its session's lines
   pub answered : AllByRecursion (IsEntryTold basis (view_of basis report.entries) report.lines) report.entries
   -- every line has its place behind the lines before it
-  pub places : EachAfter HasItsPlace [] report.lines
+  pub places : EachAfter (HasItsPlace basis.script) [] report.lines
   -- no feed has a line
   pub feeds : report.feeds ≡ []
   -- the base and the length of the history are told

@@ -1,6 +1,7 @@
 pub mod Cut
 pub mod History
 pub mod Lawful
+pub mod Nodes
 pub mod One
 pub mod Outcome
 pub mod Paced

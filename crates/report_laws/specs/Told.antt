@@ -3,17 +3,20 @@
 -- The lines of a session are those of its transactions and other lines in order, each under its
 -- number, 0 for a line outside a transaction. A transaction is told whole: its begin, the replies of
 -- the transaction run alone on the rows at its begin position, and then what ends it, which is nothing
--- where it has no end in the script; what ends it is right. Or it is cut short after some of these.
+-- where it has no end in the script; what ends it is right. Or it is cut short after some of these, where
+-- that may be: its node may go down once it is begun, and a majority is asked for where it begins and where
+-- it is to be committed.
 -- And a transaction that has an entry was told whole in one segment of its session's lines.
-use Rattle.std.specs.Prelude.{◌≡◌, ℕ, ◌≤◌, ◌++◌, ◌∷◌, [], List, Some, map, true, if◌then◌else◌, ◌⊎◌}
+use Rattle.std.specs.Prelude.{◌≡◌, ℕ, ◌≤◌, ◌++◌, ◌∷◌, ◌≢◌, [], List, Some, map, true, if◌then◌else◌, ◌⊎◌}
 use Rattle.std.specs.Str.{bytes_eq}
 use Rattle.std.specs.List.{AllByRecursion}
+use Rattle.cdb_values.specs.declared.rows.RowOp.{RowOp}
 use Rattle.report_laws.specs.Cut.{cuts}
 use Rattle.report_laws.specs.History.{Basis, alone_on, used_by}
 use Rattle.session_language.specs.Language.{Answered}
 use Rattle.report_laws.specs.Outcome.{IsRight, Ends}
 use Rattle.report_laws.specs.View.{View}
-use Rattle.report_laws.specs.Work.{Transaction, Item, Does, Lone, number_of, transaction_of}
+use Rattle.report_laws.specs.Work.{Transaction, End, ByCommit, ByRollback, WithItsLine, Nowhere, Item, Does, Lone, number_of, transaction_of}
 use Rattle.report_text.specs.declared.reports.EntryLine.{EntryLine}
 use Rattle.report_text.specs.declared.reports.EntryLine.TheVariants.{Setup, Commit}
 use Rattle.report_text.specs.declared.reports.Line.{Line}
@@ -66,6 +69,32 @@ pub record IsWhole (basis : Basis) (view : View) (name : List ℕ) (t : Transact
   pub right : AllByRecursion (IsRight basis view name t begin (used_by ran) ran.ops) last
   pub says : mine ≡ reply.Begin begin ∷ (ran.replies ++ last)
 
+-- whether a transaction of that end is to be committed
+abbrev pub IsToCommit : End → Type 0
+IsToCommit ByCommit = Unit {0}
+IsToCommit ByRollback = ⊥
+IsToCommit WithItsLine = Unit {0}
+IsToCommit Nowhere = ⊥
+
+-- a transaction of that end and with these operations may be cut short by a cause, behind that front of its begin and
+-- its replies and before that rest: by a loss once it is begun, for want of a majority in place of its begin, or at its
+-- commit where it has operations, and for want of memory anywhere
+abbrev pub MayCut : End → List RowOp → List ReplyLine → List ReplyLine → ReplyLine → Type 0
+MayCut end ops front rest (reply.Begin position) = ⊥
+MayCut end ops front rest (reply.Row row) = ⊥
+MayCut end ops front rest (reply.Done rows) = ⊥
+MayCut end ops front rest (reply.Changed rows) = ⊥
+MayCut end ops front rest (reply.Error cause) = ⊥
+MayCut end ops front rest (reply.Level level) = ⊥
+MayCut end ops front rest reply.RolledBack = ⊥
+MayCut end ops front rest (reply.Committed position) = ⊥
+MayCut end ops front rest (reply.ConflictGenid position table genid) = ⊥
+MayCut end ops front rest (reply.ConflictRange position table key) = ⊥
+MayCut end ops front rest (reply.Duplicate position table key) = ⊥
+MayCut end ops front rest (reply.Lost node down) = front ≢ []
+MayCut end ops front rest (reply.NoMajority up nodes) = (front ≡ []) ⊎ ((rest ≡ []) × (ops ≢ []) × IsToCommit end)
+MayCut end ops front rest reply.NoMemory = Unit {0}
+
 -- a transaction is cut short, behind a front of its begin and its replies
 pub record IsCut (basis : Basis) (view : View) (t : Transaction) (mine : List ReplyLine) : Type 0 where
   pub begin : ℕ
@@ -78,6 +107,7 @@ pub record IsCut (basis : Basis) (view : View) (t : Transaction) (mine : List Re
   pub fits : front ++ rest ≡ reply.Begin begin ∷ ran.replies
   pub cause : ReplyLine
   pub is_cause : cuts cause ≡ true
+  pub may : MayCut t.end ran.ops front rest cause
   pub says : mine ≡ front ++ cause ∷ []
 
 -- the lines of a transaction are its replies and its end; a line outside one has its one reply
@@ -85,8 +115,8 @@ abbrev pub IsTold : Basis → View → List ℕ → Item → List ReplyLine → 
 IsTold basis view name (Does t) mine = IsWhole basis view name t mine ⊎ IsCut basis view t mine
 IsTold basis view name (Lone answer) mine = mine ≡ answer ∷ []
 
--- how the transaction of the entry at a position is told to end: that it is committed there. What is told
--- of a transaction at its commit where its outcome is not known there has no place yet
+-- how the transaction of the entry at a position is told to end: that it is committed there. A transaction
+-- that was cut short at its commit has no entry yet
 abbrev pub EndsAt : ℕ → ReplyLine → Type 0
 EndsAt position (reply.Begin at) = ⊥
 EndsAt position (reply.Row row) = ⊥

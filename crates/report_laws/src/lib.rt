@@ -12,8 +12,9 @@
 //! | a lawful report | `specs/Lawful.antt` |
 //! | the order of play | `specs/Play.antt` |
 //! | the endings that cut a transaction short | `specs/Cut.antt` |
+//! | which nodes are up at a place | `specs/Nodes.antt` |
 //! | the places of lines: losses, missing majorities, nodes, barriers and feeds | `specs/Places.antt` |
-//! | a report without a transaction that is cut short | `specs/One.antt` |
+//! | a report without a transaction that is cut short, and without a node that goes down | `specs/One.antt` |
 //! | the last position of the history along a piece of lines | `specs/Paced.antt` |
 //! | names and rows of the grammar, in a report and in what it is told of | `specs/Spelled.antt` |
 #![tactic(auto)]
@@ -21,6 +22,7 @@
 mod facts;
 
 pub use facts::{
-    begins_reach_what_was_told, entries_are_told, reports_are_of_the_grammar, reports_are_one,
-    sessions_alone_are_told, the_schema_stands_first, transactions_stand_once,
+    begins_find_a_majority, begins_reach_what_was_told, entries_are_told, lines_have_their_places,
+    nodes_go_down_once, none_begins_behind_a_fault, reports_are_of_the_grammar, reports_are_one,
+    the_schema_stands_first, transactions_stand_once,
 };

@@ -1,16 +1,18 @@
 -- The laws hold of the empty report.
-use Rattle.std.proofs.Common.{◌≡◌, ℕ, List, [], ◌∷◌, refl, sym, subst}
+use Rattle.std.proofs.Common.{◌≡◌, ℕ, List, [], ◌∷◌, ◌++◌, refl, sym, subst, ap, Bool, if◌then◌else◌}
 use Rattle.script_form.specs.declared.scripts.Script.{Script}
 use Rattle.script_form.specs.declared.scripts.BodyLine.{BodyLine}
 use Rattle.report_laws.specs.History.{view_of}
 use Rattle.report_laws.specs.Lawful.{Lawful}
-use Rattle.report_laws.specs.Play.{InPlayOrder, InTurns}
+use Rattle.report_laws.specs.Play.{InPlayOrder, InTurns, opened_behind}
 use Rattle.report_laws.specs.Told.{Along, IsTold}
 use Rattle.report_laws.specs.Work.{Item, work}
 use Rattle.report_worked.specs.Worked.{empty_report, report_with}
 use Rattle.report_text.specs.declared.reports.EntryLine.{EntryLine}
 use Rattle.report_text.specs.declared.reports.EntryLine.TheVariants.{Setup}
 use Rattle.report_text.specs.declared.reports.ReplyLine.{ReplyLine}
+use Rattle.report_laws.proofs.LawLemmas.{schema_unhurt}
+use Rattle.report_laws.proofs.NodesLaws.{none_few}
 use Rattle.report_worked.specs.Small.{from_nothing, small_language}
 
 along_none : (P : Item → List ReplyLine → Type 0) (name : List ℕ) (body : List BodyLine) → body ≡ [] → Along P (work small_language name body) []
@@ -28,16 +30,25 @@ empty_is_lawful script is = record {
   end = refl;
 }
 
+-- at the opening no node is down
+open_at_first : (script : Script) → opened_behind (from_nothing script) [] ≡ Setup 1 ∷ []
+open_at_first script = ap (λ (few : Bool). if few then [] else Setup 1 ∷ []) (none_few script.nodes [] refl)
+
 pub empty_is_in_order : (script : Script) → script.body ≡ [] → InPlayOrder (from_nothing script) empty_report
 empty_is_in_order script is = record {
+  first = [];
+  go_down = tt;
+  rest = [];
+  lines_are = refl;
   later = [];
-  opened = refl;
-  order = subst (λ (body : List BodyLine). InTurns (from_nothing script) [] [] (Setup 1 ∷ []) body [] []) (sym is) (refl, refl);
+  opened = sym (ap (λ (es : List EntryLine). es ++ []) (open_at_first script));
+  order = subst (λ (body : List BodyLine). InTurns (from_nothing script) [] [] (opened_behind (from_nothing script) []) body [] []) (sym is) (refl, refl);
 }
 
--- the schema's entry stands in the history of each run
+-- the schema's entry stands in the history of each run in which no node goes down
 no_entry_at_all : (later : List EntryLine) → [] ≡ Setup 1 ∷ later → ⊥
 no_entry_at_all later is = cc
 
 pub no_entry_is_not_in_order : (script : Script) → InPlayOrder (from_nothing script) (report_with [] []) → ⊥
-no_entry_is_not_in_order script order = no_entry_at_all order.later order.opened
+no_entry_is_not_in_order script order =
+    let first : (later : List EntryLine) × ([] ≡ Setup 1 ∷ later) = schema_unhurt (from_nothing script) (report_with [] []) refl refl order in no_entry_at_all first.0 first.1

@@ -95,9 +95,13 @@ insert_select_is_lawful = record {
 
 pub insert_select_is_in_order : InPlayOrder (from_nothing insert_select) insert_select_report
 insert_select_is_in_order = record {
+  first = [];
+  go_down = tt;
+  rest = insert_select_report.lines;
+  lines_are = refl;
   later = of_a 2 1 1 ∷ [];
   opened = refl;
-  order = in_turns (from_nothing insert_select) [] [] (Setup 1 ∷ []) insert_select.body (
+  order = in_turns (from_nothing insert_select) [] (Setup 1 ∷ []) insert_select.body (
       ((reply.Begin 1) ∷ (reply.Changed 1) ∷ (reply.Committed 2) ∷ [], of_a 2 1 1 ∷ [])
       ∷ ((reply.Begin 2) ∷ row 1 10 ∷ (reply.Done 1) ∷ (reply.Committed 2) ∷ [], [])
       ∷ []

@@ -11,6 +11,7 @@ use Rattle.report_text.specs.declared.reports.Line.{Line}
 use Rattle.report_text.specs.declared.reports.ReplyLine.{ReplyLine}
 use Rattle.report_text.specs.declared.reports.ReplyLine.TheVariants as reply
 use Rattle.report_worked.proofs.InsertSelectLemmas.{inserting, selecting, items_of_a, work_of_a, good_insert, insert_select_is_lawful, insert_select_is_in_order}
+use Rattle.report_laws.proofs.NodesLaws.{lost_needs_down}
 use Rattle.report_laws.proofs.OneLaws.{one_report}
 use Rattle.report_text.specs.declared.reports.Report.{Report}
 use Rattle.report_laws.proofs.LineLaws.{fresh_begin}
@@ -103,12 +104,15 @@ entered_twice law = let once : true ≡ false = law.1.1.0.once 2 (of_a 2 1 1) (o
 pub entry_twice_is_refused : IsRefusedBy (HistoryIsRight insert_select entry_twice) insert_select entry_twice
 entry_twice_is_refused = (entered_twice, λ is. entered_twice is.history)
 
--- a line of a node, and a loss without a cause
-pub node_line_is_refused : IsRefusedBy (LinesHavePlaces node_line) insert_select node_line
+-- a line of a node that comes up, and a loss behind no down line
+pub node_line_is_refused : IsRefusedBy (LinesHavePlaces insert_select node_line) insert_select node_line
 node_line_is_refused = (λ law. law.0, λ is. is.places.0)
 
-pub lost_line_is_refused : IsRefusedBy (LinesHavePlaces lost_line) insert_select lost_line
-lost_line_is_refused = (λ law. law.1.1.1.1.0, λ is. is.places.1.1.1.1.0)
+not_lost : LinesHavePlaces insert_select lost_line → ⊥
+not_lost law = lost_needs_down (take 4 lost_line.lines) (codes "a") 2 1 1 refl law.1.1.1.1.0.1
+
+pub lost_line_is_refused : IsRefusedBy (LinesHavePlaces insert_select lost_line) insert_select lost_line
+lost_line_is_refused = (not_lost, λ is. not_lost is.places)
 
 -- a begin below a position that was named before a line of the session
 begun_before : BeginsAreFresh begin_too_old → ⊥

@@ -120,9 +120,13 @@ key_again_is_lawful = record {
 
 pub key_again_is_in_order : InPlayOrder (from_nothing key_again) key_again_report
 key_again_is_in_order = record {
+  first = [];
+  go_down = tt;
+  rest = key_again_report.lines;
+  lines_are = refl;
   later = of_b 2 1 1 ∷ of_a 3 2 2 ∷ [];
   opened = refl;
-  order = in_turns (from_nothing key_again) [] [] (Setup 1 ∷ []) key_again.body (
+  order = in_turns (from_nothing key_again) [] (Setup 1 ∷ []) key_again.body (
       ((reply.Begin 1) ∷ [], [])
       ∷ ((reply.Changed 1) ∷ [], [])
       ∷ ((reply.Begin 1) ∷ (reply.Changed 1) ∷ (reply.Committed 2) ∷ [], of_b 2 1 1 ∷ [])

@@ -1,4 +1,6 @@
 pub mod EmptyLemmas
+pub mod FaultLemmas
+pub mod FaultWrongLemmas
 pub mod InsertSelectLemmas
 pub mod InsertSelectWrongLemmas
 pub mod KeyAgainLemmas

@@ -86,9 +86,13 @@ own_writes_is_lawful = record {
 
 pub own_writes_is_in_order : InPlayOrder (from_nothing own_writes) own_writes_report
 own_writes_is_in_order = record {
+  first = [];
+  go_down = tt;
+  rest = own_writes_report.lines;
+  lines_are = refl;
   later = of_a 2 1 1 ∷ [];
   opened = refl;
-  order = in_turns (from_nothing own_writes) [] [] (Setup 1 ∷ []) own_writes.body (
+  order = in_turns (from_nothing own_writes) [] (Setup 1 ∷ []) own_writes.body (
       ((reply.Begin 1) ∷ (reply.Changed 1) ∷ (reply.Committed 2) ∷ [], of_a 2 1 1 ∷ [])
       ∷ ((reply.Begin 2) ∷ [], [])
       ∷ ((reply.Changed 1) ∷ [], [])

@@ -121,9 +121,13 @@ two_updates_is_lawful = record {
 
 pub two_updates_is_in_order : InPlayOrder (from_nothing two_updates) two_updates_report
 two_updates_is_in_order = record {
+  first = [];
+  go_down = tt;
+  rest = two_updates_report.lines;
+  lines_are = refl;
   later = of_a 2 1 1 ∷ of_a 3 2 2 ∷ [];
   opened = refl;
-  order = in_turns (from_nothing two_updates) [] [] (Setup 1 ∷ []) two_updates.body (
+  order = in_turns (from_nothing two_updates) [] (Setup 1 ∷ []) two_updates.body (
       ((reply.Begin 1) ∷ (reply.Changed 1) ∷ (reply.Committed 2) ∷ [], of_a 2 1 1 ∷ [])
       ∷ ((reply.Begin 2) ∷ [], [])
       ∷ ((reply.Begin 2) ∷ [], [])

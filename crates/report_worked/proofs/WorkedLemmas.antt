@@ -1,5 +1,6 @@
 -- How laws along the work of each session are shown of the worked examples, and refuted.
 use Rattle.std.proofs.Common.{◌≡◌, ◌≤◌, ◌+◌, ℕ, List, length, [], ◌∷◌, ◌++◌, refl, sym, subst, ap, Bool, true, false, ◌∙◌, codes, inl, inr, ◌⊎◌, Some}
+use Rattle.std.proofs.lemmas.List.{append-nil}
 use Rattle.std.specs.List.{AllByRecursion}
 use Rattle.std.specs.Str.{bytes_eq}
 use Rattle.std.proofs.lemmas.Slice.Eq.{bytes_eq-Decides}
@@ -7,20 +8,22 @@ use Rattle.script_form.specs.declared.scripts.BodyLine.{BodyLine}
 use Rattle.script_form.specs.declared.scripts.Act.{Act}
 use Rattle.script_form.specs.declared.scripts.Act.TheVariants as act
 use Rattle.report_laws.specs.History.{Basis, last_position, used_by, view_of}
-use Rattle.report_laws.specs.Play.{InTurns, IsTurn, IsTurnOf, IsTimely, IsAppended, piece}
+use Rattle.report_laws.specs.Nodes.{downs}
+use Rattle.report_laws.specs.Play.{InTurns, IsTurn, IsTurnOf, IsTimely, IsAppended, number_told, is_own}
 use Rattle.session_language.specs.Replies.{are_up_to, is_last_of}
-use Rattle.report_laws.specs.Told.{Along, IsTold, IsCommitTold, told, numbered, Numbered, alone_at}
+use Rattle.report_laws.specs.Told.{Along, IsTold, IsCommitTold, MayCut, told, numbered, Numbered, alone_at, lines_of}
 use Rattle.report_laws.specs.View.{View}
-use Rattle.report_laws.specs.Work.{Transaction, Item, Does, work, said, said_by, start, place_from, items_at, number_of, transaction_of}
+use Rattle.report_laws.specs.Work.{Transaction, Item, Does, place_after, work, said, said_by, start, place_from, items_at, number_of, transaction_of}
 use Rattle.report_text.specs.declared.reports.EntryLine.{EntryLine}
 use Rattle.report_text.specs.declared.reports.Line.{Line}
 use Rattle.report_text.specs.declared.reports.Line.TheVariants as line
 use Rattle.report_text.specs.declared.reports.ReplyLine.{ReplyLine}
 use Rattle.report_text.specs.declared.reports.ReplyLine.TheVariants as reply
 use Rattle.report_laws.proofs.GrowLaws.{first_begin, first_rest, same_last}
+use Rattle.report_laws.proofs.NodesLaws.{none_lost, none_lacks, downs_more}
 use Rattle.report_worked.specs.Small.{small_language}
 use Rattle.report_laws.specs.Cut.{cuts}
-use Rattle.session_language.specs.Language.{Answered}
+use Rattle.session_language.specs.Language.{Language, Answered}
 use Rattle.report_laws.specs.Outcome.{IsRight, Ends}
 
 -- the sessions a and b
@@ -37,7 +40,7 @@ SaidTheirs act.Feed = ⊥
 
 abbrev pub ToThem : Line → Type 0
 ToThem (line.Session session txn answer) = IsTheirs session
-ToThem (line.Down count node fault) = ⊥
+ToThem (line.Down count node fault) = Unit {0}
 ToThem (line.Up node) = ⊥
 ToThem line.Barrier = ⊥
 ToThem (line.Fed position) = ⊥
@@ -86,6 +89,12 @@ pub whole : {basis : Basis} {view : View} {name : List ℕ} {t : Transaction} {m
     IsRight basis view name t begin (used_by (alone_at basis view t begin)) (alone_at basis view t begin).ops o → mine ≡ reply.Begin begin ∷ ((alone_at basis view t begin).replies ++ o ∷ []) → IsTold basis view name (Does t) mine
 whole {basis} {view} {name} {t} {mine} begin o base within ends right says = inl (record { begin = begin; base = base; within = within; ran = alone_at basis view t begin; is_ran = refl; last = o ∷ []; ends = ends; right = (right, tt); says = says })
 
+-- a transaction is cut short, behind a front of its begin and its replies
+pub cut : {basis : Basis} {view : View} {name : List ℕ} {t : Transaction} {mine : List ReplyLine} (begin : ℕ) (front rest : List ReplyLine) (cause : ReplyLine) → basis.origin.position ≤ begin → begin ≤ view.last →
+    front ++ rest ≡ reply.Begin begin ∷ (alone_at basis view t begin).replies → cuts cause ≡ true → MayCut t.end (alone_at basis view t begin).ops front rest cause → mine ≡ front ++ cause ∷ [] → IsTold basis view name (Does t) mine
+cut {basis} {view} {name} {t} {mine} begin front rest cause base within fits is may says =
+    inr (record { begin = begin; base = base; within = within; ran = alone_at basis view t begin; is_ran = refl; front = front; rest = rest; fits = fits; cause = cause; is_cause = is; may = may; says = says })
+
 -- an entry's transaction is told whole, between these lines of its session
 pub entry_told : {basis : Basis} {view : View} {lines : List Line} {position : ℕ} {session : List ℕ} {txn begin : ℕ} (t : Transaction) (before after : List Numbered) → transaction_of basis.language session txn basis.script.body ≡ Some t → begin ≤ view.last →
     told session lines ≡ before ++ (numbered txn (reply.Begin begin ∷ ((alone_at basis view t begin).replies ++ reply.Committed position ∷ [])) ++ after) → IsCommitTold basis view lines position session txn begin
@@ -130,9 +139,43 @@ along_parts P [] parts is = refl
 along_parts P (item ∷ items) [] is = absurd is
 along_parts P (item ∷ items) (mine ∷ parts) is = (mine, in_parts items parts, refl, is.0, along_parts P items parts is.1)
 
--- what each line of a script is told, and the entries that it appends
+-- what each line of a script is answered, and the entries that it appends
 abbrev pub Turn : Type 0
 Turn = List ReplyLine × List EntryLine
+
+-- the lines that a line of a script prints that is answered so
+abbrev pub piece : Language → List BodyLine → Act → List ReplyLine → List Line
+piece language done (act.Say session text) replies = lines_of session (number_told language (place_after language session done) text) replies
+piece language done (act.Stop node) replies = []
+piece language done (act.Start node) replies = []
+piece language done (act.Arm session moment) replies = []
+piece language done act.Barrier replies = []
+piece language done act.Feed replies = []
+
+-- a line of a script is answered so
+abbrev pub IsAnsweredBy : Basis → ℕ → List BodyLine → List Line → Act → List ReplyLine → List EntryLine → Type 0
+IsAnsweredBy basis now done before (act.Say session text) replies added =
+    IsTurn now before session (number_told basis.language (place_after basis.language session done) text) (is_own basis.language (place_after basis.language session done) text) replies added
+IsAnsweredBy basis now done before _ replies added = (replies ≡ []) × (added ≡ [])
+
+-- no node went down before, so nothing keeps it from that
+answered_turn : (basis : Basis) (now : ℕ) (done : List BodyLine) (before : List Line) (a : Act) (replies : List ReplyLine) (added : List EntryLine) → downs before ≡ 0 →
+    IsAnsweredBy basis now done before a replies added → IsTurnOf basis now done before a (piece basis.language done a replies) added
+answered_turn basis now done before (act.Say session text) replies added none is =
+    inl (record { replies = replies; says = refl; turn = is; kept = none_lost basis.script before session _ _ none; majority = none_lacks basis.script before _ _ none })
+answered_turn basis now done before (act.Stop node) replies added none is = (refl, is.1)
+answered_turn basis now done before (act.Start node) replies added none is = (refl, is.1)
+answered_turn basis now done before (act.Arm session moment) replies added none is = (refl, is.1)
+answered_turn basis now done before act.Barrier replies added none is = (refl, is.1)
+answered_turn basis now done before act.Feed replies added none is = (refl, is.1)
+
+none_more : (language : Language) (done : List BodyLine) (before : List Line) (a : Act) (replies : List ReplyLine) → downs before ≡ 0 → downs (before ++ piece language done a replies) ≡ 0
+none_more language done before (act.Say session text) replies none = downs_more before session _ replies none
+none_more language done before (act.Stop node) replies none = ap downs (append-nil before) ∙ none
+none_more language done before (act.Start node) replies none = ap downs (append-nil before) ∙ none
+none_more language done before (act.Arm session moment) replies none = ap downs (append-nil before) ∙ none
+none_more language done before act.Barrier replies none = ap downs (append-nil before) ∙ none
+none_more language done before act.Feed replies none = ap downs (append-nil before) ∙ none
 
 -- the lines of these turns, and their entries
 abbrev pub lines_in : Basis → List BodyLine → List BodyLine → List Turn → List Line
@@ -149,15 +192,28 @@ EachTurn basis done before history [] [] = Unit {0}
 EachTurn basis done before history [] (turn ∷ turns) = ⊥
 EachTurn basis done before history (b ∷ bs) [] = ⊥
 EachTurn basis done before history (b ∷ bs) (turn ∷ turns) =
-    IsTurnOf basis.language (last_position basis.origin history) done before b.act turn.0 turn.1 × EachTurn basis (done ++ b ∷ []) (before ++ piece basis.language done b.act turn.0) (history ++ turn.1) bs turns
+    IsAnsweredBy basis (last_position basis.origin history) done before b.act turn.0 turn.1 × EachTurn basis (done ++ b ∷ []) (before ++ piece basis.language done b.act turn.0) (history ++ turn.1) bs turns
 
-pub in_turns : (basis : Basis) (done : List BodyLine) (before : List Line) (history : List EntryLine) (body : List BodyLine) (turns : List Turn) →
+turns_from : (basis : Basis) (done : List BodyLine) (before : List Line) (history : List EntryLine) (body : List BodyLine) (turns : List Turn) → downs before ≡ 0 →
     EachTurn basis done before history body turns → InTurns basis done before history body (lines_in basis done body turns) (entries_in turns)
-in_turns basis done before history [] [] is = (refl, refl)
-in_turns basis done before history [] (turn ∷ turns) is = absurd is
-in_turns basis done before history (b ∷ bs) [] is = absurd is
-in_turns basis done before history (b ∷ bs) (turn ∷ turns) is =
-    (turn.0, lines_in basis (done ++ b ∷ []) bs turns, turn.1, entries_in turns, refl, refl, is.0, in_turns basis (done ++ b ∷ []) (before ++ piece basis.language done b.act turn.0) (history ++ turn.1) bs turns is.1)
+turns_from basis done before history [] [] none is = (refl, refl)
+turns_from basis done before history [] (turn ∷ turns) none is = absurd is
+turns_from basis done before history (b ∷ bs) [] none is = absurd is
+turns_from basis done before history (b ∷ bs) (turn ∷ turns) none is = (
+  piece basis.language done b.act turn.0,
+  lines_in basis (done ++ b ∷ []) bs turns,
+  turn.1,
+  entries_in turns,
+  refl,
+  refl,
+  answered_turn basis (last_position basis.origin history) done before b.act turn.0 turn.1 none is.0,
+  turns_from basis (done ++ b ∷ []) (before ++ piece basis.language done b.act turn.0) (history ++ turn.1) bs turns (none_more basis.language done before b.act turn.0 none) is.1,
+)
+
+-- lines that are answered one after the other, and no node goes down
+pub in_turns : (basis : Basis) (done : List BodyLine) (history : List EntryLine) (body : List BodyLine) (turns : List Turn) →
+    EachTurn basis done [] history body turns → InTurns basis done [] history body (lines_in basis done body turns) (entries_in turns)
+in_turns basis done history body turns is = turns_from basis done [] history body turns refl is
 
 -- a turn that is told up to its last reply
 pub is_turn : {now : ℕ} {before : List Line} {session : List ℕ} {number : ℕ} {own : Bool} {replies : List ReplyLine} {added : List EntryLine} →

@@ -199,3 +199,37 @@ own_writes_report = report_with
 -- an insert and then two selects
 abbrev pub two_selects : Script
 two_selects = script_with (a_says insert_text ∷ a_says select_text ∷ a_says select_text ∷ [])
+
+-- the insert's commit fails as the store of the node fails, and so the node is down when the select is to begin
+abbrev pub lost_insert_report : Report
+lost_insert_report = report_with
+    (to_a 1 (reply.Begin 1) ∷ to_a 1 (reply.Changed 1) ∷ line.Down 1 1 true ∷ to_a 1 (reply.Lost 1 1) ∷ to_a 2 (reply.NoMajority 0 1) ∷ [])
+    (Setup 1 ∷ [])
+
+-- its seven lines
+abbrev pub lost_insert_text : List ℕ
+lost_insert_text = ended (codes "a 1 begin 1")
+    ++ ended (codes "a 1 changed 1")
+    ++ ended (codes "down 1 1 fault")
+    ++ ended (codes "a 1 lost 1 1")
+    ++ ended (codes "a 2 nomajority 0 1")
+    ++ ended (codes "entry 1 schema")
+    ++ ended (codes "end 1")
+
+-- the insert, in a transaction that is open as the commit of the other session's insert fails
+abbrev pub open_insert : Script
+open_insert = script_with (a_says (codes "begin") ∷ a_says insert_text ∷ b_says (codes "insert into t values(2, 20)") ∷ a_says (codes "commit") ∷ a_says select_text ∷ [])
+
+abbrev pub open_insert_report : Report
+open_insert_report = report_with
+    (to_a 1 (reply.Begin 1) ∷ to_a 1 (reply.Changed 1)
+    ∷ to_b 1 (reply.Begin 1) ∷ to_b 1 (reply.Changed 1) ∷ line.Down 1 1 true ∷ to_b 1 (reply.Lost 1 1)
+    ∷ to_a 1 (reply.Lost 1 1) ∷ to_a 2 (reply.NoMajority 0 1) ∷ [])
+    (Setup 1 ∷ [])
+
+-- a script without a line to be run, whose node goes down at the opening
+abbrev pub nothing_said : Script
+nothing_said = script_with []
+
+abbrev pub down_at_first_report : Report
+down_at_first_report = report_with (line.Down 1 1 true ∷ []) []

@@ -1,5 +1,5 @@
 -- Reports of the worked scripts that are wrong in one place each, and the law that refuses each.
-use Rattle.std.specs.Prelude.{ℕ, ◌++◌, ◌∷◌, [], List, codes}
+use Rattle.std.specs.Prelude.{ℕ, ◌++◌, ◌∷◌, [], List, true, codes}
 use Rattle.script_form.specs.declared.scripts.Script.{Script}
 use Rattle.session_language.specs.Each.{EachAfter}
 use Rattle.report_laws.specs.History.{nothing_before, IsEntryAfter, view_of}
@@ -8,6 +8,7 @@ use Rattle.report_laws.specs.Places.{HasItsPlace}
 use Rattle.report_laws.specs.Told.{told, Along, IsTold}
 use Rattle.report_laws.specs.Work.{work}
 use Rattle.report_worked.specs.Worked.{worked_table, report_with, to_a, to_b, of_a, of_b, row, inserted_lines, inserted_entries, two_updates_lines, two_updates_entries, conflict}
+use Rattle.report_text.specs.declared.reports.EntryLine.TheVariants.{Setup}
 use Rattle.report_text.specs.declared.reports.Report.{Report}
 use Rattle.report_text.specs.declared.reports.Line.{Line}
 use Rattle.report_text.specs.declared.reports.Line.TheVariants as line
@@ -24,8 +25,8 @@ BeginsAreFresh report = EachAfter (IsFreshLine (nothing_before (worked_table ∷
 abbrev pub HistoryIsRight : Script → Report → Type 0
 HistoryIsRight script report = EachAfter (IsEntryAfter (from_nothing script)) [] report.entries
 
-abbrev pub LinesHavePlaces : Report → Type 0
-LinesHavePlaces report = EachAfter HasItsPlace [] report.lines
+abbrev pub LinesHavePlaces : Script → Report → Type 0
+LinesHavePlaces script report = EachAfter (HasItsPlace script) [] report.lines
 
 -- a report breaks a law, and so is not lawful
 abbrev pub IsRefusedBy : Type 0 → Script → Report → Type 0
@@ -59,7 +60,7 @@ late = selected (to_a 2 (reply.Begin 1) ∷ to_a 2 (reply.Done 0) ∷ to_a 2 (re
 abbrev pub node_line : Report
 node_line = report_with (line.Up 1 ∷ (inserted_lines ++ to_a 2 (reply.Begin 2) ∷ to_a 2 (row 1 10) ∷ to_a 2 (reply.Done 1) ∷ to_a 2 (reply.Committed 2) ∷ [])) inserted_entries
 
--- the select is lost by a node that did not go down
+-- the select is lost, and no node went down
 abbrev pub lost_line : Report
 lost_line = selected (to_a 2 (reply.Begin 2) ∷ to_a 2 (reply.Lost 1 1) ∷ [])
 
@@ -100,3 +101,42 @@ serial = report_with
     ++ to_a 2 (reply.Begin 2) ∷ to_a 2 (reply.Changed 1) ∷ to_a 2 (reply.Committed 3)
     ∷ to_b 1 (reply.Begin 3) ∷ to_b 1 (reply.Changed 1) ∷ to_b 1 (reply.Committed 4) ∷ [])
     (two_updates_entries ++ of_b 4 1 3 ∷ [])
+
+-- the insert is lost twice by one down line
+abbrev pub lost_twice : Report
+lost_twice = report_with
+    (to_a 1 (reply.Begin 1) ∷ to_a 1 (reply.Changed 1) ∷ line.Down 1 1 true ∷ to_a 1 (reply.Lost 1 1) ∷ to_a 1 (reply.Lost 1 1) ∷ to_a 2 (reply.NoMajority 0 1) ∷ [])
+    (Setup 1 ∷ [])
+
+-- the select is lost by a line behind which its session was told of the insert
+abbrev pub lost_late : Report
+lost_late = report_with (line.Down 1 1 true ∷ (inserted_lines ++ to_a 2 (reply.Begin 2) ∷ to_a 2 (reply.Lost 1 1) ∷ [])) inserted_entries
+
+-- no majority is up where the node is
+abbrev pub short_while_up : Report
+short_while_up = report_with
+    (inserted_lines ++ to_a 2 (reply.NoMajority 0 1) ∷ [])
+    inserted_entries
+
+-- the first down line has the number 2
+abbrev pub down_misnumbered : Report
+down_misnumbered = report_with
+    (to_a 1 (reply.Begin 1) ∷ to_a 1 (reply.Changed 1) ∷ line.Down 2 1 true ∷ to_a 1 (reply.Lost 1 2) ∷ to_a 2 (reply.NoMajority 0 1) ∷ [])
+    (Setup 1 ∷ [])
+
+-- the node goes down a second time
+abbrev pub down_twice : Report
+down_twice = report_with
+    (to_a 1 (reply.Begin 1) ∷ to_a 1 (reply.Changed 1) ∷ line.Down 1 1 true ∷ line.Down 2 1 true ∷ to_a 1 (reply.Lost 1 1) ∷ to_a 2 (reply.NoMajority 0 1) ∷ [])
+    (Setup 1 ∷ [])
+
+-- the select begins behind the fault: lawful, but not in the order of play
+abbrev pub begun_behind : Report
+begun_behind = report_with
+    (to_a 1 (reply.Begin 1) ∷ to_a 1 (reply.Changed 1) ∷ line.Down 1 1 true ∷ to_a 1 (reply.Lost 1 1)
+    ∷ to_a 2 (reply.Begin 1) ∷ to_a 2 (reply.Done 0) ∷ to_a 2 (reply.Committed 1) ∷ [])
+    (Setup 1 ∷ [])
+
+-- the node goes down at the opening, and yet the schema's entry stands: lawful, but not in the order of play
+abbrev pub opened_while_down : Report
+opened_while_down = report_with (line.Down 1 1 true ∷ []) (Setup 1 ∷ [])

@@ -4,8 +4,8 @@ ghost use Rattle.std.specs.Prelude.{◌≡◌, []};
 ghost use Rattle.report_worked.specs.Small.{from_nothing};
 ghost use Rattle.report_laws.specs.Lawful.{Lawful};
 ghost use Rattle.report_laws.specs.Play.{InPlayOrder};
-ghost use Rattle.report_worked.specs.Worked.{empty_report, report_with, insert_select, insert_select_report, insert_select_text, two_updates, two_updates_report, key_again, key_again_report, own_writes, own_writes_report, two_selects};
-ghost use Rattle.report_worked.specs.WorkedWrong.{IsRefusedBy, RepliesAreRight, BeginsAreFresh, HistoryIsRight, LinesHavePlaces, wrong_value, missing_row, out_of_order, early_row, late, wrong_position, entry_twice, node_line, lost_line, begin_too_old, untouched_row, refused_entry, serial};
+ghost use Rattle.report_worked.specs.Worked.{empty_report, report_with, insert_select, insert_select_report, insert_select_text, two_updates, two_updates_report, key_again, key_again_report, own_writes, own_writes_report, two_selects, lost_insert_report, lost_insert_text, open_insert, open_insert_report, nothing_said, down_at_first_report};
+ghost use Rattle.report_worked.specs.WorkedWrong.{IsRefusedBy, RepliesAreRight, BeginsAreFresh, HistoryIsRight, LinesHavePlaces, wrong_value, missing_row, out_of_order, early_row, late, wrong_position, entry_twice, node_line, lost_line, begin_too_old, untouched_row, refused_entry, serial, lost_twice, lost_late, short_while_up, down_misnumbered, down_twice, begun_behind, opened_while_down};
 ghost use Rattle.report_text.specs.Text.{report_text};
 ghost use Rattle.script_form.specs.declared.scripts.Script.{Script};
 
@@ -34,8 +34,8 @@ pub fn wrong_insert_selects_are_refused()
     ensures early_row { IsRefusedBy (RepliesAreRight insert_select early_row) insert_select early_row }
     ensures wrong_position { IsRefusedBy (RepliesAreRight insert_select wrong_position) insert_select wrong_position }
     ensures entry_twice { IsRefusedBy (HistoryIsRight insert_select entry_twice) insert_select entry_twice }
-    ensures node_line { IsRefusedBy (LinesHavePlaces node_line) insert_select node_line }
-    ensures lost_line { IsRefusedBy (LinesHavePlaces lost_line) insert_select lost_line }
+    ensures node_line { IsRefusedBy (LinesHavePlaces insert_select node_line) insert_select node_line }
+    ensures lost_line { IsRefusedBy (LinesHavePlaces insert_select lost_line) insert_select lost_line }
 {}
 
 /// Where the select begins before the insert and is told no row, the report is lawful, since what a
@@ -76,4 +76,46 @@ pub fn own_writes_are_lawful()
 pub fn serial_is_not_played()
     ensures lawful { Lawful (from_nothing two_updates) serial }
     ensures order { InPlayOrder (from_nothing two_updates) serial → ⊥ }
+{}
+
+/// The report of an insert and a select whose node goes down at the insert's commit, by a fault of its store, has its
+/// seven lines as text, is lawful and in the order of play: the insert is lost by that line, and for the select no majority
+/// is up.
+pub fn lost_insert_is_lawful()
+    ensures text { report_text lost_insert_report ≡ lost_insert_text }
+    ensures lawful { Lawful (from_nothing insert_select) lost_insert_report }
+    ensures order { InPlayOrder (from_nothing insert_select) lost_insert_report }
+{}
+
+/// A transaction that is open as the node goes down at another session's commit is lost at its next line. The report is
+/// lawful and in the order of play.
+pub fn open_insert_is_lawful()
+    ensures lawful { Lawful (from_nothing open_insert) open_insert_report }
+    ensures order { InPlayOrder (from_nothing open_insert) open_insert_report }
+{}
+
+/// A node that goes down at the opening leaves an empty history, in a report that is lawful and in the order of play. With
+/// the schema's entry it is lawful, but not in the order of play.
+pub fn down_at_first_is_lawful()
+    ensures lawful { Lawful (from_nothing nothing_said) down_at_first_report }
+    ensures order { InPlayOrder (from_nothing nothing_said) down_at_first_report }
+    ensures with_entry { Lawful (from_nothing nothing_said) opened_while_down }
+    ensures with_entry_order { InPlayOrder (from_nothing nothing_said) opened_while_down → ⊥ }
+{}
+
+/// What makes a report wrong in which the node goes down, or should have, by the law on places: a transaction that is
+/// lost twice by one line, or by a line behind which its session was told of another; no majority while the node is up; a
+/// first line with another number; a node that goes down while it is down.
+pub fn wrong_faults_are_refused()
+    ensures lost_twice { IsRefusedBy (LinesHavePlaces insert_select lost_twice) insert_select lost_twice }
+    ensures lost_late { IsRefusedBy (LinesHavePlaces insert_select lost_late) insert_select lost_late }
+    ensures short_while_up { IsRefusedBy (LinesHavePlaces insert_select short_while_up) insert_select short_while_up }
+    ensures down_misnumbered { IsRefusedBy (LinesHavePlaces insert_select down_misnumbered) insert_select down_misnumbered }
+    ensures down_twice { IsRefusedBy (LinesHavePlaces insert_select down_twice) insert_select down_twice }
+{}
+
+/// Where the select begins behind the fault, the report is lawful, but not in the order of play.
+pub fn begun_behind_is_not_played()
+    ensures lawful { Lawful (from_nothing insert_select) begun_behind }
+    ensures order { InPlayOrder (from_nothing insert_select) begun_behind → ⊥ }
 {}

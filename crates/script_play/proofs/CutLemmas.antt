@@ -37,7 +37,7 @@ module _ (script : Script) (entries : List EntryLine) (taken : List (List GenidI
   this after told x c is stands = let same : x ≡ c = cc in subst (λ (y : Cut). CutStands script entries seen name after lines told y) same stands
 
   empty_cut : (t_texts : List (List ℕ)) (number : ℕ) (end : End) → IsCut (from_nothing script) (view_of (from_nothing script) entries) (transaction number t_texts p.level end) (reply.NoMemory ∷ [])
-  empty_cut t_texts number end = record { begin = 0; base = omega arith; within = omega arith; ran = alone_at (from_nothing script) (view_of (from_nothing script) entries) (transaction number t_texts p.level end) 0; is_ran = refl; front = []; rest = _; fits = refl; cause = reply.NoMemory; is_cause = refl; says = refl }
+  empty_cut t_texts number end = record { begin = 0; base = omega arith; within = omega arith; ran = alone_at (from_nothing script) (view_of (from_nothing script) entries) (transaction number t_texts p.level end) 0; is_ran = refl; front = []; rest = _; fits = refl; cause = reply.NoMemory; is_cause = refl; may = tt; says = refl }
 
   module _ (texts : List (List ℕ)) (begin : ℕ) (ops : List RowOp) (uses : List GenidItem) (k : Kind) (c : Comes script entries taken seen name p (Some texts) (doing.Open begin ops uses) text k lines) where
     cut_more : IsCut (from_nothing script) (view_of (from_nothing script) entries) (transaction p.number (texts ++ text ∷ []) p.level Nowhere) (c.mine ++ reply.NoMemory ∷ [])
@@ -49,6 +49,7 @@ module _ (script : Script) (entries : List EntryLine) (taken : List (List GenidI
       is_ran = refl;
       cause = reply.NoMemory;
       is_cause = refl;
+      may = tt;
       front = c.mine;
       rest = (sql_language.answer (tables_of script) (rows_at (from_nothing script) entries begin).tables (alone sql_language (tables_of script) (rows_at (from_nothing script) entries begin) texts).ops text).replies;
       fits = ap (λ rs. rs ++ (sql_language.answer (tables_of script) (rows_at (from_nothing script) entries begin).tables (alone sql_language (tables_of script) (rows_at (from_nothing script) entries begin) texts).ops text).replies) c.doing.says
@@ -66,7 +67,7 @@ module _ (script : Script) (entries : List EntryLine) (taken : List (List GenidI
     ends_cut : (end : End) → CutStands script entries seen name (closed p texts end) lines p.number (record { number = p.number; after = state p.number p.level doing.No })
     ends_cut end = record {
       stands = idle_after script entries entries (inl refl) name p c.before c.past (Does (transaction p.number texts p.level end)) (c.mine ++ reply.NoMemory ∷ []) (lines ++ numbered p.number (reply.NoMemory ∷ [])) seen.next p.number p.level
-          (inr (record { begin = begin; base = omega arith; within = (let w = c.doing.within in omega (arith, w)); ran = alone_at (from_nothing script) (view_of (from_nothing script) entries) (transaction p.number texts p.level end) begin; is_ran = refl; front = c.mine; rest = []; fits = append-nil c.mine ∙ c.doing.says; cause = reply.NoMemory; is_cause = refl; says = refl }))
+          (inr (record { begin = begin; base = omega arith; within = (let w = c.doing.within in omega (arith, w)); ran = alone_at (from_nothing script) (view_of (from_nothing script) entries) (transaction p.number texts p.level end) begin; is_ran = refl; front = c.mine; rest = []; fits = append-nil c.mine ∙ c.doing.says; cause = reply.NoMemory; is_cause = refl; may = tt; says = refl }))
           (piece lines c.before p.number c.mine (reply.NoMemory ∷ []) c.is);
       number = refl;
     }

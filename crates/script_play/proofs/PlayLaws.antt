@@ -27,6 +27,7 @@ use Rattle.report_text.specs.declared.reports.EntryLine.TheVariants.{Setup}
 use Rattle.report_text.specs.declared.reports.Line.{Line}
 use Rattle.report_text.specs.declared.reports.Report.{Report}
 use Rattle.report_laws.specs.Lawful.{Lawful}
+use Rattle.report_laws.specs.Nodes.{downs}
 use Rattle.report_laws.specs.Play.{InPlayOrder}
 use Rattle.script_play.specs.Basis.{from_nothing}
 use Rattle.cdb_values.specs.declared.items.GenidItem.{GenidItem}
@@ -105,6 +106,10 @@ ends_so script rest lines entries taken seen states report before done is =
       subst (λ (r : Report). Lawful (from_nothing script) r) (sym is) (ends_lawful script at_end.done lines entries taken seen states at_end.so_far),
       subst (λ (r : Report). InPlayOrder (from_nothing script) r) (sym is) (ends_in_order script at_end.done lines entries taken seen states at_end.so_far),
     )
+
+-- and no node goes down in it
+pub ends_unhurt : (script : Script) (rest : List BodyLine) (lines : List Line) (entries : List EntryLine) (taken : List (List GenidItem)) (seen : Seen) (states : List SessionAt) (report : Report) → IsBefore script rest lines entries taken seen states → report ≡ report_of lines entries → downs report.lines ≡ 0
+ends_unhurt script rest lines entries taken seen states report before is = ap (λ (r : Report). downs r.lines) is ∙ before.so_far.unhurt
 
 -- and its log is in order
 pub ends_logged : (script : Script) (rest : List BodyLine) (run : RunSoFar) (states : List SessionState) (report : Report) → IsBeforeLine script rest run states → report ≡ report_of run.lines.items run.entries.items →

@@ -23,7 +23,7 @@ use Rattle.report_laws.specs.History.{last_position, view_of}
 use Rattle.report_laws.specs.Lawful.{IsFreshLine}
 use Rattle.report_laws.specs.Paced.{Paced}
 use Rattle.report_laws.specs.Places.{HasItsPlace}
-use Rattle.report_laws.specs.Play.{InTurns, IsTurn, IsTurnOf, WasCut, IsTimely, IsAppended, piece, number_told, is_own}
+use Rattle.report_laws.specs.Play.{IsTurn, IsTurnOf, was_cut, IsTimely, IsAppended, number_told, is_own}
 use Rattle.session_language.specs.Replies.{are_up_to, is_last_of}
 use Rattle.report_laws.specs.Told.{Numbered, IsEntryTold, alone_at, told, lines_of, numbered}
 use Rattle.report_laws.specs.Work.{Place, next_by, next_place, place_after}
@@ -31,6 +31,8 @@ use Rattle.cdb_values.specs.declared.items.GenidItem.{GenidItem}
 use Rattle.session_language.proofs.EachLaws.{each_append, all_append, all_map}
 use Rattle.report_laws.proofs.EntryToldLaws.{entry_told_more, entry_told_stays, told_stands}
 use Rattle.report_laws.proofs.LineLaws.{ArePaced, paced_laws, named_more, in_turns_more, timely_paced}
+use Rattle.report_laws.proofs.NodesLaws.{none_lost, none_lacks, downs_more}
+use Rattle.report_laws.proofs.PieceLaws.{cut_at}
 use Rattle.report_laws.proofs.ToldLaws.{told_append, told_own, told_other}
 use Rattle.report_laws.proofs.WorkLaws.{after_own, after_other, its_transaction}
 use Rattle.script_play.specs.Basis.{from_nothing}
@@ -107,12 +109,12 @@ module _ (script : Script) (done left : List BodyLine) (l : BodyLine) (lines : L
     fresh = each_append (IsFreshLine (from_nothing script).origin) [] lines mine was.fresh laws.fresh;
     later = was.later ++ keeps.added;
     begins = keeps.grown ∙ ap (λ (es : List EntryLine). es ++ keeps.added) was.begins;
-    order = subst (λ (ls : List Line). InTurns (from_nothing script) [] [] (Setup 1 ∷ []) (done ++ l ∷ []) (lines ++ ls) (was.later ++ keeps.added)) its_piece
-        (in_turns_more (from_nothing script) [] done l [] lines (Setup 1 ∷ []) was.later rs keeps.added was.order its_turn_of);
+    order = in_turns_more (from_nothing script) [] done l [] lines (Setup 1 ∷ []) was.later mine keeps.added was.order its_turn_of;
     named = all_append _ lines mine (named_more (length entries) (length entries') lines longer was.named) laws.named;
     answered = keeps.answered;
     ended = keeps.ended;
-    placed = each_append HasItsPlace [] lines mine was.placed laws.placed;
+    placed = each_append (HasItsPlace script) [] lines mine was.placed laws.placed;
+    unhurt = downs_more lines name number rs was.unhurt;
   }
     where
       mine : List Line
@@ -121,18 +123,20 @@ module _ (script : Script) (done left : List BodyLine) (l : BodyLine) (lines : L
       longer : length entries ≤ length entries'
       longer = grows_length entries entries' keeps.grows
 
-      laws : ArePaced (from_nothing script).origin name number lines (length entries') rs
-      laws = paced_laws (from_nothing script).origin name number (length entries) (length entries') lines rs was.named was.stored.opened (omega arith) longer keeps.paced
+      laws : ArePaced script (from_nothing script).origin name number lines (length entries') rs
+      laws = paced_laws script (from_nothing script).origin name number (length entries) (length entries') lines rs was.named was.stored.opened (omega arith) longer keeps.paced
 
-      its_piece : piece sql_language done l.act rs ≡ lines_of name number rs
-      its_piece = ap (λ (a : Act). piece sql_language done a rs) is_act ∙ ap (λ n. lines_of name n rs) (sym keeps.belongs)
-
-      its_turn_of : IsTurnOf sql_language (last_position (from_nothing script).origin (Setup 1 ∷ was.later)) done lines l.act rs keeps.added
+      its_turn_of : IsTurnOf (from_nothing script) (last_position (from_nothing script).origin (Setup 1 ∷ was.later)) done lines l.act mine keeps.added
       its_turn_of =
           let count : length entries ≡ suc (length was.later) = ap (λ (es : List EntryLine). length es) was.begins in
           let now : length entries ≡ last_position (from_nothing script).origin (Setup 1 ∷ was.later) = omega (arith, count) in
-          subst (λ (a : Act). IsTurnOf sql_language (last_position (from_nothing script).origin (Setup 1 ∷ was.later)) done lines a rs keeps.added) (sym is_act)
-          (subst (λ n. IsTurn n lines name (number_told sql_language place text) (is_own sql_language place text) rs keeps.added) now keeps.turn)
+          subst (λ (a : Act). IsTurnOf (from_nothing script) (last_position (from_nothing script).origin (Setup 1 ∷ was.later)) done lines a mine keeps.added) (sym is_act) (inl (record {
+            replies = rs;
+            says = ap (λ n. lines_of name n rs) keeps.belongs;
+            turn = subst (λ n. IsTurn n lines name (number_told sql_language place text) (is_own sql_language place text) rs keeps.added) now keeps.turn;
+            kept = none_lost script lines name (number_told sql_language place text) place.pending was.unhurt;
+            majority = none_lacks script lines (sql_language.kind text) place.pending was.unhurt;
+          }))
 
       own_stands : Standing script entries' seen'.next name (place_after sql_language name (done ++ l ∷ [])) (told name (lines ++ lines_of name number rs)) (state_of name script.sessions sites')
       own_stands =
@@ -198,9 +202,9 @@ module _ (script : Script) (done left : List BodyLine) (l : BodyLine) (lines : L
       told_all = told_append name lines (lines_of name t.number t.replies) ∙ ap (λ ls. told name lines ++ ls) (told_own name name t.number t.replies (same_itself name))
 
       up_to : (are_up_to (is_last_of (is_own sql_language place text)) t.replies ≡ true) ⊎ ((t.replies ≡ []) × WasCutUnder (told name lines) (number_told sql_language place text)) →
-          (are_up_to (is_last_of (is_own sql_language place text)) t.replies ≡ true) ⊎ ((t.replies ≡ []) × WasCut lines name (number_told sql_language place text))
+          (are_up_to (is_last_of (is_own sql_language place text)) t.replies ≡ true) ⊎ ((t.replies ≡ []) × (was_cut lines name (number_told sql_language place text) ≡ true))
       up_to (inl is) = inl is
-      up_to (inr (none, (cause, cuts_it, stands))) = inr (none, (cause, cuts_it, told_stands name (number_told sql_language place text) cause lines stands))
+      up_to (inr (none, (cause, cuts_it, stands))) = inr (none, cut_at lines name (number_told sql_language place text) cause cuts_it (told_stands name (number_told sql_language place text) cause lines stands))
 
       turn_with : (added : List EntryLine) → entries' ≡ entries ++ added → IsAppended (length entries) name (number_told sql_language place text) t.replies added →
           IsTurn (length entries) lines name (number_told sql_language place text) (is_own sql_language place text) t.replies added

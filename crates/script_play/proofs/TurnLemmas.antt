@@ -30,6 +30,7 @@ use Rattle.report_laws.specs.Told.{Along, Numbered, IsTold, IsWhole, IsCut, numb
 use Rattle.report_laws.specs.Work.{Transaction, Does, Lone, Place, End, ByCommit, ByRollback, WithItsLine, Nowhere, transaction, transaction_of, with_open, with_own_line, closed, next_by}
 use Rattle.cdb_values.specs.declared.items.GenidItem.{GenidItem}
 use Rattle.session_language.proofs.AnswerLaws.{replies_more, ops_more}
+use Rattle.report_laws.proofs.GrowLaws.{may_later}
 use Rattle.report_laws.proofs.PieceLaws.{plain_all_quiet}
 use Rattle.session_language.proofs.UpToLaws.{up_to_last, up_to_one}
 use Rattle.report_laws.proofs.TurnedLaws.{loud, no_row}
@@ -401,6 +402,7 @@ module _ (script : Script) (entries : List EntryLine) (taken : List (List GenidI
       rest = c.doing.rest ++ more;
       cause = c.doing.cause;
       is_cause = c.doing.is_cause;
+      may = may_later Nowhere c.doing.ran.ops _ c.doing.front c.doing.rest (c.doing.rest ++ more) c.doing.cause c.doing.may;
       fits = sym (append_assoc c.doing.front c.doing.rest more) ∙ ap (λ rs. rs ++ more) c.doing.fits
           ∙ ap (λ (a : Answered). (reply.Begin c.doing.begin ∷ a.replies) ++ more) c.doing.is_ran
           ∙ ap (λ rs. reply.Begin c.doing.begin ∷ rs) (sym (replies_more sql_language (tables_of script) (rows_at (from_nothing script) entries c.doing.begin).tables [] texts text));
@@ -430,7 +432,7 @@ module _ (script : Script) (entries : List EntryLine) (taken : List (List GenidI
     skips_end : (end : End) → Goal (closed p texts end) p.number false (turned p.number [] (state p.number p.level doing.No))
     skips_end end kept = quiet k (Some texts) doing.Aborted c (closed p texts end) p.number p.number false [] (state p.number p.level doing.No) kept
         (idle_after script entries entries (inl refl) name p c.before c.past (Does (transaction p.number texts p.level end)) c.mine (lines ++ numbered p.number []) seen.next p.number p.level
-        (inr (record { begin = c.doing.begin; base = c.doing.base; within = c.doing.within; ran = c.doing.ran; is_ran = c.doing.is_ran; front = c.doing.front; rest = c.doing.rest; fits = c.doing.fits; cause = c.doing.cause; is_cause = c.doing.is_cause; says = c.doing.says })) skipped_lines)
+        (inr (record { begin = c.doing.begin; base = c.doing.base; within = c.doing.within; ran = c.doing.ran; is_ran = c.doing.is_ran; front = c.doing.front; rest = c.doing.rest; fits = c.doing.fits; cause = c.doing.cause; is_cause = c.doing.is_cause; may = may_later end c.doing.ran.ops c.doing.ran.ops c.doing.front c.doing.rest c.doing.rest c.doing.cause c.doing.may; says = c.doing.says })) skipped_lines)
         refl refl (inr (refl, was_cut))
 
   -- whatever the line is, and wherever the session is

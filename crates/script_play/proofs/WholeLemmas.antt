@@ -20,10 +20,11 @@ use Rattle.script_play.specs.Basis.{from_nothing}
 use Rattle.sql_answer.specs.Language.{sql_language}
 use Rattle.report_laws.specs.Lawful.{Lawful}
 use Rattle.report_laws.specs.Outcome.{Ends}
-use Rattle.report_laws.specs.Play.{InPlayOrder, InTurns}
+use Rattle.report_laws.specs.Play.{InPlayOrder, InTurns, opened_behind}
 use Rattle.report_laws.specs.Told.{Along, Numbered, IsTold, IsCut, told, numbered, alone_at}
 use Rattle.report_laws.specs.Work.{Transaction, Item, Does, Place, Nowhere, transaction, work, place_after, items_at, open_item, start}
 use Rattle.cdb_values.specs.declared.items.GenidItem.{GenidItem}
+use Rattle.report_laws.proofs.NodesLaws.{none_few}
 use Rattle.report_laws.proofs.ToldLaws.{along_append, along_one, along_map}
 use Rattle.script_play.specs.Ready.{AreKept}
 use Rattle.script_play.proofs.SoundLaws.{kept_none}
@@ -72,6 +73,7 @@ begins_so script seen none next = record {
   answered = (tt, tt);
   ended = (tt, tt);
   placed = tt;
+  unhurt = refl;
 }
 
 -- the open transaction, as it was told so far
@@ -141,7 +143,16 @@ module _ (script : Script) (done : List BodyLine) (lines : List Line) (entries :
   -- and its lines stand in the order of play
   pub ends_in_order : InPlayOrder (from_nothing script) (report_of lines entries)
   ends_in_order = record {
+    first = [];
+    go_down = tt;
+    rest = lines;
+    lines_are = refl;
     later = was.later;
-    opened = was.begins;
-    order = subst (λ (body : List BodyLine). InTurns (from_nothing script) [] [] (Setup 1 ∷ []) body lines was.later) (sym all_done) was.order;
+    opened = was.begins ∙ ap (λ (es : List EntryLine). es ++ was.later) (sym opens);
+    order = subst (λ (es : List EntryLine). InTurns (from_nothing script) [] [] es script.body lines was.later) (sym opens)
+        (subst (λ (body : List BodyLine). InTurns (from_nothing script) [] [] (Setup 1 ∷ []) body lines was.later) (sym all_done) was.order);
   }
+    where
+      -- no node is down at the opening
+      opens : opened_behind (from_nothing script) [] ≡ Setup 1 ∷ []
+      opens = ap (λ (few : Bool). if few then [] else Setup 1 ∷ []) (none_few script.nodes [] refl)

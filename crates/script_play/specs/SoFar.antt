@@ -22,6 +22,7 @@ use Rattle.script_play.specs.Basis.{from_nothing}
 use Rattle.session_language.specs.Each.{EachAfter}
 use Rattle.report_laws.specs.History.{rows_at, taken_at, IsEntryAfter, view_of}
 use Rattle.report_laws.specs.Lawful.{IsFreshLine, NameUpTo}
+use Rattle.report_laws.specs.Nodes.{downs}
 use Rattle.report_laws.specs.Places.{HasItsPlace}
 use Rattle.report_laws.specs.Play.{InTurns}
 use Rattle.report_laws.specs.Told.{Along, Numbered, IsCut, IsTold, IsEntryTold, told, numbered}
@@ -106,7 +107,9 @@ pub record SoFar (script : Script) (done left : List BodyLine) (lines : List Lin
   pub named : NameUpTo (length entries) lines
   pub answered : AllByRecursion (IsEntryTold (from_nothing script) (view_of (from_nothing script) entries) lines) entries
   pub ended : AllByRecursion (IsEnded done) entries
-  pub placed : EachAfter HasItsPlace [] lines
+  pub placed : EachAfter (HasItsPlace script) [] lines
+  -- no node went down
+  pub unhurt : downs lines ≡ 0
 
 -- the run before a line, with the lines `left` still to do: every line of the script can be run
 pub record IsBefore (script : Script) (left : List BodyLine) (lines : List Line) (entries : List EntryLine) (taken : List (List GenidItem)) (seen : Seen) (states : List SessionAt) : Type 0 where

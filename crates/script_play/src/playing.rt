@@ -7,6 +7,7 @@ ghost use Rattle.script_play.specs.EntryLines.{AreTold};
 ghost use Rattle.script_form.specs.CanRun.{CanRun, tables_of};
 ghost use Rattle.script_form.specs.declared.scripts.BodyLine.{BodyLine};
 ghost use Rattle.report_laws.specs.Lawful.{Lawful};
+ghost use Rattle.report_laws.specs.Nodes.{downs};
 ghost use Rattle.report_laws.specs.Play.{InPlayOrder};
 ghost use Rattle.script_play.specs.Basis.{from_nothing};
 ghost use Rattle.script_play.specs.RunViews.{state_in, IsBeforeLine, IsOpenedLog};
@@ -33,14 +34,15 @@ pub struct Played {
     pub log: PagedLog,
 }
 
-/// Plays a script that can run: its lines are done one after the other. The report is lawful and in the order of play. The
-/// log begins with the script's tables. It has exactly the entries of the history, each with the session, number, begin and
-/// level that are printed; each takes away what it does in the history, its changes make the rows of the history at each
-/// position, and its pages stand for these rows. The error is want of memory.
+/// Plays a script that can run: its lines are done one after the other. The report is lawful and in the order of play, and
+/// no node goes down in it. The log begins with the script's tables. It has exactly the entries of the history, each with
+/// the session, number, begin and level that are printed; each takes away what it does in the history, its changes make the
+/// rows of the history at each position, and its pages stand for these rows. The error is want of memory.
 pub fn play(alloc: Global, script: &Script) -> Result<Played, AllocError>
     requires { CanRun script.now }
     ensures lawful { IfOk result (λ p. Lawful (from_nothing script.now) p.report) }
     ensures in_order { IfOk result (λ p. InPlayOrder (from_nothing script.now) p.report) }
+    ensures no_fault { IfOk result (λ p. downs p.report.lines ≡ 0) }
     ensures entries { IfOk result (λ p. AreTold p.report.entries p.log) }
     ensures schema { IfOk result (λ p. schema_told p.log ≡ Some (tables_of script.now)) }
     ensures taken { IfOk result (λ p. (k : ℕ) → 1 ≤ k → k ≤ length p.log

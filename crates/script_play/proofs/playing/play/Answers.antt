@@ -9,7 +9,7 @@ use Rattle.script_play.specs.Basis.{from_nothing}
 use Rattle.script_play.specs.EntryLines.{AreTold}
 use Rattle.script_play.specs.RunViews.{state_in, IsBeforeLine}
 use Rattle.script_play.specs.SoFar.{at_start}
-use Rattle.script_play.proofs.PlayLaws.{opens_so, opens_told, opens_own, ends_so, ends_logged, ends_taken}
+use Rattle.script_play.proofs.PlayLaws.{opens_so, opens_told, opens_own, ends_so, ends_unhurt, ends_logged, ends_taken}
 use Rattle.script_play.proofs.playing.play.Goals as goal
 
 pub lines-init : goal.lines-init
@@ -31,6 +31,9 @@ returns-clause-lawful c = (ends_so c.args.script.now c.lines.rest.now c.lines.so
 
 pub returns-clause-in_order : goal.returns-clause-in_order
 returns-clause-in_order c = (ends_so c.args.script.now c.lines.rest.now c.lines.so_far.lines.items c.lines.so_far.entries.items _ _ (map state_in c.lines.states) c.reported.result.report c.lines.invariant.0.0 c.in_default.ensures.cases c.reported.ensures.report).1
+
+pub returns-clause-no_fault : goal.returns-clause-no_fault
+returns-clause-no_fault c = ends_unhurt c.args.script.now c.lines.rest.now c.lines.so_far.lines.items c.lines.so_far.entries.items _ _ (map state_in c.lines.states) c.reported.result.report c.lines.invariant.0.0 c.reported.ensures.report
 
 pub returns-clause-entries : goal.returns-clause-entries
 returns-clause-entries c =
