@@ -1,4 +1,4 @@
--- What is decided of a request over a log: the first of these that is right.
+-- What is decided of a request over a log, whose rows are known over a ground: the first of these that is right.
 --
 -- 1. Where an entry after its begin position takes away a version that it used: a conflict, at the first such entry.
 -- 2. Where the rows at the last position with its operations applied break a key: a duplicate, of the first such key.
@@ -19,7 +19,7 @@ use Rattle.phys_log.specs.declared.requests.Decision.{Decision}
 use Rattle.phys_log.specs.declared.requests.Decision.TheVariants.{Repeat, Conflict, Duplicate, Commit}
 use Rattle.table_store.specs.Stored.{Stands}
 use Rattle.table_edits.specs.Broken.{KeyPlace, broken_place}
-use Rattle.log_rows.specs.History.{rows_of, takes_in, tables_of}
+use Rattle.log_rows.specs.History.{Ground, rows_over, takes_in, tables_of}
 use Rattle.block_processor.specs.Conflicts.{Touched, first_conflict}
 
 -- the first entry after the begin of a request that touches what it used
@@ -27,8 +27,8 @@ abbrev pub conflict_of : CommitRequest → List Entry → Option Touched
 conflict_of request entries = first_conflict request.begin (drop request.begin (takes_in entries)) request.genids
 
 -- the first key that its operations break at the end of the log
-abbrev pub broken_by : CommitRequest → List Entry → Option KeyPlace
-broken_by request entries = broken_place (apply_all (rows_of entries) request.ops) 0 (tables_of entries)
+abbrev pub broken_by : Ground → CommitRequest → List Entry → Option KeyPlace
+broken_by ground request entries = broken_place (apply_all (rows_over ground entries) request.ops) 0 (tables_of entries)
 
 -- a conflict is told exactly where it is
 abbrev pub IsConflict : ℕ → Item → Option Touched → Type 0
@@ -36,24 +36,24 @@ IsConflict position (Genid item) found = found ≡ Some (record { position = pos
 IsConflict position (Range table key) found = ⊥
 
 -- a duplicate is told
-pub record IsDuplicate (request : CommitRequest) (entries : List Entry) (position table key : ℕ) : Type 0 where
+pub record IsDuplicate (ground : Ground) (request : CommitRequest) (entries : List Entry) (position table key : ℕ) : Type 0 where
   pub free : conflict_of request entries ≡ None
   pub now : position ≡ length entries
-  pub broken : broken_by request entries ≡ Some (record { table = table; key = key })
+  pub broken : broken_by ground request entries ≡ Some (record { table = table; key = key })
 
 -- the entry that comes next
-pub record IsNextEntry (request : CommitRequest) (entries : List Entry) (generation : ℕ) (next : Entry) : Type 0 where
+pub record IsNextEntry (ground : Ground) (request : CommitRequest) (entries : List Entry) (generation : ℕ) (next : Entry) : Type 0 where
   pub free : conflict_of request entries ≡ None
-  pub kept : broken_by request entries ≡ None
+  pub kept : broken_by ground request entries ≡ None
   pub records : List LogRecord
-  pub made : next ≡ entry.Commit generation request.id request.begin request.level (changes_of request.ops (rows_of entries).next) records
+  pub made : next ≡ entry.Commit generation request.id request.begin request.level (changes_of request.ops (rows_over ground entries).next) records
   pub fits : Fits entries next
-  pub stands : Stands (pages_of (entries ++ next ∷ [])) (tables_of entries) (rows_of (entries ++ next ∷ []))
-  pub rows : rows_of (entries ++ next ∷ []) ≡ apply_all (rows_of entries) request.ops
+  pub stands : Stands (pages_of (entries ++ next ∷ [])) (tables_of entries) (rows_over ground (entries ++ next ∷ []))
+  pub rows : rows_over ground (entries ++ next ∷ []) ≡ apply_all (rows_over ground entries) request.ops
 
 -- a decision is the right one
-abbrev pub Decides : CommitRequest → List Entry → ℕ → Decision → Type 0
-Decides request entries generation (Repeat position) = ⊥
-Decides request entries generation (Conflict position item) = IsConflict position item (conflict_of request entries)
-Decides request entries generation (Duplicate position table key) = IsDuplicate request entries position table key
-Decides request entries generation (Commit next) = IsNextEntry request entries generation next
+abbrev pub Decides : Ground → CommitRequest → List Entry → ℕ → Decision → Type 0
+Decides ground request entries generation (Repeat position) = ⊥
+Decides ground request entries generation (Conflict position item) = IsConflict position item (conflict_of request entries)
+Decides ground request entries generation (Duplicate position table key) = IsDuplicate ground request entries position table key
+Decides ground request entries generation (Commit next) = IsNextEntry ground request entries generation next

@@ -4,7 +4,7 @@ ghost use Rattle.cdb_values.specs.Rows.{apply_all};
 ghost use Rattle.page_workspace.specs.Drafts.{meant};
 ghost use Rattle.phys_log.specs.Logs.{pages_of};
 ghost use Rattle.table_store.specs.Stored.{Stands};
-ghost use Rattle.log_rows.specs.History.{rows_of, tables_of};
+ghost use Rattle.log_rows.specs.History.{Ground, rows_over, tables_of};
 ghost use Rattle.log_rows.specs.Sources.{source_pages};
 ghost use Rattle.block_processor.specs.Able.{IsAble};
 ghost use Rattle.block_processor.specs.Asked.{IsAsked};
@@ -20,7 +20,7 @@ use std::alloc::{AllocError, Global};
 use table_edits::{OpsFault, change_rows};
 
 /// What is decided of a request over a log, whose next entry is of a generation: the first of a conflict, a duplicate and
-/// the next entry that is right. Nothing is changed.
+/// the next entry that is right. Nothing is changed. This holds over every ground over which the request is what is asked.
 ///
 /// Answers `AllocError` for want of memory, where the next genid or an LSN would not be below 2^62, and where the log has a
 /// setup behind the begin position, which no log that is kept has.
@@ -30,8 +30,9 @@ pub fn decide(
     log: &PagedLog,
     generation: u64,
 ) -> Result<Decision, AllocError>
-    requires asked { IsAsked request.now log.now }
-    ensures { IfOk result (Decides request.now log.now generation) }
+    ghost ground: { Ground }
+    requires asked { IsAsked ground request.now log.now }
+    ensures { IfOk result (Decides ground request.now log.now generation) }
 {
     let Some(schema) = log.schema() else {
         unreachable!();
@@ -57,9 +58,10 @@ fn decide_free(
     log: &PagedLog,
     generation: u64,
 ) -> Result<Decision, AllocError>
-    requires asked { IsAsked request.now log.now }
+    ghost ground: { Ground }
+    requires asked { IsAsked ground request.now log.now }
     requires free { conflict_of request.now log.now ≡ None }
-    ensures { IfOk result (Decides request.now log.now generation) }
+    ensures { IfOk result (Decides ground request.now log.now generation) }
 {
     if !are_able(request, log) {
         return Err(AllocError);
@@ -74,10 +76,11 @@ fn decide_able(
     log: &PagedLog,
     generation: u64,
 ) -> Result<Decision, AllocError>
-    requires asked { IsAsked request.now log.now }
+    ghost ground: { Ground }
+    requires asked { IsAsked ground request.now log.now }
     requires free { conflict_of request.now log.now ≡ None }
-    requires able { IsAble request.now log.now }
-    ensures { IfOk result (Decides request.now log.now generation) }
+    requires able { IsAble ground request.now log.now }
+    ensures { IfOk result (Decides ground request.now log.now generation) }
 {
     let Some(schema) = log.schema() else {
         unreachable!();
@@ -104,13 +107,14 @@ fn next_entry<'a>(
     generation: u64,
     space: Workspace<LogPages<'a>>,
 ) -> Result<Entry, AllocError>
-    requires asked { IsAsked request.now log.now }
+    ghost ground: { Ground }
+    requires asked { IsAsked ground request.now log.now }
     requires free { conflict_of request.now log.now ≡ None }
-    requires able { IsAble request.now log.now }
-    requires kept { broken_by request.now log.now ≡ None }
+    requires able { IsAble ground request.now log.now }
+    requires kept { broken_by ground request.now log.now ≡ None }
     requires over { source_pages space.base ≡ pages_of log.now }
-    requires done { Stands (meant source_pages space) (tables_of log.now) (apply_all (rows_of log.now) request.now.ops) }
-    ensures { IfOk result (IsNextEntry request.now log.now generation) }
+    requires done { Stands (meant source_pages space) (tables_of log.now) (apply_all (rows_over ground log.now) request.now.ops) }
+    ensures { IfOk result (IsNextEntry ground request.now log.now generation) }
 {
     let records = entry_records(alloc, log, space)?;
     let changes = changes_made(alloc, request.ops.as_slice(), next_genid(log))?;

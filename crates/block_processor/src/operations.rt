@@ -4,6 +4,7 @@ ghost use Rattle.std.specs.List.{AllByRecursion, list_all};
 ghost use Rattle.cdb_values.specs.Changes.{changes_of};
 ghost use Rattle.cdb_values.specs.declared.values.Value.TheVariants.{Int};
 ghost use Rattle.key_code.specs.Codes.{IsInRange};
+ghost use Rattle.log_rows.specs.History.{Ground};
 ghost use Rattle.table_changes.specs.Changed.{next_of};
 ghost use Rattle.block_processor.specs.Able.{IsAble, is_commit as is_commit_of};
 ghost use Rattle.block_processor.specs.Asked.{IsAsked, Writes};
@@ -19,9 +20,10 @@ use std::alloc::{AllocError, Global};
 /// Whether the operations of a request that no entry touches can be done at the end of a log. They can but for want of
 /// genids, and where the log has a setup behind the begin position, which no log that is kept has. Takes no memory.
 pub(crate) fn are_able(request: &CommitRequest, log: &PagedLog) -> bool
-    requires asked { IsAsked request.now log.now }
+    ghost ground: { Ground }
+    requires asked { IsAsked ground request.now log.now }
     requires free { conflict_of request.now log.now ≡ None }
-    ensures { result ≡ true → IsAble request.now log.now }
+    ensures { result ≡ true → IsAble ground request.now log.now }
 {
     read_ops(request.ops.as_slice());
     are_commits(log.entries(), request.begin) && has_room(next_genid(log), request.ops.as_slice())

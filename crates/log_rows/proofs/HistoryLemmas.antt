@@ -2,7 +2,7 @@
 use Rattle.std.proofs.Common.{◌≡◌, ◌⊎◌, ℕ, zero, suc, ◌≤◌, inl, inr, List, [], ◌∷◌, ◌++◌, length, take, drop, unwrap_or, Option, refl, sym, ap, ◌∙◌, subst, arith, length-append}
 use Rattle.std.proofs.lemmas.List.{take-append-drop, take-append-le}
 use Rattle.std.specs.List.{AllByRecursion}
-use Rattle.cdb_values.specs.Rows.{Rows, no_rows, versions_of}
+use Rattle.cdb_values.specs.Rows.{Rows, versions_of}
 use Rattle.cdb_values.specs.declared.items.GenidItem.{GenidItem}
 use Rattle.cdb_values.specs.declared.rows.Version.{Version}
 use Rattle.cdb_values.specs.declared.tables.TableDef.{TableDef}
@@ -12,7 +12,7 @@ use Rattle.phys_log.specs.declared.entries.Entry.TheVariants.{Setup, Commit}
 use Rattle.log_replay.specs.Answers.{schema_of}
 use Rattle.table_store.specs.Listings.{IsAmong}
 use Rattle.table_store.specs.Stored.{Stands}
-use Rattle.log_rows.specs.History.{rows_after, rows_from, rows_of, rows_at, takes_of, takes_in, tables_of, StandsThroughout, IsCommit, IsUntaken}
+use Rattle.log_rows.specs.History.{Ground, rows_after, rows_from, rows_over, rows_over_at, takes_of, takes_in, tables_of, StandsOver, IsCommit, IsUntaken}
 use Rattle.log_rows.proofs.RowLemmas.{changes_stay}
 
 rows_from-append : (rows : Rows) (xs ys : List Entry) → rows_from rows (xs ++ ys) ≡ rows_from (rows_from rows xs) ys
@@ -23,14 +23,47 @@ take_all : {A : Type 0} (xs : List A) → take (length xs) xs ≡ xs
 take_all [] = refl
 take_all (x ∷ xs) = ap (λ l. x ∷ l) (take_all xs)
 
-pub rows_earlier : (entries more : List Entry) (k : ℕ) → k ≤ length entries → rows_at (entries ++ more) k ≡ rows_at entries k
-rows_earlier entries more k h = ap rows_of (take-append-le k entries more h)
+-- what is left behind a position of entries, in parts
+drop_all : (position : ℕ) (entries : List Entry) → length entries ≤ position → drop position entries ≡ []
+drop_all zero [] h = refl
+drop_all zero (e ∷ es) h = absurd (none h)
+  where
+    none : length (e ∷ es) ≤ 0 → ⊥
+    none h = omega (arith, h)
+drop_all (suc position) [] h = refl
+drop_all (suc position) (e ∷ es) h = drop_all position es (omega (arith, h))
 
-pub rows_whole : (entries : List Entry) → rows_at entries (length entries) ≡ rows_of entries
-rows_whole entries = ap rows_of (take_all entries)
+drop_more : (position : ℕ) (entries : List Entry) (entry : Entry) → position ≤ length entries → drop position (entries ++ entry ∷ []) ≡ drop position entries ++ entry ∷ []
+drop_more zero entries entry h = refl
+drop_more (suc position) [] entry h = absurd (none h)
+  where
+    none : suc position ≤ 0 → ⊥
+    none h = omega (arith, h)
+drop_more (suc position) (e ∷ es) entry h = drop_more position es entry (omega (arith, h))
 
-pub rows_last : (entries : List Entry) (entry : Entry) → rows_of (entries ++ entry ∷ []) ≡ rows_after (rows_of entries) entry
-rows_last entries entry = rows_from-append (no_rows []) entries (entry ∷ [])
+drop_parts : (position begin : ℕ) (entries : List Entry) → position ≤ begin → drop position (take begin entries) ++ drop begin entries ≡ drop position entries
+drop_parts zero begin entries h = take-append-drop begin entries
+drop_parts (suc position) zero entries h = absurd (none h)
+  where
+    none : suc position ≤ 0 → ⊥
+    none h = omega (arith, h)
+drop_parts (suc position) (suc begin) [] h = refl
+drop_parts (suc position) (suc begin) (e ∷ es) h = drop_parts position begin es (omega (arith, h))
+
+pub rows_ground : (ground : Ground) (entries : List Entry) → length entries ≤ ground.position → rows_over ground entries ≡ ground.rows
+rows_ground ground entries h = ap (λ (es : List Entry). rows_from ground.rows es) (drop_all ground.position entries h)
+
+pub rows_earlier : (ground : Ground) (entries more : List Entry) (k : ℕ) → k ≤ length entries → rows_over_at ground (entries ++ more) k ≡ rows_over_at ground entries k
+rows_earlier ground entries more k h = ap (rows_over ground) (take-append-le k entries more h)
+
+pub rows_whole : (ground : Ground) (entries : List Entry) → rows_over_at ground entries (length entries) ≡ rows_over ground entries
+rows_whole ground entries = ap (rows_over ground) (take_all entries)
+
+pub rows_last : (ground : Ground) (entries : List Entry) (entry : Entry) → ground.position ≤ length entries
+    → rows_over ground (entries ++ entry ∷ []) ≡ rows_after (rows_over ground entries) entry
+rows_last ground entries entry within =
+    ap (λ (es : List Entry). rows_from ground.rows es) (drop_more ground.position entries entry within)
+    ∙ rows_from-append ground.rows (drop ground.position entries) (entry ∷ [])
 
 -- the last position, or one before it
 last_or : (k n : ℕ) → k ≤ suc n → (k ≤ n) ⊎ (k ≡ suc n)
@@ -43,12 +76,22 @@ last_or (suc k) (suc n) h = go (last_or k n (omega arith))
     go (inr e) = inr (ap (λ (m : ℕ). suc m) e)
 
 -- pages that stand for rows, of the same entries
-same_stand : (tables : List TableDef) (xs ys : List Entry) → xs ≡ ys → Stands (pages_of xs) tables (rows_of xs) → Stands (pages_of ys) tables (rows_of ys)
-same_stand tables xs ys e h = subst (λ (l : List Entry). Stands (pages_of l) tables (rows_of l)) e h
+same_stand : (ground : Ground) (tables : List TableDef) (xs ys : List Entry) → xs ≡ ys → Stands (pages_of xs) tables (rows_over ground xs)
+    → Stands (pages_of ys) tables (rows_over ground ys)
+same_stand ground tables xs ys e h = subst (λ (l : List Entry). Stands (pages_of l) tables (rows_over ground l)) e h
 
-pub stand_more : (tables : List TableDef) (entries : List Entry) (entry : Entry) → StandsThroughout tables entries
-    → Stands (pages_of (entries ++ entry ∷ [])) tables (rows_of (entries ++ entry ∷ [])) → StandsThroughout tables (entries ++ entry ∷ [])
-stand_more tables entries entry before now k low high =
+pub stand_begun : (ground : Ground) (tables : List TableDef) (entries : List Entry) → length entries ≡ ground.position
+    → (1 ≤ length entries → Stands (pages_of entries) tables ground.rows) → StandsOver ground tables entries
+stand_begun ground tables entries long stands k from high =
+    let some : 1 ≤ length entries = (let low = from.0 in omega (arith, low, high)) in
+    let last : length entries ≡ k = (let base = from.1 in omega (arith, long, base, high)) in
+    let ends : length entries ≤ ground.position = omega (arith, long) in
+    same_stand ground tables entries (take k entries) (sym (ap (λ (n : ℕ). take n entries) (sym last) ∙ take_all entries))
+    (subst (λ (r : Rows). Stands (pages_of entries) tables r) (sym (rows_ground ground entries ends)) (stands some))
+
+pub stand_more : (ground : Ground) (tables : List TableDef) (entries : List Entry) (entry : Entry) → StandsOver ground tables entries
+    → Stands (pages_of (entries ++ entry ∷ [])) tables (rows_over ground (entries ++ entry ∷ [])) → StandsOver ground tables (entries ++ entry ∷ [])
+stand_more ground tables entries entry before now k from high =
     let long = length-append entries (entry ∷ []) in
     let within : k ≤ suc (length entries) = omega (arith, long) in
     go (last_or k (length entries) within)
@@ -56,29 +99,24 @@ stand_more tables entries entry before now k low high =
     all : List Entry
     all = entries ++ entry ∷ []
 
-    go : (k ≤ length entries) ⊎ (k ≡ suc (length entries)) → Stands (page_at all k) tables (rows_at all k)
-    go (inl l) = same_stand tables (take k entries) (take k all) (sym (take-append-le k entries (entry ∷ []) l)) (before k low l)
+    go : (k ≤ length entries) ⊎ (k ≡ suc (length entries)) → Stands (page_at all k) tables (rows_over_at ground all k)
+    go (inl l) = same_stand ground tables (take k entries) (take k all) (sym (take-append-le k entries (entry ∷ []) l)) (before k from l)
     go (inr e) =
         let long = length-append entries (entry ∷ []) in
         let last : k ≡ length all = omega (arith, long, e) in
-        same_stand tables all (take k all) (sym (ap (λ (n : ℕ). take n all) last ∙ take_all all)) now
+        same_stand ground tables all (take k all) (sym (ap (λ (n : ℕ). take n all) last ∙ take_all all)) now
 
-pub stand_front : (tables : List TableDef) (entries more : List Entry) → StandsThroughout tables (entries ++ more) → StandsThroughout tables entries
-stand_front tables entries more h k low high =
+pub stand_front : (ground : Ground) (tables : List TableDef) (entries more : List Entry) → StandsOver ground tables (entries ++ more) → StandsOver ground tables entries
+stand_front ground tables entries more h k from high =
     let long = length-append entries more in
     let within : k ≤ length (entries ++ more) = omega (arith, long) in
-    same_stand tables (take k (entries ++ more)) (take k entries) (take-append-le k entries more high) (h k low within)
+    same_stand ground tables (take k (entries ++ more)) (take k entries) (take-append-le k entries more high) (h k from within)
 
-pub stand_whole : (tables : List TableDef) (entries : List Entry) → 1 ≤ length entries → StandsThroughout tables entries → Stands (pages_of entries) tables (rows_of entries)
-stand_whole tables entries some h =
+pub stand_whole : (ground : Ground) (tables : List TableDef) (entries : List Entry) → 1 ≤ length entries → ground.position ≤ length entries
+    → StandsOver ground tables entries → Stands (pages_of entries) tables (rows_over ground entries)
+stand_whole ground tables entries some base h =
     let last : length entries ≤ length entries = omega arith in
-    same_stand tables (take (length entries) entries) entries (take_all entries) (h (length entries) some last)
-
-pub stand_none : (tables : List TableDef) → StandsThroughout tables []
-stand_none tables k low high = absurd (none low high)
-  where
-    none : 1 ≤ k → k ≤ 0 → ⊥
-    none low high = omega arith
+    same_stand ground tables (take (length entries) entries) entries (take_all entries) (h (length entries) (some, base) last)
 
 -- the schema of the first entry
 pub schema_front : (entries more : List Entry) → 1 ≤ length entries → schema_of (entries ++ more) ≡ schema_of entries
@@ -112,12 +150,13 @@ entries_stay [] rows table v commits off h = h
 entries_stay (e ∷ es) rows table v commits off h =
     entries_stay es (rows_after rows e) table v commits.1 off.1 (entry_stays e rows table v commits.0 off.0 h)
 
-pub stays : (entries : List Entry) (begin table : ℕ) (v : Version) → AllByRecursion IsCommit (drop begin entries)
-    → IsAmong v (versions_of (rows_at entries begin) table) → AllByRecursion (IsUntaken table v.genid) (drop begin (takes_in entries))
-    → IsAmong v (versions_of (rows_of entries) table)
-stays entries begin table v commits h off =
-    let parts : rows_from (rows_at entries begin) (drop begin entries) ≡ rows_of entries =
-    sym (rows_from-append (no_rows []) (take begin entries) (drop begin entries)) ∙ ap rows_of (take-append-drop begin entries) in
+pub stays : (ground : Ground) (entries : List Entry) (begin table : ℕ) (v : Version) → ground.position ≤ begin → AllByRecursion IsCommit (drop begin entries)
+    → IsAmong v (versions_of (rows_over_at ground entries begin) table) → AllByRecursion (IsUntaken table v.genid) (drop begin (takes_in entries))
+    → IsAmong v (versions_of (rows_over ground entries) table)
+stays ground entries begin table v base commits h off =
+    let parts : rows_from (rows_over_at ground entries begin) (drop begin entries) ≡ rows_over ground entries =
+    sym (rows_from-append ground.rows (drop ground.position (take begin entries)) (drop begin entries))
+    ∙ ap (λ (es : List Entry). rows_from ground.rows es) (drop_parts ground.position begin entries base) in
     subst (λ (r : Rows). IsAmong v (versions_of r table)) parts
-    (entries_stay (drop begin entries) (rows_at entries begin) table v commits
+    (entries_stay (drop begin entries) (rows_over_at ground entries begin) table v commits
     (subst (λ (l : List (List GenidItem)). AllByRecursion (IsUntaken table v.genid) l) (takes_behind begin entries) off) h)

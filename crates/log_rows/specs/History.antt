@@ -8,7 +8,11 @@
 --
 -- the rows at position 2 have the version 1, those at position 3 the version 2, and the third entry takes away the
 -- version 1 of t. The pages of a log stand for its rows where they do so at each position.
-use Rattle.std.specs.Prelude.{◌≡◌, ℕ, ◌≤◌, List, [], ◌∷◌, map, length, take, unwrap_or}
+--
+-- A run may begin in a log that has entries already. What these say that they change is not looked at then: the rows
+-- there are given, and only the entries behind them make their changes. Over the ground at position 2 with the row
+-- (5, 50) as the version 9, the third entry of this log adds the version 2 beside the version 9.
+use Rattle.std.specs.Prelude.{◌≡◌, ℕ, ◌≤◌, List, [], ◌∷◌, map, length, take, drop, unwrap_or}
 use Rattle.std.specs.List.{AllByRecursion}
 use Rattle.cdb_values.specs.Changes.{genids_taken}
 use Rattle.cdb_values.specs.Rows.{Rows, no_rows}
@@ -31,13 +35,30 @@ abbrev pub rows_from : Rows → List Entry → Rows
 rows_from rows [] = rows
 rows_from rows (e ∷ es) = rows_from (rows_after rows e) es
 
+-- where a run begins in a log, and the rows there
+pub record Ground : Type 0 where
+  pub position : ℕ
+  pub rows : Rows
+
+-- a run that begins a log
+abbrev pub no_ground : Ground
+no_ground = record { position = 0; rows = no_rows [] }
+
+-- the rows of a log over a ground: the ground's, with the changes of the entries after its position
+abbrev pub rows_over : Ground → List Entry → Rows
+rows_over ground entries = rows_from ground.rows (drop ground.position entries)
+
+-- the rows at a position of a log over a ground
+abbrev pub rows_over_at : Ground → List Entry → ℕ → Rows
+rows_over_at ground entries position = rows_over ground (take position entries)
+
 -- the rows of a log
 abbrev pub rows_of : List Entry → Rows
-rows_of entries = rows_from (no_rows []) entries
+rows_of entries = rows_over no_ground entries
 
 -- the rows at a position of a log
 abbrev pub rows_at : List Entry → ℕ → Rows
-rows_at entries position = rows_of (take position entries)
+rows_at entries position = rows_over_at no_ground entries position
 
 -- the versions that an entry takes away, and those that each of some entries takes away
 abbrev pub takes_of : Entry → List GenidItem
@@ -51,9 +72,18 @@ takes_in entries = map takes_of entries
 abbrev pub tables_of : List Entry → List TableDef
 tables_of entries = unwrap_or (schema_of entries) []
 
+-- a position at which rows are known: at least 1, and at least the base, where a run begins
+abbrev pub IsFrom : ℕ → ℕ → Type 0
+IsFrom base position = (1 ≤ position) × (base ≤ position)
+
+-- the pages stand for the rows over a ground, at each position from it on
+abbrev pub StandsOver : Ground → List TableDef → List Entry → Type 0
+StandsOver ground tables entries =
+    (k : ℕ) → IsFrom ground.position k → k ≤ length entries → Stands (page_at entries k) tables (rows_over_at ground entries k)
+
 -- the pages stand for the rows at each position
 abbrev pub StandsThroughout : List TableDef → List Entry → Type 0
-StandsThroughout tables entries = (k : ℕ) → 1 ≤ k → k ≤ length entries → Stands (page_at entries k) tables (rows_at entries k)
+StandsThroughout tables entries = StandsOver no_ground tables entries
 
 -- an entry is that of a transaction
 abbrev pub IsCommit : Entry → Type 0

@@ -12,32 +12,40 @@ ghost use Rattle.log_replay.specs.Answers.{schema_of};
 ghost use Rattle.table_store.specs.Listings.{IsAmong};
 ghost use Rattle.table_store.specs.Stored.{Stands};
 ghost use Rattle.log_rows.specs.Applied.{apply_changes};
-ghost use Rattle.log_rows.specs.History.{rows_after, rows_of, rows_at, takes_of, takes_in, tables_of, StandsThroughout, IsCommit, IsUntaken};
+ghost use Rattle.log_rows.specs.History.{Ground, rows_after, rows_over, rows_over_at, takes_of, takes_in, tables_of, StandsOver, IsCommit, IsUntaken};
 
 /// The law that the changes of operations make of the rows what the operations make of them.
 pub fn changes_make_the_rows()
     ensures { (rows : Rows) (ops : List RowOp) → apply_changes rows (changes_of ops rows.next) ≡ apply_all rows ops }
 {}
 
-/// The law that the pages of a log go on to stand for its rows at each position, where they do so before an entry, and
-/// after it at the end.
+/// The law that the pages of a log stand for its rows over a ground at each position from it on, where the log ends at the
+/// ground and its pages stand for the rows there, if it has any entry (`begun`); that they go on to do so where they do
+/// before an entry, and after it at the end (`more`); and what follows for its first entries (`front`) and its end (`whole`).
 pub fn entries_stand()
-    ensures none { (tables : List TableDef) → StandsThroughout tables [] }
-    ensures more { (tables : List TableDef) (entries : List Entry) (entry : Entry) → StandsThroughout tables entries →
-        Stands (pages_of (entries ++ entry ∷ [])) tables (rows_of (entries ++ entry ∷ [])) →
-        StandsThroughout tables (entries ++ entry ∷ []) }
-    ensures front { (tables : List TableDef) (entries more : List Entry) →
-        StandsThroughout tables (entries ++ more) → StandsThroughout tables entries }
-    ensures whole { (tables : List TableDef) (entries : List Entry) → 1 ≤ length entries →
-        StandsThroughout tables entries → Stands (pages_of entries) tables (rows_of entries) }
+    ensures begun { (ground : Ground) (tables : List TableDef) (entries : List Entry) → length entries ≡ ground.position →
+        (1 ≤ length entries → Stands (pages_of entries) tables ground.rows) → StandsOver ground tables entries }
+    ensures more { (ground : Ground) (tables : List TableDef) (entries : List Entry) (entry : Entry) →
+        StandsOver ground tables entries →
+        Stands (pages_of (entries ++ entry ∷ [])) tables (rows_over ground (entries ++ entry ∷ [])) →
+        StandsOver ground tables (entries ++ entry ∷ []) }
+    ensures front { (ground : Ground) (tables : List TableDef) (entries more : List Entry) →
+        StandsOver ground tables (entries ++ more) → StandsOver ground tables entries }
+    ensures whole { (ground : Ground) (tables : List TableDef) (entries : List Entry) → 1 ≤ length entries →
+        ground.position ≤ length entries → StandsOver ground tables entries →
+        Stands (pages_of entries) tables (rows_over ground entries) }
 {}
 
-/// The law that the rows at a position depend on the first entries alone (`earlier`), that those at the last position are
-/// the log's (`whole`), and that an entry more makes its own of these (`last`).
+/// The law that the rows over a ground are those of the ground up to its position (`ground`), that those at a position
+/// depend on the first entries alone (`earlier`), that those at the last position are the log's (`whole`), and that an entry
+/// more, behind the ground, makes its own of these (`last`).
 pub fn rows_grow()
-    ensures earlier { (entries more : List Entry) (k : ℕ) → k ≤ length entries → rows_at (entries ++ more) k ≡ rows_at entries k }
-    ensures whole { (entries : List Entry) → rows_at entries (length entries) ≡ rows_of entries }
-    ensures last { (entries : List Entry) (entry : Entry) → rows_of (entries ++ entry ∷ []) ≡ rows_after (rows_of entries) entry }
+    ensures ground { (ground : Ground) (entries : List Entry) → length entries ≤ ground.position → rows_over ground entries ≡ ground.rows }
+    ensures earlier { (ground : Ground) (entries more : List Entry) (k : ℕ) → k ≤ length entries →
+        rows_over_at ground (entries ++ more) k ≡ rows_over_at ground entries k }
+    ensures whole { (ground : Ground) (entries : List Entry) → rows_over_at ground entries (length entries) ≡ rows_over ground entries }
+    ensures last { (ground : Ground) (entries : List Entry) (entry : Entry) → ground.position ≤ length entries →
+        rows_over ground (entries ++ entry ∷ []) ≡ rows_after (rows_over ground entries) entry }
 {}
 
 /// The law that the schema of a log stays once it has an entry, and that an entry more adds what it takes away at the end.
@@ -47,11 +55,12 @@ pub fn logs_keep_their_schema()
     ensures takes { (entries : List Entry) (entry : Entry) → takes_in (entries ++ entry ∷ []) ≡ takes_in entries ++ takes_of entry ∷ [] }
 {}
 
-/// The law that a version of a table that is there at a position, and that no later entry takes away, is there at the end,
-/// with the same row. The later entries are those of transactions.
+/// The law that a version of a table that is there at a position over a ground, and that no later entry takes away, is there
+/// at the end, with the same row. The later entries are those of transactions.
 pub fn untaken_stays()
-    ensures { (entries : List Entry) (begin table : ℕ) (v : Version) → AllByRecursion IsCommit (drop begin entries) →
-        IsAmong v (versions_of (rows_at entries begin) table) →
+    ensures { (ground : Ground) (entries : List Entry) (begin table : ℕ) (v : Version) → ground.position ≤ begin →
+        AllByRecursion IsCommit (drop begin entries) →
+        IsAmong v (versions_of (rows_over_at ground entries begin) table) →
         AllByRecursion (IsUntaken table v.genid) (drop begin (takes_in entries)) →
-        IsAmong v (versions_of (rows_of entries) table) }
+        IsAmong v (versions_of (rows_over ground entries) table) }
 {}

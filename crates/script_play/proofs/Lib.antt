@@ -13,6 +13,7 @@ pub mod TurnLemmas
 pub mod CutLemmas
 pub mod RunLemmas
 pub mod WholeLemmas
+pub mod StartLemmas
 pub mod CourseLemmas
 pub mod SiteLemmas
 pub mod SqlLaws

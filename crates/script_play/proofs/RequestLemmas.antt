@@ -16,7 +16,7 @@ use Rattle.key_code.specs.Codes.{IsText}
 use Rattle.live_operations.proofs.CodedLaws.{sound_fit}
 use Rattle.log_replay.specs.Answers.{schema_of}
 use Rattle.log_rows.proofs.HistoryLemmas.{stand_whole}
-use Rattle.log_rows.specs.History.{rows_of, tables_of}
+use Rattle.log_rows.specs.History.{rows_over, tables_of}
 use Rattle.osql_session.specs.Items.{with_item, with_items, without_repeats, is_among}
 use Rattle.osql_session.specs.Requests.{request_if, request_of, request_with}
 use Rattle.osql_session.specs.Sessions.{Session}
@@ -27,6 +27,7 @@ use Rattle.session_language.specs.Spelled.{IsToldRow, IsToldValue, WritesRow}
 use Rattle.session_language.specs.Touched.{first_touched, is_same_item, is_touched}
 use Rattle.script_play.proofs.SoundLaws.{kept_sound, kept_told}
 use Rattle.script_play.specs.Ready.{IsAble, IsReady}
+use Rattle.script_play.specs.Start.{Start, ground_of}
 use Rattle.table_edits.specs.Fits.{WritesFitting}
 use Rattle.table_store.specs.Listings.{IsAmong}
 use Rattle.table_store.specs.Stored.{Stands}
@@ -173,18 +174,18 @@ its_request s (op ∷ ops) request is = (let same : request_with s (op ∷ ops) 
 pub log_tables : (tables : List TableDef) (log : List Entry) → schema_of log ≡ Some tables → tables_of log ≡ tables
 log_tables tables log schema = ap (λ (found : Option (List TableDef)). unwrap_or found []) schema
 
-pub is_asked : (tables : List TableDef) (now : ℕ) (log : List Entry) (s : Session) (request : CommitRequest) → IsReady tables now log → IsAble tables now log s.begin s.ops → request_of s ≡ Some request → IsAsked request log
-is_asked tables now log s request ready able asked = subst (λ (r : CommitRequest). IsAsked r log) (sym its.0) (record {
+pub is_asked : (start : Start) (tables : List TableDef) (now : ℕ) (log : List Entry) (s : Session) (request : CommitRequest) → IsReady start tables now log → IsAble start tables now log s.begin s.ops → request_of s ≡ Some request → IsAsked (ground_of start) request log
+is_asked start tables now log s request ready able asked = subst (λ (r : CommitRequest). IsAsked (ground_of start) r log) (sym its.0) (record {
   some = its.1;
   begun = able.first;
   within = let w = able.within in let n = ready.logged.count in omega (arith, w, n);
   schema = ready.logged.schema ∙ ap (λ (ts : List TableDef). Some ts) (sym same);
-  stands = subst (λ (ts : List TableDef). Stands (pages_of log) ts (rows_of log)) (sym same) (stand_whole tables log (let o = ready.opened in let n = ready.logged.count in omega (arith, o, n)) ready.logged.stands);
+  stands = subst (λ (ts : List TableDef). Stands (pages_of log) ts (rows_over (ground_of start) log)) (sym same) (stand_whole (ground_of start) tables log (let o = ready.opened.0 in let n = ready.logged.count in omega (arith, o, n)) (let o = ready.opened.1 in let n = ready.logged.count in omega (arith, o, n)) ready.logged.stands);
   there = able.live.there;
   once = able.live.once;
   named = all_known [] (taken_by s.ops) s.genids;
-  fits = subst (λ (ts : List TableDef). AllByRecursion (WritesFitting ts) s.ops) (sym same) (sound_fit tables (rows_of log).next s.ops (kept_sound tables (rows_of log).next s.ops able.kept));
-  texts = all_write_text s.ops (kept_told tables (rows_of log).next s.ops able.kept);
+  fits = subst (λ (ts : List TableDef). AllByRecursion (WritesFitting ts) s.ops) (sym same) (sound_fit tables (rows_over (ground_of start) log).next s.ops (kept_sound tables (rows_over (ground_of start) log).next s.ops able.kept));
+  texts = all_write_text s.ops (kept_told tables (rows_over (ground_of start) log).next s.ops able.kept);
 })
   where
     its : (request ≡ request_with s s.ops) × (s.ops ≢ [])

@@ -6,6 +6,7 @@ use Rattle.std.specs.Str.{bytes_eq, is_utf8}
 use Rattle.std.specs.Cmp.Lexicographic.{same_text}
 use Rattle.cdb_values.specs.declared.rows.Level.{Level}
 use Rattle.script_play.specs.Seen.{Seen}
+use Rattle.script_play.specs.Start.{Start}
 use Rattle.sql_answer.specs.Reading.{kind_of_text}
 use Rattle.script_form.specs.CanRun.{tables_of}
 use Rattle.script_form.specs.declared.scripts.Script.{Script}
@@ -23,7 +24,7 @@ use Rattle.report_laws.specs.History.{last_position, view_of}
 use Rattle.report_laws.specs.Lawful.{IsFreshLine}
 use Rattle.report_laws.specs.Paced.{Paced}
 use Rattle.report_laws.specs.Places.{HasItsPlace}
-use Rattle.report_laws.specs.Play.{IsTurn, IsTurnOf, was_cut, IsTimely, IsAppended, number_told, is_own}
+use Rattle.report_laws.specs.Play.{opening, IsTurn, IsTurnOf, was_cut, IsTimely, IsAppended, number_told, is_own}
 use Rattle.session_language.specs.Replies.{are_up_to, is_last_of}
 use Rattle.report_laws.specs.Told.{Numbered, IsEntryTold, alone_at, told, lines_of, numbered}
 use Rattle.report_laws.specs.Work.{Place, next_by, next_place, place_after}
@@ -35,10 +36,10 @@ use Rattle.report_laws.proofs.NodesLaws.{none_lost, none_lacks, downs_more}
 use Rattle.report_laws.proofs.PieceLaws.{cut_at}
 use Rattle.report_laws.proofs.ToldLaws.{told_append, told_own, told_other}
 use Rattle.report_laws.proofs.WorkLaws.{after_own, after_other, its_transaction}
-use Rattle.script_play.specs.Basis.{from_nothing}
+use Rattle.script_play.specs.Basis.{from_start}
 use Rattle.sql_answer.specs.Language.{sql_language}
 use Rattle.script_play.specs.Ready.{IsAskable}
-use Rattle.script_play.specs.SoFar.{SoFar, Stored, Standing, IsPast, IsEnded, state_of}
+use Rattle.script_play.specs.SoFar.{now_of, SoFar, Stored, Standing, IsPast, IsEnded, state_of}
 use Rattle.script_play.specs.Step.{Turned, Cut, IsTurned, IsCutShort, IsKept, turn, turn_by, cut_by, entries_added}
 use Rattle.script_play.specs.Doing.{SessionAt}
 use Rattle.script_play.proofs.StoredLemmas.{world, entry_of}
@@ -68,21 +69,21 @@ past_next p text (LevelText later) (Some texts) txn is = is
 past_next p text OtherText (Some texts) txn is = is
 
 -- what a line of the script leaves, so that the run so far is kept
-pub record Keeps (script : Script) (done : List BodyLine) (l : BodyLine) (lines : List Line) (entries entries' : List EntryLine) (taken' : List (List GenidItem)) (seen seen' : Seen) (name text : List ℕ) (number : ℕ) (rs : List ReplyLine) (after : SessionAt) : Type 0 where
-  pub stored : Stored script entries' taken' seen'
+pub record Keeps (script : Script) (start : Start) (done : List BodyLine) (l : BodyLine) (lines : List Line) (entries entries' : List EntryLine) (taken' : List (List GenidItem)) (seen seen' : Seen) (name text : List ℕ) (number : ℕ) (rs : List ReplyLine) (after : SessionAt) : Type 0 where
+  pub stored : Stored script start entries' taken' seen'
   pub grows : Grows entries entries'
   pub next : seen.next ≤ seen'.next
-  pub stands : Standing script entries' seen'.next name (next_place sql_language (place_after sql_language name done) text) (told name lines ++ numbered number rs) after
-  pub paced : Paced (length entries) (length entries') rs
+  pub stands : Standing script start entries' seen'.next name (next_place sql_language (place_after sql_language name done) text) (told name lines ++ numbered number rs) after
+  pub paced : Paced (now_of start entries) (now_of start entries') rs
   pub belongs : number ≡ number_told sql_language (place_after sql_language name done) text
   pub added : List EntryLine
   pub grown : entries' ≡ entries ++ added
-  pub turn : IsTurn (length entries) lines name (number_told sql_language (place_after sql_language name done) text) (is_own sql_language (place_after sql_language name done) text) rs added
-  pub answered : AllByRecursion (IsEntryTold (from_nothing script) (view_of (from_nothing script) entries') (lines ++ lines_of name number rs)) entries'
+  pub turn : IsTurn (now_of start entries) lines name (number_told sql_language (place_after sql_language name done) text) (is_own sql_language (place_after sql_language name done) text) rs added
+  pub answered : AllByRecursion (IsEntryTold (from_start script start) (view_of (from_start script start) entries') (lines ++ lines_of name number rs)) entries'
   pub ended : AllByRecursion (IsEnded (done ++ l ∷ [])) entries'
 
-module _ (script : Script) (done left : List BodyLine) (l : BodyLine) (lines : List Line) (entries : List EntryLine) (taken : List (List GenidItem)) (seen : Seen) (states sites' : List SessionAt) (name text : List ℕ)
-    (was : SoFar script done (l ∷ left) lines entries taken seen states) (is_act : l.act ≡ Say name text) where
+module _ (script : Script) (start : Start) (done left : List BodyLine) (l : BodyLine) (lines : List Line) (entries : List EntryLine) (taken : List (List GenidItem)) (seen : Seen) (states sites' : List SessionAt) (name text : List ℕ)
+    (was : SoFar script start done (l ∷ left) lines entries taken seen states) (is_act : l.act ≡ Say name text) where
   abbrev pub place : Place
   place = place_after sql_language name done
 
@@ -99,18 +100,18 @@ module _ (script : Script) (done left : List BodyLine) (l : BodyLine) (lines : L
           (past_next (place_after sql_language session done) text (kind_of_text text) (place_after sql_language session done).pending txn is)
       pick false differs = subst (λ (p : Place). IsPast p.number p.pending txn) (sym (after_other sql_language session name text l done is_act differs)) is
 
-  pub advanced : (entries' : List EntryLine) (taken' : List (List GenidItem)) (seen' : Seen) (number : ℕ) (rs : List ReplyLine) (after : SessionAt) → Keeps script done l lines entries entries' taken' seen seen' name text number rs after →
+  pub advanced : (entries' : List EntryLine) (taken' : List (List GenidItem)) (seen' : Seen) (number : ℕ) (rs : List ReplyLine) (after : SessionAt) → Keeps script start done l lines entries entries' taken' seen seen' name text number rs after →
       state_of name script.sessions sites' ≡ after → ((m : List ℕ) → bytes_eq name m ≡ false → state_of m script.sessions sites' ≡ state_of m script.sessions states) →
-      SoFar script (done ++ l ∷ []) left (lines ++ lines_of name number rs) entries' taken' seen' sites'
+      SoFar script start (done ++ l ∷ []) left (lines ++ lines_of name number rs) entries' taken' seen' sites'
   advanced entries' taken' seen' number rs after keeps own others = record {
     body = was.body ∙ sym (append_assoc done (l ∷ []) left);
     stored = keeps.stored;
     standing = standing;
-    fresh = each_append (IsFreshLine (from_nothing script).origin) [] lines mine was.fresh laws.fresh;
+    fresh = each_append (IsFreshLine (from_start script start).origin) [] lines mine was.fresh laws.fresh;
     later = was.later ++ keeps.added;
-    begins = keeps.grown ∙ ap (λ (es : List EntryLine). es ++ keeps.added) was.begins;
-    order = in_turns_more (from_nothing script) [] done l [] lines (Setup 1 ∷ []) was.later mine keeps.added was.order its_turn_of;
-    named = all_append _ lines mine (named_more (length entries) (length entries') lines longer was.named) laws.named;
+    begins = keeps.grown ∙ ap (λ (es : List EntryLine). es ++ keeps.added) was.begins ∙ append_assoc (opening (from_start script start).origin) was.later keeps.added;
+    order = in_turns_more (from_start script start) [] done l [] lines (opening (from_start script start).origin) was.later mine keeps.added was.order its_turn_of;
+    named = all_append _ lines mine (named_more (now_of start entries) (now_of start entries') lines longer was.named) laws.named;
     answered = keeps.answered;
     ended = keeps.ended;
     placed = each_append (HasItsPlace script) [] lines mine was.placed laws.placed;
@@ -120,17 +121,17 @@ module _ (script : Script) (done left : List BodyLine) (l : BodyLine) (lines : L
       mine : List Line
       mine = lines_of name number rs
 
-      longer : length entries ≤ length entries'
-      longer = grows_length entries entries' keeps.grows
+      longer : now_of start entries ≤ now_of start entries'
+      longer = let le = grows_length entries entries' keeps.grows in omega (arith, le)
 
-      laws : ArePaced script (from_nothing script).origin name number lines (length entries') rs
-      laws = paced_laws script (from_nothing script).origin name number (length entries) (length entries') lines rs was.named was.stored.opened (omega arith) longer keeps.paced
+      laws : ArePaced script (from_start script start).origin name number lines (now_of start entries') rs
+      laws = paced_laws script (from_start script start).origin name number (now_of start entries) (now_of start entries') lines rs was.named was.stored.opened.0 was.stored.opened.1 longer keeps.paced
 
-      its_turn_of : IsTurnOf (from_nothing script) (last_position (from_nothing script).origin (Setup 1 ∷ was.later)) done lines l.act mine keeps.added
+      its_turn_of : IsTurnOf (from_start script start) (last_position (from_start script start).origin (opening (from_start script start).origin ++ was.later)) done lines l.act mine keeps.added
       its_turn_of =
-          let count : length entries ≡ suc (length was.later) = ap (λ (es : List EntryLine). length es) was.begins in
-          let now : length entries ≡ last_position (from_nothing script).origin (Setup 1 ∷ was.later) = omega (arith, count) in
-          subst (λ (a : Act). IsTurnOf (from_nothing script) (last_position (from_nothing script).origin (Setup 1 ∷ was.later)) done lines a mine keeps.added) (sym is_act) (inl (record {
+          let count : length entries ≡ length (opening (from_start script start).origin ++ was.later) = ap (λ (es : List EntryLine). length es) was.begins in
+          let now : now_of start entries ≡ last_position (from_start script start).origin (opening (from_start script start).origin ++ was.later) = omega (arith, count) in
+          subst (λ (a : Act). IsTurnOf (from_start script start) (last_position (from_start script start).origin (opening (from_start script start).origin ++ was.later)) done lines a mine keeps.added) (sym is_act) (inl (record {
             replies = rs;
             says = ap (λ n. lines_of name n rs) keeps.belongs;
             turn = subst (λ n. IsTurn n lines name (number_told sql_language place text) (is_own sql_language place text) rs keeps.added) now keeps.turn;
@@ -138,28 +139,28 @@ module _ (script : Script) (done left : List BodyLine) (l : BodyLine) (lines : L
             majority = none_lacks script lines (sql_language.kind text) place.pending was.unhurt;
           }))
 
-      own_stands : Standing script entries' seen'.next name (place_after sql_language name (done ++ l ∷ [])) (told name (lines ++ lines_of name number rs)) (state_of name script.sessions sites')
+      own_stands : Standing script start entries' seen'.next name (place_after sql_language name (done ++ l ∷ [])) (told name (lines ++ lines_of name number rs)) (state_of name script.sessions sites')
       own_stands =
-          subst (λ (p : Place). Standing script entries' seen'.next name p (told name (lines ++ lines_of name number rs)) (state_of name script.sessions sites')) (sym own_place)
-          (subst (λ ls. Standing script entries' seen'.next name (next_place sql_language place text) ls (state_of name script.sessions sites')) (sym (told_append name lines (lines_of name number rs) ∙ ap (λ ls. told name lines ++ ls) (told_own name name number rs (same_itself name))))
-          (subst (λ (x : SessionAt). Standing script entries' seen'.next name (next_place sql_language place text) (told name lines ++ numbered number rs) x) (sym own) keeps.stands))
+          subst (λ (p : Place). Standing script start entries' seen'.next name p (told name (lines ++ lines_of name number rs)) (state_of name script.sessions sites')) (sym own_place)
+          (subst (λ ls. Standing script start entries' seen'.next name (next_place sql_language place text) ls (state_of name script.sessions sites')) (sym (told_append name lines (lines_of name number rs) ∙ ap (λ ls. told name lines ++ ls) (told_own name name number rs (same_itself name))))
+          (subst (λ (x : SessionAt). Standing script start entries' seen'.next name (next_place sql_language place text) (told name lines ++ numbered number rs) x) (sym own) keeps.stands))
 
-      other_stands : (m : List ℕ) → bytes_eq name m ≡ false → Standing script entries' seen'.next m (place_after sql_language m (done ++ l ∷ [])) (told m (lines ++ lines_of name number rs)) (state_of m script.sessions sites')
+      other_stands : (m : List ℕ) → bytes_eq name m ≡ false → Standing script start entries' seen'.next m (place_after sql_language m (done ++ l ∷ [])) (told m (lines ++ lines_of name number rs)) (state_of m script.sessions sites')
       other_stands m differs =
-          subst (λ (p : Place). Standing script entries' seen'.next m p (told m (lines ++ lines_of name number rs)) (state_of m script.sessions sites')) (sym (after_other sql_language m name text l done is_act differs))
-          (subst (λ ls. Standing script entries' seen'.next m (place_after sql_language m done) ls (state_of m script.sessions sites')) (sym (told_append m lines (lines_of name number rs) ∙ ap (λ ls. told m lines ++ ls) (told_other m name number rs differs) ∙ append-nil (told m lines)))
-          (subst (λ (x : SessionAt). Standing script entries' seen'.next m (place_after sql_language m done) (told m lines) x) (sym (others m differs))
-          (stands_on script entries entries' seen.next seen'.next m (place_after sql_language m done) (told m lines) (state_of m script.sessions states) keeps.grows keeps.next (was.standing m))))
+          subst (λ (p : Place). Standing script start entries' seen'.next m p (told m (lines ++ lines_of name number rs)) (state_of m script.sessions sites')) (sym (after_other sql_language m name text l done is_act differs))
+          (subst (λ ls. Standing script start entries' seen'.next m (place_after sql_language m done) ls (state_of m script.sessions sites')) (sym (told_append m lines (lines_of name number rs) ∙ ap (λ ls. told m lines ++ ls) (told_other m name number rs differs) ∙ append-nil (told m lines)))
+          (subst (λ (x : SessionAt). Standing script start entries' seen'.next m (place_after sql_language m done) (told m lines) x) (sym (others m differs))
+          (stands_on script start entries entries' seen.next seen'.next m (place_after sql_language m done) (told m lines) (state_of m script.sessions states) keeps.grows keeps.next (was.standing m))))
 
-      standing : (m : List ℕ) → Standing script entries' seen'.next m (place_after sql_language m (done ++ l ∷ [])) (told m (lines ++ lines_of name number rs)) (state_of m script.sessions sites')
+      standing : (m : List ℕ) → Standing script start entries' seen'.next m (place_after sql_language m (done ++ l ∷ [])) (told m (lines ++ lines_of name number rs)) (state_of m script.sessions sites')
       standing m = pick (bytes_eq name m) refl
         where
-          pick : (b : Bool) → bytes_eq name m ≡ b → Standing script entries' seen'.next m (place_after sql_language m (done ++ l ∷ [])) (told m (lines ++ lines_of name number rs)) (state_of m script.sessions sites')
-          pick true same = subst (λ n. Standing script entries' seen'.next n (place_after sql_language n (done ++ l ∷ [])) (told n (lines ++ lines_of name number rs)) (state_of n script.sessions sites')) (same_name name m same) own_stands
+          pick : (b : Bool) → bytes_eq name m ≡ b → Standing script start entries' seen'.next m (place_after sql_language m (done ++ l ∷ [])) (told m (lines ++ lines_of name number rs)) (state_of m script.sessions sites')
+          pick true same = subst (λ n. Standing script start entries' seen'.next n (place_after sql_language n (done ++ l ∷ [])) (told n (lines ++ lines_of name number rs)) (state_of n script.sessions sites')) (same_name name m same) own_stands
           pick false differs = other_stands m differs
 
   -- the session before its line
-  pub comes : AllByRecursion IsAskable (tables_of script) → is_utf8 text ≡ true → Comes script entries taken seen name place place.pending (state_of name script.sessions states).doing text (kind_of_text text) (told name lines)
+  pub comes : AllByRecursion IsAskable (tables_of script) → is_utf8 text ≡ true → Comes script start entries taken seen name place place.pending (state_of name script.sessions states).doing text (kind_of_text text) (told name lines)
   comes askable utf8 = record {
     askable = askable;
     utf8 = utf8;
@@ -179,8 +180,8 @@ module _ (script : Script) (done left : List BodyLine) (l : BodyLine) (lines : L
       of_name (Commit position session txn begin level) is = λ same. subst (λ n. IsPast (place_after sql_language n done).number (place_after sql_language n done).pending txn) (same_name session name same) is
 
   -- what a line leaves, where it did what it does
-  pub turn_keeps : (entries' : List EntryLine) (taken' : List (List GenidItem)) (seen' : Seen) (t : Turned) → Turns script entries entries' taken' seen seen' name (next_place sql_language place text) (told name lines) (number_told sql_language place text) (is_own sql_language place text) t →
-      Keeps script done l lines entries entries' taken' seen seen' name text t.number t.replies t.after
+  pub turn_keeps : (entries' : List EntryLine) (taken' : List (List GenidItem)) (seen' : Seen) (t : Turned) → Turns script start entries entries' taken' seen seen' name (next_place sql_language place text) (told name lines) (number_told sql_language place text) (is_own sql_language place text) t →
+      Keeps script start done l lines entries entries' taken' seen seen' name text t.number t.replies t.after
   turn_keeps entries' taken' seen' t turn = record {
     stored = turn.stored;
     grows = turn.grows;
@@ -206,88 +207,88 @@ module _ (script : Script) (done left : List BodyLine) (l : BodyLine) (lines : L
       up_to (inl is) = inl is
       up_to (inr (none, (cause, cuts_it, stands))) = inr (none, cut_at lines name (number_told sql_language place text) cause cuts_it (told_stands name (number_told sql_language place text) cause lines stands))
 
-      turn_with : (added : List EntryLine) → entries' ≡ entries ++ added → IsAppended (length entries) name (number_told sql_language place text) t.replies added →
-          IsTurn (length entries) lines name (number_told sql_language place text) (is_own sql_language place text) t.replies added
+      turn_with : (added : List EntryLine) → entries' ≡ entries ++ added → IsAppended (now_of start entries) name (number_told sql_language place text) t.replies added →
+          IsTurn (now_of start entries) lines name (number_told sql_language place text) (is_own sql_language place text) t.replies added
       turn_with added grown appended = record {
         told = up_to turn.up_to;
-        timely = subst (λ n. AllByRecursion (IsTimely (length entries) n) t.replies) (ap (λ (es : List EntryLine). length es) grown ∙ length-append entries added) (timely_paced (length entries) (length entries') t.replies turn.paced);
+        timely = subst (λ n. AllByRecursion (IsTimely (now_of start entries) n) t.replies) (let g = ap (λ (es : List EntryLine). length es) grown in omega (arith, g, length-append entries added)) (timely_paced (now_of start entries) (now_of start entries') t.replies turn.paced);
         appended = appended;
       }
 
       -- the entry that the line appends, if it appends one
-      appends : IsNews script name (told name lines) entries entries' (next_place sql_language place text) t →
-          (added : List EntryLine) × (entries' ≡ entries ++ added) × IsTurn (length entries) lines name (number_told sql_language place text) (is_own sql_language place text) t.replies added
+      appends : IsNews script start name (told name lines) entries entries' (next_place sql_language place text) t →
+          (added : List EntryLine) × (entries' ≡ entries ++ added) × IsTurn (now_of start entries) lines name (number_told sql_language place text) (is_own sql_language place text) t.replies added
       appends (inl same) = ([], same ∙ sym (append-nil entries), turn_with [] (same ∙ sym (append-nil entries)) tt)
       appends (inr (more, stands, past, begins)) = (
-        entry_of name t.number t.begin t.after.level (length entries) ∷ [],
+        entry_of name t.number t.begin t.after.level (now_of start entries) ∷ [],
         more,
-        turn_with (entry_of name t.number t.begin t.after.level (length entries) ∷ []) more (refl, t.begin, t.after.level, ap (λ n. entry_of name n t.begin t.after.level (length entries)) turn.number, stands),
+        turn_with (entry_of name t.number t.begin t.after.level (now_of start entries) ∷ []) more (refl, t.begin, t.after.level, ap (λ n. entry_of name n t.begin t.after.level (now_of start entries)) turn.number, stands),
       )
 
-      news : (added : List EntryLine) × (entries' ≡ entries ++ added) × IsTurn (length entries) lines name (number_told sql_language place text) (is_own sql_language place text) t.replies added
+      news : (added : List EntryLine) × (entries' ≡ entries ++ added) × IsTurn (now_of start entries) lines name (number_told sql_language place text) (is_own sql_language place text) t.replies added
       news = appends turn.news
 
-      answered_later : (e : EntryLine) → IsEntryTold (from_nothing script) (view_of (from_nothing script) entries) lines e → IsEntryTold (from_nothing script) (view_of (from_nothing script) entries) all_lines e
-      answered_later e is = entry_told_more (from_nothing script) (view_of (from_nothing script) entries) lines (lines_of name t.number t.replies) e is
+      answered_later : (e : EntryLine) → IsEntryTold (from_start script start) (view_of (from_start script start) entries) lines e → IsEntryTold (from_start script start) (view_of (from_start script start) entries) all_lines e
+      answered_later e is = entry_told_more (from_start script start) (view_of (from_start script start) entries) lines (lines_of name t.number t.replies) e is
 
-      answered : IsNews script name (told name lines) entries entries' (next_place sql_language place text) t → AllByRecursion (IsEntryTold (from_nothing script) (view_of (from_nothing script) entries') all_lines) entries'
-      answered (inl same) = subst (λ es. AllByRecursion (IsEntryTold (from_nothing script) (view_of (from_nothing script) es) all_lines) es) (sym same) (all_map (IsEntryTold (from_nothing script) (view_of (from_nothing script) entries) lines) _ answered_later entries was.answered)
-      answered (inr (more, stands, past, its)) = subst (λ es. AllByRecursion (IsEntryTold (from_nothing script) (view_of (from_nothing script) es) all_lines) es) (sym more)
+      answered : IsNews script start name (told name lines) entries entries' (next_place sql_language place text) t → AllByRecursion (IsEntryTold (from_start script start) (view_of (from_start script start) entries') all_lines) entries'
+      answered (inl same) = subst (λ es. AllByRecursion (IsEntryTold (from_start script start) (view_of (from_start script start) es) all_lines) es) (sym same) (all_map (IsEntryTold (from_start script start) (view_of (from_start script start) entries) lines) _ answered_later entries was.answered)
+      answered (inr (more, stands, past, its)) = subst (λ es. AllByRecursion (IsEntryTold (from_start script start) (view_of (from_start script start) es) all_lines) es) (sym more)
           (all_append _ entries (e ∷ [])
-          (all_map (IsEntryTold (from_nothing script) (view_of (from_nothing script) entries) lines) (IsEntryTold (from_nothing script) (view_of (from_nothing script) (entries ++ e ∷ [])) all_lines)
-          (λ d is. entry_told_stays (from_nothing script) entries e all_lines d (answered_later d is)) entries was.answered)
-          (entry_told_stays (from_nothing script) entries e all_lines e its_told, tt))
+          (all_map (IsEntryTold (from_start script start) (view_of (from_start script start) entries) lines) (IsEntryTold (from_start script start) (view_of (from_start script start) (entries ++ e ∷ [])) all_lines)
+          (λ d is. entry_told_stays (from_start script start) entries e all_lines d (answered_later d is)) entries was.answered)
+          (entry_told_stays (from_start script start) entries e all_lines e its_told, tt))
         where
           e : EntryLine
-          e = entry_of name t.number t.begin t.after.level (length entries)
+          e = entry_of name t.number t.begin t.after.level (now_of start entries)
 
-          its_told : IsEntryTold (from_nothing script) (view_of (from_nothing script) entries) all_lines (entry_of name t.number t.begin t.after.level (length entries))
+          its_told : IsEntryTold (from_start script start) (view_of (from_start script start) entries) all_lines (entry_of name t.number t.begin t.after.level (now_of start entries))
           its_told =
-              let within : t.begin ≤ length entries = its.within in
+              let within : t.begin ≤ now_of start entries = its.within in
               record {
                 transaction = its.transaction;
                 is_its = its.is_its;
                 within = omega (arith, within);
-                ran = alone_at (from_nothing script) (view_of (from_nothing script) entries) its.transaction t.begin;
+                ran = alone_at (from_start script start) (view_of (from_start script start) entries) its.transaction t.begin;
                 is_ran = refl;
-                outcome = reply.Committed (length entries + 1);
+                outcome = reply.Committed (now_of start entries + 1);
                 ends = refl;
                 before = its.before;
                 after = [];
                 says = told_all ∙ its.says ∙ ap (λ (ls : List Numbered). its.before ++ ls) (sym (append-nil _));
               }
 
-      ended : IsNews script name (told name lines) entries entries' (next_place sql_language place text) t → AllByRecursion (IsEnded (done ++ l ∷ [])) entries'
+      ended : IsNews script start name (told name lines) entries entries' (next_place sql_language place text) t → AllByRecursion (IsEnded (done ++ l ∷ [])) entries'
       ended (inl same) = subst (λ es. AllByRecursion (IsEnded (done ++ l ∷ [])) es) (sym same) (all_map (IsEnded done) _ ended_later entries was.ended)
       ended (inr (more, stands, past, begins)) = subst (λ es. AllByRecursion (IsEnded (done ++ l ∷ [])) es) (sym more)
-          (all_append _ entries (entry_of name t.number t.begin t.after.level (length entries) ∷ []) (all_map (IsEnded done) _ ended_later entries was.ended)
+          (all_append _ entries (entry_of name t.number t.begin t.after.level (now_of start entries) ∷ []) (all_map (IsEnded done) _ ended_later entries was.ended)
           (subst (λ (p : Place). IsPast p.number p.pending t.number) (sym own_place) past, tt))
 
   -- what the line does, by the number of transactions that the session has begun, and its level
   abbrev pub turn_at : ℕ → Level → Turned
-  turn_at n level = turn_by (world script entries taken seen) n level text (kind_of_text text) (state_of name script.sessions states).doing
+  turn_at n level = turn_by (world script start entries taken seen) n level text (kind_of_text text) (state_of name script.sessions states).doing
 
   abbrev pub its_turn : Turned
   its_turn = turn_at (state_of name script.sessions states).number (state_of name script.sessions states).level
 
   abbrev pub KeptAt : Seen → ℕ → Level → Type 0
-  KeptAt seen' n level = IsKept (length entries) seen seen' (turn_at n level).added
+  KeptAt seen' n level = IsKept (now_of start entries) seen seen' (turn_at n level).added
 
   abbrev pub TurnsAt : Seen → ℕ → Level → Type 0
-  TurnsAt seen' n level = Turns script entries (entries ++ entries_added name (length entries) (turn_at n level)) (taken ++ map taken_by (turn_at n level).added) seen seen' name (next_place sql_language place text) (told name lines) (number_told sql_language place text) (is_own sql_language place text) (turn_at n level)
+  TurnsAt seen' n level = Turns script start entries (entries ++ entries_added name (now_of start entries) (turn_at n level)) (taken ++ map taken_by (turn_at n level).added) seen seen' name (next_place sql_language place text) (told name lines) (number_told sql_language place text) (is_own sql_language place text) (turn_at n level)
 
   -- a line that was done keeps the run so far
   pub turned_keeps : AllByRecursion IsAskable (tables_of script) → is_utf8 text ≡ true → (lines' : List Line) (entries' : List EntryLine) (taken' : List (List GenidItem)) (seen' : Seen) →
-      IsTurned (world script entries taken seen) name (turn (world script entries taken seen) (state_of name script.sessions states) text) lines lines' entries entries' taken' seen' →
-      state_of name script.sessions sites' ≡ (turn (world script entries taken seen) (state_of name script.sessions states) text).after →
+      IsTurned (world script start entries taken seen) name (turn (world script start entries taken seen) (state_of name script.sessions states) text) lines lines' entries entries' taken' seen' →
+      state_of name script.sessions sites' ≡ (turn (world script start entries taken seen) (state_of name script.sessions states) text).after →
       ((m : List ℕ) → bytes_eq name m ≡ false → state_of m script.sessions sites' ≡ state_of m script.sessions states) →
-      SoFar script (done ++ l ∷ []) left lines' entries' taken' seen' sites'
+      SoFar script start (done ++ l ∷ []) left lines' entries' taken' seen' sites'
   turned_keeps askable utf8 lines' entries' taken' seen' run own others =
-      subst (λ ls. SoFar script (done ++ l ∷ []) left ls entries' taken' seen' sites') (sym run.lines_are)
-      (subst (λ es. SoFar script (done ++ l ∷ []) left (lines ++ lines_of name its_turn.number its_turn.replies) es taken' seen' sites') (sym run.entries_are)
-      (subst (λ ts. SoFar script (done ++ l ∷ []) left (lines ++ lines_of name its_turn.number its_turn.replies) (entries ++ entries_added name (length entries) its_turn) ts seen' sites') (sym run.taken_are)
-      (advanced (entries ++ entries_added name (length entries) its_turn) (taken ++ map taken_by its_turn.added) seen' its_turn.number its_turn.replies its_turn.after
-      (turn_keeps (entries ++ entries_added name (length entries) its_turn) (taken ++ map taken_by its_turn.added) seen' its_turn goes) own others)))
+      subst (λ ls. SoFar script start (done ++ l ∷ []) left ls entries' taken' seen' sites') (sym run.lines_are)
+      (subst (λ es. SoFar script start (done ++ l ∷ []) left (lines ++ lines_of name its_turn.number its_turn.replies) es taken' seen' sites') (sym run.entries_are)
+      (subst (λ ts. SoFar script start (done ++ l ∷ []) left (lines ++ lines_of name its_turn.number its_turn.replies) (entries ++ entries_added name (now_of start entries) its_turn) ts seen' sites') (sym run.taken_are)
+      (advanced (entries ++ entries_added name (now_of start entries) its_turn) (taken ++ map taken_by its_turn.added) seen' its_turn.number its_turn.replies its_turn.after
+      (turn_keeps (entries ++ entries_added name (now_of start entries) its_turn) (taken ++ map taken_by its_turn.added) seen' its_turn goes) own others)))
     where
       number : place.number ≡ (state_of name script.sessions states).number
       number = sym (was.standing name).number
@@ -297,20 +298,20 @@ module _ (script : Script) (done left : List BodyLine) (l : BodyLine) (lines : L
 
       goes : TurnsAt seen' (state_of name script.sessions states).number (state_of name script.sessions states).level
       goes = subst (λ (v : Level). KeptAt seen' (state_of name script.sessions states).number v → TurnsAt seen' (state_of name script.sessions states).number v) level
-          (subst (λ n. KeptAt seen' n place.level → TurnsAt seen' n place.level) number (turns script entries taken seen seen' name place text (told name lines) (kind_of_text text) place.pending (state_of name script.sessions states).doing (comes askable utf8))) run.rows_are
+          (subst (λ n. KeptAt seen' n place.level → TurnsAt seen' n place.level) number (turns script start entries taken seen seen' name place text (told name lines) (kind_of_text text) place.pending (state_of name script.sessions states).doing (comes askable utf8))) run.rows_are
 
   -- and so does one that was cut short
   pub cut_keeps : AllByRecursion IsAskable (tables_of script) → is_utf8 text ≡ true → (lines' : List Line) (entries' : List EntryLine) (taken' : List (List GenidItem)) (seen' : Seen) (c : Cut) →
       cut_by (state_of name script.sessions states).number (state_of name script.sessions states).level (kind_of_text text) (state_of name script.sessions states).doing ≡ Some c →
-      IsCutShort (world script entries taken seen) name c lines lines' entries entries' taken' seen' →
+      IsCutShort (world script start entries taken seen) name c lines lines' entries entries' taken' seen' →
       state_of name script.sessions sites' ≡ c.after →
       ((m : List ℕ) → bytes_eq name m ≡ false → state_of m script.sessions sites' ≡ state_of m script.sessions states) →
-      SoFar script (done ++ l ∷ []) left lines' entries' taken' seen' sites'
+      SoFar script start (done ++ l ∷ []) left lines' entries' taken' seen' sites'
   cut_keeps askable utf8 lines' entries' taken' seen' c is run own others =
-      subst (λ ls. SoFar script (done ++ l ∷ []) left ls entries' taken' seen' sites') (sym run.lines_are)
-      (subst (λ es. SoFar script (done ++ l ∷ []) left (lines ++ lines_of name c.number (reply.NoMemory ∷ [])) es taken' seen' sites') (sym run.entries_are)
-      (subst (λ ts. SoFar script (done ++ l ∷ []) left (lines ++ lines_of name c.number (reply.NoMemory ∷ [])) entries ts seen' sites') (sym run.taken_are)
-      (subst (λ (a : Seen). SoFar script (done ++ l ∷ []) left (lines ++ lines_of name c.number (reply.NoMemory ∷ [])) entries taken a sites') (sym run.rows_are)
+      subst (λ ls. SoFar script start (done ++ l ∷ []) left ls entries' taken' seen' sites') (sym run.lines_are)
+      (subst (λ es. SoFar script start (done ++ l ∷ []) left (lines ++ lines_of name c.number (reply.NoMemory ∷ [])) es taken' seen' sites') (sym run.entries_are)
+      (subst (λ ts. SoFar script start (done ++ l ∷ []) left (lines ++ lines_of name c.number (reply.NoMemory ∷ [])) entries ts seen' sites') (sym run.taken_are)
+      (subst (λ (a : Seen). SoFar script start (done ++ l ∷ []) left (lines ++ lines_of name c.number (reply.NoMemory ∷ [])) entries taken a sites') (sym run.rows_are)
       (advanced entries taken seen c.number (reply.NoMemory ∷ []) c.after (record {
         stored = was.stored;
         grows = inl refl;
@@ -321,17 +322,17 @@ module _ (script : Script) (done left : List BodyLine) (l : BodyLine) (lines : L
         added = [];
         grown = sym (append-nil entries);
         turn = record { told = inl (cut_up_to (is_own sql_language place text)); timely = (tt, tt); appended = tt };
-        answered = all_map (IsEntryTold (from_nothing script) (view_of (from_nothing script) entries) lines) _ later entries was.answered;
+        answered = all_map (IsEntryTold (from_start script start) (view_of (from_start script start) entries) lines) _ later entries was.answered;
         ended = all_map (IsEnded done) _ ended_later entries was.ended;
       }) own others))))
     where
-      stands : CutStands script entries seen name (next_place sql_language place text) (told name lines) (number_told sql_language place text) c
-      stands = cuts script entries taken seen name place text (told name lines) (kind_of_text text) place.pending (state_of name script.sessions states).doing (comes askable utf8) c
+      stands : CutStands script start entries seen name (next_place sql_language place text) (told name lines) (number_told sql_language place text) c
+      stands = cuts script start entries taken seen name place text (told name lines) (kind_of_text text) place.pending (state_of name script.sessions states).doing (comes askable utf8) c
           (ap (λ n. cut_by n place.level (kind_of_text text) (state_of name script.sessions states).doing) (sym (was.standing name).number)
           ∙ ap (λ (v : Level). cut_by (state_of name script.sessions states).number v (kind_of_text text) (state_of name script.sessions states).doing) (sym (was.standing name).level) ∙ is)
 
-      later : (e : EntryLine) → IsEntryTold (from_nothing script) (view_of (from_nothing script) entries) lines e → IsEntryTold (from_nothing script) (view_of (from_nothing script) entries) (lines ++ lines_of name c.number (reply.NoMemory ∷ [])) e
-      later e is = entry_told_more (from_nothing script) (view_of (from_nothing script) entries) lines (lines_of name c.number (reply.NoMemory ∷ [])) e is
+      later : (e : EntryLine) → IsEntryTold (from_start script start) (view_of (from_start script start) entries) lines e → IsEntryTold (from_start script start) (view_of (from_start script start) entries) (lines ++ lines_of name c.number (reply.NoMemory ∷ [])) e
+      later e is = entry_told_more (from_start script start) (view_of (from_start script start) entries) lines (lines_of name c.number (reply.NoMemory ∷ [])) e is
 
       cut_up_to : (own : Bool) → are_up_to (is_last_of own) (reply.NoMemory ∷ []) ≡ true
       cut_up_to true = refl

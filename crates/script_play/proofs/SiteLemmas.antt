@@ -1,20 +1,22 @@
 -- Where a session is, by its place among the sessions, and that a line of its own changes no other.
 use Rattle.std.proofs.Common.{◌≡◌, ◌≢◌, ℕ, zero, suc, ◌+◌, ◌≤◌, ◌<◌, List, [], ◌∷◌, ◌++◌, length, map, refl, sym, subst, ap, arith, Option, Some, None, ◌∙◌, Bool, true, false, ◌⊎◌, inl, inr, if◌then◌else◌, slice_set}
-use Rattle.std.proofs.lemmas.List.{length-set}
+use Rattle.std.proofs.lemmas.List.{length-append, length-set}
 use Rattle.std.specs.List.{AllByRecursion, slice_get}
 use Rattle.std.specs.Str.{bytes_eq, is_utf8}
 use Rattle.cdb_values.specs.Rows.{Rows}
 use Rattle.cdb_values.specs.declared.rows.RowOp.{RowOp}
 use Rattle.cdb_values.specs.declared.tables.ColumnDef.{ColumnDef}
 use Rattle.live_operations.specs.Live.{AreLive}
-use Rattle.log_rows.specs.History.{rows_of, takes_in}
+use Rattle.log_rows.specs.History.{rows_over, takes_in}
 use Rattle.phys_log.specs.Logs.{page_at}
 use Rattle.phys_log.specs.declared.entries.Entry.{Entry}
 use Rattle.session_language.specs.Language.{alone, alone_from}
 use Rattle.table_store.specs.Stored.{Stands}
 use Rattle.script_play.specs.RunViews.{seen_in, AreOwn, IsOwn}
 use Rattle.script_play.specs.declared.states.SessionState.{SessionState}
+use Rattle.script_play.specs.EntryLines.{AreTold, lines_from}
 use Rattle.script_play.specs.Seen.{Seen}
+use Rattle.script_play.specs.Start.{Start, ground_of}
 use Rattle.script_form.specs.CanRun.{CanRun, IsDeclared, IsSaid, tables_of}
 use Rattle.script_form.specs.declared.scripts.Script.{Script}
 use Rattle.script_form.specs.declared.scripts.Act.{Act}
@@ -33,7 +35,7 @@ use Rattle.script_play.proofs.SoundLaws.{distinct}
 use Rattle.sql_run.specs.Sound.{HasDistinctColumns}
 use Rattle.sql_run.specs.Spelled.{HasColumn}
 use Rattle.script_play.specs.Ready.{IsAble, IsAskable, IsLogged, IsReady, IsReadyToGo}
-use Rattle.script_play.specs.SoFar.{IsBefore, IsDoing, IsOpen, SoFar, Stored, state_of, session_from, session_at}
+use Rattle.script_play.specs.SoFar.{now_of, IsBefore, IsDoing, IsOpen, SoFar, Stored, state_of, session_from, session_at}
 use Rattle.script_play.specs.Step.{IsTaken, world_of}
 use Rattle.script_play.specs.Doing.{SessionAt, Doing}
 use Rattle.script_play.specs.Doing as doing
@@ -133,9 +135,9 @@ pub runs_askable : (script : Script) → CanRun script → AllByRecursion IsAska
 runs_askable script can = askable script.tables (distinct [] (tables_of script) can.tables_lawful) can.columns
 
 -- the rows are ready for a line
-pub ready : (script : Script) (entries : List EntryLine) (log : List Entry) → AllByRecursion IsAskable (tables_of script) → Stored script entries (takes_in log) (seen_in log) → IsLogged (tables_of script) (length entries) log →
-    IsReady (tables_of script) (length entries) log
-ready script entries log askable stored logged = record {
+pub ready : (script : Script) (start : Start) (entries : List EntryLine) (log : List Entry) → AllByRecursion IsAskable (tables_of script) → Stored script start entries (takes_in log) (seen_in start log) → IsLogged start (tables_of script) (now_of start entries) log →
+    IsReady start (tables_of script) (now_of start entries) log
+ready script start entries log askable stored logged = record {
   opened = stored.opened;
   askable = askable;
   logged = logged;
@@ -143,9 +145,9 @@ ready script entries log askable stored logged = record {
 }
 
 -- a transaction that is open can go on: what its texts left is there at its begin position
-open_able : (script : Script) (entries : List EntryLine) (log : List Entry) (texts : List (List ℕ)) (begin : ℕ) (ops : List RowOp) (uses : List GenidItem) (mine : List ReplyLine) →
-    Stored script entries (takes_in log) (seen_in log) → IsLogged (tables_of script) (length entries) log → IsOpen script entries (rows_of log).next texts begin ops uses mine → IsAble (tables_of script) (length entries) log begin ops
-open_able script entries log texts begin ops uses mine stored logged is = record {
+open_able : (script : Script) (start : Start) (entries : List EntryLine) (log : List Entry) (texts : List (List ℕ)) (begin : ℕ) (ops : List RowOp) (uses : List GenidItem) (mine : List ReplyLine) →
+    Stored script start entries (takes_in log) (seen_in start log) → IsLogged start (tables_of script) (now_of start entries) log → IsOpen script start entries (rows_over (ground_of start) log).next texts begin ops uses mine → IsAble start (tables_of script) (now_of start entries) log begin ops
+open_able script start entries log texts begin ops uses mine stored logged is = record {
   first = is.first;
   within = is.within;
   kept = is.sound;
@@ -154,7 +156,7 @@ open_able script entries log texts begin ops uses mine stored logged is = record
 }
   where
     log_rows_at : ℕ → Rows
-    log_rows_at k = (seen_in log).at k
+    log_rows_at k = (seen_in start log).at k
 
     stands : Stands (page_at log begin) (tables_of script) (log_rows_at begin)
     stands = logged.stands begin is.first (let w = is.within in let n = logged.count in omega (arith, w, n))
@@ -162,28 +164,39 @@ open_able script entries log texts begin ops uses mine stored logged is = record
     ops_are : ops ≡ (alone sql_language (tables_of script) (log_rows_at begin) texts).ops
     ops_are = is.ops_are ∙ ap (λ (r : Rows). (alone_from sql_language (tables_of script) r.tables [] texts).ops) (sym (stored.rows_are begin is.first is.within))
 
-doing_ready : (script : Script) (entries : List EntryLine) (log : List Entry) (p : Place) (q : Option (List (List ℕ))) (d : Doing) (mine : List ReplyLine) →
-    Stored script entries (takes_in log) (seen_in log) → IsLogged (tables_of script) (length entries) log → IsDoing script entries (rows_of log).next p q d mine → IsReadyToGo (tables_of script) (length entries) log d
-doing_ready script entries log p None doing.No mine stored logged is = tt
-doing_ready script entries log p None (doing.Open begin ops uses) mine stored logged is = absurd is
-doing_ready script entries log p None doing.Aborted mine stored logged is = tt
-doing_ready script entries log p (Some texts) doing.No mine stored logged is = tt
-doing_ready script entries log p (Some texts) (doing.Open begin ops uses) mine stored logged is = open_able script entries log texts begin ops uses mine stored logged is
-doing_ready script entries log p (Some texts) doing.Aborted mine stored logged is = tt
+doing_ready : (script : Script) (start : Start) (entries : List EntryLine) (log : List Entry) (p : Place) (q : Option (List (List ℕ))) (d : Doing) (mine : List ReplyLine) →
+    Stored script start entries (takes_in log) (seen_in start log) → IsLogged start (tables_of script) (now_of start entries) log → IsDoing script start entries (rows_over (ground_of start) log).next p q d mine → IsReadyToGo start (tables_of script) (now_of start entries) log d
+doing_ready script start entries log p None doing.No mine stored logged is = tt
+doing_ready script start entries log p None (doing.Open begin ops uses) mine stored logged is = absurd is
+doing_ready script start entries log p None doing.Aborted mine stored logged is = tt
+doing_ready script start entries log p (Some texts) doing.No mine stored logged is = tt
+doing_ready script start entries log p (Some texts) (doing.Open begin ops uses) mine stored logged is = open_able script start entries log texts begin ops uses mine stored logged is
+doing_ready script start entries log p (Some texts) doing.Aborted mine stored logged is = tt
+
+-- a log has as many entries as the one before the run and the history
+lines_length : (position : ℕ) (made : List Entry) → length (lines_from position made) ≡ length made
+lines_length position [] = refl
+lines_length position (e ∷ made) = let rest = lines_length (position + 1) made in omega (arith, rest)
+
+pub told_count : (before : List Entry) (generation : ℕ) (entries : List EntryLine) (log : List Entry) → AreTold before generation entries log → length log ≡ length before + length entries
+told_count before generation entries log is =
+    let all = ap (λ (es : List Entry). length es) is.behind in
+    let many : length entries ≡ length is.made = ap (λ (es : List EntryLine). length es) is.told ∙ lines_length (length before + 1) is.made in
+    omega (arith, all, many, length-append before is.made)
 
 -- the run before a line of a session
-pub record Turn (script : Script) (name text : List ℕ) (entries : List EntryLine) (log : List Entry) (states : List SessionAt) : Type 0 where
-  pub ready : IsReady (tables_of script) (length entries) log
-  pub to_go : (at : ℕ) (x : SessionAt) → session_at name script.sessions ≡ Some at → slice_get states at ≡ Some x → IsReadyToGo (tables_of script) (length entries) log x.doing
+pub record Turn (script : Script) (start : Start) (name text : List ℕ) (entries : List EntryLine) (log : List Entry) (states : List SessionAt) : Type 0 where
+  pub ready : IsReady start (tables_of script) (now_of start entries) log
+  pub to_go : (at : ℕ) (x : SessionAt) → session_at name script.sessions ≡ Some at → slice_get states at ≡ Some x → IsReadyToGo start (tables_of script) (now_of start entries) log x.doing
   pub is_declared : session_at name script.sessions ≡ None → ⊥
   pub inside : (at : ℕ) → session_at name script.sessions ≡ Some at → at < length states
 
-pub turn_is : (script : Script) (left : List BodyLine) (l : BodyLine) (lines : List Line) (entries : List EntryLine) (log : List Entry) (states : List SessionAt) (name text : List ℕ) →
-    IsBefore script (l ∷ left) lines entries (takes_in log) (seen_in log) states → IsLogged (tables_of script) (length entries) log → l.act ≡ Say name text → Turn script name text entries log states
-turn_is script left l lines entries log states name text before logged is_act = record {
-  ready = ready script entries log (runs_askable script before.can_run) before.so_far.stored logged;
-  to_go = λ at x found has. subst (λ (y : SessionAt). IsReadyToGo (tables_of script) (length entries) log y.doing) (found_state 0 name script.sessions states at at x found (omega arith) has)
-      (doing_ready script entries log (place_after sql_language name before.done) (place_after sql_language name before.done).pending (state_of name script.sessions states).doing _ before.so_far.stored logged (before.so_far.standing name).doing);
+pub turn_is : (script : Script) (start : Start) (left : List BodyLine) (l : BodyLine) (lines : List Line) (entries : List EntryLine) (log : List Entry) (states : List SessionAt) (name text : List ℕ) →
+    IsBefore script start (l ∷ left) lines entries (takes_in log) (seen_in start log) states → IsLogged start (tables_of script) (now_of start entries) log → l.act ≡ Say name text → Turn script start name text entries log states
+turn_is script start left l lines entries log states name text before logged is_act = record {
+  ready = ready script start entries log (runs_askable script before.can_run) before.so_far.stored logged;
+  to_go = λ at x found has. subst (λ (y : SessionAt). IsReadyToGo start (tables_of script) (now_of start entries) log y.doing) (found_state 0 name script.sessions states at at x found (omega arith) has)
+      (doing_ready script start entries log (place_after sql_language name before.done) (place_after sql_language name before.done).pending (state_of name script.sessions states).doing _ before.so_far.stored logged (before.so_far.standing name).doing);
   is_declared = declared 0 name script.sessions said;
   inside = λ at found. let w = within 0 name script.sessions at found in let same = before.same in omega (arith, w, same);
 }
@@ -192,16 +205,16 @@ turn_is script left l lines entries log states name text before logged is_act = 
     said = (subst (λ (a : Act). IsSaid script.sessions a) is_act before.said.0).0
 
 -- a line that was taken keeps the run so far
-pub turn_taken : (script : Script) (left : List BodyLine) (l : BodyLine) (lines lines' : List Line) (entries entries' : List EntryLine) (taken taken' : List (List GenidItem)) (seen seen' : Seen) (states : List SessionAt) (name text : List ℕ) (at : ℕ) (x after : SessionAt) →
-    IsBefore script (l ∷ left) lines entries taken seen states → l.act ≡ Say name text → session_at name script.sessions ≡ Some at → slice_get states at ≡ Some x →
-    IsTaken (world_of (tables_of script) seen taken (length entries)) name x text after lines lines' entries entries' taken' seen' →
-    IsBefore script left lines' entries' taken' seen' (slice_set states at after)
-turn_taken script left l lines lines' entries entries' taken taken' seen seen' states name text at x after before is_act found has run = record {
+pub turn_taken : (script : Script) (start : Start) (left : List BodyLine) (l : BodyLine) (lines lines' : List Line) (entries entries' : List EntryLine) (taken taken' : List (List GenidItem)) (seen seen' : Seen) (states : List SessionAt) (name text : List ℕ) (at : ℕ) (x after : SessionAt) →
+    IsBefore script start (l ∷ left) lines entries taken seen states → l.act ≡ Say name text → session_at name script.sessions ≡ Some at → slice_get states at ≡ Some x →
+    IsTaken (world_of (tables_of script) seen taken (now_of start entries)) name x text after lines lines' entries entries' taken' seen' →
+    IsBefore script start left lines' entries' taken' seen' (slice_set states at after)
+turn_taken script start left l lines lines' entries entries' taken taken' seen seen' states name text at x after before is_act found has run = record {
   can_run = before.can_run;
   said = before.said.1;
   same = length-set states at after ∙ before.same;
   done = before.done ++ l ∷ [];
-  so_far = go (subst (λ (y : SessionAt). IsTaken (world_of (tables_of script) seen taken (length entries)) name y text after lines lines' entries entries' taken' seen') (sym its) run);
+  so_far = go (subst (λ (y : SessionAt). IsTaken (world_of (tables_of script) seen taken (now_of start entries)) name y text after lines lines' entries entries' taken' seen') (sym its) run);
 }
   where
     utf8 : is_utf8 text ≡ true
@@ -219,11 +232,11 @@ turn_taken script left l lines lines' entries entries' taken taken' seen seen' s
     others : (m : List ℕ) → bytes_eq name m ≡ false → state_of m script.sessions (slice_set states at after) ≡ state_of m script.sessions states
     others m differs = other_state 0 name m script.sessions states at at after found (omega arith) differs
 
-    go : IsTaken (world_of (tables_of script) seen taken (length entries)) name (state_of name script.sessions states) text after lines lines' entries entries' taken' seen' →
-        SoFar script (before.done ++ l ∷ []) left lines' entries' taken' seen' (slice_set states at after)
-    go (inl (done, there)) = turned_keeps script before.done left l lines entries taken seen states (slice_set states at after) name text before.so_far is_act (runs_askable script before.can_run) utf8
+    go : IsTaken (world_of (tables_of script) seen taken (now_of start entries)) name (state_of name script.sessions states) text after lines lines' entries entries' taken' seen' →
+        SoFar script start (before.done ++ l ∷ []) left lines' entries' taken' seen' (slice_set states at after)
+    go (inl (done, there)) = turned_keeps script start before.done left l lines entries taken seen states (slice_set states at after) name text before.so_far is_act (runs_askable script before.can_run) utf8
         lines' entries' taken' seen' done (own ∙ there) others
-    go (inr (c, is, short, there)) = cut_keeps script before.done left l lines entries taken seen states (slice_set states at after) name text before.so_far is_act (runs_askable script before.can_run) utf8
+    go (inr (c, is, short, there)) = cut_keeps script start before.done left l lines entries taken seen states (slice_set states at after) name text before.so_far is_act (runs_askable script before.can_run) utf8
         lines' entries' taken' seen' c is short (own ∙ there) others
 
 -- what is put at a place twice is what was put there last
@@ -259,21 +272,21 @@ get_set (z ∷ zs) (suc i) (suc j) x y is = later (get_set zs i j x y is)
     later (inr found) = inr found
 
 -- the session whose line comes has an open transaction of its own, and so have all when it is put back
-pub own_there : (sessions : List SessionLine) (states : List SessionState) (name : List ℕ) (at : ℕ) (x : SessionState) → AreOwn sessions states → session_at name sessions ≡ Some at → slice_get states at ≡ Some x → IsOwn name x
-own_there sessions states name at x own found has =
+pub own_there : (generation : ℕ) (sessions : List SessionLine) (states : List SessionState) (name : List ℕ) (at : ℕ) (x : SessionState) → AreOwn generation sessions states → session_at name sessions ≡ Some at → slice_get states at ≡ Some x → IsOwn generation name x
+own_there generation sessions states name at x own found has =
     let line : (s : SessionLine) × (slice_get sessions at ≡ Some s) × (s.name ≡ name) = found_line 0 name sessions at at found (omega arith) in
-    subst (λ (n : List ℕ). IsOwn n x) line.2 (own at line.0 x line.1 has)
+    subst (λ (n : List ℕ). IsOwn generation n x) line.2 (own at line.0 x line.1 has)
 
-pub own_after : (sessions : List SessionLine) (states : List SessionState) (name : List ℕ) (at : ℕ) (x : SessionState) → AreOwn sessions states → session_at name sessions ≡ Some at → IsOwn name x → AreOwn sessions (slice_set states at x)
-own_after sessions states name at x own found is place s y line has = go (get_set states at place x y has)
+pub own_after : (generation : ℕ) (sessions : List SessionLine) (states : List SessionState) (name : List ℕ) (at : ℕ) (x : SessionState) → AreOwn generation sessions states → session_at name sessions ≡ Some at → IsOwn generation name x → AreOwn generation sessions (slice_set states at x)
+own_after generation sessions states name at x own found is place s y line has = go (get_set states at place x y has)
   where
     there : (l : SessionLine) × (slice_get sessions at ≡ Some l) × (l.name ≡ name)
     there = found_line 0 name sessions at at found (omega arith)
 
-    go : ((at ≡ place) × (x ≡ y)) ⊎ (slice_get states place ≡ Some y) → IsOwn s.name y
+    go : ((at ≡ place) × (x ≡ y)) ⊎ (slice_get states place ≡ Some y) → IsOwn generation s.name y
     go (inl (same, put)) =
         let same_line : there.0 ≡ s = let here : slice_get sessions place ≡ Some there.0 = subst (λ n. slice_get sessions n ≡ Some there.0) same there.1 in cc in
-        subst (λ (z : SessionState). IsOwn s.name z) put (subst (λ (n : List ℕ). IsOwn n x) (sym there.2 ∙ ap (λ (l : SessionLine). l.name) same_line) is)
+        subst (λ (z : SessionState). IsOwn generation s.name z) put (subst (λ (n : List ℕ). IsOwn generation n x) (sym there.2 ∙ ap (λ (l : SessionLine). l.name) same_line) is)
     go (inr before) = own place s y line before
 
 -- views of sessions, one by one

@@ -1,5 +1,5 @@
 -- The history and the rows stay in order when a transaction comes to its commit.
-use Rattle.std.proofs.Common.{◌≡◌, ◌≢◌, ℕ, ◌+◌, ◌-◌, ◌≤◌, ◌<◌, List, [], ◌∷◌, ◌++◌, length, refl, sym, subst, ap, arith, Option, Some, None, ◌∙◌, false, unwrap_or, ◌⊎◌, inl, inr}
+use Rattle.std.proofs.Common.{◌≡◌, ◌≢◌, ℕ, zero, suc, ◌+◌, ◌-◌, ◌≤◌, ◌<◌, List, [], ◌∷◌, ◌++◌, length, refl, sym, subst, ap, arith, Option, Some, None, ◌∙◌, false, unwrap_or, ◌⊎◌, inl, inr}
 use Rattle.std.proofs.lemmas.List.{length-append}
 use Rattle.std.proofs.Math.Nat.{eq-or-lt_of_le}
 use Rattle.std.specs.List.{AllByRecursion, slice_get}
@@ -9,7 +9,9 @@ use Rattle.cdb_values.specs.Rows.{Rows, apply_all}
 use Rattle.cdb_values.specs.declared.rows.Level.{Level}
 use Rattle.cdb_values.specs.declared.rows.RowOp.{RowOp}
 use Rattle.cdb_values.specs.declared.rows.Version.{Version}
+use Rattle.log_rows.specs.History.{IsFrom}
 use Rattle.script_play.specs.Seen.{Seen}
+use Rattle.script_play.specs.Start.{Start, base}
 use Rattle.script_form.specs.declared.scripts.Script.{Script}
 use Rattle.report_text.specs.declared.reports.EntryLine.{EntryLine}
 use Rattle.report_text.specs.declared.reports.EntryLine.TheVariants.{Commit}
@@ -22,58 +24,65 @@ use Rattle.report_laws.specs.Outcome.{IsRight, IsEntered}
 use Rattle.report_laws.specs.Told.{alone_at}
 use Rattle.script_form.specs.CanRun.{tables_of}
 use Rattle.report_laws.specs.Work.{Transaction, transaction_of}
-use Rattle.script_play.specs.Basis.{from_nothing}
+use Rattle.script_play.specs.Basis.{from_start}
 use Rattle.sql_answer.specs.Language.{sql_language}
 use Rattle.cdb_values.specs.declared.items.GenidItem.{GenidItem}
 use Rattle.session_language.proofs.EachLaws.{all_append, each_append, get_front, get_next}
 use Rattle.report_laws.proofs.HistoryLaws.{none_stands, rows_stay, rows_new, entry_new, taken_stays, taken_new, untouched_stays}
 use Rattle.block_processor.specs.Conflicts.{first_conflict}
+use Rattle.script_play.specs.Decisions.{HasName}
 use Rattle.script_play.specs.Ready.{AreKept, IsKeptOp}
 use Rattle.block_processor.proofs.ConflictLaws.{none_since}
 use Rattle.script_play.proofs.SoundLaws.{all_named, kept_sound, rows_later}
-use Rattle.script_play.specs.SoFar.{Stored}
+use Rattle.script_play.specs.SoFar.{Stored, now_of}
 use Rattle.script_play.specs.Step.{World, world_of, IsKept}
+
+-- what is left behind a place of a list with one more
+behind_more : {A : Type 0} (n : ℕ) (xs : List A) (x : A) → n ≤ length xs → drop n (xs ++ x ∷ []) ≡ drop n xs ++ x ∷ []
+behind_more zero xs x within = refl
+behind_more (suc n) [] x within = absurd (omega (arith, within))
+behind_more (suc n) (y ∷ xs) x within = behind_more n xs x (omega (arith, within))
 
 -- the entry of a transaction at the next position
 abbrev pub entry_of : List ℕ → ℕ → ℕ → Level → ℕ → EntryLine
 entry_of name number begin level now = Commit (now + 1) name number begin level
 
-abbrev pub world : Script → List EntryLine → List (List GenidItem) → Seen → World
-world script entries taken seen = world_of (tables_of script) seen taken (length entries)
+abbrev pub world : Script → Start → List EntryLine → List (List GenidItem) → Seen → World
+world script start entries taken seen = world_of (tables_of script) seen taken (now_of start entries)
 
 -- a transaction comes to its commit
-pub record Commits (script : Script) (entries : List EntryLine) (taken : List (List GenidItem)) (seen : Seen) (name : List ℕ) (t : Transaction) (begin : ℕ) (uses : List GenidItem) (ops : List RowOp) : Type 0 where
-  pub stored : Stored script entries taken seen
-  pub first : 1 ≤ begin
-  pub within : begin ≤ length entries
+pub record Commits (script : Script) (start : Start) (entries : List EntryLine) (taken : List (List GenidItem)) (seen : Seen) (name : List ℕ) (t : Transaction) (begin : ℕ) (uses : List GenidItem) (ops : List RowOp) : Type 0 where
+  pub stored : Stored script start entries taken seen
+  pub first : IsFrom (base start) begin
+  pub within : begin ≤ now_of start entries
   pub is_its : transaction_of sql_language name t.number script.body ≡ Some t
-  pub ops_are : ops ≡ (alone_at (from_nothing script) (view_of (from_nothing script) entries) t begin).ops
-  pub uses_are : uses ≡ (alone_at (from_nothing script) (view_of (from_nothing script) entries) t begin).uses
+  pub ops_are : ops ≡ (alone_at (from_start script start) (view_of (from_start script start) entries) t begin).ops
+  pub uses_are : uses ≡ (alone_at (from_start script start) (view_of (from_start script start) entries) t begin).uses
   pub sound : AllByRecursion (IsKeptOp (tables_of script) seen.next) ops
   pub once : AllByRecursion (λ e. is_entry_of name t.number e ≡ false) entries
   -- applied now, the operations leave sound rows, which fit
-  pub applied : AreKept (tables_of script) (apply_all (seen.at (length entries)) ops).next (apply_all (seen.at (length entries)) ops).tables
-  pub grows : seen.next ≤ (apply_all (seen.at (length entries)) ops).next
-  pub fits : AllFit (tables_of script) (apply_all (seen.at (length entries)) ops).tables
+  pub applied : AreKept (tables_of script) (apply_all (seen.at (now_of start entries)) ops).next (apply_all (seen.at (now_of start entries)) ops).tables
+  pub grows : seen.next ≤ (apply_all (seen.at (now_of start entries)) ops).next
+  pub fits : AllFit (tables_of script) (apply_all (seen.at (now_of start entries)) ops).tables
 
-module _ (script : Script) (entries : List EntryLine) (taken : List (List GenidItem)) (seen : Seen) (name : List ℕ) (t : Transaction) (begin : ℕ) (uses : List GenidItem) (ops : List RowOp) (c : Commits script entries taken seen name t begin uses ops) where
+module _ (script : Script) (start : Start) (entries : List EntryLine) (taken : List (List GenidItem)) (seen : Seen) (name : List ℕ) (t : Transaction) (begin : ℕ) (uses : List GenidItem) (ops : List RowOp) (c : Commits script start entries taken seen name t begin uses ops) where
   abbrev pub now : ℕ
-  now = length entries
+  now = now_of start entries
 
   -- what it uses: what its texts used, and what its operations take away
   abbrev pub used : List GenidItem
   used = taken_by ops ++ uses
 
   -- what no entry since the begin touches, by the versions that were kept for each entry
-  pub untouched_now : first_conflict begin (drop begin taken) used ≡ None → IsUntouched (view_of (from_nothing script) entries) begin (now + 1) used
+  pub untouched_now : first_conflict begin (drop begin taken) used ≡ None → IsUntouched (view_of (from_start script start) entries) begin (now + 1) used
   untouched_now none j after before =
-      ap (λ (items : List GenidItem). first_touched items used) (sym (c.stored.taken_are j (omega (arith, after)) (omega (arith, before))))
+      ap (λ (items : List GenidItem). first_touched items used) (sym (c.stored.taken_are j (let b = c.first.1 in omega (arith, after, b)) (omega (arith, before))))
       ∙ none_since begin taken used none j after (let same = c.stored.taken_length in omega (arith, before, same))
 
   -- these are what it uses when it is run alone
-  used_is : used_by (alone_at (from_nothing script) (view_of (from_nothing script) entries) t begin) ≡ used
+  used_is : used_by (alone_at (from_start script start) (view_of (from_start script start) entries) t begin) ≡ used
   used_is =
-      ap (λ (us : List GenidItem). taken_by (alone_at (from_nothing script) (view_of (from_nothing script) entries) t begin).ops ++ us) (sym c.uses_are)
+      ap (λ (us : List GenidItem). taken_by (alone_at (from_start script start) (view_of (from_start script start) entries) t begin).ops ++ us) (sym c.uses_are)
       ∙ ap (λ (o : List RowOp). taken_by o ++ uses) (sym c.ops_are)
 
   abbrev pub e : EntryLine
@@ -82,49 +91,49 @@ module _ (script : Script) (entries : List EntryLine) (taken : List (List GenidI
   abbrev pub more : List EntryLine
   more = entries ++ e ∷ []
 
-  count : length more ≡ now + 1
+  count : now_of start more ≡ now + 1
   count = omega (arith, length-append entries (e ∷ []))
 
   -- the entry's operations are those that were answered
-  pub its_ops : ops_of (from_nothing script) (states_of (from_nothing script) entries) e ≡ ops
-  its_ops = ap (λ (found : Option Transaction). ops_alone (from_nothing script) (rows_at (from_nothing script) entries begin) found) c.is_its ∙ sym c.ops_are
+  pub its_ops : ops_of (from_start script start) (states_of (from_start script start) entries) e ≡ ops
+  its_ops = ap (λ (found : Option Transaction). ops_alone (from_start script start) (rows_at (from_start script start) entries begin) found) c.is_its ∙ sym c.ops_are
 
-  pub rows_there : rows_after (from_nothing script) (states_of (from_nothing script) entries) e ≡ apply_all (seen.at now) ops
+  pub rows_there : rows_after (from_start script start) (states_of (from_start script start) entries) e ≡ apply_all (seen.at now) ops
   rows_there =
       let back : now + 1 - 1 ≡ now = omega arith in
-      ap (λ (o : List RowOp). apply_all (rows_at (from_nothing script) entries (now + 1 - 1)) o) its_ops
-      ∙ ap (λ k. apply_all (rows_at (from_nothing script) entries k) ops) back
+      ap (λ (o : List RowOp). apply_all (rows_at (from_start script start) entries (now + 1 - 1)) o) its_ops
+      ∙ ap (λ k. apply_all (rows_at (from_start script start) entries k) ops) back
       ∙ ap (λ (r : Rows). apply_all r ops) (sym c.stored.now_are)
 
-  next_at : now + 1 ≡ last_position (from_nothing script).origin entries + 1
+  next_at : now + 1 ≡ last_position (from_start script start).origin entries + 1
   next_at = omega arith
 
-  pub rows_then : rows_at (from_nothing script) more (now + 1) ≡ apply_all (seen.at now) ops
-  rows_then = ap (λ k. rows_at (from_nothing script) more k) next_at ∙ rows_new (from_nothing script) entries e ∙ rows_there
+  pub rows_then : rows_at (from_start script start) more (now + 1) ≡ apply_all (seen.at now) ops
+  rows_then = ap (λ k. rows_at (from_start script start) more k) next_at ∙ rows_new (from_start script start) entries e ∙ rows_there
 
   module _ (seen' : Seen) (kept : IsKept now seen seen' (ops ∷ [])) (unbroken : first_broken (tables_of script) (apply_all (seen.at now) ops).tables ≡ None) (some : ops ≢ []) (clear : first_conflict begin (drop begin taken) used ≡ None) where
     good : IsGood (tables_of script) (apply_all (seen.at now) ops).tables
     good = record { rows_fit = c.fits; keys_kept = unbroken }
 
-    rows_applied : apply_all (rows_at (from_nothing script) entries (last_position (from_nothing script).origin entries)) (alone_at (from_nothing script) (view_of (from_nothing script) entries) t begin).ops ≡ apply_all (seen.at now) ops
+    rows_applied : apply_all (rows_at (from_start script start) entries (last_position (from_start script start).origin entries)) (alone_at (from_start script start) (view_of (from_start script start) entries) t begin).ops ≡ apply_all (seen.at now) ops
     rows_applied =
-        let last : last_position (from_nothing script).origin entries ≡ now = omega arith in
-        ap (λ k. apply_all (rows_at (from_nothing script) entries k) (alone_at (from_nothing script) (view_of (from_nothing script) entries) t begin).ops) last
-        ∙ ap (λ (r : Rows). apply_all r (alone_at (from_nothing script) (view_of (from_nothing script) entries) t begin).ops) (sym c.stored.now_are)
+        let last : last_position (from_start script start).origin entries ≡ now = omega arith in
+        ap (λ k. apply_all (rows_at (from_start script start) entries k) (alone_at (from_start script start) (view_of (from_start script start) entries) t begin).ops) last
+        ∙ ap (λ (r : Rows). apply_all r (alone_at (from_start script start) (view_of (from_start script start) entries) t begin).ops) (sym c.stored.now_are)
         ∙ ap (λ (o : List RowOp). apply_all (seen.at now) o) (sym c.ops_are)
 
-    its_entry : IsCommitAfter (from_nothing script) (view_of (from_nothing script) entries) (now + 1) name t.number begin t.level
+    its_entry : IsCommitAfter (from_start script start) (view_of (from_start script start) entries) (now + 1) name t.number begin t.level
     its_entry = record {
       placed = omega arith;
-      once = none_stands (from_nothing script).origin entries name t.number c.once;
-      begun = (c.first, omega arith, (let w = c.within in omega (arith, w)));
+      once = none_stands (from_start script start).origin entries name t.number c.once;
+      begun = (c.first.0, c.first.1, (let w = c.within in omega (arith, w)));
       transaction = t;
       is_its = c.is_its;
       is_level = refl;
-      ran = alone_at (from_nothing script) (view_of (from_nothing script) entries) t begin;
+      ran = alone_at (from_start script start) (view_of (from_start script start) entries) t begin;
       is_ran = refl;
       has_ops = subst (λ (o : List RowOp). o ≢ []) c.ops_are some;
-      untouched = subst (λ (items : List GenidItem). IsUntouched (view_of (from_nothing script) entries) begin (now + 1) items) (sym used_is) (untouched_now clear);
+      untouched = subst (λ (items : List GenidItem). IsUntouched (view_of (from_start script start) entries) begin (now + 1) items) (sym used_is) (untouched_now clear);
       is_good = subst (λ (r : Rows). IsGood (tables_of script) r.tables) (sym rows_applied) good;
     }
 
@@ -135,8 +144,8 @@ module _ (script : Script) (entries : List EntryLine) (taken : List (List GenidI
     tables_are = ap (λ (r : Rows). r.tables) kept.0
 
     -- each position of the longer history is one of the shorter, or the next
-    at_next : (P : ℕ → Type 0) → ((at : ℕ) → 1 ≤ at → at ≤ now → P at) → P (now + 1) → (at : ℕ) → 1 ≤ at → at ≤ length more → P at
-    at_next P old new at first within = pick (eq-or-lt_of_le (omega (arith, within, count)))
+    at_next : (From P : ℕ → Type 0) → ((at : ℕ) → From at → at ≤ now → P at) → P (now + 1) → (at : ℕ) → From at → at ≤ now_of start more → P at
+    at_next From P old new at first within = pick (eq-or-lt_of_le (omega (arith, within, count)))
       where
         pick : (at ≡ now + 1) ⊎ (at < now + 1) → P at
         pick (inl is) = subst P (sym is) new
@@ -145,48 +154,50 @@ module _ (script : Script) (entries : List EntryLine) (taken : List (List GenidI
     abbrev pub taken' : List (List GenidItem)
     taken' = taken ++ taken_by ops ∷ []
 
-    taken_there : unwrap_or (slice_get taken' (now + 1 - 1)) [] ≡ taken_at (from_nothing script) more (now + 1)
+    taken_there : unwrap_or (slice_get taken' (now + 1 - 1)) [] ≡ taken_at (from_start script start) more (now + 1)
     taken_there =
         let at : now + 1 - 1 ≡ length taken = let same = c.stored.taken_length in omega (arith, same) in
         ap (λ k. unwrap_or (slice_get taken' k) []) at
         ∙ ap (λ (found : Option (List GenidItem)). unwrap_or found []) (get_next taken (taken_by ops) [])
         ∙ ap (λ (o : List RowOp). taken_by o) (sym its_ops)
-        ∙ sym (ap (λ k. taken_at (from_nothing script) more k) next_at ∙ taken_new (from_nothing script) entries e)
+        ∙ sym (ap (λ k. taken_at (from_start script start) more k) next_at ∙ taken_new (from_start script start) entries e)
 
-    taken_before : (k : ℕ) → 1 ≤ k → k ≤ now → unwrap_or (slice_get taken' (k - 1)) [] ≡ taken_at (from_nothing script) more k
+    taken_before : (k : ℕ) → base start < k → k ≤ now → unwrap_or (slice_get taken' (k - 1)) [] ≡ taken_at (from_start script start) more k
     taken_before k first within =
         let inside : k - 1 < length taken = let same = c.stored.taken_length in omega (arith, same, first, within) in
         ap (λ (found : Option (List GenidItem)). unwrap_or found []) (get_front taken (taken_by ops ∷ []) (k - 1) inside)
         ∙ c.stored.taken_are k first within
-        ∙ sym (taken_stays (from_nothing script) entries e k (omega (arith, first)) (omega (arith, within)))
+        ∙ sym (taken_stays (from_start script start) entries e k (omega (arith, first)) (omega (arith, within)))
 
     -- after the commit
-    pub stored_more : Stored script more taken' seen'
+    pub stored_more : Stored script start more taken' seen'
     stored_more = record {
-      opened = omega (arith, count);
-      history = each_append (IsEntryAfter (from_nothing script)) [] entries (e ∷ []) c.stored.history (its_entry, tt);
-      rows_are = at_next (λ at. seen'.at at ≡ rows_at (from_nothing script) more at)
-          (λ at first within. kept.1 at (omega (arith, within)) ∙ c.stored.rows_are at first within ∙ sym (rows_stay (from_nothing script) entries e at (omega (arith, within))))
+      opened = (omega (arith, count), omega arith);
+      history = each_append (IsEntryAfter (from_start script start)) [] entries (e ∷ []) c.stored.history (its_entry, tt);
+      rows_are = at_next (IsFrom (base start)) (λ at. seen'.at at ≡ rows_at (from_start script start) more at)
+          (λ at first within. kept.1 at (omega (arith, within)) ∙ c.stored.rows_are at first within ∙ sym (rows_stay (from_start script start) entries e at (omega (arith, within))))
           (kept.0 ∙ sym rows_then);
-      now_are = subst (λ k. seen'.at k ≡ rows_at (from_nothing script) more k) (sym count) (kept.0 ∙ sym rows_then);
+      now_are = subst (λ k. seen'.at k ≡ rows_at (from_start script start) more k) (sym count) (kept.0 ∙ sym rows_then);
       next_is = next_is ∙ ap (λ (r : Rows). r.next) (sym kept.0) ∙ ap (λ k. (seen'.at k).next) (sym count);
       taken_length = let same = c.stored.taken_length in omega (arith, count, same, length-append taken (taken_by ops ∷ []));
-      taken_are = at_next (λ k. unwrap_or (slice_get taken' (k - 1)) [] ≡ taken_at (from_nothing script) more k) taken_before taken_there;
-      sound = at_next (λ at. AreKept (tables_of script) seen'.next (seen'.at at).tables)
+      taken_are = at_next (λ k. base start < k) (λ k. unwrap_or (slice_get taken' (k - 1)) [] ≡ taken_at (from_start script start) more k) taken_before taken_there;
+      sound = at_next (IsFrom (base start)) (λ at. AreKept (tables_of script) seen'.next (seen'.at at).tables)
           (λ at first within. subst (λ (vs : List (List Version)). AreKept (tables_of script) seen'.next vs) (ap (λ (r : Rows). r.tables) (sym (kept.1 at (omega (arith, within)))))
           (rows_later (tables_of script) seen.next seen'.next (seen.at at).tables (let g = c.grows in let n = next_is in omega (arith, g, n)) (c.stored.sound at first within)))
           (subst (λ (vs : List (List Version)). AreKept (tables_of script) seen'.next vs) (sym tables_are) (subst (λ k. AreKept (tables_of script) k (apply_all (seen.at now) ops).tables) (sym next_is) c.applied));
-      named = all_append _ taken (taken_by ops ∷ []) c.stored.named (all_named (tables_of script) seen.next ops (kept_sound (tables_of script) seen.next ops c.sound), tt);
+      named = subst (λ (l : List (List GenidItem)). AllByRecursion (AllByRecursion (HasName (tables_of script))) l)
+          (sym (behind_more (base start) taken (taken_by ops) (let same = c.stored.taken_length in omega (arith, same))))
+          (all_append _ (drop (base start) taken) (taken_by ops ∷ []) c.stored.named (all_named (tables_of script) seen.next ops (kept_sound (tables_of script) seen.next ops c.sound), tt));
     }
 
     -- and the outcome is right
-    pub committed_right : (o : RowOp) (os : List RowOp) → ops ≡ o ∷ os → IsRight (from_nothing script) (view_of (from_nothing script) more) name t begin used ops (reply.Committed (now + 1))
-    committed_right o os is = subst (λ (all : List RowOp). IsRight (from_nothing script) (view_of (from_nothing script) more) name t begin used all (reply.Committed (now + 1))) (sym is) entered
+    pub committed_right : (o : RowOp) (os : List RowOp) → ops ≡ o ∷ os → IsRight (from_start script start) (view_of (from_start script start) more) name t begin used ops (reply.Committed (now + 1))
+    committed_right o os is = subst (λ (all : List RowOp). IsRight (from_start script start) (view_of (from_start script start) more) name t begin used all (reply.Committed (now + 1))) (sym is) entered
       where
-        entered : IsEntered (from_nothing script) (view_of (from_nothing script) more) name t begin (now + 1) used
+        entered : IsEntered (from_start script start) (view_of (from_start script start) more) name t begin (now + 1) used
         entered = record {
           later = let w = c.within in omega (arith, w);
-          stands = ap (λ k. entry_at (from_nothing script).origin more k) next_at ∙ entry_new (from_nothing script) entries e;
-          untouched = untouched_stays (from_nothing script) entries e begin (now + 1) used (omega arith) (omega arith) (untouched_now clear);
+          stands = ap (λ k. entry_at (from_start script start).origin more k) next_at ∙ entry_new (from_start script start) entries e;
+          untouched = untouched_stays (from_start script start) entries e begin (now + 1) used c.first.1 (omega arith) (untouched_now clear);
           is_good = subst (λ (r : Rows). IsGood (tables_of script) r.tables) (sym rows_then) good;
         }

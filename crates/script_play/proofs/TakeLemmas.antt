@@ -1,5 +1,5 @@
 -- A line that is planned, done or cut short: what each step needs and leaves.
-use Rattle.std.proofs.Common.{◌≡◌, ℕ, ◌+◌, ◌≤◌, ◌<◌, List, [], ◌∷◌, ◌++◌, length, map, refl, sym, subst, ap, arith, Option, Some, None, ◌∙◌, Result, Ok, Err, IfOk, OnOk, IfSome, inl, inr, option_to_list, append-nil}
+use Rattle.std.proofs.Common.{◌≡◌, ℕ, ◌+◌, ◌≤◌, ◌<◌, List, [], ◌∷◌, ◌++◌, length, map, refl, sym, subst, ap, arith, Option, Some, None, ◌∙◌, Result, Ok, Err, IfOk, OnOk, IfSome, inl, inr, option_to_list, append-nil, append_assoc}
 use Rattle.std.proofs.lemmas.List.{length-append}
 use Rattle.std.specs.List.{AllByRecursion}
 use Rattle.std.specs.Prelude.{drop}
@@ -8,10 +8,11 @@ use Rattle.cdb_values.specs.declared.rows.Level.{Level}
 use Rattle.cdb_values.specs.declared.rows.RowOp.{RowOp}
 use Rattle.cdb_values.specs.declared.tables.TableDef.{TableDef}
 use Rattle.live_operations.specs.Live.{AreLive}
-use Rattle.log_rows.specs.History.{rows_of, rows_at, takes_in, IsCommit}
+use Rattle.log_rows.specs.History.{rows_over, rows_over_at, takes_in, IsCommit, IsFrom}
 use Rattle.log_rows.proofs.HistoryLemmas.{rows_earlier, rows_whole, stand_more, schema_front, takes_more}
 use Rattle.phys_log.specs.Logs.{Fits, page_at}
 use Rattle.phys_log.specs.declared.entries.Entry.{Entry}
+use Rattle.phys_log.specs.declared.entries.Entry.TheVariants.{Setup as EntrySetup, Commit as EntryCommit}
 use Rattle.sql_answer.specs.Answers.{Meaning}
 use Rattle.sql_answer.specs.Language.{meaning, bound_in, sql_language}
 use Rattle.sql_answer.specs.Reading.{kind_of_text}
@@ -29,39 +30,47 @@ use Rattle.table_store.specs.Stored.{Stands}
 use Rattle.script_play.specs.Decisions.{added_by}
 use Rattle.script_play.proofs.LiveLemmas.{stands_distinct, text_alone_leaves_live}
 use Rattle.script_play.proofs.SqlLaws.{kept_answer}
-use Rattle.script_play.specs.Effects.{IsEffect, IsAdded, IsEntryOf, Named, cut_in, lines_added, named_so}
-use Rattle.script_play.specs.EntryLines.{AreTold, line_of, lines_from}
+use Rattle.script_play.specs.Effects.{IsEffect, IsAdded, IsEntryOf, IsOfIts, Named, cut_in, lines_added, named_so}
+use Rattle.script_play.specs.EntryLines.{AreTold, IsMadeIn, line_of, lines_from}
 use Rattle.script_play.specs.Ready.{AreKept, IsAble, IsKeptOp, IsLogged, IsReady}
 use Rattle.script_play.specs.RunViews.{state_in, seen_in, IsOfText, IsOwn, IsOwnDoing, IsShut}
 use Rattle.script_play.specs.declared.states.InTransaction.{InTransaction}
 use Rattle.script_play.specs.declared.states.InTransaction.TheVariants.{No, Open, Aborted}
 use Rattle.script_play.specs.Seen.{Seen}
+use Rattle.script_play.specs.Start.{Start, base, ground_of}
 use Rattle.script_play.specs.Step.{World, Turned, IsTaken, IsTurned, IsKept, answer_of, entries_added, outcome, turn_of, cut_by, world_of}
 use Rattle.script_play.specs.declared.effects.LineEffect.{LineEffect}
 use Rattle.script_play.specs.declared.states.SessionState.{SessionState}
 
 -- the pages of a log stand at a position
-pub stands_there : (tables : List TableDef) (now begin : ℕ) (log : List Entry) → IsLogged tables now log → 1 ≤ begin → begin ≤ now → Stands (page_at log begin) tables (rows_at log begin)
-stands_there tables now begin log logged first within = logged.stands begin first (let n = logged.count in omega (arith, within, n))
+pub stands_there : (start : Start) (tables : List TableDef) (now begin : ℕ) (log : List Entry) → IsLogged start tables now log → IsFrom (base start) begin → begin ≤ now → Stands (page_at log begin) tables (rows_over_at (ground_of start) log begin)
+stands_there start tables now begin log logged first within = logged.stands begin first (let n = logged.count in omega (arith, within, n))
+
+pub stands_now : (start : Start) (tables : List TableDef) (now begin : ℕ) (log : List Entry) → IsReady start tables now log → begin ≡ now → Stands (page_at log begin) tables (rows_over_at (ground_of start) log begin)
+stands_now start tables now begin log ready at =
+    stands_there start tables now begin log ready.logged (let o = ready.opened.0 in omega (arith, o, at), let o = ready.opened.1 in omega (arith, o, at)) (omega (arith, at))
 
 -- a transaction of one line can come to its commit
-pub own_able : (tables : List TableDef) (now begin : ℕ) (log : List Entry) (meant : Meaning) (ops done : List RowOp) → IsReady tables now log → IsOfText tables meant → begin ≡ now → done ≡ [] →
-    ops ≡ (answer_to tables (rows_at log begin).tables done meant).ops → IsAble tables now log begin ops
-own_able tables now begin log meant ops done ready of_text at none are = record {
-  first = let o = ready.opened in omega (arith, o, at);
+pub own_able : (start : Start) (tables : List TableDef) (now begin : ℕ) (log : List Entry) (meant : Meaning) (ops done : List RowOp) → IsReady start tables now log → IsOfText tables meant → begin ≡ now → done ≡ [] →
+    ops ≡ (answer_to tables (rows_over_at (ground_of start) log begin).tables done meant).ops → IsAble start tables now log begin ops
+own_able start tables now begin log meant ops done ready of_text at none are = record {
+  first = from_now;
   within = omega (arith, at);
-  kept = subst (λ (o : List RowOp). AllByRecursion (IsKeptOp tables (rows_of log).next) o) (sym its)
-      (kept_answer tables (rows_at log begin).tables [] of_text.0 (rows_of log).next ready.askable of_text.1 (subst (λ k. kept_at k) (sym at) (ready.kept now ready.opened (omega arith))) tt);
-  live = subst (λ (o : List RowOp). AreLive (rows_at log begin).tables o) (sym its)
-      (text_alone_leaves_live tables (rows_at log begin).tables of_text.0 (stands_distinct tables (rows_at log begin) (stands_there tables now begin log ready.logged (let o = ready.opened in omega (arith, o, at)) (omega (arith, at)))));
+  kept = subst (λ (o : List RowOp). AllByRecursion (IsKeptOp tables (rows_over (ground_of start) log).next) o) (sym its)
+      (kept_answer tables (rows_over_at (ground_of start) log begin).tables [] of_text.0 (rows_over (ground_of start) log).next ready.askable of_text.1 (subst (λ k. kept_at k) (sym at) (ready.kept now ready.opened (omega arith))) tt);
+  live = subst (λ (o : List RowOp). AreLive (rows_over_at (ground_of start) log begin).tables o) (sym its)
+      (text_alone_leaves_live tables (rows_over_at (ground_of start) log begin).tables of_text.0 (stands_distinct tables (rows_over_at (ground_of start) log begin) (stands_there start tables now begin log ready.logged from_now (omega (arith, at)))));
 }
   where
-    kept_at : ℕ → Type 0
-    kept_at k = AreKept tables (rows_of log).next (rows_at log k).tables
+    from_now : IsFrom (base start) begin
+    from_now = (let o = ready.opened.0 in omega (arith, o, at), let o = ready.opened.1 in omega (arith, o, at))
 
-    its : ops ≡ (sql_language.answer tables (rows_at log begin).tables [] of_text.0).ops
-    its = are ∙ ap (λ (o : List RowOp). (answer_to tables (rows_at log begin).tables o meant).ops) none
-        ∙ ap (λ (m : Meaning). (answer_to tables (rows_at log begin).tables [] m).ops) of_text.2
+    kept_at : ℕ → Type 0
+    kept_at k = AreKept tables (rows_over (ground_of start) log).next (rows_over_at (ground_of start) log k).tables
+
+    its : ops ≡ (sql_language.answer tables (rows_over_at (ground_of start) log begin).tables [] of_text.0).ops
+    its = are ∙ ap (λ (o : List RowOp). (answer_to tables (rows_over_at (ground_of start) log begin).tables o meant).ops) none
+        ∙ ap (λ (m : Meaning). (answer_to tables (rows_over_at (ground_of start) log begin).tables [] m).ops) of_text.2
 
 -- what a transaction of one line is told, where it was answered step by step
 pub own_told : (w : World) (meant : Meaning) (begin : ℕ) (done ops : List RowOp) (uses : List GenidItem) (given all : List ReplyLine) (told : ReplyLine) → begin ≡ w.now → done ≡ [] →
@@ -76,52 +85,55 @@ pub own_added : (w : World) (meant : Meaning) (begin : ℕ) (done ops : List Row
 own_added w meant begin done ops uses at none leaves takes = rw (takes, leaves, none, at) refl
 
 -- the entry that a line appends is the next one of the log
-added_fits : (tables : List TableDef) (log : List Entry) (added : Option Entry) (named : Named) (all : List (List RowOp)) → IsAdded tables log added named all → IfSome added (Fits log)
-added_fits tables log None named all is = tt
-added_fits tables log (Some entry) named [] is = absurd is
-added_fits tables log (Some entry) named (ops ∷ []) is = is.fits
-added_fits tables log (Some entry) named (ops ∷ more ∷ others) is = absurd is
+added_fits : (start : Start) (tables : List TableDef) (log : List Entry) (added : Option Entry) (named : Named) (all : List (List RowOp)) → IsAdded start tables log added named all → IfSome added (Fits log)
+added_fits start tables log None named all is = tt
+added_fits start tables log (Some entry) named [] is = absurd is
+added_fits start tables log (Some entry) named (ops ∷ []) is = is.fits
+added_fits start tables log (Some entry) named (ops ∷ more ∷ others) is = absurd is
 
-pub effect_fits : (tables : List TableDef) (log : List Entry) (name : List ℕ) (p : LineEffect) (t : Turned) → IsEffect tables log name p t → IfSome p.added (Fits log)
-effect_fits tables log name p t is = added_fits tables log p.added (named_so name t.number t.begin t.after.level) t.added is.added
+pub effect_fits : (start : Start) (generation : ℕ) (tables : List TableDef) (log : List Entry) (name : List ℕ) (p : LineEffect) (t : Turned) → IsEffect start generation tables log name p t → IfSome p.added (Fits log)
+effect_fits start generation tables log name p t is = added_fits start tables log p.added (named_so generation name t.number t.begin t.after.level) t.added is.added
 
 -- what is kept of an entry, where one is appended, behind a log that is in order
-pub record Kept (tables : List TableDef) (log log' : List Entry) (now : ℕ) (all : List (List RowOp)) : Type 0 where
+pub record Kept (start : Start) (tables : List TableDef) (log log' : List Entry) (now : ℕ) (all : List (List RowOp)) : Type 0 where
   takes : takes_in log' ≡ takes_in log ++ map taken_by all
-  rows : IsKept now (seen_in log) (seen_in log') all
-  logged : IsLogged tables (now + length all) log'
+  rows : IsKept now (seen_in start log) (seen_in start log') all
+  logged : IsLogged start tables (now + length all) log'
 
-module _ (tables : List TableDef) (log : List Entry) (now : ℕ) (logged : IsLogged tables now log) (opened : 1 ≤ now) where
-  kept_none : Kept tables log (log ++ []) now []
-  kept_none = subst (λ (es : List Entry). Kept tables log es now []) (sym (append-nil log)) (record {
+module _ (start : Start) (tables : List TableDef) (log : List Entry) (now : ℕ) (logged : IsLogged start tables now log) (opened : IsFrom (base start) now) where
+  kept_none : Kept start tables log (log ++ []) now []
+  kept_none = subst (λ (es : List Entry). Kept start tables log es now []) (sym (append-nil log)) (record {
     takes = sym (append-nil (takes_in log));
     rows = refl;
-    logged = subst (λ n. IsLogged tables n log) (let e : now ≡ now + 0 = omega arith in e) logged;
+    logged = subst (λ n. IsLogged start tables n log) (let e : now ≡ now + 0 = omega arith in e) logged;
   })
 
-  kept_one : (entry : Entry) (named : Named) (ops : List RowOp) → IsEntryOf tables log entry named ops → Kept tables log (log ++ entry ∷ []) now (ops ∷ [])
+  kept_one : (entry : Entry) (named : Named) (ops : List RowOp) → IsEntryOf start tables log entry named ops → Kept start tables log (log ++ entry ∷ []) now (ops ∷ [])
   kept_one entry named ops is = record {
     takes = takes_more log entry ∙ ap (λ (items : List GenidItem). takes_in log ++ items ∷ []) is.takes;
     rows = (last_rows, earlier, ap (λ (r : Rows). r.next) is.rows ∙ ap (λ (r : Rows). (apply_all r ops).next) now_rows);
     logged = record {
       count = let c = logged.count in omega (arith, c, length-append log (entry ∷ []));
-      schema = schema_front log (entry ∷ []) (let c = logged.count in omega (arith, c, opened)) ∙ logged.schema;
-      commits = behind_first log (let c = logged.count in omega (arith, c, opened)) logged.commits;
-      stands = stand_more tables log entry logged.stands is.stands;
+      schema = schema_front log (entry ∷ []) some ∙ logged.schema;
+      commits = behind_first log some logged.commits;
+      stands = stand_more (ground_of start) tables log entry logged.stands is.stands;
     };
   }
     where
+      some : 1 ≤ length log
+      some = let c = logged.count in let o = opened.0 in omega (arith, c, o)
+
       count : length (log ++ entry ∷ []) ≡ now + 1
       count = let c = logged.count in omega (arith, c, length-append log (entry ∷ []))
 
-      now_rows : rows_of log ≡ rows_at log now
-      now_rows = sym (ap (λ k. rows_at log k) (sym logged.count) ∙ rows_whole log)
+      now_rows : rows_over (ground_of start) log ≡ rows_over_at (ground_of start) log now
+      now_rows = sym (ap (λ k. rows_over_at (ground_of start) log k) (sym logged.count) ∙ rows_whole (ground_of start) log)
 
-      last_rows : rows_at (log ++ entry ∷ []) (now + 1) ≡ apply_all (rows_at log now) ops
-      last_rows = ap (λ k. rows_at (log ++ entry ∷ []) k) (sym count) ∙ rows_whole (log ++ entry ∷ []) ∙ is.rows ∙ ap (λ (r : Rows). apply_all r ops) now_rows
+      last_rows : rows_over_at (ground_of start) (log ++ entry ∷ []) (now + 1) ≡ apply_all (rows_over_at (ground_of start) log now) ops
+      last_rows = ap (λ k. rows_over_at (ground_of start) (log ++ entry ∷ []) k) (sym count) ∙ rows_whole (ground_of start) (log ++ entry ∷ []) ∙ is.rows ∙ ap (λ (r : Rows). apply_all r ops) now_rows
 
-      earlier : (at : ℕ) → at < now + 1 → rows_at (log ++ entry ∷ []) at ≡ rows_at log at
-      earlier at before = rows_earlier log (entry ∷ []) at (let c = logged.count in omega (arith, c, before))
+      earlier : (at : ℕ) → at < now + 1 → rows_over_at (ground_of start) (log ++ entry ∷ []) at ≡ rows_over_at (ground_of start) log at
+      earlier at before = rows_earlier (ground_of start) log (entry ∷ []) at (let c = logged.count in omega (arith, c, before))
 
       behind_first : (es : List Entry) → 1 ≤ length es → AllByRecursion IsCommit (drop 1 es) → AllByRecursion IsCommit (drop 1 (es ++ entry ∷ []))
       behind_first [] some all = absurd (omega (arith, some))
@@ -131,7 +143,7 @@ module _ (tables : List TableDef) (log : List Entry) (now : ℕ) (logged : IsLog
           at_end [] all = (is.commit, tt)
           at_end (m ∷ more) all = (all.0, at_end more all.1)
 
-  pub kept_added : (added : Option Entry) (named : Named) (all : List (List RowOp)) → IsAdded tables log added named all → Kept tables log (log ++ option_to_list added) now all
+  pub kept_added : (added : Option Entry) (named : Named) (all : List (List RowOp)) → IsAdded start tables log added named all → Kept start tables log (log ++ option_to_list added) now all
   kept_added None named [] is = kept_none
   kept_added None named (ops ∷ more) is = absurd is
   kept_added (Some entry) named [] is = absurd is
@@ -139,13 +151,13 @@ module _ (tables : List TableDef) (log : List Entry) (now : ℕ) (logged : IsLog
   kept_added (Some entry) named (ops ∷ more ∷ others) is = absurd is
 
 -- the line of the history of what is added
-added_line : (tables : List TableDef) (log : List Entry) (named : Named) (now : ℕ) (added : Option Entry) (all : List (List RowOp)) → IsAdded tables log added named all →
+added_line : (start : Start) (tables : List TableDef) (log : List Entry) (named : Named) (now : ℕ) (added : Option Entry) (all : List (List RowOp)) → IsAdded start tables log added named all →
     lines_added now added ≡ map (λ ops. Commit (now + 1) named.session named.number named.begin named.level) all
-added_line tables log named now None [] is = refl
-added_line tables log named now None (ops ∷ more) is = absurd is
-added_line tables log named now (Some entry) [] is = absurd is
-added_line tables log named now (Some entry) (ops ∷ []) is = ap (λ (l : EntryLine). l ∷ []) (is.names (now + 1))
-added_line tables log named now (Some entry) (ops ∷ more ∷ others) is = absurd is
+added_line start tables log named now None [] is = refl
+added_line start tables log named now None (ops ∷ more) is = absurd is
+added_line start tables log named now (Some entry) [] is = absurd is
+added_line start tables log named now (Some entry) (ops ∷ []) is = ap (λ (l : EntryLine). l ∷ []) (is.names (now + 1))
+added_line start tables log named now (Some entry) (ops ∷ more ∷ others) is = absurd is
 
 -- lines of entries, and of one more
 lines_more : (position : ℕ) (log : List Entry) (added : Option Entry) (now : ℕ) → now + 1 ≡ position + length log → lines_from position (log ++ option_to_list added) ≡ lines_from position log ++ lines_added now added
@@ -153,75 +165,105 @@ lines_more position [] None now at = refl
 lines_more position [] (Some entry) now at = let same : position ≡ now + 1 = omega (arith, at) in ap (λ k. line_of k entry ∷ []) same
 lines_more position (e ∷ log) added now at = ap (λ (es : List EntryLine). line_of position e ∷ es) (lines_more (position + 1) log added now (omega (arith, at)))
 
-map_length : {A B : Type 0} (f : A → B) (xs : List A) → length (map f xs) ≡ length xs
-map_length f [] = refl
-map_length f (x ∷ xs) = let rest : length (map f xs) ≡ length xs = map_length f xs in omega (arith, rest)
+-- what is added was made in the generation
+of_its_made : (generation : ℕ) (name : List ℕ) (number begin : ℕ) (level : Level) (entry : Entry) → IsOfIts (named_so generation name number begin level) entry → IsMadeIn generation entry
+of_its_made generation name number begin level (EntrySetup made tables records) is = absurd is
+of_its_made generation name number begin level (EntryCommit made id at of changes records) is = is
+
+made_in : (start : Start) (generation : ℕ) (tables : List TableDef) (log : List Entry) (name : List ℕ) (number begin : ℕ) (level : Level) (added : Option Entry) (all : List (List RowOp)) →
+    IsAdded start tables log added (named_so generation name number begin level) all → AllByRecursion (IsMadeIn generation) (option_to_list added)
+made_in start generation tables log name number begin level None all is = tt
+made_in start generation tables log name number begin level (Some entry) [] is = absurd is
+made_in start generation tables log name number begin level (Some entry) (ops ∷ []) is = (of_its_made generation name number begin level entry is.of_its, tt)
+made_in start generation tables log name number begin level (Some entry) (ops ∷ more ∷ others) is = absurd is
+
+all_behind : (generation : ℕ) (made : List Entry) (added : List Entry) → AllByRecursion (IsMadeIn generation) made → AllByRecursion (IsMadeIn generation) added → AllByRecursion (IsMadeIn generation) (made ++ added)
+all_behind generation [] added first second = second
+all_behind generation (e ∷ made) added first second = (first.0, all_behind generation made added first.1 second)
+
+-- a history that is told of a log goes on to be
+told_more : (before : List Entry) (generation : ℕ) (log log' : List Entry) (added : Option Entry) (entries entries' : List EntryLine) → AllByRecursion (IsMadeIn generation) (option_to_list added) →
+    entries' ≡ entries ++ lines_added (length log) added → log' ≡ log ++ option_to_list added → AreTold before generation entries log → AreTold before generation entries' log'
+told_more before generation log log' added entries entries' made kept grows is = record {
+  made = is.made ++ option_to_list added;
+  behind = grows ∙ ap (λ (es : List Entry). es ++ option_to_list added) is.behind ∙ append_assoc before is.made (option_to_list added);
+  told = kept ∙ ap (λ (es : List EntryLine). es ++ lines_added (length log) added) is.told ∙ sym (lines_more (length before + 1) is.made added (length log) count);
+  in_it = all_behind generation is.made (option_to_list added) is.in_it made;
+}
+  where
+    count : length log + 1 ≡ length before + 1 + length is.made
+    count = let n = ap (λ (es : List Entry). length es) is.behind in omega (arith, n, length-append before is.made)
 
 -- a plan that was done is what the line does
-pub effect_done : (tables : List TableDef) (log log' : List Entry) (name : List ℕ) (p : LineEffect) (t : Turned) (after : SessionState) (lines lines' : List Line) (entries entries' : List EntryLine) →
-    IsLogged tables (length entries) log → 1 ≤ length entries → IsEffect tables log name p t → after ≡ p.after →
-    lines' ≡ lines ++ lines_of name p.number p.replies.items → entries' ≡ entries ++ lines_added (length entries) p.added → log' ≡ log ++ option_to_list p.added →
-    IsTurned (world_of tables (seen_in log) (takes_in log) (length entries)) name t lines lines' entries entries' (takes_in log') (seen_in log') × (state_in after ≡ t.after) × IsLogged tables (length entries') log' × (AreTold entries log → AreTold entries' log') × IsOwn name after
-effect_done tables log log' name p t after lines lines' entries entries' logged opened is there told kept grows = (
+pub effect_done : (start : Start) (generation : ℕ) (tables : List TableDef) (log log' : List Entry) (name : List ℕ) (p : LineEffect) (t : Turned) (after : SessionState) (lines lines' : List Line) (entries entries' : List EntryLine) →
+    IsLogged start tables (length log) log → IsFrom (base start) (length log) → IsEffect start generation tables log name p t → after ≡ p.after →
+    lines' ≡ lines ++ lines_of name p.number p.replies.items → entries' ≡ entries ++ lines_added (length log) p.added → log' ≡ log ++ option_to_list p.added →
+    IsTurned (world_of tables (seen_in start log) (takes_in log) (length log)) name t lines lines' entries entries' (takes_in log') (seen_in start log') × (state_in after ≡ t.after) × IsLogged start tables (length log') log'
+    × (AreTold start.before generation entries log → AreTold start.before generation entries' log') × IsOwn generation name after
+effect_done start generation tables log log' name p t after lines lines' entries entries' logged opened is there told kept grows = (
   record {
     lines_are = told ∙ ap (λ n. lines ++ lines_of name n p.replies.items) is.number ∙ ap (λ rs. lines ++ lines_of name t.number rs) is.replies;
-    entries_are = its_entries;
+    entries_are = kept ∙ ap (λ (es : List EntryLine). entries ++ es) (added_line start tables log (named_so generation name t.number t.begin t.after.level) (length log) p.added t.added is.added);
     taken_are = ap (λ (es : List Entry). takes_in es) grows ∙ its.takes;
-    rows_are = subst (λ (es : List Entry). IsKept (length entries) (seen_in log) (seen_in es) t.added) (sym grows) its.rows;
+    rows_are = subst (λ (es : List Entry). IsKept (length log) (seen_in start log) (seen_in start es) t.added) (sym grows) its.rows;
   },
   ap (λ (s : SessionState). state_in s) there ∙ is.after,
-  subst (λ (es : List Entry). IsLogged tables (length entries') es) (sym grows) (subst (λ n. IsLogged tables n (log ++ option_to_list p.added)) (sym count) its.logged),
-  (λ told. kept ∙ ap (λ (es : List EntryLine). es ++ lines_added (length entries) p.added) told
-      ∙ sym (ap (λ (es : List Entry). lines_from 1 es) grows ∙ lines_more 1 log p.added (length entries) (let n = logged.count in omega (arith, n)))),
-  subst (λ (s : SessionState). IsOwn name s) (sym there) is.own,
+  subst (λ (es : List Entry). IsLogged start tables (length es) es) (sym grows)
+      (subst (λ n. IsLogged start tables n (log ++ option_to_list p.added)) (sym its.logged.count) its.logged),
+  told_more start.before generation log log' p.added entries entries' (made_in start generation tables log name t.number t.begin t.after.level p.added t.added is.added) kept grows,
+  subst (λ (s : SessionState). IsOwn generation name s) (sym there) is.own,
 )
   where
-    its : Kept tables log (log ++ option_to_list p.added) (length entries) t.added
-    its = kept_added tables log (length entries) logged opened p.added (named_so name t.number t.begin t.after.level) t.added is.added
-
-    its_entries : entries' ≡ entries ++ entries_added name (length entries) t
-    its_entries = kept ∙ ap (λ (es : List EntryLine). entries ++ es) (added_line tables log (named_so name t.number t.begin t.after.level) (length entries) p.added t.added is.added)
-
-    count : length entries' ≡ length entries + length t.added
-    count = ap (λ (es : List EntryLine). length es) its_entries ∙ length-append entries (entries_added name (length entries) t)
-        ∙ ap (λ n. length entries + n) (map_length (λ (ops : List RowOp). Commit (length entries + 1) name t.number t.begin t.after.level) t.added)
+    its : Kept start tables log (log ++ option_to_list p.added) (length log) t.added
+    its = kept_added start tables log (length log) logged opened p.added (named_so generation name t.number t.begin t.after.level) t.added is.added
 
 -- the same of what the code answers
-pub effect_taken : {E : Type 0} (result : Result SessionState E) (tables : List TableDef) (log log' : List Entry) (name : List ℕ) (p : LineEffect) (t : Turned) (lines lines' : List Line) (entries entries' : List EntryLine) →
-    IsLogged tables (length entries) log → 1 ≤ length entries → IsEffect tables log name p t → IfOk result (λ after. after ≡ p.after) →
-    OnOk result (lines' ≡ lines ++ lines_of name p.number p.replies.items) → OnOk result (entries' ≡ entries ++ lines_added (length entries) p.added) → OnOk result (log' ≡ log ++ option_to_list p.added) →
-    IfOk result (λ after. IsTurned (world_of tables (seen_in log) (takes_in log) (length entries)) name t lines lines' entries entries' (takes_in log') (seen_in log') × (state_in after ≡ t.after) × IsLogged tables (length entries') log' × (AreTold entries log → AreTold entries' log') × IsOwn name after)
-effect_taken (Err e) tables log log' name p t lines lines' entries entries' logged opened is there told kept grows = tt
-effect_taken (Ok after) tables log log' name p t lines lines' entries entries' logged opened is there told kept grows =
-    effect_done tables log log' name p t after lines lines' entries entries' logged opened is there told kept grows
+pub effect_taken : {E : Type 0} (result : Result SessionState E) (start : Start) (generation : ℕ) (tables : List TableDef) (log log' : List Entry) (name : List ℕ) (p : LineEffect) (t : Turned) (lines lines' : List Line) (entries entries' : List EntryLine) →
+    IsLogged start tables (length log) log → IsFrom (base start) (length log) → IsEffect start generation tables log name p t → IfOk result (λ after. after ≡ p.after) →
+    OnOk result (lines' ≡ lines ++ lines_of name p.number p.replies.items) → OnOk result (entries' ≡ entries ++ lines_added (length log) p.added) → OnOk result (log' ≡ log ++ option_to_list p.added) →
+    IfOk result (λ after. IsTurned (world_of tables (seen_in start log) (takes_in log) (length log)) name t lines lines' entries entries' (takes_in log') (seen_in start log') × (state_in after ≡ t.after) × IsLogged start tables (length log') log'
+    × (AreTold start.before generation entries log → AreTold start.before generation entries' log') × IsOwn generation name after)
+effect_taken (Err e) start generation tables log log' name p t lines lines' entries entries' logged opened is there told kept grows = tt
+effect_taken (Ok after) start generation tables log log' name p t lines lines' entries entries' logged opened is there told kept grows =
+    effect_done start generation tables log log' name p t after lines lines' entries entries' logged opened is there told kept grows
 
 -- a session without an open transaction has its own
-shut_doing : (name : List ℕ) (number : ℕ) (level : Level) (d : InTransaction) → IsShut d → IsOwnDoing name number level d
-shut_doing name number level No shut = tt
-shut_doing name number level (Open session) shut = absurd shut
-shut_doing name number level Aborted shut = tt
+shut_doing : (generation : ℕ) (name : List ℕ) (number : ℕ) (level : Level) (d : InTransaction) → IsShut d → IsOwnDoing generation name number level d
+shut_doing generation name number level No shut = tt
+shut_doing generation name number level (Open session) shut = absurd shut
+shut_doing generation name number level Aborted shut = tt
 
-pub shut_own : (name : List ℕ) (s : SessionState) → IsShut s.doing → IsOwn name s
-shut_own name s shut = shut_doing name s.number s.level s.doing shut
+pub shut_own : (generation : ℕ) (name : List ℕ) (s : SessionState) → IsShut s.doing → IsOwn generation name s
+shut_own generation name s shut = shut_doing generation name s.number s.level s.doing shut
+
+-- the same of a log that stayed
+told_same : (before : List Entry) (generation : ℕ) (log log' : List Entry) (entries entries' : List EntryLine) → entries' ≡ entries → log' ≡ log → AreTold before generation entries log → AreTold before generation entries' log'
+told_same before generation log log' entries entries' es same is = record {
+  made = is.made;
+  behind = same ∙ is.behind;
+  told = es ∙ is.told;
+  in_it = is.in_it;
+}
 
 -- a line that was cut short
-pub cut_taken : {E : Type 0} (tables : List TableDef) (log log' : List Entry) (name : List ℕ) (before : SessionState) (text : List ℕ) (k : Kind) (cut : Option SessionState) (result : Result SessionState E) (lines lines' : List Line) (entries entries' : List EntryLine) →
-    IsLogged tables (length entries) log → IfSome cut (λ after. IsShut after.doing) →
+pub cut_taken : {E : Type 0} (start : Start) (generation : ℕ) (tables : List TableDef) (log log' : List Entry) (name : List ℕ) (before : SessionState) (text : List ℕ) (k : Kind) (cut : Option SessionState) (result : Result SessionState E) (lines lines' : List Line) (entries entries' : List EntryLine) →
+    IsLogged start tables (length log) log → IfSome cut (λ after. IsShut after.doing) →
     k ≡ kind_of_text text → IfSome cut (λ after. cut_by before.number before.level k (state_in before).doing ≡ cut_in after) → IfOk result (λ after. cut ≡ Some after) → IfOk result (λ after. lines' ≡ lines ++ lines_of name after.number (reply.NoMemory ∷ [])) →
     entries' ≡ entries → log' ≡ log →
-    IfOk result (λ after. IsTaken (world_of tables (seen_in log) (takes_in log) (length entries)) name (state_in before) text (state_in after) lines lines' entries entries' (takes_in log') (seen_in log') × IsLogged tables (length entries') log' × (AreTold entries log → AreTold entries' log') × IsOwn name after)
-cut_taken tables log log' name before text k cut (Err e) lines lines' entries entries' logged shut is its there told es same = tt
-cut_taken tables log log' name before text k cut (Ok after) lines lines' entries entries' logged shut is its there told es same =
+    IfOk result (λ after. IsTaken (world_of tables (seen_in start log) (takes_in log) (length log)) name (state_in before) text (state_in after) lines lines' entries entries' (takes_in log') (seen_in start log') × IsLogged start tables (length log') log'
+    × (AreTold start.before generation entries log → AreTold start.before generation entries' log') × IsOwn generation name after)
+cut_taken start generation tables log log' name before text k cut (Err e) lines lines' entries entries' logged shut is its there told es same = tt
+cut_taken start generation tables log log' name before text k cut (Ok after) lines lines' entries entries' logged shut is its there told es same =
     let mine : IfSome (Some after) (λ (x : SessionState). cut_by before.number before.level k (state_in before).doing ≡ cut_in x) = subst (λ (o : Option SessionState). IfSome o (λ (x : SessionState). cut_by before.number before.level k (state_in before).doing ≡ cut_in x)) there its in (
       inr (
         record { number = after.number; after = state_in after },
         ap (λ (x : Kind). cut_by before.number before.level x (state_in before).doing) (sym is) ∙ mine,
-        record { lines_are = told; entries_are = es; taken_are = ap (λ (l : List Entry). takes_in l) same; rows_are = ap (λ (l : List Entry). seen_in l) same },
+        record { lines_are = told; entries_are = es; taken_are = ap (λ (l : List Entry). takes_in l) same; rows_are = ap (λ (l : List Entry). seen_in start l) same },
         refl,
       ),
-      subst (λ (l : List Entry). IsLogged tables (length entries') l) (sym same) (subst (λ (x : List EntryLine). IsLogged tables (length x) log) (sym es) logged),
-      (λ all. es ∙ all ∙ ap (λ (l : List Entry). lines_from 1 l) (sym same)),
-      shut_own name after (subst (λ (o : Option SessionState). IfSome o (λ (x : SessionState). IsShut x.doing)) there shut),
+      subst (λ (l : List Entry). IsLogged start tables (length l) l) (sym same) logged,
+      told_same start.before generation log log' entries entries' es same,
+      shut_own generation name after (subst (λ (o : Option SessionState). IfSome o (λ (x : SessionState). IsShut x.doing)) there shut),
     )
 
 -- a line that was done, by its prepared text

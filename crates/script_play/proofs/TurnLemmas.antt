@@ -8,7 +8,9 @@ use Rattle.cdb_values.specs.declared.rows.Level.{Level}
 use Rattle.cdb_values.specs.Rows.{Rows, apply_all}
 use Rattle.cdb_values.specs.declared.rows.RowOp.{RowOp}
 use Rattle.cdb_values.specs.declared.rows.StatementError.TheVariants.{State}
+use Rattle.log_rows.specs.History.{IsFrom}
 use Rattle.script_play.specs.Seen.{Seen}
+use Rattle.script_play.specs.Start.{Start, base}
 use Rattle.script_form.specs.CanRun.{tables_of}
 use Rattle.script_form.specs.declared.scripts.Script.{Script}
 use Rattle.report_text.specs.declared.reports.EntryLine.{EntryLine}
@@ -16,7 +18,7 @@ use Rattle.report_text.specs.declared.reports.EntryLine.TheVariants.{Setup, Comm
 use Rattle.report_text.specs.declared.reports.ReplyLine.{ReplyLine}
 use Rattle.report_text.specs.declared.reports.ReplyLine.TheVariants as reply
 use Rattle.session_language.specs.Language.{Answered, alone, Kind, BeginText, CommitText, RollbackText, LevelText, OtherText}
-use Rattle.script_play.specs.Basis.{from_nothing}
+use Rattle.script_play.specs.Basis.{from_start}
 use Rattle.sql_answer.specs.Language.{sql_language}
 use Rattle.session_language.specs.Each.{StandsIn}
 use Rattle.cdb_values.specs.Changes.{taken_by}
@@ -42,7 +44,7 @@ use Rattle.script_play.specs.Ready.{AreKept, IsAskable, IsKeptOp}
 use Rattle.script_play.proofs.SqlLaws.{sql_is_answered, kept_answer, uses_more}
 use Rattle.script_play.proofs.AppliedLaws.{kept_applied}
 use Rattle.script_play.proofs.FitLaws.{sound_fits}
-use Rattle.script_play.specs.SoFar.{Stored, IsOpen, IsDoing, IsPast, Standing}
+use Rattle.script_play.specs.SoFar.{now_of, Stored, IsOpen, IsDoing, IsPast, Standing}
 use Rattle.script_play.specs.Step.{World, Turned, state, turned, turn_by, outcome, answer_at, own_line, committed, goes_on, entries_added, IsKept}
 use Rattle.script_play.specs.Doing.{SessionAt, Doing}
 use Rattle.script_play.specs.Doing as doing
@@ -56,45 +58,45 @@ IsPastOf name number pending (Setup position) = Unit {0}
 IsPastOf name number pending (Commit position session txn begin level) = bytes_eq session name ≡ true → IsPast number pending txn
 
 -- the session's transaction of that number, begun there, was told whole by the last of these lines, up to this reply
-pub record WasTold (script : Script) (entries : List EntryLine) (name : List ℕ) (number begin : ℕ) (outcome : ReplyLine) (lines : List Numbered) : Type 0 where
+pub record WasTold (script : Script) (start : Start) (entries : List EntryLine) (name : List ℕ) (number begin : ℕ) (outcome : ReplyLine) (lines : List Numbered) : Type 0 where
   pub transaction : Transaction
   pub is_its : transaction_of sql_language name number script.body ≡ Some transaction
-  pub within : begin ≤ length entries
+  pub within : begin ≤ now_of start entries
   pub before : List Numbered
-  pub says : lines ≡ before ++ numbered number (reply.Begin begin ∷ ((alone_at (from_nothing script) (view_of (from_nothing script) entries) transaction begin).replies ++ outcome ∷ []))
+  pub says : lines ≡ before ++ numbered number (reply.Begin begin ∷ ((alone_at (from_start script start) (view_of (from_start script start) entries) transaction begin).replies ++ outcome ∷ []))
 
 -- what a line adds to the history: nothing, or the entry of a transaction that it tells as committed
 -- there, that was told whole, and that is over behind it
-abbrev pub IsNews : Script → List ℕ → List Numbered → List EntryLine → List EntryLine → Place → Turned → Type 0
-IsNews script name lines entries entries' after t = (entries' ≡ entries) ⊎
-    ((entries' ≡ entries ++ entry_of name t.number t.begin t.after.level (length entries) ∷ []) × StandsIn t.replies (reply.Committed (length entries + 1)) × IsPast after.number after.pending t.number
-    × WasTold script entries name t.number t.begin (reply.Committed (length entries + 1)) (lines ++ numbered t.number t.replies))
+abbrev pub IsNews : Script → Start → List ℕ → List Numbered → List EntryLine → List EntryLine → Place → Turned → Type 0
+IsNews script start name lines entries entries' after t = (entries' ≡ entries) ⊎
+    ((entries' ≡ entries ++ entry_of name t.number t.begin t.after.level (now_of start entries) ∷ []) × StandsIn t.replies (reply.Committed (now_of start entries + 1)) × IsPast after.number after.pending t.number
+    × WasTold script start entries name t.number t.begin (reply.Committed (now_of start entries + 1)) (lines ++ numbered t.number t.replies))
 
 -- the transaction of that number was cut short
 abbrev pub WasCutUnder : List Numbered → ℕ → Type 0
 WasCutUnder lines told = (cause : ReplyLine) × (cuts cause ≡ true) × StandsIn lines (told, cause)
 
 -- what a line does is right
-pub record Turns (script : Script) (entries entries' : List EntryLine) (taken' : List (List GenidItem)) (seen seen' : Seen) (name : List ℕ) (after : Place) (lines : List Numbered) (told : ℕ) (own : Bool) (t : Turned) : Type 0 where
-  pub stored : Stored script entries' taken' seen'
+pub record Turns (script : Script) (start : Start) (entries entries' : List EntryLine) (taken' : List (List GenidItem)) (seen seen' : Seen) (name : List ℕ) (after : Place) (lines : List Numbered) (told : ℕ) (own : Bool) (t : Turned) : Type 0 where
+  pub stored : Stored script start entries' taken' seen'
   pub grows : Grows entries entries'
   pub next : seen.next ≤ seen'.next
-  pub stands : Standing script entries' seen'.next name after (lines ++ numbered t.number t.replies) t.after
-  pub paced : Paced (length entries) (length entries') t.replies
+  pub stands : Standing script start entries' seen'.next name after (lines ++ numbered t.number t.replies) t.after
+  pub paced : Paced (now_of start entries) (now_of start entries') t.replies
   pub number : t.number ≡ told
   pub up_to : (are_up_to (is_last_of own) t.replies ≡ true) ⊎ ((t.replies ≡ []) × WasCutUnder lines told)
-  pub news : IsNews script name lines entries entries' after t
+  pub news : IsNews script start name lines entries entries' after t
 
 -- a session before a line of its own
-pub record Comes (script : Script) (entries : List EntryLine) (taken : List (List GenidItem)) (seen : Seen) (name : List ℕ) (p : Place) (pending : Option (List (List ℕ))) (what : Doing) (text : List ℕ) (k : Kind) (lines : List Numbered) : Type 0 where
+pub record Comes (script : Script) (start : Start) (entries : List EntryLine) (taken : List (List GenidItem)) (seen : Seen) (name : List ℕ) (p : Place) (pending : Option (List (List ℕ))) (what : Doing) (text : List ℕ) (k : Kind) (lines : List Numbered) : Type 0 where
   pub askable : AllByRecursion IsAskable (tables_of script)
   pub utf8 : is_utf8 text ≡ true
-  pub stored : Stored script entries taken seen
+  pub stored : Stored script start entries taken seen
   pub before : List Numbered
   pub mine : List ReplyLine
   pub is : lines ≡ before ++ numbered p.number mine
-  pub past : Along (IsTold (from_nothing script) (view_of (from_nothing script) entries) name) p.over before
-  pub doing : IsDoing script entries seen.next p pending what mine
+  pub past : Along (IsTold (from_start script start) (view_of (from_start script start) entries) name) p.over before
+  pub doing : IsDoing script start entries seen.next p pending what mine
   pub entered : AllByRecursion (IsPastOf name p.number pending) entries
   -- a transaction that this line ends is the session's of its number
   pub its : (t : Transaction) → (next_by p text k pending).over ≡ p.over ++ Does t ∷ [] → t.number ≡ (next_by p text k pending).number → transaction_of sql_language name t.number script.body ≡ Some t
@@ -114,18 +116,18 @@ pub piece : (lines before : List Numbered) (number : ℕ) (mine more : List Repl
 piece lines before number mine more is =
     ap (λ ls. ls ++ numbered number more) is ∙ append_assoc before (numbered number mine) (numbered number more) ∙ ap (λ ls. before ++ ls) (sym (numbered_append number mine more))
 
-module _ (script : Script) (entries : List EntryLine) (taken : List (List GenidItem)) (seen seen' : Seen) (name : List ℕ) (p : Place) (text : List ℕ) (lines : List Numbered) where
+module _ (script : Script) (start : Start) (entries : List EntryLine) (taken : List (List GenidItem)) (seen seen' : Seen) (name : List ℕ) (p : Place) (text : List ℕ) (lines : List Numbered) where
   abbrev pub w : World
-  w = world script entries taken seen
+  w = world script start entries taken seen
 
   -- a line that adds nothing to the history
-  quiet : (k : Kind) (pending : Option (List (List ℕ))) (what : Doing) → Comes script entries taken seen name p pending what text k lines → (after : Place) (told number : ℕ) (own : Bool) (replies : List ReplyLine) (at : SessionAt) → seen' ≡ seen →
-      Standing script entries seen.next name after (lines ++ numbered number replies) at → Paced (length entries) (length entries) replies → number ≡ told → (are_up_to (is_last_of own) replies ≡ true) ⊎ ((replies ≡ []) × WasCutUnder lines told) →
-      Turns script entries (entries ++ []) (taken ++ []) seen seen' name after lines told own (turned number replies at)
+  quiet : (k : Kind) (pending : Option (List (List ℕ))) (what : Doing) → Comes script start entries taken seen name p pending what text k lines → (after : Place) (told number : ℕ) (own : Bool) (replies : List ReplyLine) (at : SessionAt) → seen' ≡ seen →
+      Standing script start entries seen.next name after (lines ++ numbered number replies) at → Paced (now_of start entries) (now_of start entries) replies → number ≡ told → (are_up_to (is_last_of own) replies ≡ true) ⊎ ((replies ≡ []) × WasCutUnder lines told) →
+      Turns script start entries (entries ++ []) (taken ++ []) seen seen' name after lines told own (turned number replies at)
   quiet k pending what c after told number own replies at same stands paced number_is up_to =
-      subst (λ (a : Seen). Turns script entries (entries ++ []) (taken ++ []) seen a name after lines told own (turned number replies at)) (sym same)
-      (subst (λ es. Turns script entries es (taken ++ []) seen seen name after lines told own (turned number replies at)) (sym (append-nil entries))
-      (subst (λ ts. Turns script entries entries ts seen seen name after lines told own (turned number replies at)) (sym (append-nil taken)) (record {
+      subst (λ (a : Seen). Turns script start entries (entries ++ []) (taken ++ []) seen a name after lines told own (turned number replies at)) (sym same)
+      (subst (λ es. Turns script start entries es (taken ++ []) seen seen name after lines told own (turned number replies at)) (sym (append-nil entries))
+      (subst (λ ts. Turns script start entries entries ts seen seen name after lines told own (turned number replies at)) (sym (append-nil taken)) (record {
         stored = c.stored;
         grows = inl refl;
         next = omega arith;
@@ -137,19 +139,19 @@ module _ (script : Script) (entries : List EntryLine) (taken : List (List GenidI
       })))
 
   -- the answer to a line, at a position of the history
-  answer_is : (k : Kind) (pending : Option (List (List ℕ))) (what : Doing) → Comes script entries taken seen name p pending what text k lines → (begin : ℕ) → 1 ≤ begin → begin ≤ length entries → (ops : List RowOp) →
-      answer_at w begin ops text ≡ sql_language.answer (tables_of script) (rows_at (from_nothing script) entries begin).tables ops text
+  answer_is : (k : Kind) (pending : Option (List (List ℕ))) (what : Doing) → Comes script start entries taken seen name p pending what text k lines → (begin : ℕ) → IsFrom (base start) begin → begin ≤ now_of start entries → (ops : List RowOp) →
+      answer_at w begin ops text ≡ sql_language.answer (tables_of script) (rows_at (from_start script start) entries begin).tables ops text
   answer_is k pending what c begin first within ops = ap (λ (r : Rows). sql_language.answer (tables_of script) r.tables ops text) (c.stored.rows_are begin first within)
 
-  answer_sound : (k : Kind) (pending : Option (List (List ℕ))) (what : Doing) → Comes script entries taken seen name p pending what text k lines → (begin : ℕ) → 1 ≤ begin → begin ≤ length entries → (ops : List RowOp) →
+  answer_sound : (k : Kind) (pending : Option (List (List ℕ))) (what : Doing) → Comes script start entries taken seen name p pending what text k lines → (begin : ℕ) → IsFrom (base start) begin → begin ≤ now_of start entries → (ops : List RowOp) →
       AllByRecursion (IsKeptOp (tables_of script) seen.next) ops → AllByRecursion (IsKeptOp (tables_of script) seen.next) (answer_at w begin ops text).ops
   answer_sound k pending what c begin first within ops all =
       kept_answer (tables_of script) (seen.at begin).tables ops text seen.next c.askable c.utf8 (c.stored.sound begin first within) all
 
   -- a transaction that a line ends comes to its commit
-  comes_to : (k : Kind) (pending : Option (List (List ℕ))) (what : Doing) → Comes script entries taken seen name p pending what text k lines → (t : Transaction) (begin : ℕ) (uses : List GenidItem) (ops : List RowOp) → 1 ≤ begin → begin ≤ length entries →
-      transaction_of sql_language name t.number script.body ≡ Some t → ops ≡ (alone_at (from_nothing script) (view_of (from_nothing script) entries) t begin).ops → uses ≡ (alone_at (from_nothing script) (view_of (from_nothing script) entries) t begin).uses →
-      AllByRecursion (IsKeptOp (tables_of script) seen.next) ops → AllByRecursion (λ e. is_entry_of name t.number e ≡ false) entries → Commits script entries taken seen name t begin uses ops
+  comes_to : (k : Kind) (pending : Option (List (List ℕ))) (what : Doing) → Comes script start entries taken seen name p pending what text k lines → (t : Transaction) (begin : ℕ) (uses : List GenidItem) (ops : List RowOp) → IsFrom (base start) begin → begin ≤ now_of start entries →
+      transaction_of sql_language name t.number script.body ≡ Some t → ops ≡ (alone_at (from_start script start) (view_of (from_start script start) entries) t begin).ops → uses ≡ (alone_at (from_start script start) (view_of (from_start script start) entries) t begin).uses →
+      AllByRecursion (IsKeptOp (tables_of script) seen.next) ops → AllByRecursion (λ e. is_entry_of name t.number e ≡ false) entries → Commits script start entries taken seen name t begin uses ops
   comes_to k pending what c t begin uses ops first within its are uses_are sound once = record {
     stored = c.stored;
     first = first;
@@ -161,133 +163,133 @@ module _ (script : Script) (entries : List EntryLine) (taken : List (List GenidI
     once = once;
     applied = applied.0;
     grows = applied.1;
-    fits = sound_fits (tables_of script) (apply_all (seen.at (length entries)) ops).next (apply_all (seen.at (length entries)) ops).tables applied.0.0;
+    fits = sound_fits (tables_of script) (apply_all (seen.at (now_of start entries)) ops).next (apply_all (seen.at (now_of start entries)) ops).tables applied.0.0;
   }
     where
-      applied : AreKept (tables_of script) (apply_all (seen.at (length entries)) ops).next (apply_all (seen.at (length entries)) ops).tables × (seen.next ≤ (apply_all (seen.at (length entries)) ops).next)
-      applied = subst (λ n. AreKept (tables_of script) (apply_all (seen.at (length entries)) ops).next (apply_all (seen.at (length entries)) ops).tables × (n ≤ (apply_all (seen.at (length entries)) ops).next)) (sym c.stored.next_is)
-          (kept_applied (tables_of script) (seen.at (length entries)) ops
-          (subst (λ n. AreKept (tables_of script) n (seen.at (length entries)).tables) c.stored.next_is (c.stored.sound (length entries) c.stored.opened (omega arith)))
+      applied : AreKept (tables_of script) (apply_all (seen.at (now_of start entries)) ops).next (apply_all (seen.at (now_of start entries)) ops).tables × (seen.next ≤ (apply_all (seen.at (now_of start entries)) ops).next)
+      applied = subst (λ n. AreKept (tables_of script) (apply_all (seen.at (now_of start entries)) ops).next (apply_all (seen.at (now_of start entries)) ops).tables × (n ≤ (apply_all (seen.at (now_of start entries)) ops).next)) (sym c.stored.next_is)
+          (kept_applied (tables_of script) (seen.at (now_of start entries)) ops
+          (subst (λ n. AreKept (tables_of script) n (seen.at (now_of start entries)).tables) c.stored.next_is (c.stored.sound (now_of start entries) c.stored.opened (omega arith)))
           (subst (λ n. AllByRecursion (IsKeptOp (tables_of script) n) ops) c.stored.next_is sound))
 
   -- a decision on a transaction that the line ends, behind these replies of it
-  decided_turn : (t : Transaction) (begin : ℕ) (uses : List GenidItem) (ops : List RowOp) (o : ReplyLine) (added : List (List RowOp)) → begin ≤ length entries → 1 ≤ begin →
-      Decided script entries taken seen seen' name t begin uses ops o added → Grows entries (entries_after entries name t.number begin t.level added)
+  decided_turn : (t : Transaction) (begin : ℕ) (uses : List GenidItem) (ops : List RowOp) (o : ReplyLine) (added : List (List RowOp)) → begin ≤ now_of start entries → IsFrom (base start) begin →
+      Decided script start entries taken seen seen' name t begin uses ops o added → Grows entries (entries_after start entries name t.number begin t.level added)
   decided_turn t begin uses ops o added within first d = go d.told
     where
-      go : (added ≡ []) ⊎ ((x : List RowOp) × (added ≡ x ∷ []) × (o ≡ reply.Committed (length entries + 1))) → Grows entries (entries_after entries name t.number begin t.level added)
-      go (inl none) = inl (ap (λ (l : List (List RowOp)). entries_after entries name t.number begin t.level l) none ∙ append-nil entries)
-      go (inr (x, one, is)) = inr (entry_of name t.number begin t.level (length entries), ap (λ (l : List (List RowOp)). entries_after entries name t.number begin t.level l) one)
+      go : (added ≡ []) ⊎ ((x : List RowOp) × (added ≡ x ∷ []) × (o ≡ reply.Committed (now_of start entries + 1))) → Grows entries (entries_after start entries name t.number begin t.level added)
+      go (inl none) = inl (ap (λ (l : List (List RowOp)). entries_after start entries name t.number begin t.level l) none ∙ append-nil entries)
+      go (inr (x, one, is)) = inr (entry_of name t.number begin t.level (now_of start entries), ap (λ (l : List (List RowOp)). entries_after start entries name t.number begin t.level l) one)
 
-  news_of : (t : Transaction) (begin : ℕ) (uses : List GenidItem) (ops : List RowOp) (o : ReplyLine) (added : List (List RowOp)) (after : Place) (turn : Turned) → turn.number ≡ t.number → turn.begin ≡ begin → turn.after.level ≡ t.level → StandsIn turn.replies o → IsPast after.number after.pending t.number → WasTold script entries name turn.number turn.begin o (lines ++ numbered turn.number turn.replies) →
-      Decided script entries taken seen seen' name t begin uses ops o added → IsNews script name lines entries (entries_after entries name t.number begin t.level added) after turn
+  news_of : (t : Transaction) (begin : ℕ) (uses : List GenidItem) (ops : List RowOp) (o : ReplyLine) (added : List (List RowOp)) (after : Place) (turn : Turned) → turn.number ≡ t.number → turn.begin ≡ begin → turn.after.level ≡ t.level → StandsIn turn.replies o → IsPast after.number after.pending t.number → WasTold script start entries name turn.number turn.begin o (lines ++ numbered turn.number turn.replies) →
+      Decided script start entries taken seen seen' name t begin uses ops o added → IsNews script start name lines entries (entries_after start entries name t.number begin t.level added) after turn
   news_of t begin uses ops o added after turn number at level stands past begins d = go d.told
     where
-      go : (added ≡ []) ⊎ ((x : List RowOp) × (added ≡ x ∷ []) × (o ≡ reply.Committed (length entries + 1))) → IsNews script name lines entries (entries_after entries name t.number begin t.level added) after turn
-      go (inl none) = inl (ap (λ (l : List (List RowOp)). entries_after entries name t.number begin t.level l) none ∙ append-nil entries)
+      go : (added ≡ []) ⊎ ((x : List RowOp) × (added ≡ x ∷ []) × (o ≡ reply.Committed (now_of start entries + 1))) → IsNews script start name lines entries (entries_after start entries name t.number begin t.level added) after turn
+      go (inl none) = inl (ap (λ (l : List (List RowOp)). entries_after start entries name t.number begin t.level l) none ∙ append-nil entries)
       go (inr (x, one, is)) = inr (
-        ap (λ (l : List (List RowOp)). entries_after entries name t.number begin t.level l) one
-            ∙ ap (λ n. entries ++ entry_of name n begin t.level (length entries) ∷ []) (sym number) ∙ ap (λ b. entries ++ entry_of name turn.number b t.level (length entries) ∷ []) (sym at)
-            ∙ ap (λ (l : Level). entries ++ entry_of name turn.number turn.begin l (length entries) ∷ []) (sym level),
+        ap (λ (l : List (List RowOp)). entries_after start entries name t.number begin t.level l) one
+            ∙ ap (λ n. entries ++ entry_of name n begin t.level (now_of start entries) ∷ []) (sym number) ∙ ap (λ b. entries ++ entry_of name turn.number b t.level (now_of start entries) ∷ []) (sym at)
+            ∙ ap (λ (l : Level). entries ++ entry_of name turn.number turn.begin l (now_of start entries) ∷ []) (sym level),
         subst (λ x. StandsIn turn.replies x) is stands,
         subst (λ n. IsPast after.number after.pending n) (sym number) past,
-        subst (λ (x : ReplyLine). WasTold script entries name turn.number turn.begin x (lines ++ numbered turn.number turn.replies)) is begins,
+        subst (λ (x : ReplyLine). WasTold script start entries name turn.number turn.begin x (lines ++ numbered turn.number turn.replies)) is begins,
       )
 
   -- what is kept for a line
   abbrev pub Kept : Turned → Type 0
-  Kept t = IsKept (length entries) seen seen' t.added
+  Kept t = IsKept (now_of start entries) seen seen' t.added
 
   abbrev pub Goal : Place → ℕ → Bool → Turned → Type 0
-  Goal after told own t = Kept t → Turns script entries (entries ++ entries_added name (length entries) t) (taken ++ map taken_by t.added) seen seen' name after lines told own t
+  Goal after told own t = Kept t → Turns script start entries (entries ++ entries_added name (now_of start entries) t) (taken ++ map taken_by t.added) seen seen' name after lines told own t
 
   -- outside a transaction nothing of one was told
-  pub idle_lines : (k : Kind) (c : Comes script entries taken seen name p None doing.No text k lines) → lines ≡ c.before
+  pub idle_lines : (k : Kind) (c : Comes script start entries taken seen name p None doing.No text k lines) → lines ≡ c.before
   idle_lines k c = c.is ∙ ap (λ rs. c.before ++ numbered p.number rs) c.doing ∙ append-nil c.before
 
-  begun : (c : Comes script entries taken seen name p None doing.No text BeginText lines) → Goal (next_by p text BeginText None) (number_by p.number BeginText None) false (turn_by w p.number p.level text BeginText doing.No)
-  begun c kept = quiet BeginText None doing.No c (with_open p (Some []) (p.number + 1)) (p.number + 1) (p.number + 1) false (reply.Begin (length entries) ∷ []) (state (p.number + 1) p.level (doing.Open (length entries) [] [])) kept
-      (in_transaction script entries entries (inl refl) name p c.before c.past [] (reply.Begin (length entries) ∷ []) (lines ++ numbered (p.number + 1) (reply.Begin (length entries) ∷ [])) seen.next (p.number + 1) (doing.Open (length entries) [] [])
+  begun : (c : Comes script start entries taken seen name p None doing.No text BeginText lines) → Goal (next_by p text BeginText None) (number_by p.number BeginText None) false (turn_by w p.number p.level text BeginText doing.No)
+  begun c kept = quiet BeginText None doing.No c (with_open p (Some []) (p.number + 1)) (p.number + 1) (p.number + 1) false (reply.Begin (now_of start entries) ∷ []) (state (p.number + 1) p.level (doing.Open (now_of start entries) [] [])) kept
+      (in_transaction script start entries entries (inl refl) name p c.before c.past [] (reply.Begin (now_of start entries) ∷ []) (lines ++ numbered (p.number + 1) (reply.Begin (now_of start entries) ∷ [])) seen.next (p.number + 1) (doing.Open (now_of start entries) [] [])
       (record { first = c.stored.opened; within = omega arith; says = refl; ops_are = refl; uses_are = refl; sound = tt })
-      (ap (λ ls. ls ++ numbered (p.number + 1) (reply.Begin (length entries) ∷ [])) (idle_lines BeginText c)))
+      (ap (λ ls. ls ++ numbered (p.number + 1) (reply.Begin (now_of start entries) ∷ [])) (idle_lines BeginText c)))
       (refl, refl) refl (inl refl)
 
   -- a line outside a transaction has its one reply
-  lone : (k : Kind) (c : Comes script entries taken seen name p None doing.No text k lines) (answered : ReplyLine) (level : Level) → Paced (length entries) (length entries) (answered ∷ []) → are_up_to (is_last_of false) (answered ∷ []) ≡ true →
+  lone : (k : Kind) (c : Comes script start entries taken seen name p None doing.No text k lines) (answered : ReplyLine) (level : Level) → Paced (now_of start entries) (now_of start entries) (answered ∷ []) → are_up_to (is_last_of false) (answered ∷ []) ≡ true →
       Goal (record { over = p.over ++ Lone answered ∷ []; number = p.number; level = level; pending = None }) 0 false (turned 0 (answered ∷ []) (state p.number level doing.No))
   lone k c answered level paced up_to kept = quiet k None doing.No c (record { over = p.over ++ Lone answered ∷ []; number = p.number; level = level; pending = None }) 0 0 false (answered ∷ []) (state p.number level doing.No) kept
-      (idle_after script entries entries (inl refl) name p c.before c.past (Lone answered) (answered ∷ []) (lines ++ numbered 0 (answered ∷ [])) seen.next p.number level refl
+      (idle_after script start entries entries (inl refl) name p c.before c.past (Lone answered) (answered ∷ []) (lines ++ numbered 0 (answered ∷ [])) seen.next p.number level refl
       (ap (λ ls. ls ++ numbered 0 (answered ∷ [])) (idle_lines k c)))
       paced refl (inl up_to)
 
   -- a transaction was told up to its decision
-  ends_with : (t : Transaction) (begin : ℕ) (uses : List GenidItem) (ops : List RowOp) (front : List ReplyLine) (o : ReplyLine) (added : List (List RowOp)) → 1 ≤ begin → begin ≤ length entries → (IsDecided o → Ends t.end (o ∷ [])) →
-      front ≡ reply.Begin begin ∷ (alone_at (from_nothing script) (view_of (from_nothing script) entries) t begin).replies → ops ≡ (alone_at (from_nothing script) (view_of (from_nothing script) entries) t begin).ops →
-      uses ≡ (alone_at (from_nothing script) (view_of (from_nothing script) entries) t begin).uses → Decided script entries taken seen seen' name t begin uses ops o added →
-      IsWhole (from_nothing script) (view_of (from_nothing script) (entries_after entries name t.number begin t.level added)) name t (front ++ o ∷ [])
+  ends_with : (t : Transaction) (begin : ℕ) (uses : List GenidItem) (ops : List RowOp) (front : List ReplyLine) (o : ReplyLine) (added : List (List RowOp)) → IsFrom (base start) begin → begin ≤ now_of start entries → (IsDecided o → Ends t.end (o ∷ [])) →
+      front ≡ reply.Begin begin ∷ (alone_at (from_start script start) (view_of (from_start script start) entries) t begin).replies → ops ≡ (alone_at (from_start script start) (view_of (from_start script start) entries) t begin).ops →
+      uses ≡ (alone_at (from_start script start) (view_of (from_start script start) entries) t begin).uses → Decided script start entries taken seen seen' name t begin uses ops o added →
+      IsWhole (from_start script start) (view_of (from_start script start) (entries_after start entries name t.number begin t.level added)) name t (front ++ o ∷ [])
   ends_with t begin uses ops front o added first within ends says are uses_are d = record {
     begin = begin;
-    base = omega arith;
+    base = first.1;
     within = let le = grows_length entries longer grows in omega (arith, le, within);
-    ran = alone_at (from_nothing script) (view_of (from_nothing script) longer) t begin;
+    ran = alone_at (from_start script start) (view_of (from_start script start) longer) t begin;
     is_ran = refl;
     last = o ∷ [];
     ends = ends d.decided;
     right = (
-      subst (λ (us : List GenidItem). IsRight (from_nothing script) (view_of (from_nothing script) longer) name t begin (taken_by its_ops ++ us) its_ops o) (uses_are ∙ ap (λ (a : Answered). a.uses) (sym same))
-          (subst (λ (x : List RowOp). IsRight (from_nothing script) (view_of (from_nothing script) longer) name t begin (taken_by x ++ uses) x o) (are ∙ ap (λ (a : Answered). a.ops) (sym same)) d.right),
+      subst (λ (us : List GenidItem). IsRight (from_start script start) (view_of (from_start script start) longer) name t begin (taken_by its_ops ++ us) its_ops o) (uses_are ∙ ap (λ (a : Answered). a.uses) (sym same))
+          (subst (λ (x : List RowOp). IsRight (from_start script start) (view_of (from_start script start) longer) name t begin (taken_by x ++ uses) x o) (are ∙ ap (λ (a : Answered). a.ops) (sym same)) d.right),
       tt,
     );
     says = ap (λ rs. rs ++ o ∷ []) says ∙ ap (λ (a : Answered). reply.Begin begin ∷ (a.replies ++ o ∷ [])) (sym same);
   }
     where
       longer : List EntryLine
-      longer = entries_after entries name t.number begin t.level added
+      longer = entries_after start entries name t.number begin t.level added
 
       grows : Grows entries longer
       grows = decided_turn t begin uses ops o added within first d
 
       its_ops : List RowOp
-      its_ops = (alone_at (from_nothing script) (view_of (from_nothing script) longer) t begin).ops
+      its_ops = (alone_at (from_start script start) (view_of (from_start script start) longer) t begin).ops
 
-      same : alone_at (from_nothing script) (view_of (from_nothing script) longer) t begin ≡ alone_at (from_nothing script) (view_of (from_nothing script) entries) t begin
-      same = alone_on script entries longer t.texts begin grows within
+      same : alone_at (from_start script start) (view_of (from_start script start) longer) t begin ≡ alone_at (from_start script start) (view_of (from_start script start) entries) t begin
+      same = alone_on script start entries longer t.texts begin grows within
 
   -- a transaction of one line, by its answer
   abbrev pub own_txn : Transaction
   own_txn = transaction (p.number + 1) (text ∷ []) p.level WithItsLine
 
   abbrev pub own_outcome : Answered → ReplyLine
-  own_outcome a = outcome w (length entries) a.uses a.ops
+  own_outcome a = outcome w (now_of start entries) a.uses a.ops
 
   abbrev pub own_added : Answered → List (List RowOp)
   own_added a = added_by (own_outcome a) a.ops
 
   abbrev pub own_front : Answered → List ReplyLine
-  own_front a = reply.Begin (length entries) ∷ a.replies
+  own_front a = reply.Begin (now_of start entries) ∷ a.replies
 
   abbrev pub own_entries : Answered → List EntryLine
-  own_entries a = entries_after entries name (p.number + 1) (length entries) p.level (own_added a)
+  own_entries a = entries_after start entries name (p.number + 1) (now_of start entries) p.level (own_added a)
 
-  own_by : (c : Comes script entries taken seen name p None doing.No text OtherText lines) (a : Answered) → ArePlain a.replies →
-      own_front a ≡ reply.Begin (length entries) ∷ (alone_at (from_nothing script) (view_of (from_nothing script) entries) own_txn (length entries)).replies → a.ops ≡ (alone_at (from_nothing script) (view_of (from_nothing script) entries) own_txn (length entries)).ops →
-      a.uses ≡ (alone_at (from_nothing script) (view_of (from_nothing script) entries) own_txn (length entries)).uses →
-      Decided script entries taken seen seen' name own_txn (length entries) a.uses a.ops (own_outcome a) (own_added a) →
-      Turns script entries (own_entries a) (taken_after taken (own_added a)) seen seen' name (with_own_line p text) lines (p.number + 1) true (own_line w (p.number + 1) p.level a)
+  own_by : (c : Comes script start entries taken seen name p None doing.No text OtherText lines) (a : Answered) → ArePlain a.replies →
+      own_front a ≡ reply.Begin (now_of start entries) ∷ (alone_at (from_start script start) (view_of (from_start script start) entries) own_txn (now_of start entries)).replies → a.ops ≡ (alone_at (from_start script start) (view_of (from_start script start) entries) own_txn (now_of start entries)).ops →
+      a.uses ≡ (alone_at (from_start script start) (view_of (from_start script start) entries) own_txn (now_of start entries)).uses →
+      Decided script start entries taken seen seen' name own_txn (now_of start entries) a.uses a.ops (own_outcome a) (own_added a) →
+      Turns script start entries (own_entries a) (taken_after taken (own_added a)) seen seen' name (with_own_line p text) lines (p.number + 1) true (own_line w (p.number + 1) p.level a)
   own_by c a plain says are uses_are d = record {
     stored = d.stored;
-    grows = decided_turn own_txn (length entries) a.uses a.ops (own_outcome a) (own_added a) (omega arith) c.stored.opened d;
+    grows = decided_turn own_txn (now_of start entries) a.uses a.ops (own_outcome a) (own_added a) (omega arith) c.stored.opened d;
     next = d.grows;
-    stands = idle_after script entries (own_entries a) (decided_turn own_txn (length entries) a.uses a.ops (own_outcome a) (own_added a) (omega arith) c.stored.opened d) name p c.before c.past (Does own_txn) (own_front a ++ own_outcome a ∷ []) (lines ++ numbered (p.number + 1) (own_front a ++ own_outcome a ∷ [])) seen'.next (p.number + 1) p.level
-        (inl (ends_with own_txn (length entries) a.uses a.ops (own_front a) (own_outcome a) (own_added a) c.stored.opened (omega arith) (λ x. x) says are uses_are d))
+    stands = idle_after script start entries (own_entries a) (decided_turn own_txn (now_of start entries) a.uses a.ops (own_outcome a) (own_added a) (omega arith) c.stored.opened d) name p c.before c.past (Does own_txn) (own_front a ++ own_outcome a ∷ []) (lines ++ numbered (p.number + 1) (own_front a ++ own_outcome a ∷ [])) seen'.next (p.number + 1) p.level
+        (inl (ends_with own_txn (now_of start entries) a.uses a.ops (own_front a) (own_outcome a) (own_added a) c.stored.opened (omega arith) (λ x. x) says are uses_are d))
         (ap (λ ls. ls ++ numbered (p.number + 1) (own_front a ++ own_outcome a ∷ [])) (idle_lines OtherText c));
-    paced = (refl, plain_then (length entries) (length (own_entries a)) a.replies (own_outcome a ∷ []) plain d.paced);
+    paced = (refl, plain_then (now_of start entries) (now_of start (own_entries a)) a.replies (own_outcome a ∷ []) plain d.paced);
     number = refl;
     up_to = inl (up_to_last (is_last_of true) (own_front a) (own_outcome a) (refl, plain_all_quiet a.replies plain) (loud (own_outcome a) d.decided));
-    news = news_of own_txn (length entries) a.uses a.ops (own_outcome a) (own_added a) (with_own_line p text) (own_line w (p.number + 1) p.level a) refl refl refl (own_front a, [], refl) (omega arith) was_told d;
+    news = news_of own_txn (now_of start entries) a.uses a.ops (own_outcome a) (own_added a) (with_own_line p text) (own_line w (p.number + 1) p.level a) refl refl refl (own_front a, [], refl) (omega arith) was_told d;
   }
     where
-      was_told : WasTold script entries name (p.number + 1) (length entries) (own_outcome a) (lines ++ numbered (p.number + 1) (own_front a ++ own_outcome a ∷ []))
+      was_told : WasTold script start entries name (p.number + 1) (now_of start entries) (own_outcome a) (lines ++ numbered (p.number + 1) (own_front a ++ own_outcome a ∷ []))
       was_told = record {
         transaction = own_txn;
         is_its = c.its own_txn refl refl;
@@ -296,57 +298,57 @@ module _ (script : Script) (entries : List EntryLine) (taken : List (List GenidI
         says = ap (λ (rs : List ReplyLine). lines ++ numbered (p.number + 1) (rs ++ own_outcome a ∷ [])) says;
       }
 
-  own : (c : Comes script entries taken seen name p None doing.No text OtherText lines) → Goal (next_by p text OtherText None) (number_by p.number OtherText None) true (turn_by w p.number p.level text OtherText doing.No)
-  own c kept = own_by c (answer_at w (length entries) [] text) (sql_is_answered.plain (tables_of script) (seen.at (length entries)).tables [] text) says are uses_are
-      (decides script entries taken seen seen' name own_txn (length entries) (answer_at w (length entries) [] text).uses (answer_at w (length entries) [] text).ops commits kept)
+  own : (c : Comes script start entries taken seen name p None doing.No text OtherText lines) → Goal (next_by p text OtherText None) (number_by p.number OtherText None) true (turn_by w p.number p.level text OtherText doing.No)
+  own c kept = own_by c (answer_at w (now_of start entries) [] text) (sql_is_answered.plain (tables_of script) (seen.at (now_of start entries)).tables [] text) says are uses_are
+      (decides script start entries taken seen seen' name own_txn (now_of start entries) (answer_at w (now_of start entries) [] text).uses (answer_at w (now_of start entries) [] text).ops commits kept)
     where
-      its : answer_at w (length entries) [] text ≡ sql_language.answer (tables_of script) (rows_at (from_nothing script) entries (length entries)).tables [] text
-      its = answer_is OtherText None doing.No c (length entries) c.stored.opened (omega arith) []
+      its : answer_at w (now_of start entries) [] text ≡ sql_language.answer (tables_of script) (rows_at (from_start script start) entries (now_of start entries)).tables [] text
+      its = answer_is OtherText None doing.No c (now_of start entries) c.stored.opened (omega arith) []
 
-      says : own_front (answer_at w (length entries) [] text) ≡ reply.Begin (length entries) ∷ (alone_at (from_nothing script) (view_of (from_nothing script) entries) own_txn (length entries)).replies
-      says = ap (λ (x : Answered). reply.Begin (length entries) ∷ x.replies) its ∙ ap (λ rs. reply.Begin (length entries) ∷ rs) (sym (append-nil (sql_language.answer (tables_of script) (rows_at (from_nothing script) entries (length entries)).tables [] text).replies))
+      says : own_front (answer_at w (now_of start entries) [] text) ≡ reply.Begin (now_of start entries) ∷ (alone_at (from_start script start) (view_of (from_start script start) entries) own_txn (now_of start entries)).replies
+      says = ap (λ (x : Answered). reply.Begin (now_of start entries) ∷ x.replies) its ∙ ap (λ rs. reply.Begin (now_of start entries) ∷ rs) (sym (append-nil (sql_language.answer (tables_of script) (rows_at (from_start script start) entries (now_of start entries)).tables [] text).replies))
 
-      are : (answer_at w (length entries) [] text).ops ≡ (alone_at (from_nothing script) (view_of (from_nothing script) entries) own_txn (length entries)).ops
+      are : (answer_at w (now_of start entries) [] text).ops ≡ (alone_at (from_start script start) (view_of (from_start script start) entries) own_txn (now_of start entries)).ops
       are = ap (λ (x : Answered). x.ops) its
 
-      uses_are : (answer_at w (length entries) [] text).uses ≡ (alone_at (from_nothing script) (view_of (from_nothing script) entries) own_txn (length entries)).uses
-      uses_are = ap (λ (x : Answered). x.uses) its ∙ sym (append-nil (sql_language.answer (tables_of script) (rows_at (from_nothing script) entries (length entries)).tables [] text).uses)
+      uses_are : (answer_at w (now_of start entries) [] text).uses ≡ (alone_at (from_start script start) (view_of (from_start script start) entries) own_txn (now_of start entries)).uses
+      uses_are = ap (λ (x : Answered). x.uses) its ∙ sym (append-nil (sql_language.answer (tables_of script) (rows_at (from_start script start) entries (now_of start entries)).tables [] text).uses)
 
-      commits : Commits script entries taken seen name own_txn (length entries) (answer_at w (length entries) [] text).uses (answer_at w (length entries) [] text).ops
-      commits = comes_to OtherText None doing.No c own_txn (length entries) (answer_at w (length entries) [] text).uses (answer_at w (length entries) [] text).ops c.stored.opened (omega arith) (c.its own_txn refl refl) are uses_are
-          (answer_sound OtherText None doing.No c (length entries) c.stored.opened (omega arith) [] tt)
+      commits : Commits script start entries taken seen name own_txn (now_of start entries) (answer_at w (now_of start entries) [] text).uses (answer_at w (now_of start entries) [] text).ops
+      commits = comes_to OtherText None doing.No c own_txn (now_of start entries) (answer_at w (now_of start entries) [] text).uses (answer_at w (now_of start entries) [] text).ops c.stored.opened (omega arith) (c.its own_txn refl refl) are uses_are
+          (answer_sound OtherText None doing.No c (now_of start entries) c.stored.opened (omega arith) [] tt)
           (none_past name p.number (p.number + 1) None (λ txn le. omega (arith, le)) entries c.entered)
 
   -- what was told of an open transaction, and one statement more
-  module _ (texts : List (List ℕ)) (begin : ℕ) (ops : List RowOp) (uses : List GenidItem) (k : Kind) (c : Comes script entries taken seen name p (Some texts) (doing.Open begin ops uses) text k lines) where
-    more_open : IsOpen script entries seen.next (texts ++ text ∷ []) begin (answer_at w begin ops text).ops (uses ++ (answer_at w begin ops text).uses) (c.mine ++ (answer_at w begin ops text).replies)
+  module _ (texts : List (List ℕ)) (begin : ℕ) (ops : List RowOp) (uses : List GenidItem) (k : Kind) (c : Comes script start entries taken seen name p (Some texts) (doing.Open begin ops uses) text k lines) where
+    more_open : IsOpen script start entries seen.next (texts ++ text ∷ []) begin (answer_at w begin ops text).ops (uses ++ (answer_at w begin ops text).uses) (c.mine ++ (answer_at w begin ops text).replies)
     more_open = record {
       first = c.doing.first;
       within = c.doing.within;
       says = ap (λ rs. rs ++ (answer_at w begin ops text).replies) c.doing.says
-          ∙ ap (λ (a : Answered). reply.Begin begin ∷ ((alone sql_language (tables_of script) (rows_at (from_nothing script) entries begin) texts).replies ++ a.replies)) its
-          ∙ ap (λ rs. reply.Begin begin ∷ rs) (sym (replies_more sql_language (tables_of script) (rows_at (from_nothing script) entries begin).tables [] texts text));
-      ops_are = ap (λ (a : Answered). a.ops) its ∙ sym (ops_more sql_language (tables_of script) (rows_at (from_nothing script) entries begin).tables [] texts text);
+          ∙ ap (λ (a : Answered). reply.Begin begin ∷ ((alone sql_language (tables_of script) (rows_at (from_start script start) entries begin) texts).replies ++ a.replies)) its
+          ∙ ap (λ rs. reply.Begin begin ∷ rs) (sym (replies_more sql_language (tables_of script) (rows_at (from_start script start) entries begin).tables [] texts text));
+      ops_are = ap (λ (a : Answered). a.ops) its ∙ sym (ops_more sql_language (tables_of script) (rows_at (from_start script start) entries begin).tables [] texts text);
       uses_are = ap (λ (us : List GenidItem). us ++ (answer_at w begin ops text).uses) c.doing.uses_are
-          ∙ ap (λ (a : Answered). (alone sql_language (tables_of script) (rows_at (from_nothing script) entries begin) texts).uses ++ a.uses) its
-          ∙ sym (uses_more sql_language (tables_of script) (rows_at (from_nothing script) entries begin).tables [] texts text);
+          ∙ ap (λ (a : Answered). (alone sql_language (tables_of script) (rows_at (from_start script start) entries begin) texts).uses ++ a.uses) its
+          ∙ sym (uses_more sql_language (tables_of script) (rows_at (from_start script start) entries begin).tables [] texts text);
       sound = answer_sound k (Some texts) (doing.Open begin ops uses) c begin c.doing.first c.doing.within ops c.doing.sound;
     }
       where
-        its : answer_at w begin ops text ≡ sql_language.answer (tables_of script) (rows_at (from_nothing script) entries begin).tables (alone sql_language (tables_of script) (rows_at (from_nothing script) entries begin) texts).ops text
+        its : answer_at w begin ops text ≡ sql_language.answer (tables_of script) (rows_at (from_start script start) entries begin).tables (alone sql_language (tables_of script) (rows_at (from_start script start) entries begin) texts).ops text
         its = answer_is k (Some texts) (doing.Open begin ops uses) c begin c.doing.first c.doing.within ops
-            ∙ ap (λ (o : List RowOp). sql_language.answer (tables_of script) (rows_at (from_nothing script) entries begin).tables o text) c.doing.ops_are
+            ∙ ap (λ (o : List RowOp). sql_language.answer (tables_of script) (rows_at (from_start script start) entries begin).tables o text) c.doing.ops_are
 
     goes : Goal (with_open p (Some (texts ++ text ∷ [])) p.number) p.number false (goes_on p.number p.level begin uses (answer_at w begin ops text))
     goes kept = quiet k (Some texts) (doing.Open begin ops uses) c (with_open p (Some (texts ++ text ∷ [])) p.number) p.number p.number false (answer_at w begin ops text).replies (state p.number p.level (doing.Open begin (answer_at w begin ops text).ops (uses ++ (answer_at w begin ops text).uses))) kept
-        (in_transaction script entries entries (inl refl) name p c.before c.past (texts ++ text ∷ []) (c.mine ++ (answer_at w begin ops text).replies) (lines ++ numbered p.number (answer_at w begin ops text).replies) seen.next p.number (doing.Open begin (answer_at w begin ops text).ops (uses ++ (answer_at w begin ops text).uses))
+        (in_transaction script start entries entries (inl refl) name p c.before c.past (texts ++ text ∷ []) (c.mine ++ (answer_at w begin ops text).replies) (lines ++ numbered p.number (answer_at w begin ops text).replies) seen.next p.number (doing.Open begin (answer_at w begin ops text).ops (uses ++ (answer_at w begin ops text).uses))
         more_open (piece lines c.before p.number c.mine (answer_at w begin ops text).replies c.is))
-        (plain_paced (length entries) (answer_at w begin ops text).replies (sql_is_answered.plain (tables_of script) (seen.at begin).tables ops text)) refl (inl (sql_is_answered.closed (tables_of script) (seen.at begin).tables ops text))
+        (plain_paced (now_of start entries) (answer_at w begin ops text).replies (sql_is_answered.plain (tables_of script) (seen.at begin).tables ops text)) refl (inl (sql_is_answered.closed (tables_of script) (seen.at begin).tables ops text))
 
     rolled : Goal (closed p texts ByRollback) p.number false (turned p.number (reply.RolledBack ∷ []) (state p.number p.level doing.No))
     rolled kept = quiet k (Some texts) (doing.Open begin ops uses) c (closed p texts ByRollback) p.number p.number false (reply.RolledBack ∷ []) (state p.number p.level doing.No) kept
-        (idle_after script entries entries (inl refl) name p c.before c.past (Does (transaction p.number texts p.level ByRollback)) (c.mine ++ reply.RolledBack ∷ []) (lines ++ numbered p.number (reply.RolledBack ∷ [])) seen.next p.number p.level
-        (inl (record { begin = begin; base = omega arith; within = (let w = c.doing.within in omega (arith, w)); ran = alone_at (from_nothing script) (view_of (from_nothing script) entries) (transaction p.number texts p.level ByRollback) begin; is_ran = refl; last = reply.RolledBack ∷ []; ends = refl; right = (refl, tt); says = ap (λ rs. rs ++ reply.RolledBack ∷ []) c.doing.says }))
+        (idle_after script start entries entries (inl refl) name p c.before c.past (Does (transaction p.number texts p.level ByRollback)) (c.mine ++ reply.RolledBack ∷ []) (lines ++ numbered p.number (reply.RolledBack ∷ [])) seen.next p.number p.level
+        (inl (record { begin = begin; base = c.doing.first.1; within = (let w = c.doing.within in omega (arith, w)); ran = alone_at (from_start script start) (view_of (from_start script start) entries) (transaction p.number texts p.level ByRollback) begin; is_ran = refl; last = reply.RolledBack ∷ []; ends = refl; right = (refl, tt); says = ap (λ rs. rs ++ reply.RolledBack ∷ []) c.doing.says }))
         (piece lines c.before p.number c.mine (reply.RolledBack ∷ []) c.is))
         refl refl (inl refl)
 
@@ -356,13 +358,13 @@ module _ (script : Script) (entries : List EntryLine) (taken : List (List GenidI
     abbrev pub last : ReplyLine
     last = outcome w begin uses ops
 
-    commits_by : transaction_of sql_language name p.number script.body ≡ Some ending → Decided script entries taken seen seen' name ending begin uses ops last (added_by last ops) →
-        Turns script entries (entries_after entries name p.number begin p.level (added_by last ops)) (taken_after taken (added_by last ops)) seen seen' name (closed p texts ByCommit) lines p.number false (committed w p.number p.level begin uses ops)
+    commits_by : transaction_of sql_language name p.number script.body ≡ Some ending → Decided script start entries taken seen seen' name ending begin uses ops last (added_by last ops) →
+        Turns script start entries (entries_after start entries name p.number begin p.level (added_by last ops)) (taken_after taken (added_by last ops)) seen seen' name (closed p texts ByCommit) lines p.number false (committed w p.number p.level begin uses ops)
     commits_by its d = record {
       stored = d.stored;
       grows = decided_turn ending begin uses ops last (added_by last ops) c.doing.within c.doing.first d;
       next = d.grows;
-      stands = idle_after script entries (entries_after entries name p.number begin p.level (added_by last ops)) (decided_turn ending begin uses ops last (added_by last ops) c.doing.within c.doing.first d) name p c.before c.past (Does ending) (c.mine ++ last ∷ []) (lines ++ numbered p.number (last ∷ [])) seen'.next p.number p.level
+      stands = idle_after script start entries (entries_after start entries name p.number begin p.level (added_by last ops)) (decided_turn ending begin uses ops last (added_by last ops) c.doing.within c.doing.first d) name p c.before c.past (Does ending) (c.mine ++ last ∷ []) (lines ++ numbered p.number (last ∷ [])) seen'.next p.number p.level
           (inl (ends_with ending begin uses ops c.mine last (added_by last ops) c.doing.first c.doing.within (λ x. x) c.doing.says c.doing.ops_are c.doing.uses_are d))
           (piece lines c.before p.number c.mine (last ∷ []) c.is);
       paced = d.paced;
@@ -371,7 +373,7 @@ module _ (script : Script) (entries : List EntryLine) (taken : List (List GenidI
       news = news_of ending begin uses ops last (added_by last ops) (closed p texts ByCommit) (committed w p.number p.level begin uses ops) refl refl refl ([], [], refl) (omega arith) was_told d;
     }
       where
-        was_told : WasTold script entries name p.number begin last (lines ++ numbered p.number (last ∷ []))
+        was_told : WasTold script start entries name p.number begin last (lines ++ numbered p.number (last ∷ []))
         was_told = record {
           transaction = ending;
           is_its = its;
@@ -380,23 +382,23 @@ module _ (script : Script) (entries : List EntryLine) (taken : List (List GenidI
           says = piece lines c.before p.number c.mine (last ∷ []) c.is ∙ ap (λ (rs : List ReplyLine). c.before ++ numbered p.number (rs ++ last ∷ [])) c.doing.says;
         }
 
-  comes_to_commit : (texts : List (List ℕ)) (begin : ℕ) (ops : List RowOp) (uses : List GenidItem) (c : Comes script entries taken seen name p (Some texts) (doing.Open begin ops uses) text CommitText lines) → Goal (closed p texts ByCommit) p.number false (committed w p.number p.level begin uses ops)
+  comes_to_commit : (texts : List (List ℕ)) (begin : ℕ) (ops : List RowOp) (uses : List GenidItem) (c : Comes script start entries taken seen name p (Some texts) (doing.Open begin ops uses) text CommitText lines) → Goal (closed p texts ByCommit) p.number false (committed w p.number p.level begin uses ops)
   comes_to_commit texts begin ops uses c kept = commits_by texts begin ops uses CommitText c (c.its (transaction p.number texts p.level ByCommit) refl refl)
-      (decides script entries taken seen seen' name (transaction p.number texts p.level ByCommit) begin uses ops
+      (decides script start entries taken seen seen' name (transaction p.number texts p.level ByCommit) begin uses ops
       (comes_to CommitText (Some texts) (doing.Open begin ops uses) c (transaction p.number texts p.level ByCommit) begin uses ops c.doing.first c.doing.within (c.its (transaction p.number texts p.level ByCommit) refl refl) c.doing.ops_are c.doing.uses_are c.doing.sound
       (none_past name p.number p.number (Some texts) (λ txn less. less) entries c.entered)) kept)
 
   -- lines of a transaction that want of memory ended are skipped
-  module _ (texts : List (List ℕ)) (k : Kind) (c : Comes script entries taken seen name p (Some texts) doing.Aborted text k lines) where
+  module _ (texts : List (List ℕ)) (k : Kind) (c : Comes script start entries taken seen name p (Some texts) doing.Aborted text k lines) where
     skipped_lines : lines ++ numbered p.number [] ≡ c.before ++ numbered p.number c.mine
     skipped_lines = append-nil lines ∙ c.is
 
-    more_cut : IsCut (from_nothing script) (view_of (from_nothing script) entries) (transaction p.number (texts ++ text ∷ []) p.level Nowhere) c.mine
+    more_cut : IsCut (from_start script start) (view_of (from_start script start) entries) (transaction p.number (texts ++ text ∷ []) p.level Nowhere) c.mine
     more_cut = record {
       begin = c.doing.begin;
       base = c.doing.base;
       within = c.doing.within;
-      ran = alone_at (from_nothing script) (view_of (from_nothing script) entries) (transaction p.number (texts ++ text ∷ []) p.level Nowhere) c.doing.begin;
+      ran = alone_at (from_start script start) (view_of (from_start script start) entries) (transaction p.number (texts ++ text ∷ []) p.level Nowhere) c.doing.begin;
       is_ran = refl;
       front = c.doing.front;
       rest = c.doing.rest ++ more;
@@ -405,12 +407,12 @@ module _ (script : Script) (entries : List EntryLine) (taken : List (List GenidI
       may = may_later Nowhere c.doing.ran.ops _ c.doing.front c.doing.rest (c.doing.rest ++ more) c.doing.cause c.doing.may;
       fits = sym (append_assoc c.doing.front c.doing.rest more) ∙ ap (λ rs. rs ++ more) c.doing.fits
           ∙ ap (λ (a : Answered). (reply.Begin c.doing.begin ∷ a.replies) ++ more) c.doing.is_ran
-          ∙ ap (λ rs. reply.Begin c.doing.begin ∷ rs) (sym (replies_more sql_language (tables_of script) (rows_at (from_nothing script) entries c.doing.begin).tables [] texts text));
+          ∙ ap (λ rs. reply.Begin c.doing.begin ∷ rs) (sym (replies_more sql_language (tables_of script) (rows_at (from_start script start) entries c.doing.begin).tables [] texts text));
       says = c.doing.says;
     }
       where
         more : List ReplyLine
-        more = (sql_language.answer (tables_of script) (rows_at (from_nothing script) entries c.doing.begin).tables (alone sql_language (tables_of script) (rows_at (from_nothing script) entries c.doing.begin) texts).ops text).replies
+        more = (sql_language.answer (tables_of script) (rows_at (from_start script start) entries c.doing.begin).tables (alone sql_language (tables_of script) (rows_at (from_start script start) entries c.doing.begin) texts).ops text).replies
 
     was_cut : WasCutUnder lines p.number
     was_cut = (
@@ -426,17 +428,17 @@ module _ (script : Script) (entries : List EntryLine) (taken : List (List GenidI
 
     skips : Goal (with_open p (Some (texts ++ text ∷ [])) p.number) p.number false (turned p.number [] (state p.number p.level doing.Aborted))
     skips kept = quiet k (Some texts) doing.Aborted c (with_open p (Some (texts ++ text ∷ [])) p.number) p.number p.number false [] (state p.number p.level doing.Aborted) kept
-        (in_transaction script entries entries (inl refl) name p c.before c.past (texts ++ text ∷ []) c.mine (lines ++ numbered p.number []) seen.next p.number doing.Aborted more_cut skipped_lines)
+        (in_transaction script start entries entries (inl refl) name p c.before c.past (texts ++ text ∷ []) c.mine (lines ++ numbered p.number []) seen.next p.number doing.Aborted more_cut skipped_lines)
         refl refl (inr (refl, was_cut))
 
     skips_end : (end : End) → Goal (closed p texts end) p.number false (turned p.number [] (state p.number p.level doing.No))
     skips_end end kept = quiet k (Some texts) doing.Aborted c (closed p texts end) p.number p.number false [] (state p.number p.level doing.No) kept
-        (idle_after script entries entries (inl refl) name p c.before c.past (Does (transaction p.number texts p.level end)) c.mine (lines ++ numbered p.number []) seen.next p.number p.level
+        (idle_after script start entries entries (inl refl) name p c.before c.past (Does (transaction p.number texts p.level end)) c.mine (lines ++ numbered p.number []) seen.next p.number p.level
         (inr (record { begin = c.doing.begin; base = c.doing.base; within = c.doing.within; ran = c.doing.ran; is_ran = c.doing.is_ran; front = c.doing.front; rest = c.doing.rest; fits = c.doing.fits; cause = c.doing.cause; is_cause = c.doing.is_cause; may = may_later end c.doing.ran.ops c.doing.ran.ops c.doing.front c.doing.rest c.doing.rest c.doing.cause c.doing.may; says = c.doing.says })) skipped_lines)
         refl refl (inr (refl, was_cut))
 
   -- whatever the line is, and wherever the session is
-  pub turns : (k : Kind) (pending : Option (List (List ℕ))) (what : Doing) → Comes script entries taken seen name p pending what text k lines →
+  pub turns : (k : Kind) (pending : Option (List (List ℕ))) (what : Doing) → Comes script start entries taken seen name p pending what text k lines →
       Goal (next_by p text k pending) (number_by p.number k pending) (is_own_by k pending) (turn_by w p.number p.level text k what)
   turns BeginText None doing.No c = begun c
   turns CommitText None doing.No c = lone CommitText c (reply.Error State) p.level refl refl

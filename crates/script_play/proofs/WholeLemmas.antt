@@ -1,10 +1,12 @@
 -- The run from its opening to its end: what holds at first, and that it gives a lawful report.
-use Rattle.std.proofs.Common.{◌≡◌, ℕ, ◌≤◌, List, [], ◌∷◌, ◌++◌, map, refl, sym, subst, ap, arith, Option, Some, None, ◌∙◌, Bool, true, false, inl, inr, if◌then◌else◌}
+use Rattle.std.proofs.Common.{◌≡◌, ℕ, ◌==◌, List, [], ◌∷◌, ◌++◌, map, refl, sym, subst, ap, arith, Option, Some, None, ◌∙◌, Bool, true, false, inl, inr, if◌then◌else◌}
 use Rattle.std.proofs.lemmas.List.{append-nil}
+use Rattle.std.specs.List.{AllByRecursion}
 use Rattle.std.specs.Str.{bytes_eq}
-use Rattle.cdb_values.specs.Rows.{Rows, no_rows}
+use Rattle.cdb_values.specs.Rows.{Rows}
 use Rattle.cdb_values.specs.declared.rows.RowOp.{RowOp}
 use Rattle.script_play.specs.Seen.{Seen}
+use Rattle.script_play.specs.Start.{Start, base}
 use Rattle.script_form.specs.declared.scripts.Script.{Script}
 use Rattle.script_form.specs.declared.scripts.BodyLine.{BodyLine}
 use Rattle.script_form.specs.declared.scripts.SessionLine.{SessionLine}
@@ -16,25 +18,19 @@ use Rattle.report_text.specs.declared.reports.ReplyLine.TheVariants as reply
 use Rattle.script_form.specs.CanRun.{tables_of}
 use Rattle.report_laws.specs.History.{rows_at, view_of}
 use Rattle.session_language.specs.Language.{alone}
-use Rattle.script_play.specs.Basis.{from_nothing}
+use Rattle.script_play.specs.Basis.{from_start}
 use Rattle.sql_answer.specs.Language.{sql_language}
 use Rattle.report_laws.specs.Lawful.{Lawful}
 use Rattle.report_laws.specs.Outcome.{Ends}
-use Rattle.report_laws.specs.Play.{InPlayOrder, InTurns, opened_behind}
-use Rattle.report_laws.specs.Told.{Along, Numbered, IsTold, IsCut, told, numbered, alone_at}
-use Rattle.report_laws.specs.Work.{Transaction, Item, Does, Place, Nowhere, transaction, work, place_after, items_at, open_item, start}
+use Rattle.report_laws.specs.Play.{InPlayOrder, InTurns, opening, opened_behind}
+use Rattle.report_laws.specs.Told.{Along, Numbered, IsTold, IsEntryTold, IsCut, told, numbered, alone_at}
+use Rattle.report_laws.specs.Work.{Transaction, Item, Does, Place, Nowhere, transaction, work, place_after, items_at, open_item, start as place_first}
 use Rattle.cdb_values.specs.declared.items.GenidItem.{GenidItem}
 use Rattle.report_laws.proofs.NodesLaws.{none_few}
 use Rattle.report_laws.proofs.ToldLaws.{along_append, along_one, along_map}
-use Rattle.script_play.specs.Ready.{AreKept}
-use Rattle.script_play.proofs.SoundLaws.{kept_none}
-use Rattle.script_play.specs.SoFar.{SoFar, Standing, IsOpen, IsDoing, at_start, state_of, report_of}
+use Rattle.script_play.specs.SoFar.{now_of, SoFar, Stored, Standing, IsEnded, IsOpen, IsDoing, at_start, state_of, report_of}
 use Rattle.script_play.specs.Doing.{SessionAt, Doing}
 use Rattle.script_play.specs.Doing as doing
-
--- the schema's entry
-abbrev pub opening : List EntryLine
-opening = Setup 1 ∷ []
 
 starts : (name : List ℕ) (sessions : List SessionLine) → state_of name sessions (map (λ _. at_start) sessions) ≡ at_start
 starts name [] = refl
@@ -44,91 +40,85 @@ starts name (s ∷ ss) = pick (bytes_eq s.name name) (starts name ss)
     pick true is = refl
     pick false is = is
 
-only_one : (P : ℕ → Type 0) → P 1 → (at : ℕ) → 1 ≤ at → at ≤ 1 → P at
-only_one P one at first within = let is : at ≡ 1 = omega (arith, first, within) in subst P (sym is) one
+-- the entries that stand at first
+all_opening : (P : EntryLine → Type 0) → P (Setup 1) → (b : Bool) → AllByRecursion P (if b then Setup 1 ∷ [] else [])
+all_opening P is true = (is, tt)
+all_opening P is false = tt
 
--- the run as it begins, with tables without rows
-pub begins_so : (script : Script) (seen : Seen) → seen.at 1 ≡ no_rows (tables_of script) → seen.next ≡ 1 →
-    SoFar script [] script.body [] opening ([] ∷ []) seen (map (λ _. at_start) script.sessions)
-begins_so script seen none next = record {
+-- the run as it begins
+pub begins_so : (script : Script) (start : Start) (taken : List (List GenidItem)) (seen : Seen) → Stored script start (opening (from_start script start).origin) taken seen →
+    SoFar script start [] script.body [] (opening (from_start script start).origin) taken seen (map (λ _. at_start) script.sessions)
+begins_so script start taken seen stored = record {
   body = refl;
-  stored = record {
-    opened = omega arith;
-    history = ((refl, refl, refl), tt);
-    rows_are = only_one (λ at. seen.at at ≡ rows_at (from_nothing script) opening at) none;
-    now_are = none;
-    next_is = next ∙ ap (λ (r : Rows). r.next) (sym none);
-    taken_length = refl;
-    taken_are = only_one _ refl;
-    sound = only_one (λ at. AreKept (tables_of script) seen.next (seen.at at).tables)
-        (subst (λ (r : Rows). AreKept (tables_of script) seen.next r.tables) (sym none) (kept_none (tables_of script) seen.next));
-    named = (tt, tt);
-  };
-  standing = λ name. subst (λ (x : SessionAt). Standing script opening seen.next name start [] x) (sym (starts name script.sessions)) (record { before = []; mine = []; is = refl; past = refl; number = refl; level = refl; doing = refl });
+  stored = stored;
+  standing = λ name. subst (λ (x : SessionAt). Standing script start at_first seen.next name place_first [] x) (sym (starts name script.sessions)) (record { before = []; mine = []; is = refl; past = refl; number = refl; level = refl; doing = refl });
   fresh = tt;
   later = [];
-  begins = refl;
+  begins = sym (append-nil at_first);
   order = (refl, refl);
   named = tt;
-  answered = (tt, tt);
-  ended = (tt, tt);
+  answered = all_opening (IsEntryTold (from_start script start) (view_of (from_start script start) at_first) []) tt ((from_start script start).origin.position == 0);
+  ended = all_opening (IsEnded []) tt ((from_start script start).origin.position == 0);
   placed = tt;
   unhurt = refl;
 }
+  where
+    at_first : List EntryLine
+    at_first = opening (from_start script start).origin
 
 -- the open transaction, as it was told so far
-open_told : (script : Script) (entries : List EntryLine) (name : List ℕ) (next : ℕ) (texts : List (List ℕ)) (begin : ℕ) (ops : List RowOp) (uses : List GenidItem) (mine : List ReplyLine) (t : Transaction) → t.texts ≡ texts → t.end ≡ Nowhere → IsOpen script entries next texts begin ops uses mine →
-    IsTold (from_nothing script) (view_of (from_nothing script) entries) name (Does t) mine
-open_told script entries name next texts begin ops uses mine t same end is = inl (record {
+open_told : (script : Script) (start : Start) (entries : List EntryLine) (name : List ℕ) (next : ℕ) (texts : List (List ℕ)) (begin : ℕ) (ops : List RowOp) (uses : List GenidItem) (mine : List ReplyLine) (t : Transaction) → t.texts ≡ texts → t.end ≡ Nowhere → IsOpen script start entries next texts begin ops uses mine →
+    IsTold (from_start script start) (view_of (from_start script start) entries) name (Does t) mine
+open_told script start entries name next texts begin ops uses mine t same end is = inl (record {
   begin = begin;
-  base = omega arith;
+  base = is.first.1;
   within = let w = is.within in omega (arith, w);
-  ran = alone_at (from_nothing script) (view_of (from_nothing script) entries) t begin;
+  ran = alone_at (from_start script start) (view_of (from_start script start) entries) t begin;
   is_ran = refl;
   last = [];
   ends = subst (λ e. Ends e []) (sym end) refl;
   right = tt;
-  says = is.says ∙ ap (λ (x : List (List ℕ)). reply.Begin begin ∷ (alone sql_language (tables_of script) (rows_at (from_nothing script) entries begin) x).replies) (sym same)
-      ∙ ap (λ rs. reply.Begin begin ∷ rs) (sym (append-nil (alone_at (from_nothing script) (view_of (from_nothing script) entries) t begin).replies));
+  says = is.says ∙ ap (λ (x : List (List ℕ)). reply.Begin begin ∷ (alone sql_language (tables_of script) (rows_at (from_start script start) entries begin) x).replies) (sym same)
+      ∙ ap (λ rs. reply.Begin begin ∷ rs) (sym (append-nil (alone_at (from_start script start) (view_of (from_start script start) entries) t begin).replies));
 })
 
 -- along all that a session did up to a place of its work
-along_place : (P : Item → List ReplyLine → Type 0) (script : Script) (entries : List EntryLine) (next : ℕ) (name : List ℕ) (p : Place) (pending : Option (List (List ℕ))) (d : Doing) (before : List Numbered) (mine : List ReplyLine) →
-    ((item : Item) (rs : List ReplyLine) → IsTold (from_nothing script) (view_of (from_nothing script) entries) name item rs → P item rs) →
-    ((texts : List (List ℕ)) (begin : ℕ) (ops : List RowOp) (uses : List GenidItem) → IsOpen script entries next texts begin ops uses mine → P (Does (transaction p.number texts p.level Nowhere)) mine) →
-    ((texts : List (List ℕ)) → IsCut (from_nothing script) (view_of (from_nothing script) entries) (transaction p.number texts p.level Nowhere) mine → P (Does (transaction p.number texts p.level Nowhere)) mine) →
-    Along (IsTold (from_nothing script) (view_of (from_nothing script) entries) name) p.over before → IsDoing script entries next p pending d mine → Along P (p.over ++ open_item p pending) (before ++ numbered p.number mine)
-along_place P script entries next name p None doing.No before mine over open_ cut past is =
+along_place : (P : Item → List ReplyLine → Type 0) (script : Script) (start : Start) (entries : List EntryLine) (next : ℕ) (name : List ℕ) (p : Place) (pending : Option (List (List ℕ))) (d : Doing) (before : List Numbered) (mine : List ReplyLine) →
+    ((item : Item) (rs : List ReplyLine) → IsTold (from_start script start) (view_of (from_start script start) entries) name item rs → P item rs) →
+    ((texts : List (List ℕ)) (begin : ℕ) (ops : List RowOp) (uses : List GenidItem) → IsOpen script start entries next texts begin ops uses mine → P (Does (transaction p.number texts p.level Nowhere)) mine) →
+    ((texts : List (List ℕ)) → IsCut (from_start script start) (view_of (from_start script start) entries) (transaction p.number texts p.level Nowhere) mine → P (Does (transaction p.number texts p.level Nowhere)) mine) →
+    Along (IsTold (from_start script start) (view_of (from_start script start) entries) name) p.over before → IsDoing script start entries next p pending d mine → Along P (p.over ++ open_item p pending) (before ++ numbered p.number mine)
+along_place P script start entries next name p None doing.No before mine over open_ cut past is =
     subst (λ rs. Along P (p.over ++ []) (before ++ numbered p.number rs)) (sym is)
-    (along_append P p.over [] before [] (along_map (IsTold (from_nothing script) (view_of (from_nothing script) entries) name) P over p.over before past) refl)
-along_place P script entries next name p None (doing.Open begin ops uses) before mine over open_ cut past is = absurd is
-along_place P script entries next name p None doing.Aborted before mine over open_ cut past is = absurd is
-along_place P script entries next name p (Some texts) doing.No before mine over open_ cut past is = absurd is
-along_place P script entries next name p (Some texts) (doing.Open begin ops uses) before mine over open_ cut past is =
-    along_append P p.over (Does (transaction p.number texts p.level Nowhere) ∷ []) before (numbered p.number mine) (along_map (IsTold (from_nothing script) (view_of (from_nothing script) entries) name) P over p.over before past)
+    (along_append P p.over [] before [] (along_map (IsTold (from_start script start) (view_of (from_start script start) entries) name) P over p.over before past) refl)
+along_place P script start entries next name p None (doing.Open begin ops uses) before mine over open_ cut past is = absurd is
+along_place P script start entries next name p None doing.Aborted before mine over open_ cut past is = absurd is
+along_place P script start entries next name p (Some texts) doing.No before mine over open_ cut past is = absurd is
+along_place P script start entries next name p (Some texts) (doing.Open begin ops uses) before mine over open_ cut past is =
+    along_append P p.over (Does (transaction p.number texts p.level Nowhere) ∷ []) before (numbered p.number mine) (along_map (IsTold (from_start script start) (view_of (from_start script start) entries) name) P over p.over before past)
     (along_one P (Does (transaction p.number texts p.level Nowhere)) mine (open_ texts begin ops uses is))
-along_place P script entries next name p (Some texts) doing.Aborted before mine over open_ cut past is =
-    along_append P p.over (Does (transaction p.number texts p.level Nowhere) ∷ []) before (numbered p.number mine) (along_map (IsTold (from_nothing script) (view_of (from_nothing script) entries) name) P over p.over before past)
+along_place P script start entries next name p (Some texts) doing.Aborted before mine over open_ cut past is =
+    along_append P p.over (Does (transaction p.number texts p.level Nowhere) ∷ []) before (numbered p.number mine) (along_map (IsTold (from_start script start) (view_of (from_start script start) entries) name) P over p.over before past)
     (along_one P (Does (transaction p.number texts p.level Nowhere)) mine (cut texts is))
 
-module _ (script : Script) (done : List BodyLine) (lines : List Line) (entries : List EntryLine) (taken : List (List GenidItem)) (seen : Seen) (states : List SessionAt) (was : SoFar script done [] lines entries taken seen states) where
+module _ (script : Script) (start : Start) (done : List BodyLine) (lines : List Line) (entries : List EntryLine) (taken : List (List GenidItem)) (seen : Seen) (states : List SessionAt) (was : SoFar script start done [] lines entries taken seen states) where
   all_done : script.body ≡ done
   all_done = was.body ∙ append-nil done
 
-  told_along : (name : List ℕ) → Along (IsTold (from_nothing script) (view_of (from_nothing script) entries) name) (work sql_language name script.body) (told name lines)
+  told_along : (name : List ℕ) → Along (IsTold (from_start script start) (view_of (from_start script start) entries) name) (work sql_language name script.body) (told name lines)
   told_along name =
-      subst (λ (b : List BodyLine). Along (IsTold (from_nothing script) (view_of (from_nothing script) entries) name) (work sql_language name b) (told name lines)) (sym all_done)
-      (subst (λ ls. Along (IsTold (from_nothing script) (view_of (from_nothing script) entries) name) (items_at (place_after sql_language name done)) ls) (sym stands.is)
-      (along_place (IsTold (from_nothing script) (view_of (from_nothing script) entries) name) script entries seen.next name (place_after sql_language name done) (place_after sql_language name done).pending (state_of name script.sessions states).doing stands.before stands.mine
+      subst (λ (b : List BodyLine). Along (IsTold (from_start script start) (view_of (from_start script start) entries) name) (work sql_language name b) (told name lines)) (sym all_done)
+      (subst (λ ls. Along (IsTold (from_start script start) (view_of (from_start script start) entries) name) (items_at (place_after sql_language name done)) ls) (sym stands.is)
+      (along_place (IsTold (from_start script start) (view_of (from_start script start) entries) name) script start entries seen.next name (place_after sql_language name done) (place_after sql_language name done).pending (state_of name script.sessions states).doing stands.before stands.mine
       (λ item rs is. is)
-      (λ texts begin ops uses is. open_told script entries name seen.next texts begin ops uses stands.mine (transaction (place_after sql_language name done).number texts (place_after sql_language name done).level Nowhere) refl refl is)
+      (λ texts begin ops uses is. open_told script start entries name seen.next texts begin ops uses stands.mine (transaction (place_after sql_language name done).number texts (place_after sql_language name done).level Nowhere) refl refl is)
       (λ texts cut. inr cut) stands.past stands.doing))
     where
-      stands : Standing script entries seen.next name (place_after sql_language name done) (told name lines) (state_of name script.sessions states)
+      stands : Standing script start entries seen.next name (place_after sql_language name done) (told name lines) (state_of name script.sessions states)
       stands = was.standing name
 
   -- the run at its end gives a lawful report
-  pub ends_lawful : Lawful (from_nothing script) (report_of lines entries)
+  pub ends_lawful : Lawful (from_start script start) (report_of (base start) (now_of start entries) lines entries)
   ends_lawful = record {
     replies = told_along;
     begins = was.fresh;
@@ -141,7 +131,7 @@ module _ (script : Script) (done : List BodyLine) (lines : List Line) (entries :
   }
 
   -- and its lines stand in the order of play
-  pub ends_in_order : InPlayOrder (from_nothing script) (report_of lines entries)
+  pub ends_in_order : InPlayOrder (from_start script start) (report_of (base start) (now_of start entries) lines entries)
   ends_in_order = record {
     first = [];
     go_down = tt;
@@ -149,10 +139,10 @@ module _ (script : Script) (done : List BodyLine) (lines : List Line) (entries :
     lines_are = refl;
     later = was.later;
     opened = was.begins ∙ ap (λ (es : List EntryLine). es ++ was.later) (sym opens);
-    order = subst (λ (es : List EntryLine). InTurns (from_nothing script) [] [] es script.body lines was.later) (sym opens)
-        (subst (λ (body : List BodyLine). InTurns (from_nothing script) [] [] (Setup 1 ∷ []) body lines was.later) (sym all_done) was.order);
+    order = subst (λ (es : List EntryLine). InTurns (from_start script start) [] [] es script.body lines was.later) (sym opens)
+        (subst (λ (body : List BodyLine). InTurns (from_start script start) [] [] (opening (from_start script start).origin) body lines was.later) (sym all_done) was.order);
   }
     where
       -- no node is down at the opening
-      opens : opened_behind (from_nothing script) [] ≡ Setup 1 ∷ []
-      opens = ap (λ (few : Bool). if few then [] else Setup 1 ∷ []) (none_few script.nodes [] refl)
+      opens : opened_behind (from_start script start) [] ≡ opening (from_start script start).origin
+      opens = ap (λ (few : Bool). if few then [] else opening (from_start script start).origin) (none_few script.nodes [] refl)

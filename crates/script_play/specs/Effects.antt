@@ -5,9 +5,10 @@ use Rattle.cdb_values.specs.Rows.{apply_all}
 use Rattle.cdb_values.specs.declared.rows.Level.{Level}
 use Rattle.cdb_values.specs.declared.rows.RowOp.{RowOp}
 use Rattle.cdb_values.specs.declared.tables.TableDef.{TableDef}
-use Rattle.log_rows.specs.History.{rows_of, takes_of, IsCommit}
+use Rattle.log_rows.specs.History.{rows_over, takes_of, IsCommit}
 use Rattle.phys_log.specs.Logs.{pages_of, Fits}
 use Rattle.phys_log.specs.declared.entries.Entry.{Entry}
+use Rattle.phys_log.specs.declared.entries.Entry.TheVariants.{Setup, Commit as EntryCommit}
 use Rattle.osql_session.specs.Sessions.{Session}
 use Rattle.report_text.specs.declared.reports.EntryLine.{EntryLine}
 use Rattle.report_text.specs.declared.reports.EntryLine.TheVariants.{Commit}
@@ -15,56 +16,66 @@ use Rattle.report_text.specs.declared.reports.Line.{Line}
 use Rattle.report_text.specs.declared.reports.ReplyLine.{ReplyLine}
 use Rattle.table_store.specs.Stored.{Stands}
 use Rattle.script_play.specs.Decisions.{added_by}
-use Rattle.script_play.specs.EntryLines.{line_of}
+use Rattle.script_play.specs.EntryLines.{line_of, IsMadeIn}
 use Rattle.script_play.specs.RunViews.{state_in, IsOwn}
+use Rattle.script_play.specs.Start.{Start, ground_of}
 use Rattle.script_play.specs.Step.{Turned, Cut}
 use Rattle.script_play.specs.declared.effects.LineEffect.{LineEffect}
 use Rattle.script_play.specs.declared.verdicts.Verdict.{Verdict}
 use Rattle.script_play.specs.declared.states.SessionState.{SessionState}
 
--- the transaction that an entry names: of a session, under its number, begun there, at a level
+-- the transaction that an entry names: of a session, under its number, begun there, at a level; it is decided in a generation,
+-- and began in one
 pub record Named : Type 0 where
+  pub generation : ℕ
+  pub began : ℕ
   pub session : List ℕ
   pub number : ℕ
   pub begin : ℕ
   pub level : Level
 
-abbrev pub named_so : List ℕ → ℕ → ℕ → Level → Named
-named_so session number begin level = record { session = session; number = number; begin = begin; level = level }
+abbrev pub named_so : ℕ → List ℕ → ℕ → ℕ → Level → Named
+named_so generation session number begin level = record { generation = generation; began = generation; session = session; number = number; begin = begin; level = level }
+
+-- an entry is of that generation, and its transaction began in that one
+abbrev pub IsOfIts : Named → Entry → Type 0
+IsOfIts named (Setup generation schema records) = ⊥
+IsOfIts named (EntryCommit generation id begin level changes records) = (generation ≡ named.generation) × (id.began ≡ named.began)
 
 -- an entry is the next of a log, names that transaction, and makes of the rows what these operations make of them
-pub record IsEntryOf (tables : List TableDef) (log : List Entry) (entry : Entry) (named : Named) (ops : List RowOp) : Type 0 where
+pub record IsEntryOf (start : Start) (tables : List TableDef) (log : List Entry) (entry : Entry) (named : Named) (ops : List RowOp) : Type 0 where
   pub names : (position : ℕ) → line_of position entry ≡ Commit position named.session named.number named.begin named.level
+  pub of_its : IsOfIts named entry
   pub fits : Fits log entry
   pub commit : IsCommit entry
-  pub stands : Stands (pages_of (log ++ entry ∷ [])) tables (rows_of (log ++ entry ∷ []))
-  pub rows : rows_of (log ++ entry ∷ []) ≡ apply_all (rows_of log) ops
+  pub stands : Stands (pages_of (log ++ entry ∷ [])) tables (rows_over (ground_of start) (log ++ entry ∷ []))
+  pub rows : rows_over (ground_of start) (log ++ entry ∷ []) ≡ apply_all (rows_over (ground_of start) log) ops
   pub takes : takes_of entry ≡ taken_by ops
 
 -- the entry that is to be appended, where operations are committed
-abbrev pub IsAdded : List TableDef → List Entry → Option Entry → Named → List (List RowOp) → Type 0
-IsAdded tables log None named [] = Unit {0}
-IsAdded tables log None named (ops ∷ more) = ⊥
-IsAdded tables log (Some entry) named [] = ⊥
-IsAdded tables log (Some entry) named (ops ∷ []) = IsEntryOf tables log entry named ops
-IsAdded tables log (Some entry) named (ops ∷ _ ∷ more) = ⊥
+abbrev pub IsAdded : Start → List TableDef → List Entry → Option Entry → Named → List (List RowOp) → Type 0
+IsAdded start tables log None named [] = Unit {0}
+IsAdded start tables log None named (ops ∷ more) = ⊥
+IsAdded start tables log (Some entry) named [] = ⊥
+IsAdded start tables log (Some entry) named (ops ∷ []) = IsEntryOf start tables log entry named ops
+IsAdded start tables log (Some entry) named (ops ∷ _ ∷ more) = ⊥
 
 -- what is decided on the operations of a transaction, and the entry that it appends
-pub record IsVerdict (tables : List TableDef) (log : List Entry) (v : Verdict) (outcome : ReplyLine) (named : Named) (ops : List RowOp) : Type 0 where
+pub record IsVerdict (start : Start) (tables : List TableDef) (log : List Entry) (v : Verdict) (outcome : ReplyLine) (named : Named) (ops : List RowOp) : Type 0 where
   pub told : v.outcome ≡ outcome
-  pub added : IsAdded tables log v.added named (added_by outcome ops)
+  pub added : IsAdded start tables log v.added named (added_by outcome ops)
 
--- the transaction of a session
-abbrev pub named_by : Session → Named
-named_by s = named_so s.id.session s.id.txn s.begin s.level
+-- the transaction of a session, decided in a generation
+abbrev pub named_by : ℕ → Session → Named
+named_by generation s = record { generation = generation; began = s.id.began; session = s.id.session; number = s.id.txn; begin = s.begin; level = s.level }
 
 -- an effect is what a line of a session does
-pub record IsEffect (tables : List TableDef) (log : List Entry) (name : List ℕ) (p : LineEffect) (t : Turned) : Type 0 where
+pub record IsEffect (start : Start) (generation : ℕ) (tables : List TableDef) (log : List Entry) (name : List ℕ) (p : LineEffect) (t : Turned) : Type 0 where
   pub number : p.number ≡ t.number
   pub replies : p.replies.items ≡ t.replies
   pub after : state_in p.after ≡ t.after
-  pub own : IsOwn name p.after
-  pub added : IsAdded tables log p.added (named_so name t.number t.begin t.after.level) t.added
+  pub own : IsOwn generation name p.after
+  pub added : IsAdded start tables log p.added (named_so generation name t.number t.begin t.after.level) t.added
 
 -- a cut, by where the session is behind it
 abbrev pub cut_in : SessionState → Option Cut

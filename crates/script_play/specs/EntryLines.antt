@@ -1,5 +1,6 @@
 -- The lines of a history, by the entries of a log.
-use Rattle.std.specs.Prelude.{◌≡◌, ℕ, ◌+◌, ◌∷◌, [], List}
+use Rattle.std.specs.Prelude.{◌≡◌, ℕ, ◌+◌, ◌++◌, ◌∷◌, [], List, length}
+use Rattle.std.specs.List.{AllByRecursion}
 use Rattle.phys_log.specs.declared.entries.Entry.{Entry}
 use Rattle.phys_log.specs.declared.entries.Entry.TheVariants as entry
 use Rattle.report_text.specs.declared.reports.EntryLine.{EntryLine}
@@ -15,6 +16,15 @@ abbrev pub lines_from : ℕ → List Entry → List EntryLine
 lines_from position [] = []
 lines_from position (e ∷ es) = line_of position e ∷ lines_from (position + 1) es
 
--- a history has the lines of a log's entries: their positions, and the session, number, begin and level of each commit
-abbrev pub AreTold : List EntryLine → List Entry → Type 0
-AreTold entries log = entries ≡ lines_from 1 log
+-- an entry is of a generation, and its transaction began in it
+abbrev pub IsMadeIn : ℕ → Entry → Type 0
+IsMadeIn made (entry.Setup generation schema records) = generation ≡ made
+IsMadeIn made (entry.Commit generation id begin level changes records) = (generation ≡ made) × (id.began ≡ made)
+
+-- a log is the one before the run with further entries, and a history has the lines of these: their positions, and the session,
+-- number, begin and level of each commit; each of them was made in a generation
+pub record AreTold (before : List Entry) (generation : ℕ) (entries : List EntryLine) (log : List Entry) : Type 0 where
+  pub made : List Entry
+  pub behind : log ≡ before ++ made
+  pub told : entries ≡ lines_from (length before + 1) made
+  pub in_it : AllByRecursion (IsMadeIn generation) made

@@ -1,3 +1,4 @@
+pub mod Start
 pub mod Basis
 pub mod Seen
 pub mod Doing
@@ -7,4 +8,5 @@ pub mod RunViews
 pub mod Effects
 pub mod Ready
 pub mod SoFar
+pub mod Played
 pub mod Step

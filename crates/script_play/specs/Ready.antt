@@ -1,17 +1,21 @@
 -- What the log, the rows and the operations of open transactions keep from line to line, so that a commit can
 -- be decided and written.
-use Rattle.std.specs.Prelude.{◌≡◌, ℕ, ◌≤◌, List, length, drop, Some}
+use Rattle.std.specs.Prelude.{◌≡◌, ℕ, ◌≤◌, List, [], ◌∷◌, length, drop, Some}
 use Rattle.std.specs.List.{AllByRecursion}
+use Rattle.cdb_values.specs.Rows.{Rows, no_rows}
 use Rattle.cdb_values.specs.declared.rows.RowOp.{RowOp}
 use Rattle.cdb_values.specs.declared.rows.Version.{Version}
 use Rattle.cdb_values.specs.declared.tables.TableDef.{TableDef}
 use Rattle.live_operations.specs.Live.{AreLive}
 use Rattle.log_replay.specs.Answers.{schema_of}
-use Rattle.log_rows.specs.History.{rows_of, rows_at, StandsThroughout, IsCommit}
+use Rattle.log_rows.specs.History.{rows_over, rows_over_at, IsFrom, StandsOver, IsCommit}
+use Rattle.phys_log.specs.Logs.{pages_of}
 use Rattle.phys_log.specs.declared.entries.Entry.{Entry}
 use Rattle.session_language.specs.Spelled.{WritesRow, HaveRows}
 use Rattle.sql_run.specs.Sound.{AreSound, HasDistinctColumns, IsSoundOp}
 use Rattle.sql_run.specs.Spelled.{HasColumns}
+use Rattle.table_store.specs.Stored.{Stands}
+use Rattle.script_play.specs.Start.{Start, base, ground_of}
 use Rattle.script_play.specs.Doing.{Doing}
 use Rattle.script_play.specs.Doing as doing
 
@@ -27,29 +31,42 @@ AreKept tables next versions = AreSound tables next versions × HaveRows version
 abbrev pub IsAskable : TableDef → Type 0
 IsAskable table = HasDistinctColumns table × HasColumns table
 
--- a log begins with the schema, goes on with commits, and its pages stand for its rows at each position
-pub record IsLogged (tables : List TableDef) (now : ℕ) (log : List Entry) : Type 0 where
+-- a log that has entries can be gone on with over these tables: its first entry is their setup, all others are those of
+-- transactions, and its pages stand for these rows, which are sound, with texts of UTF-8
+pub record GoesOn (tables : List TableDef) (log : List Entry) (rows : Rows) : Type 0 where
+  pub schema : schema_of log ≡ Some tables
+  pub commits : AllByRecursion IsCommit (drop 1 log)
+  pub stands : Stands (pages_of log) tables rows
+  pub kept : AreKept tables rows.next rows.tables
+
+-- a run can begin behind a log, whose pages stand for these rows; there are none where the log has no entry
+abbrev pub CanBegin : List TableDef → List Entry → Rows → Type 0
+CanBegin tables [] rows = rows ≡ no_rows []
+CanBegin tables (e ∷ es) rows = GoesOn tables (e ∷ es) rows
+
+-- a log begins with the schema, goes on with commits, and its pages stand for its rows at each position from the start on
+pub record IsLogged (start : Start) (tables : List TableDef) (now : ℕ) (log : List Entry) : Type 0 where
   pub count : length log ≡ now
   pub schema : schema_of log ≡ Some tables
   pub commits : AllByRecursion IsCommit (drop 1 log)
-  pub stands : StandsThroughout tables log
+  pub stands : StandsOver (ground_of start) tables log
 
--- the log and the rows up to a last position
-pub record IsReady (tables : List TableDef) (now : ℕ) (log : List Entry) : Type 0 where
-  pub opened : 1 ≤ now
+-- the log and the rows from the start up to a last position
+pub record IsReady (start : Start) (tables : List TableDef) (now : ℕ) (log : List Entry) : Type 0 where
+  pub opened : IsFrom (base start) now
   pub askable : AllByRecursion IsAskable tables
-  pub logged : IsLogged tables now log
-  pub kept : (at : ℕ) → 1 ≤ at → at ≤ now → AreKept tables (rows_of log).next (rows_at log at).tables
+  pub logged : IsLogged start tables now log
+  pub kept : (at : ℕ) → IsFrom (base start) at → at ≤ now → AreKept tables (rows_over (ground_of start) log).next (rows_over_at (ground_of start) log at).tables
 
 -- a transaction began at a position of the log, and its operations can be done there
-pub record IsAble (tables : List TableDef) (now : ℕ) (log : List Entry) (begin : ℕ) (ops : List RowOp) : Type 0 where
-  pub first : 1 ≤ begin
+pub record IsAble (start : Start) (tables : List TableDef) (now : ℕ) (log : List Entry) (begin : ℕ) (ops : List RowOp) : Type 0 where
+  pub first : IsFrom (base start) begin
   pub within : begin ≤ now
-  pub kept : AllByRecursion (IsKeptOp tables (rows_of log).next) ops
-  pub live : AreLive (rows_at log begin).tables ops
+  pub kept : AllByRecursion (IsKeptOp tables (rows_over (ground_of start) log).next) ops
+  pub live : AreLive (rows_over_at (ground_of start) log begin).tables ops
 
 -- what a session is doing: its open transaction began at a position of the log, and its operations can be done there
-abbrev pub IsReadyToGo : List TableDef → ℕ → List Entry → Doing → Type 0
-IsReadyToGo tables now log doing.No = Unit {0}
-IsReadyToGo tables now log (doing.Open begin ops uses) = IsAble tables now log begin ops
-IsReadyToGo tables now log doing.Aborted = Unit {0}
+abbrev pub IsReadyToGo : Start → List TableDef → ℕ → List Entry → Doing → Type 0
+IsReadyToGo start tables now log doing.No = Unit {0}
+IsReadyToGo start tables now log (doing.Open begin ops uses) = IsAble start tables now log begin ops
+IsReadyToGo start tables now log doing.Aborted = Unit {0}

@@ -1,14 +1,16 @@
 -- The run so far, as the code keeps it, in the words of the definitions.
-use Rattle.std.specs.Prelude.{◌≡◌, ℕ, ◌∷◌, [], List, length, map, true, slice_get, Some}
+use Rattle.std.specs.Prelude.{◌≡◌, ℕ, ◌≤◌, ◌∷◌, [], List, length, map, true, slice_get, Some}
 use Rattle.std.specs.Str.{is_utf8}
 use Rattle.cdb_values.specs.declared.tables.TableDef.{TableDef}
-use Rattle.log_rows.specs.History.{rows_of, rows_at, takes_in}
+use Rattle.log_rows.specs.History.{rows_over, rows_over_at, takes_in}
 use Rattle.cdb_values.specs.Rows.{no_rows}
 use Rattle.phys_log.specs.Logs.{pages_of}
 use Rattle.phys_log.specs.declared.entries.Entry.{Entry}
 use Rattle.phys_log.specs.declared.entries.Entry.TheVariants.{Setup}
 use Rattle.phys_log.specs.declared.entries.LogRecord.{LogRecord}
 use Rattle.table_store.specs.Stored.{Stands}
+use Rattle.report_text.specs.declared.reports.EntryLine.{EntryLine}
+use Rattle.report_text.specs.declared.reports.EntryLine.TheVariants.{Setup as EntrySetup}
 use Rattle.script_form.specs.CanRun.{tables_of}
 use Rattle.script_form.specs.declared.scripts.BodyLine.{BodyLine}
 use Rattle.script_form.specs.declared.scripts.Script.{Script}
@@ -16,12 +18,13 @@ use Rattle.script_form.specs.declared.scripts.SessionLine.{SessionLine}
 use Rattle.cdb_values.specs.declared.rows.Level.{Level}
 use Rattle.sql_answer.specs.Answers.{Meaning}
 use Rattle.sql_answer.specs.Language.{meaning, bound_in}
+use Rattle.script_play.specs.Start.{Start, base, ground_of}
 use Rattle.script_play.specs.Doing.{Doing, SessionAt}
 use Rattle.script_play.specs.Doing as doing
 use Rattle.script_play.specs.EntryLines.{AreTold}
 use Rattle.script_play.specs.Ready.{IsReady, IsLogged}
 use Rattle.script_play.specs.Seen.{Seen}
-use Rattle.script_play.specs.SoFar.{IsBefore}
+use Rattle.script_play.specs.SoFar.{IsBefore, now_of}
 use Rattle.script_play.specs.Step.{World, Turned, IsTaken, IsTurned, world_of}
 use Rattle.script_play.specs.declared.run.RunSoFar.{RunSoFar}
 use Rattle.script_play.specs.declared.states.InTransaction.{InTransaction}
@@ -38,16 +41,16 @@ abbrev pub state_in : SessionState → SessionAt
 state_in s = record { number = s.number; level = s.level; doing = doing_in s.doing }
 
 -- the rows at each position of a log
-abbrev pub seen_in : List Entry → Seen
-seen_in log = record { at = rows_at log; next = (rows_of log).next }
+abbrev pub seen_in : Start → List Entry → Seen
+seen_in start log = record { at = rows_over_at (ground_of start) log; next = (rows_over (ground_of start) log).next }
 
 -- what the run is before a line
-abbrev pub world : List TableDef → RunSoFar → World
-world tables run = world_of tables (seen_in run.log) (takes_in run.log) (length run.entries.items)
+abbrev pub world : Start → List TableDef → RunSoFar → World
+world start tables run = world_of tables (seen_in start run.log) (takes_in run.log) (length run.log)
 
 -- the log is ready for a line
-abbrev pub IsReadyFor : List TableDef → RunSoFar → Type 0
-IsReadyFor tables run = IsReady tables (length run.entries.items) run.log
+abbrev pub IsReadyFor : Start → List TableDef → RunSoFar → Type 0
+IsReadyFor start tables run = IsReady start tables (length run.log) run.log
 
 -- what some text of UTF-8 means in the schema
 abbrev pub IsOfText : List TableDef → Meaning → Type 0
@@ -58,20 +61,25 @@ abbrev pub IsSameHistory : RunSoFar → RunSoFar → Type 0
 IsSameHistory old new = (new.entries.items ≡ old.entries.items) × (new.log ≡ old.log)
 
 -- a log that has the setup of a schema alone, in a generation; its pages stand for tables without rows
-pub record IsOpenedLog (tables : List TableDef) (log : List Entry) : Type 0 where
-  pub generation : ℕ
+pub record IsOpenedLog (tables : List TableDef) (generation : ℕ) (log : List Entry) : Type 0 where
   pub records : List LogRecord
   pub is : log ≡ Setup generation tables records ∷ []
   pub stands : Stands (pages_of log) tables (no_rows tables)
 
--- an open transaction is that of a session of this name, under its number and at its level
-abbrev pub IsOwnDoing : List ℕ → ℕ → Level → InTransaction → Type 0
-IsOwnDoing name number level No = Unit {0}
-IsOwnDoing name number level (Open session) = (session.id ≡ record { began = 1; session = name; txn = number }) × (session.level ≡ level)
-IsOwnDoing name number level Aborted = Unit {0}
+-- the run at its opening: behind a log without entries the schema stands in the history and in the log, and behind any other
+-- one nothing was added
+pub record IsOpening (tables : List TableDef) (generation : ℕ) (before : List Entry) (entries : List EntryLine) (log : List Entry) : Type 0 where
+  pub first : before ≡ [] → (entries ≡ EntrySetup 1 ∷ []) × IsOpenedLog tables generation log
+  pub later : 1 ≤ length before → (entries ≡ []) × (log ≡ before)
 
-abbrev pub IsOwn : List ℕ → SessionState → Type 0
-IsOwn name s = IsOwnDoing name s.number s.level s.doing
+-- an open transaction is that of a session of this name, under its number and at its level, begun in a generation
+abbrev pub IsOwnDoing : ℕ → List ℕ → ℕ → Level → InTransaction → Type 0
+IsOwnDoing generation name number level No = Unit {0}
+IsOwnDoing generation name number level (Open session) = (session.id ≡ record { began = generation; session = name; txn = number }) × (session.level ≡ level)
+IsOwnDoing generation name number level Aborted = Unit {0}
+
+abbrev pub IsOwn : ℕ → List ℕ → SessionState → Type 0
+IsOwn generation name s = IsOwnDoing generation name s.number s.level s.doing
 
 -- no transaction is open
 abbrev pub IsShut : InTransaction → Type 0
@@ -80,30 +88,31 @@ IsShut (Open session) = ⊥
 IsShut Aborted = Unit {0}
 
 -- each session's open transaction is its own
-abbrev pub AreOwn : List SessionLine → List SessionState → Type 0
-AreOwn sessions states = (at : ℕ) (s : SessionLine) (x : SessionState) → slice_get sessions at ≡ Some s → slice_get states at ≡ Some x → IsOwn s.name x
+abbrev pub AreOwn : ℕ → List SessionLine → List SessionState → Type 0
+AreOwn generation sessions states =
+    (at : ℕ) (s : SessionLine) (x : SessionState) → slice_get sessions at ≡ Some s → slice_get states at ≡ Some x → IsOwn generation s.name x
 
 -- the run before a line, with the lines `left` still to do
-abbrev pub IsBeforeLine : Script → List BodyLine → RunSoFar → List SessionState → Type 0
-IsBeforeLine script left run states =
-    IsBefore script left run.lines.items run.entries.items (takes_in run.log) (seen_in run.log) (map state_in states)
-    × IsLogged (tables_of script) (length run.entries.items) run.log
-    × AreTold run.entries.items run.log
-    × AreOwn script.sessions states
+abbrev pub IsBeforeLine : Script → Start → ℕ → List BodyLine → RunSoFar → List SessionState → Type 0
+IsBeforeLine script start generation left run states =
+    IsBefore script start left run.lines.items run.entries.items (takes_in run.log) (seen_in start run.log) (map state_in states)
+    × IsLogged start (tables_of script) (now_of start run.entries.items) run.log
+    × AreTold start.before generation run.entries.items run.log
+    × AreOwn generation script.sessions states
 
 -- a line of a session did what it does, or was cut short; the log is in order behind it
-abbrev pub IsTakenFrom : List TableDef → List ℕ → SessionState → List ℕ → SessionState → RunSoFar → RunSoFar → Type 0
-IsTakenFrom tables name before text after old new =
-    IsTaken (world tables old) name (state_in before) text (state_in after) old.lines.items new.lines.items old.entries.items new.entries.items (takes_in new.log) (seen_in new.log)
-    × IsLogged tables (length new.entries.items) new.log
-    × (AreTold old.entries.items old.log → AreTold new.entries.items new.log)
-    × IsOwn name after
+abbrev pub IsTakenFrom : Start → ℕ → List TableDef → List ℕ → SessionState → List ℕ → SessionState → RunSoFar → RunSoFar → Type 0
+IsTakenFrom start generation tables name before text after old new =
+    IsTaken (world start tables old) name (state_in before) text (state_in after) old.lines.items new.lines.items old.entries.items new.entries.items (takes_in new.log) (seen_in start new.log)
+    × IsLogged start tables (length new.log) new.log
+    × (AreTold start.before generation old.entries.items old.log → AreTold start.before generation new.entries.items new.log)
+    × IsOwn generation name after
 
 -- a line did what it does; the log is in order behind it
-abbrev pub IsDoneFrom : List TableDef → List ℕ → Turned → SessionState → RunSoFar → RunSoFar → Type 0
-IsDoneFrom tables name turned after old new =
-    IsTurned (world tables old) name turned old.lines.items new.lines.items old.entries.items new.entries.items (takes_in new.log) (seen_in new.log)
+abbrev pub IsDoneFrom : Start → ℕ → List TableDef → List ℕ → Turned → SessionState → RunSoFar → RunSoFar → Type 0
+IsDoneFrom start generation tables name turned after old new =
+    IsTurned (world start tables old) name turned old.lines.items new.lines.items old.entries.items new.entries.items (takes_in new.log) (seen_in start new.log)
     × (state_in after ≡ turned.after)
-    × IsLogged tables (length new.entries.items) new.log
-    × (AreTold old.entries.items old.log → AreTold new.entries.items new.log)
-    × IsOwn name after
+    × IsLogged start tables (length new.log) new.log
+    × (AreTold start.before generation old.entries.items old.log → AreTold start.before generation new.entries.items new.log)
+    × IsOwn generation name after

@@ -1,11 +1,13 @@
 -- The run so far: what holds of the lines, the history, the rows and the sessions after each line of
 -- the script.
-use Rattle.std.specs.Prelude.{◌≡◌, ℕ, ◌+◌, ◌-◌, ◌≤◌, ◌<◌, ◌++◌, ◌∷◌, [], List, length, Option, Some, None, if◌then◌else◌, slice_get, unwrap_or}
+use Rattle.std.specs.Prelude.{◌≡◌, ℕ, drop, ◌+◌, ◌-◌, ◌≤◌, ◌<◌, ◌++◌, ◌∷◌, [], List, length, Option, Some, None, if◌then◌else◌, slice_get, unwrap_or}
 use Rattle.std.specs.List.{AllByRecursion}
 use Rattle.std.specs.Str.{bytes_eq}
 use Rattle.cdb_values.specs.declared.rows.Level.TheVariants.{Snapshot}
 use Rattle.cdb_values.specs.declared.rows.RowOp.{RowOp}
+use Rattle.log_rows.specs.History.{IsFrom}
 use Rattle.script_play.specs.Seen.{Seen}
+use Rattle.script_play.specs.Start.{Start, base}
 use Rattle.script_form.specs.CanRun.{CanRun, IsSaid, tables_of}
 use Rattle.script_form.specs.declared.scripts.Script.{Script}
 use Rattle.script_form.specs.declared.scripts.BodyLine.{BodyLine}
@@ -18,13 +20,13 @@ use Rattle.report_text.specs.declared.reports.ReplyLine.{ReplyLine}
 use Rattle.report_text.specs.declared.reports.ReplyLine.TheVariants as reply
 use Rattle.session_language.specs.Language.{alone}
 use Rattle.sql_answer.specs.Language.{sql_language}
-use Rattle.script_play.specs.Basis.{from_nothing}
+use Rattle.script_play.specs.Basis.{from_start}
 use Rattle.session_language.specs.Each.{EachAfter}
 use Rattle.report_laws.specs.History.{rows_at, taken_at, IsEntryAfter, view_of}
-use Rattle.report_laws.specs.Lawful.{IsFreshLine, NameUpTo}
+use Rattle.report_laws.specs.Lawful.{IsFreshLine, NameUpTo, base_line}
 use Rattle.report_laws.specs.Nodes.{downs}
 use Rattle.report_laws.specs.Places.{HasItsPlace}
-use Rattle.report_laws.specs.Play.{InTurns}
+use Rattle.report_laws.specs.Play.{InTurns, opening}
 use Rattle.report_laws.specs.Told.{Along, Numbered, IsCut, IsTold, IsEntryTold, told, numbered}
 use Rattle.report_laws.specs.Work.{Place, Nowhere, transaction, place_after}
 use Rattle.cdb_values.specs.declared.items.GenidItem.{GenidItem}
@@ -44,33 +46,37 @@ state_of name [] states = at_start
 state_of name (s ∷ ss) [] = at_start
 state_of name (s ∷ ss) (x ∷ xs) = if bytes_eq s.name name then x else state_of name ss xs
 
+-- the last position of a run that appended these entries
+abbrev pub now_of : Start → List EntryLine → ℕ
+now_of start entries = base start + length entries
+
 -- the open transaction was told so far, has these operations, and its texts used these versions
-pub record IsOpen (script : Script) (entries : List EntryLine) (next : ℕ) (texts : List (List ℕ)) (begin : ℕ) (ops : List RowOp) (uses : List GenidItem) (mine : List ReplyLine) : Type 0 where
-  pub first : 1 ≤ begin
-  pub within : begin ≤ length entries
-  pub says : mine ≡ reply.Begin begin ∷ (alone sql_language (tables_of script) (rows_at (from_nothing script) entries begin) texts).replies
-  pub ops_are : ops ≡ (alone sql_language (tables_of script) (rows_at (from_nothing script) entries begin) texts).ops
-  pub uses_are : uses ≡ (alone sql_language (tables_of script) (rows_at (from_nothing script) entries begin) texts).uses
+pub record IsOpen (script : Script) (start : Start) (entries : List EntryLine) (next : ℕ) (texts : List (List ℕ)) (begin : ℕ) (ops : List RowOp) (uses : List GenidItem) (mine : List ReplyLine) : Type 0 where
+  pub first : IsFrom (base start) begin
+  pub within : begin ≤ now_of start entries
+  pub says : mine ≡ reply.Begin begin ∷ (alone sql_language (tables_of script) (rows_at (from_start script start) entries begin) texts).replies
+  pub ops_are : ops ≡ (alone sql_language (tables_of script) (rows_at (from_start script start) entries begin) texts).ops
+  pub uses_are : uses ≡ (alone sql_language (tables_of script) (rows_at (from_start script start) entries begin) texts).uses
   pub sound : AllByRecursion (IsKeptOp (tables_of script) next) ops
 
 -- what a session is doing, by the transaction that is open in its work
-abbrev pub IsDoing : Script → List EntryLine → ℕ → Place → Option (List (List ℕ)) → Doing → List ReplyLine → Type 0
-IsDoing script entries next p None doing.No mine = mine ≡ []
-IsDoing script entries next p None (doing.Open begin ops uses) mine = ⊥
-IsDoing script entries next p None doing.Aborted mine = ⊥
-IsDoing script entries next p (Some texts) doing.No mine = ⊥
-IsDoing script entries next p (Some texts) (doing.Open begin ops uses) mine = IsOpen script entries next texts begin ops uses mine
-IsDoing script entries next p (Some texts) doing.Aborted mine = IsCut (from_nothing script) (view_of (from_nothing script) entries) (transaction p.number texts p.level Nowhere) mine
+abbrev pub IsDoing : Script → Start → List EntryLine → ℕ → Place → Option (List (List ℕ)) → Doing → List ReplyLine → Type 0
+IsDoing script start entries next p None doing.No mine = mine ≡ []
+IsDoing script start entries next p None (doing.Open begin ops uses) mine = ⊥
+IsDoing script start entries next p None doing.Aborted mine = ⊥
+IsDoing script start entries next p (Some texts) doing.No mine = ⊥
+IsDoing script start entries next p (Some texts) (doing.Open begin ops uses) mine = IsOpen script start entries next texts begin ops uses mine
+IsDoing script start entries next p (Some texts) doing.Aborted mine = IsCut (from_start script start) (view_of (from_start script start) entries) (transaction p.number texts p.level Nowhere) mine
 
 -- a session's lines are those of its work so far, and it is where its work is
-pub record Standing (script : Script) (entries : List EntryLine) (next : ℕ) (name : List ℕ) (p : Place) (lines : List Numbered) (at : SessionAt) : Type 0 where
+pub record Standing (script : Script) (start : Start) (entries : List EntryLine) (next : ℕ) (name : List ℕ) (p : Place) (lines : List Numbered) (at : SessionAt) : Type 0 where
   pub before : List Numbered
   pub mine : List ReplyLine
   pub is : lines ≡ before ++ numbered p.number mine
-  pub past : Along (IsTold (from_nothing script) (view_of (from_nothing script) entries) name) p.over before
+  pub past : Along (IsTold (from_start script start) (view_of (from_start script start) entries) name) p.over before
   pub number : at.number ≡ p.number
   pub level : at.level ≡ p.level
-  pub doing : IsDoing script entries next p p.pending at.doing mine
+  pub doing : IsDoing script start entries next p p.pending at.doing mine
 
 -- a transaction of that number is over where a session has begun so many and one of them is open, or none
 abbrev pub IsPast : ℕ → Option (List (List ℕ)) → ℕ → Type 0
@@ -82,46 +88,46 @@ abbrev pub IsEnded : List BodyLine → EntryLine → Type 0
 IsEnded done (Setup position) = Unit {0}
 IsEnded done (Commit position session txn begin level) = IsPast (place_after sql_language session done).number (place_after sql_language session done).pending txn
 
--- the history so far, the versions that each entry took away, and the rows at each position
-pub record Stored (script : Script) (entries : List EntryLine) (taken : List (List GenidItem)) (seen : Seen) : Type 0 where
-  pub opened : 1 ≤ length entries
-  pub history : EachAfter (IsEntryAfter (from_nothing script)) [] entries
-  pub rows_are : (at : ℕ) → 1 ≤ at → at ≤ length entries → seen.at at ≡ rows_at (from_nothing script) entries at
-  pub now_are : seen.at (length entries) ≡ rows_at (from_nothing script) entries (length entries)
-  pub next_is : seen.next ≡ (seen.at (length entries)).next
-  pub taken_length : length taken ≡ length entries
-  pub taken_are : (k : ℕ) → 1 ≤ k → k ≤ length entries → unwrap_or (slice_get taken (k - 1)) [] ≡ taken_at (from_nothing script) entries k
-  pub sound : (at : ℕ) → 1 ≤ at → at ≤ length entries → AreKept (tables_of script) seen.next (seen.at at).tables
-  -- each version that an entry took away is one of a table that has a name
-  pub named : AllByRecursion (AllByRecursion (HasName (tables_of script))) taken
+-- the history so far, the versions that each entry took away, and the rows at each position from the start on
+pub record Stored (script : Script) (start : Start) (entries : List EntryLine) (taken : List (List GenidItem)) (seen : Seen) : Type 0 where
+  pub opened : IsFrom (base start) (now_of start entries)
+  pub history : EachAfter (IsEntryAfter (from_start script start)) [] entries
+  pub rows_are : (at : ℕ) → IsFrom (base start) at → at ≤ now_of start entries → seen.at at ≡ rows_at (from_start script start) entries at
+  pub now_are : seen.at (now_of start entries) ≡ rows_at (from_start script start) entries (now_of start entries)
+  pub next_is : seen.next ≡ (seen.at (now_of start entries)).next
+  pub taken_length : length taken ≡ now_of start entries
+  pub taken_are : (k : ℕ) → base start < k → k ≤ now_of start entries → unwrap_or (slice_get taken (k - 1)) [] ≡ taken_at (from_start script start) entries k
+  pub sound : (at : ℕ) → IsFrom (base start) at → at ≤ now_of start entries → AreKept (tables_of script) seen.next (seen.at at).tables
+  -- each version that an entry of the run took away is one of a table that has a name
+  pub named : AllByRecursion (AllByRecursion (HasName (tables_of script))) (drop (base start) taken)
 
 -- after the script's lines `done`, with the lines `left` still to do
-pub record SoFar (script : Script) (done left : List BodyLine) (lines : List Line) (entries : List EntryLine) (taken : List (List GenidItem)) (seen : Seen) (states : List SessionAt) : Type 0 where
+pub record SoFar (script : Script) (start : Start) (done left : List BodyLine) (lines : List Line) (entries : List EntryLine) (taken : List (List GenidItem)) (seen : Seen) (states : List SessionAt) : Type 0 where
   pub body : script.body ≡ done ++ left
-  pub stored : Stored script entries taken seen
-  pub standing : (name : List ℕ) → Standing script entries seen.next name (place_after sql_language name done) (told name lines) (state_of name script.sessions states)
-  pub fresh : EachAfter (IsFreshLine (from_nothing script).origin) [] lines
+  pub stored : Stored script start entries taken seen
+  pub standing : (name : List ℕ) → Standing script start entries seen.next name (place_after sql_language name done) (told name lines) (state_of name script.sessions states)
+  pub fresh : EachAfter (IsFreshLine (from_start script start).origin) [] lines
   pub later : List EntryLine
-  pub begins : entries ≡ Setup 1 ∷ later
-  pub order : InTurns (from_nothing script) [] [] (Setup 1 ∷ []) done lines later
-  pub named : NameUpTo (length entries) lines
-  pub answered : AllByRecursion (IsEntryTold (from_nothing script) (view_of (from_nothing script) entries) lines) entries
+  pub begins : entries ≡ opening (from_start script start).origin ++ later
+  pub order : InTurns (from_start script start) [] [] (opening (from_start script start).origin) done lines later
+  pub named : NameUpTo (now_of start entries) lines
+  pub answered : AllByRecursion (IsEntryTold (from_start script start) (view_of (from_start script start) entries) lines) entries
   pub ended : AllByRecursion (IsEnded done) entries
   pub placed : EachAfter (HasItsPlace script) [] lines
   -- no node went down
   pub unhurt : downs lines ≡ 0
 
 -- the run before a line, with the lines `left` still to do: every line of the script can be run
-pub record IsBefore (script : Script) (left : List BodyLine) (lines : List Line) (entries : List EntryLine) (taken : List (List GenidItem)) (seen : Seen) (states : List SessionAt) : Type 0 where
+pub record IsBefore (script : Script) (start : Start) (left : List BodyLine) (lines : List Line) (entries : List EntryLine) (taken : List (List GenidItem)) (seen : Seen) (states : List SessionAt) : Type 0 where
   pub can_run : CanRun script
   pub said : AllByRecursion (λ l. IsSaid script.sessions l.act) left
   pub same : length states ≡ length script.sessions
   pub done : List BodyLine
-  pub so_far : SoFar script done left lines entries taken seen states
+  pub so_far : SoFar script start done left lines entries taken seen states
 
--- the report of lines and of a history that begins with the run
-abbrev pub report_of : List Line → List EntryLine → Report
-report_of lines entries = record { lines = lines; base = None; entries = entries; feeds = []; end = length entries }
+-- the report of lines and of a history behind a base, up to its last position
+abbrev pub report_of : ℕ → ℕ → List Line → List EntryLine → Report
+report_of base last lines entries = record { lines = lines; base = base_line base; entries = entries; feeds = []; end = last }
 
 -- the place of the session with a name, counted on from a number
 abbrev pub session_from : ℕ → List ℕ → List SessionLine → Option ℕ

@@ -10,13 +10,14 @@ ghost use Rattle.sql_run.specs.Views.{kind_in, text_in};
 ghost use Rattle.script_play.specs.Doing as doing;
 ghost use Rattle.script_play.specs.RunViews.{world, doing_in, state_in, IsReadyFor, IsOfText, IsOwn, IsOwnDoing, IsShut};
 ghost use Rattle.script_play.specs.Effects.{IsEffect, cut_in};
+ghost use Rattle.script_play.specs.Start.{Start};
 ghost use Rattle.script_play.specs.Ready.{IsAble, IsReadyToGo};
 ghost use Rattle.script_play.specs.Step.{World, answer_of, committed, cut_by, goes_on, own_line, state, turn_of, turned};
 
 use super::reads::answer_text;
 use super::run::RunSoFar;
 use super::states::{InTransaction, SessionState};
-use super::verdicts::{GENERATION, decided};
+use super::verdicts::decided;
 use cdb_values::{Level, Name, Schema, StatementError};
 use osql_session::OsqlSession;
 use phys_log::{CommitId, Entry};
@@ -40,19 +41,21 @@ pub(crate) struct LineEffect {
 pub(crate) fn effect_of(
     alloc: Global,
     schema: &Schema,
+    generation: u64,
     run: &RunSoFar,
     name: &Name,
     state: SessionState,
     kind: TextKind,
     prepared: &Prepared,
 ) -> Result<LineEffect, AllocError>
-    requires ready { IsReadyFor schema.now run.now }
-    requires ready_to_go { IsReadyToGo schema.now (length run.now.entries.items) run.now.log (doing_in state.doing) }
-    requires own { IsOwn name.now state }
+    ghost start: { Start }
+    requires ready { IsReadyFor start schema.now run.now }
+    requires ready_to_go { IsReadyToGo start schema.now (length run.now.log) run.now.log (doing_in state.doing) }
+    requires own { IsOwn generation name.now state }
     requires plan { (text_in prepared.now).plan ≡ plan_by schema.now (text_in prepared.now).meaning }
     requires of_text { IsOfText schema.now (text_in prepared.now).meaning }
-    ensures { IfOk result (λ p. IsEffect schema.now run.now.log name.now p
-        (turn_of (world schema.now run.now) state.number state.level (text_in prepared.now).meaning (kind_in kind) (doing_in state.doing))) }
+    ensures { IfOk result (λ p. IsEffect start generation schema.now run.now.log name.now p
+        (turn_of (world start schema.now run.now) state.number state.level (text_in prepared.now).meaning (kind_in kind) (doing_in state.doing))) }
 {
     let SessionState {
         number,
@@ -60,9 +63,13 @@ pub(crate) fn effect_of(
         doing,
     } = state;
     match doing {
-        InTransaction::No => outside(alloc, schema, run, name, number, level, kind, prepared),
+        InTransaction::No => outside(
+            alloc, schema, generation, run, name, number, level, kind, prepared,
+        ),
         InTransaction::Open(session) => {
-            inside(alloc, schema, run, number, level, session, kind, prepared)
+            inside(
+                alloc, schema, generation, run, number, level, session, kind, prepared,
+            )
         }
         InTransaction::Aborted => Ok(skip(alloc, number, level, kind)),
     }
@@ -127,6 +134,7 @@ fn cut_inside(number: u64, level: Level, kind: TextKind) -> SessionState
 fn outside(
     alloc: Global,
     schema: &Schema,
+    generation: u64,
     run: &RunSoFar,
     name: &Name,
     number: u64,
@@ -134,18 +142,21 @@ fn outside(
     kind: TextKind,
     prepared: &Prepared,
 ) -> Result<LineEffect, AllocError>
-    requires ready { IsReadyFor schema.now run.now }
+    ghost start: { Start }
+    requires ready { IsReadyFor start schema.now run.now }
     requires plan { (text_in prepared.now).plan ≡ plan_by schema.now (text_in prepared.now).meaning }
     requires of_text { IsOfText schema.now (text_in prepared.now).meaning }
-    ensures { IfOk result (λ p. IsEffect schema.now run.now.log name.now p
-        (turn_of (world schema.now run.now) number level (text_in prepared.now).meaning (kind_in kind) doing.No)) }
+    ensures { IfOk result (λ p. IsEffect start generation schema.now run.now.log name.now p
+        (turn_of (world start schema.now run.now) number level (text_in prepared.now).meaning (kind_in kind) doing.No)) }
 {
     match kind {
-        TextKind::Begin => begin(alloc, run, name, number, level),
+        TextKind::Begin => begin(alloc, generation, run, name, number, level),
         TextKind::Commit => refused(alloc, number, level),
         TextKind::Rollback => refused(alloc, number, level),
         TextKind::SetLevel(level) => set_level(alloc, number, level),
-        TextKind::Other => own_transaction(alloc, schema, run, name, number, level, prepared),
+        TextKind::Other => own_transaction(
+            alloc, schema, generation, run, name, number, level, prepared,
+        ),
     }
 }
 
@@ -153,6 +164,7 @@ fn outside(
 fn inside(
     alloc: Global,
     schema: &Schema,
+    generation: u64,
     run: &RunSoFar,
     number: u64,
     level: Level,
@@ -160,14 +172,15 @@ fn inside(
     kind: TextKind,
     prepared: &Prepared,
 ) -> Result<LineEffect, AllocError>
-    requires ready { IsReadyFor schema.now run.now }
-    requires able { IsAble schema.now (length run.now.entries.items) run.now.log session.begin session.ops }
+    ghost start: { Start }
+    requires ready { IsReadyFor start schema.now run.now }
+    requires able { IsAble start schema.now (length run.now.log) run.now.log session.begin session.ops }
     requires plan { (text_in prepared.now).plan ≡ plan_by schema.now (text_in prepared.now).meaning }
-    ensures { (name : List ℕ) → IsOwnDoing name number level (InTransaction.Open session) → IfOk result (λ p. IsEffect schema.now run.now.log name p
-        (turn_of (world schema.now run.now) number level (text_in prepared.now).meaning (kind_in kind) (doing.Open session.begin session.ops session.genids))) }
+    ensures { (name : List ℕ) → IsOwnDoing generation name number level (InTransaction.Open session) → IfOk result (λ p. IsEffect start generation schema.now run.now.log name p
+        (turn_of (world start schema.now run.now) number level (text_in prepared.now).meaning (kind_in kind) (doing.Open session.begin session.ops session.genids))) }
 {
     match kind {
-        TextKind::Commit => commit(alloc, schema, run, number, level, session),
+        TextKind::Commit => commit(alloc, schema, generation, run, number, level, session),
         TextKind::Rollback => rolled_back(alloc, number, level),
         TextKind::Begin => go_on(alloc, schema, run, number, level, session, prepared),
         TextKind::SetLevel(_) => go_on(alloc, schema, run, number, level, session, prepared),
@@ -177,7 +190,7 @@ fn inside(
 
 /// What a line of a transaction that want of memory ended is to do: it is skipped.
 fn skip(alloc: Global, number: u64, level: Level, kind: TextKind) -> LineEffect
-    ensures { (tables : List TableDef) (log : List Entry) (name : List ℕ) (w : World) (meaning : Meaning) → IsEffect tables log name result (turn_of w number level meaning (kind_in kind) doing.Aborted) }
+    ensures { (start : Start) (generation : ℕ) (tables : List TableDef) (log : List Entry) (name : List ℕ) (w : World) (meaning : Meaning) → IsEffect start generation tables log name result (turn_of w number level meaning (kind_in kind) doing.Aborted) }
 {
     match kind {
         TextKind::Commit => quiet(alloc, number, idle(number, level)),
@@ -191,7 +204,7 @@ fn skip(alloc: Global, number: u64, level: Level, kind: TextKind) -> LineEffect
 /// A session whose transaction was ended by want of memory.
 fn aborted(number: u64, level: Level) -> SessionState
     ensures is { state_in result ≡ state number level doing.Aborted }
-    ensures own { (name : List ℕ) → IsOwn name result }
+    ensures own { (generation : ℕ) (name : List ℕ) → IsOwn generation name result }
 {
     SessionState {
         number,
@@ -203,7 +216,7 @@ fn aborted(number: u64, level: Level) -> SessionState
 /// A session that is in no transaction.
 fn idle(number: u64, level: Level) -> SessionState
     ensures is { state_in result ≡ state number level doing.No }
-    ensures own { (name : List ℕ) → IsOwn name result }
+    ensures own { (generation : ℕ) (name : List ℕ) → IsOwn generation name result }
 {
     SessionState {
         number,
@@ -214,7 +227,7 @@ fn idle(number: u64, level: Level) -> SessionState
 
 /// The line is skipped: it is told nothing, and the session is then at `after`.
 fn quiet(alloc: Global, number: u64, after: SessionState) -> LineEffect
-    ensures { (tables : List TableDef) (log : List Entry) (name : List ℕ) → IsOwn name after → IsEffect tables log name result (turned number [] (state_in after)) }
+    ensures { (start : Start) (generation : ℕ) (tables : List TableDef) (log : List Entry) (name : List ℕ) → IsOwn generation name after → IsEffect start generation tables log name result (turned number [] (state_in after)) }
 {
     LineEffect {
         number,
@@ -231,7 +244,7 @@ fn one(
     reply: ReplyLine,
     after: SessionState,
 ) -> Result<LineEffect, AllocError>
-    ensures { (tables : List TableDef) (log : List Entry) (name : List ℕ) → IsOwn name after → IfOk result (λ p. IsEffect tables log name p (turned number (reply ∷ []) (state_in after))) }
+    ensures { (start : Start) (generation : ℕ) (tables : List TableDef) (log : List Entry) (name : List ℕ) → IsOwn generation name after → IfOk result (λ p. IsEffect start generation tables log name p (turned number (reply ∷ []) (state_in after))) }
 {
     let mut replies = Vec::new(alloc);
     replies.push(reply)?;
@@ -245,7 +258,7 @@ fn one(
 
 /// A line that does not fit outside a transaction.
 fn refused(alloc: Global, number: u64, level: Level) -> Result<LineEffect, AllocError>
-    ensures { (tables : List TableDef) (log : List Entry) (name : List ℕ) → IfOk result (λ p. IsEffect tables log name p (turned 0 (ReplyLine.Error StatementError.State ∷ []) (state number level doing.No))) }
+    ensures { (start : Start) (generation : ℕ) (tables : List TableDef) (log : List Entry) (name : List ℕ) → IfOk result (λ p. IsEffect start generation tables log name p (turned 0 (ReplyLine.Error StatementError.State ∷ []) (state number level doing.No))) }
 {
     one(
         alloc,
@@ -257,14 +270,14 @@ fn refused(alloc: Global, number: u64, level: Level) -> Result<LineEffect, Alloc
 
 /// A line that rolls its transaction back.
 fn rolled_back(alloc: Global, number: u64, level: Level) -> Result<LineEffect, AllocError>
-    ensures { (tables : List TableDef) (log : List Entry) (name : List ℕ) → IfOk result (λ p. IsEffect tables log name p (turned number (ReplyLine.RolledBack ∷ []) (state number level doing.No))) }
+    ensures { (start : Start) (generation : ℕ) (tables : List TableDef) (log : List Entry) (name : List ℕ) → IfOk result (λ p. IsEffect start generation tables log name p (turned number (ReplyLine.RolledBack ∷ []) (state number level doing.No))) }
 {
     one(alloc, number, ReplyLine::RolledBack, idle(number, level))
 }
 
 /// A line that sets the level of later transactions.
 fn set_level(alloc: Global, number: u64, level: Level) -> Result<LineEffect, AllocError>
-    ensures { (tables : List TableDef) (log : List Entry) (name : List ℕ) → IfOk result (λ p. IsEffect tables log name p (turned 0 (ReplyLine.Level level ∷ []) (state number level doing.No))) }
+    ensures { (start : Start) (generation : ℕ) (tables : List TableDef) (log : List Entry) (name : List ℕ) → IfOk result (λ p. IsEffect start generation tables log name p (turned 0 (ReplyLine.Level level ∷ []) (state number level doing.No))) }
 {
     one(alloc, 0, ReplyLine::Level(level), idle(number, level))
 }
@@ -282,37 +295,39 @@ fn counted(number: u64) -> Result<u64, AllocError>
 /// A session's transaction of that number begins at the last position.
 fn opened(
     alloc: Global,
+    generation: u64,
     run: &RunSoFar,
     name: &Name,
     number: u64,
     level: Level,
 ) -> Result<OsqlSession, AllocError>
-    ensures own { IfOk result (λ s. IsOwnDoing name.now number level (InTransaction.Open s)) }
-    ensures begin { IfOk result (λ s. s.begin ≡ length run.now.entries.items) }
+    ensures own { IfOk result (λ s. IsOwnDoing generation name.now number level (InTransaction.Open s)) }
+    ensures begin { IfOk result (λ s. s.begin ≡ length run.now.log) }
     ensures ops { IfOk result (λ s. s.ops ≡ []) }
     ensures genids { IfOk result (λ s. s.genids ≡ []) }
 {
     let id = CommitId {
-        began: GENERATION,
+        began: generation,
         session: name.clone()?,
         txn: number,
     };
-    Ok(OsqlSession::new(alloc, id, run.entries.len() as u64, level))
+    Ok(OsqlSession::new(alloc, id, run.log.entries().len() as u64, level))
 }
 
 /// A transaction begins at the last position.
 fn begin(
     alloc: Global,
+    generation: u64,
     run: &RunSoFar,
     name: &Name,
     number: u64,
     level: Level,
 ) -> Result<LineEffect, AllocError>
-    ensures { (tables : List TableDef) → IfOk result (λ p. IsEffect tables run.now.log name.now p
-        (turned (number + 1) (ReplyLine.Begin (length run.now.entries.items) ∷ []) (state (number + 1) level (doing.Open (length run.now.entries.items) [] [])))) }
+    ensures { (start : Start) (tables : List TableDef) → IfOk result (λ p. IsEffect start generation tables run.now.log name.now p
+        (turned (number + 1) (ReplyLine.Begin (length run.now.log) ∷ []) (state (number + 1) level (doing.Open (length run.now.log) [] [])))) }
 {
     let number = counted(number)?;
-    let session = opened(alloc, run, name, number, level)?;
+    let session = opened(alloc, generation, run, name, number, level)?;
     let reply = ReplyLine::Begin(session.begin());
     let after = SessionState {
         number,
@@ -332,11 +347,12 @@ fn go_on(
     session: OsqlSession,
     prepared: &Prepared,
 ) -> Result<LineEffect, AllocError>
-    requires ready { IsReadyFor schema.now run.now }
-    requires able { IsAble schema.now (length run.now.entries.items) run.now.log session.begin session.ops }
+    ghost start: { Start }
+    requires ready { IsReadyFor start schema.now run.now }
+    requires able { IsAble start schema.now (length run.now.log) run.now.log session.begin session.ops }
     requires plan { (text_in prepared.now).plan ≡ plan_by schema.now (text_in prepared.now).meaning }
-    ensures { (name : List ℕ) → IsOwnDoing name number level (InTransaction.Open session) → IfOk result (λ p. IsEffect schema.now run.now.log name p
-        (goes_on number level session.begin session.genids (answer_of (world schema.now run.now) session.begin session.ops (text_in prepared.now).meaning))) }
+    ensures { (generation : ℕ) (name : List ℕ) → IsOwnDoing generation name number level (InTransaction.Open session) → IfOk result (λ p. IsEffect start generation schema.now run.now.log name p
+        (goes_on number level session.begin session.genids (answer_of (world start schema.now run.now) session.begin session.ops (text_in prepared.now).meaning))) }
 {
     let mut session = session;
     let replies = answer_text(alloc, schema, &run.log, &mut session, prepared)?;
@@ -356,17 +372,19 @@ fn go_on(
 fn commit(
     alloc: Global,
     schema: &Schema,
+    generation: u64,
     run: &RunSoFar,
     number: u64,
     level: Level,
     session: OsqlSession,
 ) -> Result<LineEffect, AllocError>
-    requires ready { IsReadyFor schema.now run.now }
-    requires able { IsAble schema.now (length run.now.entries.items) run.now.log session.begin session.ops }
-    ensures { (name : List ℕ) → IsOwnDoing name number level (InTransaction.Open session) → IfOk result (λ p. IsEffect schema.now run.now.log name p
-        (committed (world schema.now run.now) number level session.begin session.genids session.ops)) }
+    ghost start: { Start }
+    requires ready { IsReadyFor start schema.now run.now }
+    requires able { IsAble start schema.now (length run.now.log) run.now.log session.begin session.ops }
+    ensures { (name : List ℕ) → IsOwnDoing generation name number level (InTransaction.Open session) → IfOk result (λ p. IsEffect start generation schema.now run.now.log name p
+        (committed (world start schema.now run.now) number level session.begin session.genids session.ops)) }
 {
-    let verdict = decided(alloc, schema, run, &session)?;
+    let verdict = decided(alloc, schema, generation, run, &session)?;
     let mut replies = Vec::new(alloc);
     replies.push(verdict.outcome)?;
     Ok(LineEffect {
@@ -381,22 +399,24 @@ fn commit(
 fn own_transaction(
     alloc: Global,
     schema: &Schema,
+    generation: u64,
     run: &RunSoFar,
     name: &Name,
     number: u64,
     level: Level,
     prepared: &Prepared,
 ) -> Result<LineEffect, AllocError>
-    requires ready { IsReadyFor schema.now run.now }
+    ghost start: { Start }
+    requires ready { IsReadyFor start schema.now run.now }
     requires plan { (text_in prepared.now).plan ≡ plan_by schema.now (text_in prepared.now).meaning }
     requires of_text { IsOfText schema.now (text_in prepared.now).meaning }
-    ensures { IfOk result (λ p. IsEffect schema.now run.now.log name.now p
-        (own_line (world schema.now run.now) (number + 1) level (answer_of (world schema.now run.now) (length run.now.entries.items) [] (text_in prepared.now).meaning))) }
+    ensures { IfOk result (λ p. IsEffect start generation schema.now run.now.log name.now p
+        (own_line (world start schema.now run.now) (number + 1) level (answer_of (world start schema.now run.now) (length run.now.log) [] (text_in prepared.now).meaning))) }
 {
     let number = counted(number)?;
-    let mut session = opened(alloc, run, name, number, level)?;
+    let mut session = opened(alloc, generation, run, name, number, level)?;
     let told = answer_text(alloc, schema, &run.log, &mut session, prepared)?;
-    let verdict = decided(alloc, schema, run, &session)?;
+    let verdict = decided(alloc, schema, generation, run, &session)?;
     let replies = whole(alloc, session.begin(), told.into_vec(), verdict.outcome)?;
     Ok(LineEffect {
         number,

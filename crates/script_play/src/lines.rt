@@ -10,6 +10,7 @@ ghost use Rattle.sql_run.specs.Views.{kind_in, text_in};
 ghost use Rattle.script_play.specs.RunViews.{world, doing_in, IsReadyFor, IsSameHistory, IsTakenFrom, IsDoneFrom, IsOfText, IsOwn};
 ghost use Rattle.script_play.specs.Effects.{Grown};
 ghost use Rattle.script_play.specs.Ready.{IsReadyToGo};
+ghost use Rattle.script_play.specs.Start.{Start};
 ghost use Rattle.script_play.specs.Step.{turn_of};
 
 use super::effects::{cut_state, effect_of};
@@ -30,21 +31,23 @@ const TEXT_LIMIT: usize = 1 << 32;
 pub(crate) fn run_session_line(
     alloc: Global,
     schema: &Schema,
+    generation: u64,
     name: &Name,
     state: SessionState,
     text: &[u8],
     run: &mut RunSoFar,
 ) -> Result<SessionState, AllocError>
-    requires ready { IsReadyFor schema.now run.old }
-    requires ready_to_go { IsReadyToGo schema.now (length run.old.entries.items) run.old.log (doing_in state.doing) }
-    requires own { IsOwn name.now state }
-    ensures { IfOk result (λ after. IsTakenFrom schema.now name.now state text.now after run.old run.new) }
+    ghost start: { Start }
+    requires ready { IsReadyFor start schema.now run.old }
+    requires ready_to_go { IsReadyToGo start schema.now (length run.old.log) run.old.log (doing_in state.doing) }
+    requires own { IsOwn generation name.now state }
+    ensures { IfOk result (λ after. IsTakenFrom start generation schema.now name.now state text.now after run.old run.new) }
 {
     let (state, prepared) = beside(state, read_text(alloc, schema, text))?;
     let kind = prepared.kind();
     let cut = cut_state(&state, kind);
     let had = run.lines.len();
-    let done = run_whole(alloc, schema, name, state, kind, &prepared, run);
+    let done = run_whole(alloc, schema, generation, name, state, kind, &prepared, run);
     let_go(prepared);
     match done {
         Ok(after) => {
@@ -77,22 +80,24 @@ fn read_text(alloc: Global, schema: &Schema, text: &[u8]) -> Result<Prepared, Al
 fn run_whole(
     alloc: Global,
     schema: &Schema,
+    generation: u64,
     name: &Name,
     state: SessionState,
     kind: TextKind,
     prepared: &Prepared,
     run: &mut RunSoFar,
 ) -> Result<SessionState, AllocError>
-    requires ready { IsReadyFor schema.now run.old }
-    requires ready_to_go { IsReadyToGo schema.now (length run.old.entries.items) run.old.log (doing_in state.doing) }
-    requires own { IsOwn name.now state }
+    ghost start: { Start }
+    requires ready { IsReadyFor start schema.now run.old }
+    requires ready_to_go { IsReadyToGo start schema.now (length run.old.log) run.old.log (doing_in state.doing) }
+    requires own { IsOwn generation name.now state }
     requires plan { (text_in prepared.now).plan ≡ plan_by schema.now (text_in prepared.now).meaning }
     requires of_text { IsOfText schema.now (text_in prepared.now).meaning }
-    ensures ok { IfOk result (λ after. IsDoneFrom schema.now name.now (turn_of (world schema.now run.old) state.number state.level (text_in prepared.now).meaning (kind_in kind) (doing_in state.doing)) after run.old run.new) }
+    ensures ok { IfOk result (λ after. IsDoneFrom start generation schema.now name.now (turn_of (world start schema.now run.old) state.number state.level (text_in prepared.now).meaning (kind_in kind) (doing_in state.doing)) after run.old run.new) }
     ensures err_lines { OnErr result (Grown run.old.lines.items run.new.lines.items) }
     ensures err_same { OnErr result (IsSameHistory run.old run.new) }
 {
-    let effect = effect_of(alloc, schema, run, name, state, kind, prepared)?;
+    let effect = effect_of(alloc, schema, generation, run, name, state, kind, prepared)?;
     apply_effect(alloc, name, effect, run)
 }
 

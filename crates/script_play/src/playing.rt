@@ -1,23 +1,25 @@
 //! The lines of a script, done one after the other on one node.
-ghost use Rattle.std.specs.Prelude.{◌≡◌, ℕ, ◌-◌, ◌≤◌, ◌++◌, ◌∷◌, [], List, Some, length, OnOk, IfOk, map, slice_get, unwrap_or};
+ghost use Rattle.std.specs.Prelude.{◌≡◌, ℕ, ◌-◌, ◌<◌, ◌≤◌, ◌++◌, ◌∷◌, [], List, Some, length, OnOk, IfOk, map, slice_get, unwrap_or};
 ghost use Rattle.log_replay.specs.Answers.{schema_of as schema_told};
-ghost use Rattle.log_rows.specs.History.{rows_at as rows_made, takes_in, StandsThroughout};
-ghost use Rattle.report_laws.specs.History.{rows_at, taken_at};
+ghost use Rattle.log_rows.specs.History.{rows_over_at, takes_in, IsFrom, StandsOver};
+ghost use Rattle.report_laws.specs.History.{Origin, rows_at, taken_at};
 ghost use Rattle.script_play.specs.EntryLines.{AreTold};
 ghost use Rattle.script_form.specs.CanRun.{CanRun, tables_of};
 ghost use Rattle.script_form.specs.declared.scripts.BodyLine.{BodyLine};
-ghost use Rattle.report_laws.specs.Lawful.{Lawful};
+ghost use Rattle.report_laws.specs.Lawful.{Lawful, base_line};
 ghost use Rattle.report_laws.specs.Nodes.{downs};
 ghost use Rattle.report_laws.specs.Play.{InPlayOrder};
-ghost use Rattle.script_play.specs.Basis.{from_nothing};
-ghost use Rattle.script_play.specs.RunViews.{state_in, IsBeforeLine, IsOpenedLog};
+ghost use Rattle.script_play.specs.Basis.{from_origin};
+ghost use Rattle.script_play.specs.Played.{IsPlayed};
+ghost use Rattle.script_play.specs.Ready.{CanBegin};
+ghost use Rattle.script_play.specs.RunViews.{state_in, IsBeforeLine, IsOpening, IsOpenedLog};
+ghost use Rattle.script_play.specs.Start.{Start, ground_at};
 ghost use Rattle.script_play.specs.SoFar.{at_start, report_of, session_at};
 ghost use Rattle.std.specs.Str.{bytes_eq};
 
 use super::lines::run_session_line;
 use super::run::RunSoFar;
 use super::states::{InTransaction, SessionState};
-use super::verdicts::GENERATION;
 use cdb_values::{Level, List, Name, Schema, TableDef};
 use log_replay::PagedLog;
 use log_rows::setup_entry;
@@ -34,31 +36,72 @@ pub struct Played {
     pub log: PagedLog,
 }
 
-/// Plays a script that can run: its lines are done one after the other. The report is lawful and in the order of play, and
-/// no node goes down in it. The log begins with the script's tables. It has exactly the entries of the history, each with
-/// the session, number, begin and level that are printed; each takes away what it does in the history, its changes make the
-/// rows of the history at each position, and its pages stand for these rows. The error is want of memory.
-pub fn play(alloc: Global, script: &Script) -> Result<Played, AllocError>
-    requires { CanRun script.now }
-    ensures lawful { IfOk result (λ p. Lawful (from_nothing script.now) p.report) }
-    ensures in_order { IfOk result (λ p. InPlayOrder (from_nothing script.now) p.report) }
+/// Plays a script that can run behind a log that stands already, in a generation: its lines are done one after the other.
+///
+/// The run begins at the log's last position, where these rows are, for which the pages of the log stand. A log without
+/// entries begins with the run, and becomes that of the script's tables first. Any other log begins with the setup of the
+/// script's tables, and goes on with transactions; what its entries say that they change is not looked at.
+///
+/// The report is lawful and in the order of play, over the history from there, and no node goes down in it. The log is the
+/// given one with exactly the entries of that history, each with the session, number, begin and level that are printed; they are of that generation, in
+/// which their transactions began. Each takes away what it does in the history, and from the last position of the given log on
+/// the pages of the log stand for the rows of the history. The error is want of memory.
+pub fn play(
+    alloc: Global,
+    script: &Script,
+    log: PagedLog,
+    generation: u64,
+) -> Result<Played, AllocError>
+    ghost origin: { Origin }
+    requires can_run { CanRun script.now }
+    requires place { origin.position ≡ length log }
+    requires tables { origin.tables ≡ tables_of script.now }
+    requires behind { CanBegin (tables_of script.now) log origin.rows }
+    ensures lawful { IfOk result (λ p. Lawful (from_origin script.now origin) p.report) }
+    ensures in_order { IfOk result (λ p. InPlayOrder (from_origin script.now origin) p.report) }
     ensures no_fault { IfOk result (λ p. downs p.report.lines ≡ 0) }
-    ensures entries { IfOk result (λ p. AreTold p.report.entries p.log) }
+    ensures entries { IfOk result (λ p. AreTold log generation p.report.entries p.log) }
     ensures schema { IfOk result (λ p. schema_told p.log ≡ Some (tables_of script.now)) }
-    ensures taken { IfOk result (λ p. (k : ℕ) → 1 ≤ k → k ≤ length p.log
-        → unwrap_or (slice_get (takes_in p.log) (k - 1)) [] ≡ taken_at (from_nothing script.now) p.report.entries k) }
-    ensures rows { IfOk result (λ p. (k : ℕ) → 1 ≤ k → k ≤ length p.log → rows_made p.log k ≡ rows_at (from_nothing script.now) p.report.entries k) }
-    ensures stands { IfOk result (λ p. StandsThroughout (tables_of script.now) p.log) }
+    ensures taken { IfOk result (λ p. (k : ℕ) → origin.position < k → k ≤ length p.log
+        → unwrap_or (slice_get (takes_in p.log) (k - 1)) [] ≡ taken_at (from_origin script.now origin) p.report.entries k) }
+    ensures rows { IfOk result (λ p. (k : ℕ) → IsFrom origin.position k → k ≤ length p.log
+        → rows_over_at (ground_at origin) p.log k ≡ rows_at (from_origin script.now origin) p.report.entries k) }
+    ensures stands { IfOk result (λ p. StandsOver (ground_at origin) (tables_of script.now) p.log) }
 {
+    play_behind(alloc, script, log, generation)
+}
+
+/// Plays a script behind a log, by where that is.
+fn play_behind(
+    alloc: Global,
+    script: &Script,
+    log: PagedLog,
+    generation: u64,
+) -> Result<Played, AllocError>
+    ghost start: { Start }
+    requires can_run { CanRun script.now }
+    requires before { start.before ≡ log }
+    requires behind { CanBegin (tables_of script.now) start.before start.rows }
+    ensures { IfOk result (λ p. IsPlayed script.now start generation p.report p.log) }
+{
+    let base = log.entries().len() as u64;
     let schema = schema_of(alloc, script.tables.as_slice())?;
-    let mut so_far = opened(alloc, &schema)?;
+    let mut so_far = opened(alloc, &schema, log, generation)?;
     let mut states = starts(alloc, script.sessions.as_slice())?;
     let mut rest = script.body.as_slice();
     'lines: while let Some((line, after)) = rest.split_first() {
-        run_line(alloc, script, &schema, line, &mut states, &mut so_far)?;
+        run_line(
+            alloc,
+            script,
+            &schema,
+            generation,
+            line,
+            &mut states,
+            &mut so_far,
+        )?;
         rest = after;
     }
-    Ok(reported(alloc, so_far))
+    Ok(reported(alloc, base, so_far))
 }
 
 /// The tables of a script, in order.
@@ -85,16 +128,54 @@ fn add_copy(schema: &mut Schema, table: &TableDef) -> Result<(), AllocError>
     }
 }
 
-/// The run at its opening: the schema stands in the history and in the log, and the tables have no rows.
-fn opened(alloc: Global, schema: &Schema) -> Result<RunSoFar, AllocError>
+/// The run at its opening, behind a log. Where that has no entry, the schema stands in the history and in the log, and the
+/// tables have no rows.
+#[tactic(auto, using(crate::proofs::StartLemmas::none_before))]
+fn opened(
+    alloc: Global,
+    schema: &Schema,
+    log: PagedLog,
+    generation: u64,
+) -> Result<RunSoFar, AllocError>
+    ensures lines { IfOk result (λ run. run.lines.items ≡ []) }
+    ensures opening { IfOk result (λ run. IsOpening schema.now generation log run.entries.items run.log) }
+{
+    if log.entries().is_empty() {
+        begun(alloc, schema, log, generation)
+    } else {
+        Ok(behind(alloc, log))
+    }
+}
+
+/// The run at its opening behind a log that has entries.
+fn behind(alloc: Global, log: PagedLog) -> RunSoFar
+    ensures lines { result.lines.items ≡ [] }
+    ensures entries { result.entries.items ≡ [] }
+    ensures log { result.log ≡ log }
+{
+    RunSoFar {
+        lines: Vec::new(alloc),
+        entries: Vec::new(alloc),
+        log,
+    }
+}
+
+/// The run at its opening with a log that has no entry: it begins with the schema.
+fn begun(
+    alloc: Global,
+    schema: &Schema,
+    log: PagedLog,
+    generation: u64,
+) -> Result<RunSoFar, AllocError>
+    requires none { log ≡ [] }
     ensures lines { IfOk result (λ run. run.lines.items ≡ []) }
     ensures entries { IfOk result (λ run. run.entries.items ≡ EntryLine.Setup 1 ∷ []) }
-    ensures log { IfOk result (λ run. IsOpenedLog schema.now run.log) }
+    ensures log { IfOk result (λ run. IsOpenedLog schema.now generation run.log) }
 {
+    let mut log = log;
     let mut entries = Vec::new(alloc);
     entries.push(EntryLine::Setup { position: 1 })?;
-    let mut log = PagedLog::new(alloc);
-    let entry = setup_entry(alloc, schema, GENERATION)?;
+    let entry = setup_entry(alloc, schema, generation)?;
     if log.append(alloc, entry).is_err() {
         return Err(AllocError);
     }
@@ -134,13 +215,16 @@ fn run_line(
     alloc: Global,
     script: &Script,
     schema: &Schema,
+    generation: u64,
     line: &BodyLine,
     states: &mut List<SessionState>,
     run: &mut RunSoFar,
 ) -> Result<(), AllocError>
+    ghost start: { Start }
     requires tables { schema.now ≡ tables_of script.now }
-    requires before { (left : List BodyLine) × IsBeforeLine script.now (line.now ∷ left) run.old states.old }
-    ensures { OnOk result ((left : List BodyLine) → IsBeforeLine script.now (line.now ∷ left) run.old states.old → IsBeforeLine script.now left run.new states.new) }
+    requires before { (left : List BodyLine) × IsBeforeLine script.now start generation (line.now ∷ left) run.old states.old }
+    ensures { OnOk result ((left : List BodyLine) → IsBeforeLine script.now start generation (line.now ∷ left) run.old states.old
+        → IsBeforeLine script.now start generation left run.new states.new) }
 {
     let Act::Say { session, text } = &line.act else {
         return Ok(());
@@ -149,7 +233,15 @@ fn run_line(
         return Ok(());
     };
     let state = states.replace_at(at, at_rest());
-    let after = run_session_line(alloc, schema, session, state, text.as_bytes(), run)?;
+    let after = run_session_line(
+        alloc,
+        schema,
+        generation,
+        session,
+        state,
+        text.as_bytes(),
+        run,
+    )?;
     let _at_rest = states.replace_at(at, after);
     Ok(())
 }
@@ -177,12 +269,12 @@ fn is_same(a: &Name, b: &Name) -> bool
     a.as_bytes() == b.as_bytes()
 }
 
-/// What a run that is done leaves.
-fn reported(alloc: Global, run: RunSoFar) -> Played
-    ensures report { result.report ≡ report_of run.lines.items run.entries.items }
+/// What a run behind a base leaves.
+fn reported(alloc: Global, base: u64, run: RunSoFar) -> Played
+    ensures report { result.report ≡ report_of base (length run.log) run.lines.items run.entries.items }
     ensures log { result.log ≡ run.log }
 {
-    let end = run.entries.len() as u64;
+    let end = run.log.entries().len() as u64;
     let RunSoFar {
         lines,
         entries,
@@ -190,10 +282,17 @@ fn reported(alloc: Global, run: RunSoFar) -> Played
     } = run;
     let report = Report {
         lines: List::from_vec(lines),
-        base: None,
+        base: base_told(base),
         entries: List::from_vec(entries),
         feeds: List::new(alloc),
         end,
     };
     Played { report, log }
+}
+
+/// The base as a report tells it: none where the history begins with the run.
+fn base_told(base: u64) -> Option<u64>
+    ensures { result ≡ base_line base }
+{
+    if base == 0 { None } else { Some(base) }
 }

@@ -1,7 +1,6 @@
 //! What a text is answered in a transaction: its rows are read from the pages of the log at its begin position.
 ghost use Rattle.std.specs.Prelude.{◌≡◌, ℕ, ◌≤◌, ◌++◌, length, IfOk, OnOk, OnErr};
 ghost use Rattle.cdb_values.specs.Rows.{Rows};
-ghost use Rattle.log_rows.specs.History.{rows_at};
 ghost use Rattle.phys_log.specs.Logs.{page_at};
 ghost use Rattle.sql_run.specs.Texts.{plan_by, answer_to};
 ghost use Rattle.sql_run.specs.Views.{text_in};
@@ -17,7 +16,8 @@ use sql_run::Prepared;
 use std::alloc::{AllocError, Global};
 use undo_snapshot::{LogGranter, SnapshotPages};
 
-/// What a prepared text is answered in a session's transaction, over the rows at its begin position. Where that is the log's
+/// What a prepared text is answered in a session's transaction, over the rows that the pages of the log stand for at its
+/// begin position. Where that is the log's
 /// last position, its pages are read as they stand, and none is copied. Else pages are taken from the log as it is now, and
 /// what came after that position is undone on the copies. The error is want of memory, after which the session is as before.
 pub(crate) fn answer_text(
@@ -27,15 +27,16 @@ pub(crate) fn answer_text(
     session: &mut OsqlSession,
     prepared: &Prepared,
 ) -> Result<List<ReplyLine>, AllocError>
+    ghost rows: { Rows }
     requires within { session.old.begin ≤ length log.now }
-    requires stands { Stands (page_at log.now session.old.begin) schema.now (rows_at log.now session.old.begin) }
+    requires stands { Stands (page_at log.now session.old.begin) schema.now rows }
     requires plan { (text_in prepared.now).plan ≡ plan_by schema.now (text_in prepared.now).meaning }
     ensures replies { IfOk result (λ lines. lines
-        ≡ (answer_to schema.now (rows_at log.now session.old.begin).tables session.old.ops (text_in prepared.now).meaning).replies) }
+        ≡ (answer_to schema.now rows.tables session.old.ops (text_in prepared.now).meaning).replies) }
     ensures ops { OnOk result (session.new.ops
-        ≡ (answer_to schema.now (rows_at log.now session.old.begin).tables session.old.ops (text_in prepared.now).meaning).ops) }
+        ≡ (answer_to schema.now rows.tables session.old.ops (text_in prepared.now).meaning).ops) }
     ensures genids { OnOk result (session.new.genids ≡ session.old.genids
-        ++ (answer_to schema.now (rows_at log.now session.old.begin).tables session.old.ops (text_in prepared.now).meaning).uses) }
+        ++ (answer_to schema.now rows.tables session.old.ops (text_in prepared.now).meaning).uses) }
     ensures id { session.new.id ≡ session.old.id }
     ensures begin { session.new.begin ≡ session.old.begin }
     ensures level { session.new.level ≡ session.old.level }

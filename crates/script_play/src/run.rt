@@ -15,7 +15,8 @@ use phys_log::Entry;
 use report_text::{EntryLine, Line, ReplyLine};
 use std::alloc::{AllocError, Global};
 
-/// The run so far: the lines and the history of its report, and the log, whose pages have the rows at each position.
+/// The run so far: the lines and the history of its report, and the log, whose pages have the rows at each position from
+/// where the run began.
 #[derive(Drop)]
 pub(crate) struct RunSoFar {
     pub lines: Vec<Line>,
@@ -69,7 +70,7 @@ pub(crate) fn apply_effect(
     requires fits { IfSome effect.added (Fits run.old.log) }
     ensures state { IfOk result (λ after. after ≡ effect.after) }
     ensures lines { OnOk result (run.new.lines.items ≡ run.old.lines.items ++ lines_of name.now effect.number effect.replies.items) }
-    ensures entries { OnOk result (run.new.entries.items ≡ run.old.entries.items ++ lines_added (length run.old.entries.items) effect.added) }
+    ensures entries { OnOk result (run.new.entries.items ≡ run.old.entries.items ++ lines_added (length run.old.log) effect.added) }
     ensures log { OnOk result (run.new.log ≡ run.old.log ++ option_to_list effect.added) }
     ensures err_lines { OnErr result (Grown run.old.lines.items run.new.lines.items) }
     ensures err_same { OnErr result (IsSameHistory run.old run.new) }
@@ -92,7 +93,7 @@ fn append_committed(
     run: &mut RunSoFar,
 ) -> Result<(), AllocError>
     requires fits { IfSome added (Fits run.old.log) }
-    ensures entries { OnOk result (run.new.entries.items ≡ run.old.entries.items ++ lines_added (length run.old.entries.items) added) }
+    ensures entries { OnOk result (run.new.entries.items ≡ run.old.entries.items ++ lines_added (length run.old.log) added) }
     ensures log { OnOk result (run.new.log ≡ run.old.log ++ option_to_list added) }
     ensures lines { run.new.lines.items ≡ run.old.lines.items }
     ensures err_same { OnErr result (IsSameHistory run.old run.new) }
@@ -106,12 +107,12 @@ fn append_committed(
 /// Appends an entry to the log, and its line to the history. After an error nothing is changed.
 fn append_entry(alloc: Global, entry: Entry, run: &mut RunSoFar) -> Result<(), AllocError>
     requires fits { Fits run.old.log entry }
-    ensures entries { OnOk result (run.new.entries.items ≡ run.old.entries.items ++ line_of_entry (length run.old.entries.items + 1) entry ∷ []) }
+    ensures entries { OnOk result (run.new.entries.items ≡ run.old.entries.items ++ line_of_entry (length run.old.log + 1) entry ∷ []) }
     ensures log { OnOk result (run.new.log ≡ run.old.log ++ entry ∷ []) }
     ensures lines { run.new.lines.items ≡ run.old.lines.items }
     ensures err_same { OnErr result (IsSameHistory run.old run.new) }
 {
-    let position = run.entries.len() as u64 + 1;
+    let position = run.log.entries().len() as u64 + 1;
     let line = line_of(position, &entry);
     let (entry, line) = beside(entry, line)?;
     let (entry, ()) = beside(entry, add_line(&mut run.entries, line))?;

@@ -7,6 +7,7 @@ ghost use Rattle.script_play.specs.Decisions.{conflict_told, touched, key_place,
 ghost use Rattle.script_play.specs.Effects.{IsVerdict, named_by};
 ghost use Rattle.script_play.specs.Ready.{IsAble};
 ghost use Rattle.script_play.specs.RunViews.{world, IsReadyFor};
+ghost use Rattle.script_play.specs.Start.{Start};
 ghost use Rattle.script_play.specs.Step.{outcome};
 ghost use Rattle.table_edits.specs.Broken.{named};
 
@@ -19,9 +20,6 @@ use report_text::ReplyLine;
 use std::alloc::{AllocError, Global};
 use table_edits::the_first_broken_key_has_its_name;
 
-/// The generation in which one node runs.
-pub(crate) const GENERATION: u64 = 1;
-
 /// The last position that a history may have.
 const LAST_POSITION: u64 = (1 << 62) - 1;
 
@@ -32,24 +30,26 @@ pub(crate) struct Verdict {
     pub added: Option<Entry>,
 }
 
-/// What is decided on the transaction of a session at its commit.
+/// What is decided on the transaction of a session at its commit; its entry is of a generation.
 pub(crate) fn decided(
     alloc: Global,
     schema: &Schema,
+    generation: u64,
     run: &RunSoFar,
     session: &OsqlSession,
 ) -> Result<Verdict, AllocError>
-    requires ready { IsReadyFor schema.now run.now }
-    requires able { IsAble schema.now (length run.now.entries.items) run.now.log session.now.begin session.now.ops }
-    ensures { IfOk result (λ v. IsVerdict schema.now run.now.log v
-        (outcome (world schema.now run.now) session.now.begin session.now.genids session.now.ops) (named_by session.now) session.now.ops) }
+    ghost start: { Start }
+    requires ready { IsReadyFor start schema.now run.now }
+    requires able { IsAble start schema.now (length run.now.log) run.now.log session.now.begin session.now.ops }
+    ensures { IfOk result (λ v. IsVerdict start schema.now run.now.log v
+        (outcome (world start schema.now run.now) session.now.begin session.now.genids session.now.ops) (named_by generation session.now) session.now.ops) }
 {
     match session.request(alloc)? {
         None => Ok(Verdict {
             outcome: ReplyLine::Committed(session.begin()),
             added: None,
         }),
-        Some(request) => judged(alloc, schema, run, session, &request),
+        Some(request) => judged(alloc, schema, generation, run, session, &request),
     }
 }
 
@@ -57,22 +57,24 @@ pub(crate) fn decided(
 fn judged(
     alloc: Global,
     schema: &Schema,
+    generation: u64,
     run: &RunSoFar,
     session: &OsqlSession,
     request: &CommitRequest,
 ) -> Result<Verdict, AllocError>
-    requires ready { IsReadyFor schema.now run.now }
-    requires able { IsAble schema.now (length run.now.entries.items) run.now.log session.now.begin session.now.ops }
+    ghost start: { Start }
+    requires ready { IsReadyFor start schema.now run.now }
+    requires able { IsAble start schema.now (length run.now.log) run.now.log session.now.begin session.now.ops }
     requires asked { request_of session.now ≡ Some request.now }
-    ensures { IfOk result (λ v. IsVerdict schema.now run.now.log v
-        (outcome (world schema.now run.now) session.now.begin session.now.genids session.now.ops) (named_by session.now) session.now.ops) }
+    ensures { IfOk result (λ v. IsVerdict start schema.now run.now.log v
+        (outcome (world start schema.now run.now) session.now.begin session.now.genids session.now.ops) (named_by generation session.now) session.now.ops) }
 {
-    let now = run.entries.len() as u64;
+    let now = run.log.entries().len() as u64;
     if LAST_POSITION <= now {
         return Err(AllocError);
     }
     the_first_broken_key_has_its_name();
-    match decide(alloc, request, &run.log, GENERATION)? {
+    match decide(alloc, request, &run.log, generation)? {
         Decision::Repeat(_) => Err(AllocError),
         Decision::Conflict {
             position,

@@ -1,25 +1,26 @@
 -- The entry of these records and changes.
-use Rattle.std.proofs.Common.{◌≡◌, List, sym, ap, ◌∙◌, subst}
+use Rattle.std.proofs.Common.{◌≡◌, ◌≤◌, List, length, sym, ap, ◌∙◌, subst, arith}
 use Rattle.cdb_values.specs.Changes.{changes_of}
 use Rattle.cdb_values.specs.Rows.{apply_all}
 use Rattle.cdb_values.specs.declared.rows.RowOp.{RowOp}
 use Rattle.phys_log.specs.declared.entries.CommitId.{CommitId}
 use Rattle.phys_log.specs.declared.entries.Entry.TheVariants as entry
-use Rattle.log_rows.specs.History.{rows_of, tables_of}
+use Rattle.log_rows.specs.History.{rows_over, tables_of}
 use Rattle.block_processor.specs.Decided.{IsNextEntry}
 use Rattle.block_processor.proofs.EntryLemmas.{next_is}
 use Rattle.block_processor.proofs.decisions.next_entry.Goals as goal
 
 pub returns : goal.returns
-returns c =
+returns g c =
     let request = c.args.request.now in
     let log = c.args.log.now in
     let changes = c.in_ok-changes.changes in
     let records = c.in_ok-records.records in
+    let base : g.ground.position ≤ length log = (let from = c.requires.0.begun.1 in let within = c.requires.0.within in omega (arith, from, within)) in
     let same : c.in_ok-id.id ≡ request.id = c.in_ok-id.ensures in
-    let next : c.next_genid.result ≡ (rows_of log).next = c.next_genid.ensures ∙ c.requires.asked.stands.genid in
-    let made : changes ≡ changes_of request.ops (rows_of log).next =
+    let next : c.next_genid.result ≡ (rows_over g.ground log).next = c.next_genid.ensures ∙ c.requires.0.stands.genid in
+    let made : changes ≡ changes_of request.ops (rows_over g.ground log).next =
     c.in_ok-changes.ensures ∙ ap (λ (l : List RowOp). changes_of l c.next_genid.result) c.as_slice.ensures ∙ ap (changes_of request.ops) next in
-    subst (λ (i : CommitId). IsNextEntry request log c.args.generation (entry.Commit c.args.generation i request.begin request.level changes records)) (sym same)
-    (next_is request log c.args.generation changes records c.requires.free c.requires.kept made c.in_ok-records.ensures.next
-    (c.in_ok-records.ensures.stands (tables_of log) (apply_all (rows_of log) request.ops) c.requires.done))
+    subst (λ (i : CommitId). IsNextEntry g.ground request log c.args.generation (entry.Commit c.args.generation i request.begin request.level changes records)) (sym same)
+    (next_is g.ground request log c.args.generation changes records base c.requires.1.0 c.requires.1.1.1.0 made c.in_ok-records.ensures.next
+    (c.in_ok-records.ensures.stands (tables_of log) (apply_all (rows_over g.ground log) request.ops) c.requires.1.1.1.1.1))

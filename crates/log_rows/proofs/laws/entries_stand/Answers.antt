@@ -1,8 +1,8 @@
-use Rattle.log_rows.proofs.HistoryLemmas.{stand_none, stand_more, stand_front, stand_whole}
+use Rattle.log_rows.proofs.HistoryLemmas.{stand_begun, stand_more, stand_front, stand_whole}
 use Rattle.log_rows.proofs.laws.entries_stand.Goals as goal
 
-pub returns-clause-none : goal.returns-clause-none
-returns-clause-none c = stand_none
+pub returns-clause-begun : goal.returns-clause-begun
+returns-clause-begun c = stand_begun
 
 pub returns-clause-more : goal.returns-clause-more
 returns-clause-more c = stand_more

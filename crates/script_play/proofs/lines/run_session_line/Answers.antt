@@ -8,10 +8,10 @@ use Rattle.sql_run.specs.Views.{kind_in, text_in}
 use Rattle.script_play.proofs.lines.run_session_line.Goals as goal
 
 pub returns-in-Err : goal.returns-in-Err
-returns-in-Err c =
-    subst (λ (s : SessionState). IfOk c.cut_short.result (λ after. IsTakenFrom c.args.schema.now c.args.name.now s c.args.text.now after c.args.run.now c.cut_short.new.run)) c.in_ok-state.ensures.0 (
-    cut_taken c.args.schema.now c.args.run.now.log c.cut_short.new.run.log c.args.name.now c.in_ok-state.state c.args.text.now (kind_in c.kind-kind.result) c.cut_state-cut.result c.cut_short.result
-    c.args.run.now.lines.items c.cut_short.new.run.lines.items c.args.run.now.entries.items c.cut_short.new.run.entries.items c.requires.ready.logged c.cut_state-cut.ensures.shut
+returns-in-Err g c =
+    subst (λ (s : SessionState). IfOk c.cut_short.result (λ after. IsTakenFrom g.start c.args.generation c.args.schema.now c.args.name.now s c.args.text.now after c.args.run.now c.cut_short.new.run)) c.in_ok-state.ensures.0 (
+    cut_taken g.start c.args.generation c.args.schema.now c.args.run.now.log c.cut_short.new.run.log c.args.name.now c.in_ok-state.state c.args.text.now (kind_in c.kind-kind.result) c.cut_state-cut.result c.cut_short.result
+    c.args.run.now.lines.items c.cut_short.new.run.lines.items c.args.run.now.entries.items c.cut_short.new.run.entries.items c.requires.0.logged c.cut_state-cut.ensures.shut
     (c.kind-kind.ensures ∙ subst (λ r. IfOk r (λ p. (text_in p).kind ≡ kind_of_text c.args.text.now)) c.in_ok-state.ensures.1 c.read_text.ensures.kind)
     c.cut_state-cut.ensures.cut c.cut_short.ensures.state
     (if_ok c.cut_short.result (λ after told. told c.args.run.now.lines.items (let a = c.len-had.ensures in let b = c.args.run.now.lines.ok in omega (arith, a, b)) c.in-Err.ensures.err_lines) c.cut_short.ensures.lines)

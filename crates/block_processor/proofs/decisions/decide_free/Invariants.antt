@@ -1,0 +1,8 @@
+-- the same ground
+use Rattle.block_processor.proofs.decisions.decide_free.Given as goal
+
+abbrev pub ghost-are_able : goal.ghost-are_able
+ghost-are_able g a = g.ground
+
+abbrev pub ghost-decide_able : goal.ghost-decide_able
+ghost-decide_able g a = g.ground
