@@ -169,8 +169,7 @@ module _ (P : Item → List ReplyLine → Type 0) (alone : (item : Item) (mine :
       go (inl (none, same, rs, says)) further = (let le : bound ≤ t.number = rising.0 in omega (arith, le, same), ap (of_number n) none)
       go (inr (later, splits', e)) further =
           let more : (t.number + 1 ≤ n) × (of_number n later ≡ []) = further later e in
-          let above : t.number + 1 ≤ n = more.0 in
-          (
+          let above : t.number + 1 ≤ n = more.0 in (
             let le : bound ≤ t.number = rising.0 in omega (arith, le, above),
             ap (of_number n) splits' ∙ of_another n t.number mine later (ne_eqb t.number n (λ (same : t.number ≡ n). omega (arith, above, same))) ∙ more.1,
           )

@@ -9,7 +9,7 @@ use Rattle.report_laws.specs.History.{Basis, IsEntryAfter, alone_on, rows_at, la
 use Rattle.session_language.specs.Language.{Answered}
 use Rattle.report_laws.specs.Lawful.{Lawful, IsFreshLine, NameUpTo}
 use Rattle.report_laws.specs.Nodes.{are_few, downs}
-use Rattle.report_laws.specs.Places.{HasItsPlace}
+use Rattle.report_laws.specs.Places.{HasItsPlace, IsLost, is_loss_by}
 use Rattle.report_laws.specs.Play.{InPlayOrder, IsDownLine}
 use Rattle.report_laws.specs.Told.{told, numbered, Numbered, IsCommitTold, IsEntryTold}
 use Rattle.report_laws.specs.Work.{Transaction, transaction_of}
@@ -22,9 +22,11 @@ use Rattle.report_text.specs.declared.reports.ReplyLine.{ReplyLine}
 use Rattle.report_text.specs.declared.reports.ReplyLine.TheVariants as reply
 use Rattle.report_laws.proofs.EntryToldLaws.{begin_stands, commit_stands, committed_there}
 use Rattle.report_laws.proofs.FrontLemmas.{entry_next}
-use Rattle.report_laws.proofs.NodesLaws.{downs_append, none_few}
+use Rattle.report_laws.proofs.NodesLaws.{downs_append, none_few, lost_needs_down, short_needs_down}
 use Rattle.report_laws.proofs.PieceLaws.{all_at}
 use Rattle.report_laws.proofs.SoFarLemmas.{same_name}
+use Rattle.report_laws.proofs.ToldLaws.{told_append}
+use Rattle.session_language.proofs.AllLaws.{all_behind}
 
 -- a member that stands behind others is right after them
 each_at : {A : Type 0} (P : List A → A → Type 0) (before xs : List A) (x : A) (ys : List A) → EachAfter P before (xs ++ x ∷ ys) → P (before ++ xs) x
@@ -122,3 +124,36 @@ schema_or_none basis report none lawful = go report.entries lawful.history
         let begun : 1 ≤ begin = each.0.begun.0 in
         let before : begin < position = each.0.begun.2 in
         absurd (omega (arith, none, placed, begun, before))
+
+-- where no node went down nothing is lost, and no majority is wanting
+none_before : (report : Report) (front back : List Line) (l : Line) → report.lines ≡ front ++ l ∷ back → downs report.lines ≡ 0 → downs front ≡ 0
+none_before report front back l is none =
+    let all : downs report.lines ≡ downs (front ++ l ∷ back) = ap downs is in
+    let parts : downs (front ++ l ∷ back) ≡ downs front + downs (l ∷ back) = downs_append front (l ∷ back) in
+    omega (arith, none, all, parts)
+
+pub no_loss : (basis : Basis) (report : Report) (name : List ℕ) (txn node down : ℕ) → Lawful basis report → downs report.lines ≡ 0 → StandsIn report.lines (line.Session name txn (reply.Lost node down)) → ⊥
+no_loss basis report name txn node down lawful none (front, back, is) =
+    lost_needs_down front name txn node down (none_before report front back (line.Session name txn (reply.Lost node down)) is none)
+    (has_its_place basis report front back (line.Session name txn (reply.Lost node down)) lawful is).1
+
+pub no_shortage : (basis : Basis) (report : Report) (name : List ℕ) (txn up nodes : ℕ) → Lawful basis report → downs report.lines ≡ 0 → StandsIn report.lines (line.Session name txn (reply.NoMajority up nodes)) → ⊥
+no_shortage basis report name txn up nodes lawful none (front, back, is) =
+    short_needs_down basis.script front name up nodes (none_before report front back (line.Session name txn (reply.NoMajority up nodes)) is none)
+    (has_its_place basis report front back (line.Session name txn (reply.NoMajority up nodes)) lawful is)
+
+-- a session is told once of a loss by one down line
+pub lost_once : (basis : Basis) (report : Report) (name : List ℕ) (first second third : List Line) (txn node other again down : ℕ) → Lawful basis report →
+    report.lines ≡ first ++ line.Session name txn (reply.Lost node down) ∷ (second ++ line.Session name other (reply.Lost again down) ∷ third) → ⊥
+lost_once basis report name first second third txn node other again down lawful is =
+    let split : report.lines ≡ (first ++ line.Session name txn (reply.Lost node down) ∷ second) ++ line.Session name other (reply.Lost again down) ∷ third
+    = is ∙ sym (append_assoc first (line.Session name txn (reply.Lost node down) ∷ second) (line.Session name other (reply.Lost again down) ∷ third)) in
+    let its : IsLost (first ++ line.Session name txn (reply.Lost node down) ∷ second) name other again down
+    = (has_its_place basis report (first ++ line.Session name txn (reply.Lost node down) ∷ second) third (line.Session name other (reply.Lost again down)) lawful split).1 in
+    let told_are : told name (first ++ line.Session name txn (reply.Lost node down) ∷ second) ≡ told name first ++ (txn, reply.Lost node down) ∷ told name second
+    = told_append name first (line.Session name txn (reply.Lost node down) ∷ second)
+    ∙ ap (λ (b : Bool). told name first ++ ((if b then (txn, reply.Lost node down) ∷ [] else []) ++ told name second)) (same_name name) in
+    let all : AllByRecursion (λ (l : Numbered). is_loss_by down l.1 ≡ false) (told name first ++ (txn, reply.Lost node down) ∷ told name second)
+    = subst (λ (ls : List Numbered). AllByRecursion (λ (l : Numbered). is_loss_by down l.1 ≡ false) ls) told_are its.once in
+    let here : (down == down) ≡ false = (all_behind (λ (l : Numbered). is_loss_by down l.1 ≡ false) (told name first) ((txn, reply.Lost node down) ∷ told name second) all).0 in
+    both_ways (down == down) here (eq-eqb down down refl)

@@ -59,6 +59,18 @@ pub fn lines_have_their_places()
     ensures fed { (basis : Basis) (report : Report) (position : ℕ) → Lawful basis report → StandsIn report.lines (line.Fed position) → ⊥ }
 {}
 
+/// Where no node goes down, no session is told of a loss or of a missing majority in a lawful report.
+pub fn nothing_is_lost_without_a_fault()
+    ensures lost { (basis : Basis) (report : Report) (name : List ℕ) (txn node down : ℕ) → Lawful basis report → downs report.lines ≡ 0 → StandsIn report.lines (line.Session name txn (reply.Lost node down)) → ⊥ }
+    ensures majority { (basis : Basis) (report : Report) (name : List ℕ) (txn up nodes : ℕ) → Lawful basis report → downs report.lines ≡ 0 → StandsIn report.lines (line.Session name txn (reply.NoMajority up nodes)) → ⊥ }
+{}
+
+/// In a lawful report a session is told once of a loss by one down line, whatever its transaction.
+#[tactic(auto, using(crate::proofs::LawLemmas::lost_once))]
+pub fn losses_are_told_once()
+    ensures once { (basis : Basis) (report : Report) (name : List ℕ) (first second third : List Line) (txn node other again down : ℕ) → Lawful basis report → report.lines ≡ first ++ line.Session name txn (reply.Lost node down) ∷ (second ++ line.Session name other (reply.Lost again down) ∷ third) → ⊥ }
+{}
+
 /// Where a begin is told, in a lawful report in the order of play, a majority of the nodes is up behind the lines before it,
 /// over a language that answers each text as it should (`Answers`).
 #[tactic(auto, using(crate::proofs::BeginLaws::begin_has_majority))]

@@ -23,6 +23,7 @@ mod facts;
 
 pub use facts::{
     begins_find_a_majority, begins_reach_what_was_told, entries_are_told, lines_have_their_places,
-    nodes_go_down_once, none_begins_behind_a_fault, reports_are_of_the_grammar, reports_are_one,
+    losses_are_told_once, nodes_go_down_once, none_begins_behind_a_fault,
+    nothing_is_lost_without_a_fault, reports_are_of_the_grammar, reports_are_one,
     the_schema_stands_first, transactions_stand_once,
 };

@@ -1,4 +1,4 @@
--- The text of a report that is lawful and in the order of play is what is written; and the report is of the
+-- The text of a report that is lawful and in the order of play, and in which no node goes down, is what is written; and the report is of the
 -- grammar, since the names of the script are names and the numbers of what was printed fit their types.
 use Rattle.std.proofs.Common.{◌≡◌, ◌≢◌, ℕ, List, [], ◌∷◌, map, refl}
 use Rattle.std.specs.List.{AllByRecursion}
@@ -16,6 +16,7 @@ use Rattle.script_form.specs.declared.scripts.BodyLine.{BodyLine}
 use Rattle.script_form.specs.declared.scripts.Script.{Script}
 use Rattle.script_form.specs.declared.scripts.TableLine.{TableLine}
 use Rattle.report_laws.specs.Lawful.{Lawful}
+use Rattle.report_laws.specs.Nodes.{downs}
 use Rattle.report_laws.specs.Play.{InPlayOrder}
 use Rattle.report_laws.specs.Spelled.{IsNamedTable, SaysAsNamed, IsSpelled}
 use Rattle.report_laws.proofs.OneLaws.{one_report}
@@ -76,11 +77,12 @@ have_columns (t ∷ ts) all = (some t.table.columns all.0, have_columns ts all.1
 pub spelled : (s : Script) → CanRun s → script.IsNamed s → IsSpelled (from_nothing s)
 spelled s can is = record { language = sql_keeps (tables_of s) (have_columns s.tables can.columns); rows = tt; tables = tables_named s.tables is.tables; body = body_named s.sessions s.body is.body can.said }
 
-pub reported : (s : Script) (report : Report) (text : List ℕ) → CanRun s → script.IsNamed s → Lawful (from_nothing s) report → InPlayOrder (from_nothing s) report → FitsTypes report → text ≡ report_text report → IsReported s text
-reported s report text can names lawful in_order fits is = record {
+pub reported : (s : Script) (report : Report) (text : List ℕ) → CanRun s → script.IsNamed s → Lawful (from_nothing s) report → InPlayOrder (from_nothing s) report → downs report.lines ≡ 0 → FitsTypes report → text ≡ report_text report → IsReported s text
+reported s report text can names lawful in_order no_fault fits is = record {
   report = report;
   lawful = lawful;
   in_order = in_order;
+  no_fault = no_fault;
   one = λ other uncut lawful' in_order' uncut'. one_report (from_nothing s) report other sql_is_answered lawful in_order uncut lawful' in_order' uncut';
   is_report = of_the_grammar (from_nothing s) report (spelled s can names) lawful in_order fits;
   is_text = is;

@@ -11,6 +11,7 @@ use Rattle.script_read.specs.Answers.{Refusal, refusal}
 use Rattle.script_read.specs.ScriptText.{script_of}
 use Rattle.script_form.specs.declared.scripts.Script.{Script}
 use Rattle.report_laws.specs.Lawful.{Lawful}
+use Rattle.report_laws.specs.Nodes.{downs}
 use Rattle.report_laws.specs.One.{IsUncut}
 use Rattle.report_laws.specs.Play.{InPlayOrder}
 use Rattle.report_text.specs.Grammar.{IsReport}
@@ -33,12 +34,13 @@ abbrev pub refused_text : ℕ → ℕ → List ℕ
 refused_text line why = codes "refused " ++ (decimal line ++ (32 ∷ (decimal why ++ (10 ∷ []))))
 
 -- the text of a report of the grammar that is lawful over the script, the language of SQL and a history that
--- begins with the run, and whose lines stand in the order of play; where no transaction is cut short, there
--- is no other such report
+-- begins with the run, whose lines stand in the order of play, and in which no node goes down; where no
+-- transaction is cut short, there is no other such report
 pub record IsReported (script : Script) (text : List ℕ) : Type 0 where
   pub report : Report
   pub lawful : Lawful (from_nothing script) report
   pub in_order : InPlayOrder (from_nothing script) report
+  pub no_fault : downs report.lines ≡ 0
   pub one : (other : Report) → IsUncut report → Lawful (from_nothing script) other → InPlayOrder (from_nothing script) other → IsUncut other → report ≡ other
   pub is_report : IsReport report
   pub is_text : text ≡ report_text report

@@ -1,6 +1,7 @@
 //! What a script's bytes are answered: a status and the text that belongs to it.
-ghost use Rattle.std.specs.Prelude.{true, IfOk};
+ghost use Rattle.std.specs.Prelude.{◌≡◌, true, IfOk};
 ghost use Rattle.report_laws.specs.Lawful.{Lawful};
+ghost use Rattle.report_laws.specs.Nodes.{downs};
 ghost use Rattle.report_laws.specs.Play.{InPlayOrder};
 ghost use Rattle.script_play.specs.Basis.{from_nothing};
 ghost use Rattle.script_read.specs.Answers.{refusal};
@@ -68,6 +69,7 @@ fn told(alloc: Global, script: &Script, report: &Report) -> Result<Answer, Alloc
     requires names { IsNamed script.now }
     requires lawful { Lawful (from_nothing script.now) report.now }
     requires in_order { InPlayOrder (from_nothing script.now) report.now }
+    requires no_fault { downs report.now.lines ≡ 0 }
     ensures { IfOk result (λ a. IsText true (Ok script.now) a.status a.text) }
 {
     let text = print(alloc, report)?;
