@@ -1,0 +1,3 @@
+pub mod LookupLemmas
+pub mod LogLemmas
+pub mod TailLemmas

@@ -1,0 +1,4 @@
+pub mod Known
+pub mod OfLogs
+pub mod Same
+pub mod Kept
