@@ -105,27 +105,27 @@ commits_all (Setup generation schema records ∷ es) h = absurd (false≢true h)
 commits_all (Commit generation id begin level changes records ∷ es) h = (tt, commits_all es h)
 
 -- the operations of a request, where the entries after its begin are those of transactions, and there is room for genids
-pub able : (ground : Ground) (request : CommitRequest) (entries : List Entry) → IsAsked ground request entries → conflict_of request entries ≡ None
+pub able : (footing : Ground) (request : CommitRequest) (entries : List Entry) → IsAsked footing request entries → conflict_of request entries ≡ None
     → AllByRecursion IsCommit (drop request.begin entries) → AllByRecursion (Writes IsInRange) request.ops
-    → (rows_over ground entries).next + length request.ops < 2 ^ 62 → IsAble ground request entries
-able ground request entries asked free commits ranges room = record { doable = doable; room = room }
+    → (rows_over footing entries).next + length request.ops < 2 ^ 62 → IsAble footing request entries
+able footing request entries asked free commits ranges room = record { doable = doable; room = room }
   where
-    there : (table : ℕ) → AllByRecursion (λ v. IsAmong v (versions_of (rows_over ground entries) table)) (gone table request.ops)
+    there : (table : ℕ) → AllByRecursion (λ v. IsAmong v (versions_of (rows_over footing entries) table)) (gone table request.ops)
     there table =
-        all_both (λ v. IsAmong v (versions_of (rows_over_at ground entries request.begin) table)) (λ v. IsAmong (genid_item table v.genid) request.genids)
-        (λ v. IsAmong v (versions_of (rows_over ground entries) table)) (gone table request.ops)
-        (λ v here named. stays ground entries request.begin table v asked.begun.1 commits here
+        all_both (λ v. IsAmong v (versions_of (rows_over_at footing entries request.begin) table)) (λ v. IsAmong (genid_item table v.genid) request.genids)
+        (λ v. IsAmong v (versions_of (rows_over footing entries) table)) (gone table request.ops)
+        (λ v here named. stays footing entries request.begin table v asked.begun.1 commits here
         (free_untaken request.begin (drop request.begin (takes_in entries)) request.genids (genid_item table v.genid) free named))
         (asked.there table) (gone_named request.ops table request.genids asked.named)
 
-    doable : AreAllDoable (rows_over ground entries) request.ops
+    doable : AreAllDoable (rows_over footing entries) request.ops
     doable table within =
-        let same : length (rows_over ground entries).tables ≡ length (tables_of entries) = asked.stands.state.tables_are in
+        let same : length (rows_over footing entries).tables ≡ length (tables_of entries) = asked.stands.state.tables_are in
         let found = get_some (tables_of entries) table (subst (λ (n : ℕ). table < n) same within) in
-        let few : (apply_all (rows_over ground entries) request.ops).next ≤ (rows_over ground entries).next + length request.ops = next_below request.ops (rows_over ground entries) in
+        let few : (apply_all (rows_over footing entries) request.ops).next ≤ (rows_over footing entries).next + length request.ops = next_below request.ops (rows_over footing entries) in
         record {
           there = there table;
           once = asked.once table;
-          coded = born_coded (tables_of entries) table found.0 found.1 request.ops (rows_over ground entries).next asked.fits ranges asked.texts;
+          coded = born_coded (tables_of entries) table found.0 found.1 request.ops (rows_over footing entries).next asked.fits ranges asked.texts;
           next = omega (arith, few, room);
         }

@@ -18,39 +18,39 @@ use Rattle.log_rows.proofs.HistoryLemmas.{rows_last}
 use Rattle.log_rows.proofs.RowLemmas.{changes_make}
 use Rattle.block_processor.specs.Decided.{conflict_of, broken_by, IsDuplicate, IsNextEntry}
 
-pub next_is : (ground : Ground) (request : CommitRequest) (entries : List Entry) (generation : ℕ) (changes : List Change) (records : List LogRecord)
-    → ground.position ≤ length entries → conflict_of request entries ≡ None → broken_by ground request entries ≡ None → changes ≡ changes_of request.ops (rows_over ground entries).next
+pub next_is : (footing : Ground) (request : CommitRequest) (entries : List Entry) (generation : ℕ) (changes : List Change) (records : List LogRecord)
+    → footing.position ≤ length entries → conflict_of request entries ≡ None → broken_by footing request entries ≡ None → changes ≡ changes_of request.ops (rows_over footing entries).next
     → AreNext (pages_of entries) (last_lsn_of entries + 1) records
-    → Stands (replayed (pages_of entries) records) (tables_of entries) (apply_all (rows_over ground entries) request.ops)
-    → IsNextEntry ground request entries generation (entry.Commit generation request.id request.begin request.level changes records)
-next_is ground request entries generation changes records within free kept made next stands = record {
+    → Stands (replayed (pages_of entries) records) (tables_of entries) (apply_all (rows_over footing entries) request.ops)
+    → IsNextEntry footing request entries generation (entry.Commit generation request.id request.begin request.level changes records)
+next_is footing request entries generation changes records within free kept made next stands = record {
   free = free;
   kept = kept;
   records = records;
   made = ap (λ (cs : List Change). entry.Commit generation request.id request.begin request.level cs records) made;
   fits = next;
   stands = subst (λ (r : Rows). Stands (pages_of (entries ++ it ∷ [])) (tables_of entries) r) (sym rows_are)
-      (subst (λ (f : ℕ → Image). Stands f (tables_of entries) (apply_all (rows_over ground entries) request.ops)) (sym (pages_more entries it)) stands);
+      (subst (λ (f : ℕ → Image). Stands f (tables_of entries) (apply_all (rows_over footing entries) request.ops)) (sym (pages_more entries it)) stands);
   rows = rows_are;
 }
   where
     it : Entry
     it = entry.Commit generation request.id request.begin request.level changes records
 
-    rows_are : rows_over ground (entries ++ it ∷ []) ≡ apply_all (rows_over ground entries) request.ops
-    rows_are = rows_last ground entries it within ∙ ap (apply_changes (rows_over ground entries)) made ∙ changes_make (rows_over ground entries) request.ops
+    rows_are : rows_over footing (entries ++ it ∷ []) ≡ apply_all (rows_over footing entries) request.ops
+    rows_are = rows_last footing entries it within ∙ ap (apply_changes (rows_over footing entries)) made ∙ changes_make (rows_over footing entries) request.ops
 
 -- a duplicate, whose table and key are told by equal numbers
-pub duplicate_is : (ground : Ground) (request : CommitRequest) (entries : List Entry) (position table key place at : ℕ) → conflict_of request entries ≡ None
-    → position ≡ length entries → broken_by ground request entries ≡ Some (record { table = place; key = at }) → table ≡ place → key ≡ at
-    → IsDuplicate ground request entries position table key
-duplicate_is ground request entries position table key place at free now broken t k =
-    subst (λ (n : ℕ). IsDuplicate ground request entries position n key) (sym t)
-    (subst (λ (n : ℕ). IsDuplicate ground request entries position place n) (sym k) (record { free = free; now = now; broken = broken }))
+pub duplicate_is : (footing : Ground) (request : CommitRequest) (entries : List Entry) (position table key place at : ℕ) → conflict_of request entries ≡ None
+    → position ≡ length entries → broken_by footing request entries ≡ Some (record { table = place; key = at }) → table ≡ place → key ≡ at
+    → IsDuplicate footing request entries position table key
+duplicate_is footing request entries position table key place at free now broken t k =
+    subst (λ (n : ℕ). IsDuplicate footing request entries position n key) (sym t)
+    (subst (λ (n : ℕ). IsDuplicate footing request entries position place n) (sym k) (record { free = free; now = now; broken = broken }))
 
 -- pages that are those of the log stand for its rows, with its schema
-pub begun : (ground : Ground) (entries : List Entry) (schema : List TableDef) (pages : ℕ → Image) → schema ≡ tables_of entries → pages ≡ pages_of entries
-    → Stands (pages_of entries) (tables_of entries) (rows_over ground entries) → Stands pages schema (rows_over ground entries)
-begun ground entries schema pages tables same stands =
-    subst (λ (t : List TableDef). Stands pages t (rows_over ground entries)) (sym tables)
-    (subst (λ (f : ℕ → Image). Stands f (tables_of entries) (rows_over ground entries)) (sym same) stands)
+pub begun : (footing : Ground) (entries : List Entry) (schema : List TableDef) (pages : ℕ → Image) → schema ≡ tables_of entries → pages ≡ pages_of entries
+    → Stands (pages_of entries) (tables_of entries) (rows_over footing entries) → Stands pages schema (rows_over footing entries)
+begun footing entries schema pages tables same stands =
+    subst (λ (t : List TableDef). Stands pages t (rows_over footing entries)) (sym tables)
+    (subst (λ (f : ℕ → Image). Stands f (tables_of entries) (rows_over footing entries)) (sym same) stands)

@@ -7,9 +7,9 @@ use Rattle.phys_log.specs.declared.requests.CommitRequest.{CommitRequest}
 use Rattle.table_edits.specs.Fits.{AreAllDoable}
 use Rattle.log_rows.specs.History.{Ground, rows_over}
 
-pub record IsAble (ground : Ground) (request : CommitRequest) (entries : List Entry) : Type 0 where
-  pub doable : AreAllDoable (rows_over ground entries) request.ops
-  pub room : (rows_over ground entries).next + length request.ops < 2 ^ 62
+pub record IsAble (footing : Ground) (request : CommitRequest) (entries : List Entry) : Type 0 where
+  pub doable : AreAllDoable (rows_over footing entries) request.ops
+  pub room : (rows_over footing entries).next + length request.ops < 2 ^ 62
 
 -- whether an entry is that of a transaction
 abbrev pub is_commit : Entry → Bool

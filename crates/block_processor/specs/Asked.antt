@@ -27,13 +27,13 @@ Writes Is (Insert place row) = AllByRecursion Is row
 Writes Is (Update place target old row) = AllByRecursion Is row
 Writes Is (Delete place target old) = Unit {0}
 
-pub record IsAsked (ground : Ground) (request : CommitRequest) (entries : List Entry) : Type 0 where
+pub record IsAsked (footing : Ground) (request : CommitRequest) (entries : List Entry) : Type 0 where
   pub some : request.ops ≡ [] → ⊥
-  pub begun : IsFrom ground.position request.begin
+  pub begun : IsFrom footing.position request.begin
   pub within : request.begin ≤ length entries
   pub schema : schema_of entries ≡ Some (tables_of entries)
-  pub stands : Stands (pages_of entries) (tables_of entries) (rows_over ground entries)
-  pub there : (table : ℕ) → AllByRecursion (λ v. IsAmong v (versions_of (rows_over_at ground entries request.begin) table)) (gone table request.ops)
+  pub stands : Stands (pages_of entries) (tables_of entries) (rows_over footing entries)
+  pub there : (table : ℕ) → AllByRecursion (λ v. IsAmong v (versions_of (rows_over_at footing entries request.begin) table)) (gone table request.ops)
   pub once : (table : ℕ) → NoTwice (gone table request.ops)
   pub named : AllByRecursion (λ i. IsAmong i request.genids) (taken_by request.ops)
   pub fits : AllByRecursion (WritesFitting (tables_of entries)) request.ops

@@ -28,7 +28,7 @@ conflict_of request entries = first_conflict request.begin (drop request.begin (
 
 -- the first key that its operations break at the end of the log
 abbrev pub broken_by : Ground → CommitRequest → List Entry → Option KeyPlace
-broken_by ground request entries = broken_place (apply_all (rows_over ground entries) request.ops) 0 (tables_of entries)
+broken_by footing request entries = broken_place (apply_all (rows_over footing entries) request.ops) 0 (tables_of entries)
 
 -- a conflict is told exactly where it is
 abbrev pub IsConflict : ℕ → Item → Option Touched → Type 0
@@ -36,24 +36,24 @@ IsConflict position (Genid item) found = found ≡ Some (record { position = pos
 IsConflict position (Range table key) found = ⊥
 
 -- a duplicate is told
-pub record IsDuplicate (ground : Ground) (request : CommitRequest) (entries : List Entry) (position table key : ℕ) : Type 0 where
+pub record IsDuplicate (footing : Ground) (request : CommitRequest) (entries : List Entry) (position table key : ℕ) : Type 0 where
   pub free : conflict_of request entries ≡ None
   pub now : position ≡ length entries
-  pub broken : broken_by ground request entries ≡ Some (record { table = table; key = key })
+  pub broken : broken_by footing request entries ≡ Some (record { table = table; key = key })
 
 -- the entry that comes next
-pub record IsNextEntry (ground : Ground) (request : CommitRequest) (entries : List Entry) (generation : ℕ) (next : Entry) : Type 0 where
+pub record IsNextEntry (footing : Ground) (request : CommitRequest) (entries : List Entry) (generation : ℕ) (next : Entry) : Type 0 where
   pub free : conflict_of request entries ≡ None
-  pub kept : broken_by ground request entries ≡ None
+  pub kept : broken_by footing request entries ≡ None
   pub records : List LogRecord
-  pub made : next ≡ entry.Commit generation request.id request.begin request.level (changes_of request.ops (rows_over ground entries).next) records
+  pub made : next ≡ entry.Commit generation request.id request.begin request.level (changes_of request.ops (rows_over footing entries).next) records
   pub fits : Fits entries next
-  pub stands : Stands (pages_of (entries ++ next ∷ [])) (tables_of entries) (rows_over ground (entries ++ next ∷ []))
-  pub rows : rows_over ground (entries ++ next ∷ []) ≡ apply_all (rows_over ground entries) request.ops
+  pub stands : Stands (pages_of (entries ++ next ∷ [])) (tables_of entries) (rows_over footing (entries ++ next ∷ []))
+  pub rows : rows_over footing (entries ++ next ∷ []) ≡ apply_all (rows_over footing entries) request.ops
 
 -- a decision is the right one
 abbrev pub Decides : Ground → CommitRequest → List Entry → ℕ → Decision → Type 0
-Decides ground request entries generation (Repeat position) = ⊥
-Decides ground request entries generation (Conflict position item) = IsConflict position item (conflict_of request entries)
-Decides ground request entries generation (Duplicate position table key) = IsDuplicate ground request entries position table key
-Decides ground request entries generation (Commit next) = IsNextEntry ground request entries generation next
+Decides footing request entries generation (Repeat position) = ⊥
+Decides footing request entries generation (Conflict position item) = IsConflict position item (conflict_of request entries)
+Decides footing request entries generation (Duplicate position table key) = IsDuplicate footing request entries position table key
+Decides footing request entries generation (Commit next) = IsNextEntry footing request entries generation next

@@ -30,9 +30,9 @@ pub fn decide(
     log: &PagedLog,
     generation: u64,
 ) -> Result<Decision, AllocError>
-    ghost ground: { Ground }
-    requires asked { IsAsked ground request.now log.now }
-    ensures { IfOk result (Decides ground request.now log.now generation) }
+    ghost footing: { Ground }
+    requires asked { IsAsked footing request.now log.now }
+    ensures { IfOk result (Decides footing request.now log.now generation) }
 {
     let Some(schema) = log.schema() else {
         unreachable!();
@@ -58,10 +58,10 @@ fn decide_free(
     log: &PagedLog,
     generation: u64,
 ) -> Result<Decision, AllocError>
-    ghost ground: { Ground }
-    requires asked { IsAsked ground request.now log.now }
+    ghost footing: { Ground }
+    requires asked { IsAsked footing request.now log.now }
     requires free { conflict_of request.now log.now ≡ None }
-    ensures { IfOk result (Decides ground request.now log.now generation) }
+    ensures { IfOk result (Decides footing request.now log.now generation) }
 {
     if !are_able(request, log) {
         return Err(AllocError);
@@ -76,11 +76,11 @@ fn decide_able(
     log: &PagedLog,
     generation: u64,
 ) -> Result<Decision, AllocError>
-    ghost ground: { Ground }
-    requires asked { IsAsked ground request.now log.now }
+    ghost footing: { Ground }
+    requires asked { IsAsked footing request.now log.now }
     requires free { conflict_of request.now log.now ≡ None }
-    requires able { IsAble ground request.now log.now }
-    ensures { IfOk result (Decides ground request.now log.now generation) }
+    requires able { IsAble footing request.now log.now }
+    ensures { IfOk result (Decides footing request.now log.now generation) }
 {
     let Some(schema) = log.schema() else {
         unreachable!();
@@ -107,14 +107,14 @@ fn next_entry<'a>(
     generation: u64,
     space: Workspace<LogPages<'a>>,
 ) -> Result<Entry, AllocError>
-    ghost ground: { Ground }
-    requires asked { IsAsked ground request.now log.now }
+    ghost footing: { Ground }
+    requires asked { IsAsked footing request.now log.now }
     requires free { conflict_of request.now log.now ≡ None }
-    requires able { IsAble ground request.now log.now }
-    requires kept { broken_by ground request.now log.now ≡ None }
+    requires able { IsAble footing request.now log.now }
+    requires kept { broken_by footing request.now log.now ≡ None }
     requires over { source_pages space.base ≡ pages_of log.now }
-    requires done { Stands (meant source_pages space) (tables_of log.now) (apply_all (rows_over ground log.now) request.now.ops) }
-    ensures { IfOk result (IsNextEntry ground request.now log.now generation) }
+    requires done { Stands (meant source_pages space) (tables_of log.now) (apply_all (rows_over footing log.now) request.now.ops) }
+    ensures { IfOk result (IsNextEntry footing request.now log.now generation) }
 {
     let records = entry_records(alloc, log, space)?;
     let changes = changes_made(alloc, request.ops.as_slice(), next_genid(log))?;

@@ -20,10 +20,10 @@ use std::alloc::{AllocError, Global};
 /// Whether the operations of a request that no entry touches can be done at the end of a log. They can but for want of
 /// genids, and where the log has a setup behind the begin position, which no log that is kept has. Takes no memory.
 pub(crate) fn are_able(request: &CommitRequest, log: &PagedLog) -> bool
-    ghost ground: { Ground }
-    requires asked { IsAsked ground request.now log.now }
+    ghost footing: { Ground }
+    requires asked { IsAsked footing request.now log.now }
     requires free { conflict_of request.now log.now ≡ None }
-    ensures { result ≡ true → IsAble ground request.now log.now }
+    ensures { result ≡ true → IsAble footing request.now log.now }
 {
     read_ops(request.ops.as_slice());
     are_commits(log.entries(), request.begin) && has_room(next_genid(log), request.ops.as_slice())

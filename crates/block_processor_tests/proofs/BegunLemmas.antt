@@ -18,7 +18,7 @@ use Rattle.table_store.specs.Listings.{IsAmong}
 use Rattle.table_store.specs.Operations.{gone, NoTwice}
 use Rattle.table_store.specs.Stored.{Stands}
 use Rattle.table_edits.specs.Fits.{FitsAt, WritesFitting}
-use Rattle.log_rows.specs.History.{rows_of, rows_at, tables_of}
+use Rattle.log_rows.specs.History.{no_ground, rows_of, rows_at, tables_of}
 use Rattle.block_processor.specs.Asked.{IsAsked, Writes}
 use Rattle.block_processor_tests.specs.Begun.{IsBegun, HaveNoKeys}
 
@@ -30,13 +30,13 @@ fits (t ∷ ts) x plain = record {
 }
 
 pub asked : (request : CommitRequest) (entries : List Entry) (tables : List TableDef) (x : ℤ) → IsBegun tables entries → HaveNoKeys tables
-    → request.ops ≡ Insert 0 (Int x ∷ []) ∷ [] → request.begin ≡ length entries → IsAsked request entries
+    → request.ops ≡ Insert 0 (Int x ∷ []) ∷ [] → request.begin ≡ length entries → IsAsked no_ground request entries
 asked request entries tables x begun plain ops begin =
     let same : tables_of entries ≡ tables = ap (λ (o : Option (List TableDef)). unwrap_or o []) begun.schema in
     let low : 1 ≤ length entries = begun.some in
     record {
       some = λ none. not_none (sym ops ∙ none);
-      begun = omega (arith, begin, low);
+      begun = (omega (arith, begin, low), omega arith);
       within = omega (arith, begin);
       schema = begun.schema ∙ ap (λ (t : List TableDef). Some t) (sym same);
       stands = subst (λ (t : List TableDef). Stands (pages_of entries) t (rows_of entries)) (sym same) begun.stands;

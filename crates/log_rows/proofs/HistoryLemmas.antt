@@ -50,20 +50,20 @@ drop_parts (suc position) zero entries h = absurd (none h)
 drop_parts (suc position) (suc begin) [] h = refl
 drop_parts (suc position) (suc begin) (e ∷ es) h = drop_parts position begin es (omega (arith, h))
 
-pub rows_ground : (ground : Ground) (entries : List Entry) → length entries ≤ ground.position → rows_over ground entries ≡ ground.rows
-rows_ground ground entries h = ap (λ (es : List Entry). rows_from ground.rows es) (drop_all ground.position entries h)
+pub rows_ground : (footing : Ground) (entries : List Entry) → length entries ≤ footing.position → rows_over footing entries ≡ footing.rows
+rows_ground footing entries h = ap (λ (es : List Entry). rows_from footing.rows es) (drop_all footing.position entries h)
 
-pub rows_earlier : (ground : Ground) (entries more : List Entry) (k : ℕ) → k ≤ length entries → rows_over_at ground (entries ++ more) k ≡ rows_over_at ground entries k
-rows_earlier ground entries more k h = ap (rows_over ground) (take-append-le k entries more h)
+pub rows_earlier : (footing : Ground) (entries more : List Entry) (k : ℕ) → k ≤ length entries → rows_over_at footing (entries ++ more) k ≡ rows_over_at footing entries k
+rows_earlier footing entries more k h = ap (rows_over footing) (take-append-le k entries more h)
 
-pub rows_whole : (ground : Ground) (entries : List Entry) → rows_over_at ground entries (length entries) ≡ rows_over ground entries
-rows_whole ground entries = ap (rows_over ground) (take_all entries)
+pub rows_whole : (footing : Ground) (entries : List Entry) → rows_over_at footing entries (length entries) ≡ rows_over footing entries
+rows_whole footing entries = ap (rows_over footing) (take_all entries)
 
-pub rows_last : (ground : Ground) (entries : List Entry) (entry : Entry) → ground.position ≤ length entries
-    → rows_over ground (entries ++ entry ∷ []) ≡ rows_after (rows_over ground entries) entry
-rows_last ground entries entry within =
-    ap (λ (es : List Entry). rows_from ground.rows es) (drop_more ground.position entries entry within)
-    ∙ rows_from-append ground.rows (drop ground.position entries) (entry ∷ [])
+pub rows_last : (footing : Ground) (entries : List Entry) (entry : Entry) → footing.position ≤ length entries
+    → rows_over footing (entries ++ entry ∷ []) ≡ rows_after (rows_over footing entries) entry
+rows_last footing entries entry within =
+    ap (λ (es : List Entry). rows_from footing.rows es) (drop_more footing.position entries entry within)
+    ∙ rows_from-append footing.rows (drop footing.position entries) (entry ∷ [])
 
 -- the last position, or one before it
 last_or : (k n : ℕ) → k ≤ suc n → (k ≤ n) ⊎ (k ≡ suc n)
@@ -76,22 +76,22 @@ last_or (suc k) (suc n) h = go (last_or k n (omega arith))
     go (inr e) = inr (ap (λ (m : ℕ). suc m) e)
 
 -- pages that stand for rows, of the same entries
-same_stand : (ground : Ground) (tables : List TableDef) (xs ys : List Entry) → xs ≡ ys → Stands (pages_of xs) tables (rows_over ground xs)
-    → Stands (pages_of ys) tables (rows_over ground ys)
-same_stand ground tables xs ys e h = subst (λ (l : List Entry). Stands (pages_of l) tables (rows_over ground l)) e h
+same_stand : (footing : Ground) (tables : List TableDef) (xs ys : List Entry) → xs ≡ ys → Stands (pages_of xs) tables (rows_over footing xs)
+    → Stands (pages_of ys) tables (rows_over footing ys)
+same_stand footing tables xs ys e h = subst (λ (l : List Entry). Stands (pages_of l) tables (rows_over footing l)) e h
 
-pub stand_begun : (ground : Ground) (tables : List TableDef) (entries : List Entry) → length entries ≡ ground.position
-    → (1 ≤ length entries → Stands (pages_of entries) tables ground.rows) → StandsOver ground tables entries
-stand_begun ground tables entries long stands k from high =
+pub stand_begun : (footing : Ground) (tables : List TableDef) (entries : List Entry) → length entries ≡ footing.position
+    → (1 ≤ length entries → Stands (pages_of entries) tables footing.rows) → StandsOver footing tables entries
+stand_begun footing tables entries long stands k from high =
     let some : 1 ≤ length entries = (let low = from.0 in omega (arith, low, high)) in
     let last : length entries ≡ k = (let base = from.1 in omega (arith, long, base, high)) in
-    let ends : length entries ≤ ground.position = omega (arith, long) in
-    same_stand ground tables entries (take k entries) (sym (ap (λ (n : ℕ). take n entries) (sym last) ∙ take_all entries))
-    (subst (λ (r : Rows). Stands (pages_of entries) tables r) (sym (rows_ground ground entries ends)) (stands some))
+    let ends : length entries ≤ footing.position = omega (arith, long) in
+    same_stand footing tables entries (take k entries) (sym (ap (λ (n : ℕ). take n entries) (sym last) ∙ take_all entries))
+    (subst (λ (r : Rows). Stands (pages_of entries) tables r) (sym (rows_ground footing entries ends)) (stands some))
 
-pub stand_more : (ground : Ground) (tables : List TableDef) (entries : List Entry) (entry : Entry) → StandsOver ground tables entries
-    → Stands (pages_of (entries ++ entry ∷ [])) tables (rows_over ground (entries ++ entry ∷ [])) → StandsOver ground tables (entries ++ entry ∷ [])
-stand_more ground tables entries entry before now k from high =
+pub stand_more : (footing : Ground) (tables : List TableDef) (entries : List Entry) (entry : Entry) → StandsOver footing tables entries
+    → Stands (pages_of (entries ++ entry ∷ [])) tables (rows_over footing (entries ++ entry ∷ [])) → StandsOver footing tables (entries ++ entry ∷ [])
+stand_more footing tables entries entry before now k from high =
     let long = length-append entries (entry ∷ []) in
     let within : k ≤ suc (length entries) = omega (arith, long) in
     go (last_or k (length entries) within)
@@ -99,24 +99,24 @@ stand_more ground tables entries entry before now k from high =
     all : List Entry
     all = entries ++ entry ∷ []
 
-    go : (k ≤ length entries) ⊎ (k ≡ suc (length entries)) → Stands (page_at all k) tables (rows_over_at ground all k)
-    go (inl l) = same_stand ground tables (take k entries) (take k all) (sym (take-append-le k entries (entry ∷ []) l)) (before k from l)
+    go : (k ≤ length entries) ⊎ (k ≡ suc (length entries)) → Stands (page_at all k) tables (rows_over_at footing all k)
+    go (inl l) = same_stand footing tables (take k entries) (take k all) (sym (take-append-le k entries (entry ∷ []) l)) (before k from l)
     go (inr e) =
         let long = length-append entries (entry ∷ []) in
         let last : k ≡ length all = omega (arith, long, e) in
-        same_stand ground tables all (take k all) (sym (ap (λ (n : ℕ). take n all) last ∙ take_all all)) now
+        same_stand footing tables all (take k all) (sym (ap (λ (n : ℕ). take n all) last ∙ take_all all)) now
 
-pub stand_front : (ground : Ground) (tables : List TableDef) (entries more : List Entry) → StandsOver ground tables (entries ++ more) → StandsOver ground tables entries
-stand_front ground tables entries more h k from high =
+pub stand_front : (footing : Ground) (tables : List TableDef) (entries more : List Entry) → StandsOver footing tables (entries ++ more) → StandsOver footing tables entries
+stand_front footing tables entries more h k from high =
     let long = length-append entries more in
     let within : k ≤ length (entries ++ more) = omega (arith, long) in
-    same_stand ground tables (take k (entries ++ more)) (take k entries) (take-append-le k entries more high) (h k from within)
+    same_stand footing tables (take k (entries ++ more)) (take k entries) (take-append-le k entries more high) (h k from within)
 
-pub stand_whole : (ground : Ground) (tables : List TableDef) (entries : List Entry) → 1 ≤ length entries → ground.position ≤ length entries
-    → StandsOver ground tables entries → Stands (pages_of entries) tables (rows_over ground entries)
-stand_whole ground tables entries some base h =
+pub stand_whole : (footing : Ground) (tables : List TableDef) (entries : List Entry) → 1 ≤ length entries → footing.position ≤ length entries
+    → StandsOver footing tables entries → Stands (pages_of entries) tables (rows_over footing entries)
+stand_whole footing tables entries some base h =
     let last : length entries ≤ length entries = omega arith in
-    same_stand ground tables (take (length entries) entries) entries (take_all entries) (h (length entries) (some, base) last)
+    same_stand footing tables (take (length entries) entries) entries (take_all entries) (h (length entries) (some, base) last)
 
 -- the schema of the first entry
 pub schema_front : (entries more : List Entry) → 1 ≤ length entries → schema_of (entries ++ more) ≡ schema_of entries
@@ -150,13 +150,13 @@ entries_stay [] rows table v commits off h = h
 entries_stay (e ∷ es) rows table v commits off h =
     entries_stay es (rows_after rows e) table v commits.1 off.1 (entry_stays e rows table v commits.0 off.0 h)
 
-pub stays : (ground : Ground) (entries : List Entry) (begin table : ℕ) (v : Version) → ground.position ≤ begin → AllByRecursion IsCommit (drop begin entries)
-    → IsAmong v (versions_of (rows_over_at ground entries begin) table) → AllByRecursion (IsUntaken table v.genid) (drop begin (takes_in entries))
-    → IsAmong v (versions_of (rows_over ground entries) table)
-stays ground entries begin table v base commits h off =
-    let parts : rows_from (rows_over_at ground entries begin) (drop begin entries) ≡ rows_over ground entries =
-    sym (rows_from-append ground.rows (drop ground.position (take begin entries)) (drop begin entries))
-    ∙ ap (λ (es : List Entry). rows_from ground.rows es) (drop_parts ground.position begin entries base) in
+pub stays : (footing : Ground) (entries : List Entry) (begin table : ℕ) (v : Version) → footing.position ≤ begin → AllByRecursion IsCommit (drop begin entries)
+    → IsAmong v (versions_of (rows_over_at footing entries begin) table) → AllByRecursion (IsUntaken table v.genid) (drop begin (takes_in entries))
+    → IsAmong v (versions_of (rows_over footing entries) table)
+stays footing entries begin table v base commits h off =
+    let parts : rows_from (rows_over_at footing entries begin) (drop begin entries) ≡ rows_over footing entries =
+    sym (rows_from-append footing.rows (drop footing.position (take begin entries)) (drop begin entries))
+    ∙ ap (λ (es : List Entry). rows_from footing.rows es) (drop_parts footing.position begin entries base) in
     subst (λ (r : Rows). IsAmong v (versions_of r table)) parts
-    (entries_stay (drop begin entries) (rows_over_at ground entries begin) table v commits
+    (entries_stay (drop begin entries) (rows_over_at footing entries begin) table v commits
     (subst (λ (l : List (List GenidItem)). AllByRecursion (IsUntaken table v.genid) l) (takes_behind begin entries) off) h)

@@ -46,11 +46,11 @@ no_ground = record { position = 0; rows = no_rows [] }
 
 -- the rows of a log over a ground: the ground's, with the changes of the entries after its position
 abbrev pub rows_over : Ground → List Entry → Rows
-rows_over ground entries = rows_from ground.rows (drop ground.position entries)
+rows_over footing entries = rows_from footing.rows (drop footing.position entries)
 
 -- the rows at a position of a log over a ground
 abbrev pub rows_over_at : Ground → List Entry → ℕ → Rows
-rows_over_at ground entries position = rows_over ground (take position entries)
+rows_over_at footing entries position = rows_over footing (take position entries)
 
 -- the rows of a log
 abbrev pub rows_of : List Entry → Rows
@@ -78,8 +78,8 @@ IsFrom base position = (1 ≤ position) × (base ≤ position)
 
 -- the pages stand for the rows over a ground, at each position from it on
 abbrev pub StandsOver : Ground → List TableDef → List Entry → Type 0
-StandsOver ground tables entries =
-    (k : ℕ) → IsFrom ground.position k → k ≤ length entries → Stands (page_at entries k) tables (rows_over_at ground entries k)
+StandsOver footing tables entries =
+    (k : ℕ) → IsFrom footing.position k → k ≤ length entries → Stands (page_at entries k) tables (rows_over_at footing entries k)
 
 -- the pages stand for the rows at each position
 abbrev pub StandsThroughout : List TableDef → List Entry → Type 0

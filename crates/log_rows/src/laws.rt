@@ -23,29 +23,29 @@ pub fn changes_make_the_rows()
 /// ground and its pages stand for the rows there, if it has any entry (`begun`); that they go on to do so where they do
 /// before an entry, and after it at the end (`more`); and what follows for its first entries (`front`) and its end (`whole`).
 pub fn entries_stand()
-    ensures begun { (ground : Ground) (tables : List TableDef) (entries : List Entry) → length entries ≡ ground.position →
-        (1 ≤ length entries → Stands (pages_of entries) tables ground.rows) → StandsOver ground tables entries }
-    ensures more { (ground : Ground) (tables : List TableDef) (entries : List Entry) (entry : Entry) →
-        StandsOver ground tables entries →
-        Stands (pages_of (entries ++ entry ∷ [])) tables (rows_over ground (entries ++ entry ∷ [])) →
-        StandsOver ground tables (entries ++ entry ∷ []) }
-    ensures front { (ground : Ground) (tables : List TableDef) (entries more : List Entry) →
-        StandsOver ground tables (entries ++ more) → StandsOver ground tables entries }
-    ensures whole { (ground : Ground) (tables : List TableDef) (entries : List Entry) → 1 ≤ length entries →
-        ground.position ≤ length entries → StandsOver ground tables entries →
-        Stands (pages_of entries) tables (rows_over ground entries) }
+    ensures begun { (footing : Ground) (tables : List TableDef) (entries : List Entry) → length entries ≡ footing.position →
+        (1 ≤ length entries → Stands (pages_of entries) tables footing.rows) → StandsOver footing tables entries }
+    ensures more { (footing : Ground) (tables : List TableDef) (entries : List Entry) (entry : Entry) →
+        StandsOver footing tables entries →
+        Stands (pages_of (entries ++ entry ∷ [])) tables (rows_over footing (entries ++ entry ∷ [])) →
+        StandsOver footing tables (entries ++ entry ∷ []) }
+    ensures front { (footing : Ground) (tables : List TableDef) (entries more : List Entry) →
+        StandsOver footing tables (entries ++ more) → StandsOver footing tables entries }
+    ensures whole { (footing : Ground) (tables : List TableDef) (entries : List Entry) → 1 ≤ length entries →
+        footing.position ≤ length entries → StandsOver footing tables entries →
+        Stands (pages_of entries) tables (rows_over footing entries) }
 {}
 
 /// The law that the rows over a ground are those of the ground up to its position (`ground`), that those at a position
 /// depend on the first entries alone (`earlier`), that those at the last position are the log's (`whole`), and that an entry
 /// more, behind the ground, makes its own of these (`last`).
 pub fn rows_grow()
-    ensures ground { (ground : Ground) (entries : List Entry) → length entries ≤ ground.position → rows_over ground entries ≡ ground.rows }
-    ensures earlier { (ground : Ground) (entries more : List Entry) (k : ℕ) → k ≤ length entries →
-        rows_over_at ground (entries ++ more) k ≡ rows_over_at ground entries k }
-    ensures whole { (ground : Ground) (entries : List Entry) → rows_over_at ground entries (length entries) ≡ rows_over ground entries }
-    ensures last { (ground : Ground) (entries : List Entry) (entry : Entry) → ground.position ≤ length entries →
-        rows_over ground (entries ++ entry ∷ []) ≡ rows_after (rows_over ground entries) entry }
+    ensures footing { (footing : Ground) (entries : List Entry) → length entries ≤ footing.position → rows_over footing entries ≡ footing.rows }
+    ensures earlier { (footing : Ground) (entries more : List Entry) (k : ℕ) → k ≤ length entries →
+        rows_over_at footing (entries ++ more) k ≡ rows_over_at footing entries k }
+    ensures whole { (footing : Ground) (entries : List Entry) → rows_over_at footing entries (length entries) ≡ rows_over footing entries }
+    ensures last { (footing : Ground) (entries : List Entry) (entry : Entry) → footing.position ≤ length entries →
+        rows_over footing (entries ++ entry ∷ []) ≡ rows_after (rows_over footing entries) entry }
 {}
 
 /// The law that the schema of a log stays once it has an entry, and that an entry more adds what it takes away at the end.
@@ -58,9 +58,9 @@ pub fn logs_keep_their_schema()
 /// The law that a version of a table that is there at a position over a ground, and that no later entry takes away, is there
 /// at the end, with the same row. The later entries are those of transactions.
 pub fn untaken_stays()
-    ensures { (ground : Ground) (entries : List Entry) (begin table : ℕ) (v : Version) → ground.position ≤ begin →
+    ensures { (footing : Ground) (entries : List Entry) (begin table : ℕ) (v : Version) → footing.position ≤ begin →
         AllByRecursion IsCommit (drop begin entries) →
-        IsAmong v (versions_of (rows_over_at ground entries begin) table) →
+        IsAmong v (versions_of (rows_over_at footing entries begin) table) →
         AllByRecursion (IsUntaken table v.genid) (drop begin (takes_in entries)) →
-        IsAmong v (versions_of (rows_over ground entries) table) }
+        IsAmong v (versions_of (rows_over footing entries) table) }
 {}

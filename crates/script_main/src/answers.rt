@@ -12,11 +12,15 @@ ghost use Rattle.script_main.specs.Run.{IsText};
 
 use super::statuses::Status;
 use cdb_values::Bytes;
+use log_replay::PagedLog;
 use report_text::{Report, print};
 use script_form::Script;
 use script_play::play;
 use script_read::{ScriptStop, read_script, scripts_can_run, scripts_have_names};
 use std::alloc::{AllocError, Global};
+
+/// The generation in which a run goes on that begins its log.
+const GENERATION: u64 = 1;
 
 /// A status, and the text that is to be written.
 #[derive(Drop)]
@@ -50,13 +54,13 @@ pub(crate) fn answer_script(
 /// A value's end, so that the steps of its destructor are no part of the function that had it.
 fn let_go<T: Drop>(_value: T) {}
 
-/// The answer to a script that was read.
+/// The answer to a script that was read. Its run begins with a log without entries.
 fn played(alloc: Global, script: &Script) -> Result<Answer, AllocError>
     requires runs { CanRun script.now }
     requires names { IsNamed script.now }
     ensures { IfOk result (λ a. IsText true (Ok script.now) a.status a.text) }
 {
-    let played = play(alloc, script)?;
+    let played = play(alloc, script, PagedLog::new(alloc), GENERATION)?;
     let answer = told(alloc, script, &played.report);
     let_go(played);
     answer

@@ -1,5 +1,5 @@
 -- Whatever is decided on a transaction at its commit is right, and the history and the rows stay in order.
-use Rattle.std.proofs.Common.{◌≡◌, ◌≢◌, ℕ, zero, suc, ◌+◌, ◌-◌, ◌≤◌, List, [], ◌∷◌, ◌++◌, length, map, refl, sym, subst, ap, arith, Option, Some, None, ◌∙◌, unwrap_or, ◌⊎◌, inl, inr}
+use Rattle.std.proofs.Common.{◌≡◌, ◌≢◌, ℕ, zero, suc, ◌+◌, ◌-◌, ◌≤◌, List, [], ◌∷◌, ◌++◌, map, refl, sym, subst, ap, arith, Option, Some, None, ◌∙◌, unwrap_or, ◌⊎◌, inl, inr}
 use Rattle.std.proofs.lemmas.List.{length-append, append-nil}
 use Rattle.std.specs.List.{AllByRecursion, slice_get}
 use Rattle.std.specs.Prelude.{drop}

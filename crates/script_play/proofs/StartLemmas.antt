@@ -1,14 +1,13 @@
 -- The run at its opening: with a log that it begins, and behind one that stands already.
-use Rattle.std.proofs.Common.{◌≡◌, zero, suc, ℕ, ◌+◌, ◌-◌, ◌<◌, ◌≤◌, ◌==◌, List, [], ◌∷◌, ◌++◌, length, map, refl, sym, subst, ap, arith, ◌∙◌, append-nil, unwrap_or, Bool, if◌then◌else◌}
+use Rattle.std.proofs.Common.{◌≡◌, zero, suc, ℕ, ◌-◌, ◌<◌, ◌≤◌, ◌==◌, List, [], ◌∷◌, length, map, refl, sym, subst, ap, arith, ◌∙◌, append-nil, unwrap_or, Bool, if◌then◌else◌}
 use Rattle.std.proofs.lemmas.Bool.{ne_eqb}
 use Rattle.std.specs.List.{AllByRecursion, slice_get}
 use Rattle.std.specs.Prelude.{drop}
 use Rattle.cdb_values.specs.Rows.{Rows, no_rows}
 use Rattle.cdb_values.specs.declared.items.GenidItem.{GenidItem}
-use Rattle.cdb_values.specs.declared.rows.Version.{Version}
 use Rattle.cdb_values.specs.declared.tables.TableDef.{TableDef}
 use Rattle.log_rows.proofs.HistoryLemmas.{rows_ground, rows_whole, stand_begun}
-use Rattle.log_rows.specs.History.{rows_over, rows_over_at, takes_of, takes_in, IsFrom, StandsOver}
+use Rattle.log_rows.specs.History.{rows_over, rows_over_at, takes_in, IsFrom, StandsOver}
 use Rattle.phys_log.specs.Logs.{page_at, pages_of}
 use Rattle.phys_log.specs.declared.entries.Entry.{Entry}
 use Rattle.phys_log.specs.declared.entries.Entry.TheVariants as log
@@ -27,7 +26,7 @@ use Rattle.script_play.specs.EntryLines.{AreTold}
 use Rattle.script_play.specs.Ready.{AreKept, CanBegin, GoesOn, IsLogged}
 use Rattle.script_play.specs.RunViews.{seen_in, IsOpening, IsOpenedLog}
 use Rattle.script_play.specs.Seen.{Seen}
-use Rattle.script_play.specs.SoFar.{now_of, IsBefore, SoFar, Stored, at_start}
+use Rattle.script_play.specs.SoFar.{now_of, IsBefore, Stored, at_start}
 use Rattle.script_play.specs.Start.{Start, base, ground_of}
 use Rattle.script_play.proofs.SoundLaws.{kept_none}
 use Rattle.script_play.proofs.WholeLemmas.{begins_so}

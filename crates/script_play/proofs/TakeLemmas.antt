@@ -38,7 +38,7 @@ use Rattle.script_play.specs.declared.states.InTransaction.{InTransaction}
 use Rattle.script_play.specs.declared.states.InTransaction.TheVariants.{No, Open, Aborted}
 use Rattle.script_play.specs.Seen.{Seen}
 use Rattle.script_play.specs.Start.{Start, base, ground_of}
-use Rattle.script_play.specs.Step.{World, Turned, IsTaken, IsTurned, IsKept, answer_of, entries_added, outcome, turn_of, cut_by, world_of}
+use Rattle.script_play.specs.Step.{World, Turned, IsTaken, IsTurned, IsKept, answer_of, outcome, turn_of, cut_by, world_of}
 use Rattle.script_play.specs.declared.effects.LineEffect.{LineEffect}
 use Rattle.script_play.specs.declared.states.SessionState.{SessionState}
 

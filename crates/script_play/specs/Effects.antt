@@ -16,7 +16,7 @@ use Rattle.report_text.specs.declared.reports.Line.{Line}
 use Rattle.report_text.specs.declared.reports.ReplyLine.{ReplyLine}
 use Rattle.table_store.specs.Stored.{Stands}
 use Rattle.script_play.specs.Decisions.{added_by}
-use Rattle.script_play.specs.EntryLines.{line_of, IsMadeIn}
+use Rattle.script_play.specs.EntryLines.{line_of}
 use Rattle.script_play.specs.RunViews.{state_in, IsOwn}
 use Rattle.script_play.specs.Start.{Start, ground_of}
 use Rattle.script_play.specs.Step.{Turned, Cut}

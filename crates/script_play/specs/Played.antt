@@ -15,15 +15,15 @@ use Rattle.script_play.specs.EntryLines.{AreTold}
 use Rattle.script_play.specs.Start.{Start, base, ground_of}
 
 -- a report and a log, by what the report is judged by, and the ground of the rows
-pub record IsLeft (script : Script) (before : List Entry) (basis : Basis) (ground : Ground) (position generation : ℕ) (report : Report) (log : List Entry) : Type 0 where
+pub record IsLeft (script : Script) (before : List Entry) (basis : Basis) (footing : Ground) (position generation : ℕ) (report : Report) (log : List Entry) : Type 0 where
   pub lawful : Lawful basis report
   pub in_order : InPlayOrder basis report
   pub no_fault : downs report.lines ≡ 0
   pub entries : AreTold before generation report.entries log
   pub schema : schema_of log ≡ Some (tables_of script)
   pub taken : (k : ℕ) → position < k → k ≤ length log → unwrap_or (slice_get (takes_in log) (k - 1)) [] ≡ taken_at basis report.entries k
-  pub rows : (k : ℕ) → IsFrom position k → k ≤ length log → rows_over_at ground log k ≡ rows_at basis report.entries k
-  pub stands : StandsOver ground (tables_of script) log
+  pub rows : (k : ℕ) → IsFrom position k → k ≤ length log → rows_over_at footing log k ≡ rows_at basis report.entries k
+  pub stands : StandsOver footing (tables_of script) log
 
 -- the same by the start
 abbrev pub IsPlayed : Script → Start → ℕ → Report → List Entry → Type 0

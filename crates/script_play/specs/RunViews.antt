@@ -18,7 +18,7 @@ use Rattle.script_form.specs.declared.scripts.SessionLine.{SessionLine}
 use Rattle.cdb_values.specs.declared.rows.Level.{Level}
 use Rattle.sql_answer.specs.Answers.{Meaning}
 use Rattle.sql_answer.specs.Language.{meaning, bound_in}
-use Rattle.script_play.specs.Start.{Start, base, ground_of}
+use Rattle.script_play.specs.Start.{Start, ground_of}
 use Rattle.script_play.specs.Doing.{Doing, SessionAt}
 use Rattle.script_play.specs.Doing as doing
 use Rattle.script_play.specs.EntryLines.{AreTold}

@@ -2,4 +2,4 @@
 use Rattle.block_processor.proofs.decisions.decide.Given as goal
 
 abbrev pub ghost-decide_free : goal.ghost-decide_free
-ghost-decide_free g a = g.ground
+ghost-decide_free g a = g.footing

@@ -16,11 +16,11 @@ returns g c =
     let log = c.args.log.now in
     let changes = c.in_ok-changes.changes in
     let records = c.in_ok-records.records in
-    let base : g.ground.position ≤ length log = (let from = c.requires.0.begun.1 in let within = c.requires.0.within in omega (arith, from, within)) in
+    let base : g.footing.position ≤ length log = (let from = c.requires.0.begun.1 in let within = c.requires.0.within in omega (arith, from, within)) in
     let same : c.in_ok-id.id ≡ request.id = c.in_ok-id.ensures in
-    let next : c.next_genid.result ≡ (rows_over g.ground log).next = c.next_genid.ensures ∙ c.requires.0.stands.genid in
-    let made : changes ≡ changes_of request.ops (rows_over g.ground log).next =
+    let next : c.next_genid.result ≡ (rows_over g.footing log).next = c.next_genid.ensures ∙ c.requires.0.stands.genid in
+    let made : changes ≡ changes_of request.ops (rows_over g.footing log).next =
     c.in_ok-changes.ensures ∙ ap (λ (l : List RowOp). changes_of l c.next_genid.result) c.as_slice.ensures ∙ ap (changes_of request.ops) next in
-    subst (λ (i : CommitId). IsNextEntry g.ground request log c.args.generation (entry.Commit c.args.generation i request.begin request.level changes records)) (sym same)
-    (next_is g.ground request log c.args.generation changes records base c.requires.1.0 c.requires.1.1.1.0 made c.in_ok-records.ensures.next
-    (c.in_ok-records.ensures.stands (tables_of log) (apply_all (rows_over g.ground log) request.ops) c.requires.1.1.1.1.1))
+    subst (λ (i : CommitId). IsNextEntry g.footing request log c.args.generation (entry.Commit c.args.generation i request.begin request.level changes records)) (sym same)
+    (next_is g.footing request log c.args.generation changes records base c.requires.1.0 c.requires.1.1.1.0 made c.in_ok-records.ensures.next
+    (c.in_ok-records.ensures.stands (tables_of log) (apply_all (rows_over g.footing log) request.ops) c.requires.1.1.1.1.1))

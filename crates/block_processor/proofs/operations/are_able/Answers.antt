@@ -16,9 +16,9 @@ returns-then-are_commits g c = λ yes.
     let commits : AllByRecursion IsCommit (drop request.begin log) =
     subst (λ (l : List Entry). AllByRecursion IsCommit (drop request.begin l)) c.entries.ensures
     (commits_all (drop request.begin c.entries.result.now) (sym c.are_commits.ensures ∙ c.if-are_commits.true)) in
-    let next : c.next_genid.result ≡ (rows_over g.ground log).next = c.next_genid.ensures ∙ c.requires.0.stands.genid in
-    let room : (rows_over g.ground log).next + length request.ops < 2 ^ 62 =
+    let next : c.next_genid.result ≡ (rows_over g.footing log).next = c.next_genid.ensures ∙ c.requires.0.stands.genid in
+    let room : (rows_over g.footing log).next + length request.ops < 2 ^ 62 =
     subst (λ (n : ℕ). n + length request.ops < 2 ^ 62) next
     (subst (λ (l : List RowOp). c.next_genid.result + length l < 2 ^ 62) c.as_slice-then-are_commits.ensures (c.has_room.ensures yes)) in
-    able g.ground request log c.requires.0 c.requires.1 commits
+    able g.footing request log c.requires.0 c.requires.1 commits
     (subst (λ (l : List RowOp). AllByRecursion (Writes IsInRange) l) c.as_slice.ensures c.read_ops.ensures) room

@@ -4,6 +4,4 @@ use Rattle.block_processor_tests.proofs.BegunLemmas.{asked}
 use Rattle.block_processor_tests.proofs.tests.decided.Goals as goal
 
 pub decide-requires : goal.decide-requires
-decide-requires c = record {
-  asked = asked _ c.args.log.now c.args.schema.now _ c.requires.begun c.requires.plain c.in_ok-insert.ensures (ap length c.entries.ensures);
-}
+decide-requires c = asked _ c.args.log.now c.args.schema.now _ c.requires.begun c.requires.plain c.in_ok-insert.ensures (ap length c.entries.ensures)

@@ -1,8 +1,8 @@
 use Rattle.log_rows.proofs.HistoryLemmas.{rows_ground, rows_earlier, rows_whole, rows_last}
 use Rattle.log_rows.proofs.laws.rows_grow.Goals as goal
 
-pub returns-clause-ground : goal.returns-clause-ground
-returns-clause-ground c = rows_ground
+pub returns-clause-footing : goal.returns-clause-footing
+returns-clause-footing c = rows_ground
 
 pub returns-clause-earlier : goal.returns-clause-earlier
 returns-clause-earlier c = rows_earlier

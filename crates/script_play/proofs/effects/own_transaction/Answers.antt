@@ -24,10 +24,10 @@ answer_text-requires g c = (
 
 pub decided-requires : goal.decided-requires
 decided-requires g c = (
-    c.requires.0,
-    subst (λ (b : ℕ). IsAble g.start c.args.schema.now (length c.args.run.now.log) c.args.run.now.log b c.answer_text.new.session.ops) (sym c.answer_text.ensures.begin)
-    (own_able g.start c.args.schema.now (length c.args.run.now.log) c.in_ok-session.session.begin c.args.run.now.log (text_in c.args.prepared.now).meaning c.answer_text.new.session.ops c.in_ok-session.session.ops
-    c.requires.0 c.requires.1.1 c.in_ok-session.ensures.begin c.in_ok-session.ensures.ops c.in_ok-told.ensures.ops),
+  c.requires.0,
+  subst (λ (b : ℕ). IsAble g.start c.args.schema.now (length c.args.run.now.log) c.args.run.now.log b c.answer_text.new.session.ops) (sym c.answer_text.ensures.begin)
+      (own_able g.start c.args.schema.now (length c.args.run.now.log) c.in_ok-session.session.begin c.args.run.now.log (text_in c.args.prepared.now).meaning c.answer_text.new.session.ops c.in_ok-session.session.ops
+      c.requires.0 c.requires.1.1 c.in_ok-session.ensures.begin c.in_ok-session.ensures.ops c.in_ok-told.ensures.ops),
 )
 
 pub returns : goal.returns

@@ -1,4 +1,4 @@
-use Rattle.std.proofs.Common.{◌≡◌, ◌∙◌, List, length, ap, map, sym, subst}
+use Rattle.std.proofs.Common.{◌∙◌, List, length, ap, map, sym, subst}
 use Rattle.log_rows.specs.History.{takes_in}
 use Rattle.phys_log.specs.declared.entries.Entry.{Entry}
 use Rattle.script_play.specs.RunViews.{seen_in, state_in, IsBeforeLine, IsOpening}
