@@ -105,16 +105,23 @@ fn opened(number: u8, nodes: u8, store: &Store) -> Node {
 
 /// Whether more than half of so many stores, with those that are not read, promised at least that.
 fn is_promised(nodes: &[Node], all: usize, accepted: u64) -> bool {
-    let below = nodes
-        .iter()
-        .filter(|node| node.vote.up && node.vote.promised < accepted)
-        .count();
+    let mut below = 0usize;
+    for node in nodes {
+        if node.vote.up && node.vote.promised < accepted {
+            below = below.saturating_add(1);
+        }
+    }
     below.saturating_mul(2) < all
 }
 
 /// Whether the stores of all nodes that are up fit.
 pub(crate) fn are_fit(nodes: &[Node], all: usize) -> bool {
-    nodes.iter().all(|node| !node.vote.up || is_promised(nodes, all, node.vote.accepted))
+    for node in nodes {
+        if node.vote.up && !is_promised(nodes, all, node.vote.accepted) {
+            return false;
+        }
+    }
+    true
 }
 
 impl Cluster {
@@ -147,14 +154,19 @@ impl Cluster {
     /// One node more, which is up where its store fits.
     fn admit(&mut self, store: &Store, all: usize) -> Result<(), AllocError> {
         let number = self.nodes.len().min(6) as u8 + 1;
-        let mut node = opened(number, all.min(7) as u8, store);
-        self.nodes.push(node)?;
+        self.nodes.push(opened(number, all.min(7) as u8, store))?;
         if self.missing != Missing::Fitting && !are_fit(self.nodes.as_slice(), all) {
-            let _ = self.nodes.pop();
-            node.vote.up = false;
-            self.nodes.push(node)?;
+            self.stops_last();
         }
         Ok(())
+    }
+
+    /// The last node goes down.
+    fn stops_last(&mut self) {
+        let at = self.nodes.len().saturating_sub(1);
+        if at < self.nodes.len() {
+            self.nodes[at].vote.up = false;
+        }
     }
 
     /// The node at that place.
@@ -240,25 +252,56 @@ impl Cluster {
     /// its own, and has no request that was refused for good.
     fn accepts(&mut self, node: &Node) -> Result<(), AllocError> {
         let (generation, log) = (node.vote.accepted, node.log);
-        let stays = self.durable.iter().all(|claim| generation <= claim.generation
-            || log.begins_with(&claim.log));
-        let follows = self.accepted.iter().all(|claim| generation != claim.generation
-            || log.agrees_with(&claim.log));
-        let lacks = self.refusals.iter().all(|refusal| {
-            generation < refusal.generation
-                || !log.contains(refusal.entry)
-                || !self.is_settled(refusal.generation)
-        });
-        self.wrong = self.wrong || !stays || !follows || !lacks;
+        self.wrong = self.wrong
+            || !self.stays(generation, &log)
+            || !self.follows(generation, &log)
+            || !self.lacks(generation, &log);
         self.accepted.push(Claim { generation, log })?;
         Ok(())
     }
 
+    /// Whether a log begins with what is durable in lower generations. A loop here and below costs a proof far less than
+    /// a closure.
+    fn stays(&self, generation: u64, log: &Log) -> bool {
+        for claim in self.durable.iter() {
+            if claim.generation < generation && !log.begins_with(&claim.log) {
+                return false;
+            }
+        }
+        true
+    }
+
+    /// Whether a log agrees with all that is accepted in its generation.
+    fn follows(&self, generation: u64, log: &Log) -> bool {
+        for claim in self.accepted.iter() {
+            if claim.generation == generation && !log.agrees_with(&claim.log) {
+                return false;
+            }
+        }
+        true
+    }
+
+    /// Whether a log has no request that was refused for good.
+    fn lacks(&self, generation: u64, log: &Log) -> bool {
+        for refusal in self.refusals.iter() {
+            if refusal.generation <= generation
+                && log.contains(refusal.entry)
+                && self.is_settled(refusal.generation)
+            {
+                return false;
+            }
+        }
+        true
+    }
+
     /// Whether a log was told durable in that generation.
     fn is_settled(&self, generation: u64) -> bool {
-        self.durable
-            .iter()
-            .any(|claim| claim.generation == generation)
+        for claim in self.durable.iter() {
+            if claim.generation == generation {
+                return true;
+            }
+        }
+        false
     }
 
     /// What a node accepted is told.
@@ -427,7 +470,12 @@ impl Cluster {
 
     /// Whether a log agrees with each that was told durable.
     fn agrees(&self, log: &Log) -> bool {
-        self.durable.iter().all(|claim| log.agrees_with(&claim.log))
+        for claim in self.durable.iter() {
+            if !log.agrees_with(&claim.log) {
+                return false;
+            }
+        }
+        true
     }
 
     /// A request is answered as committed where its leader's log of that generation was told durable up to it: that
@@ -441,34 +489,42 @@ impl Cluster {
         else {
             return
         };
-        let any = self.missing == Missing::OwnGeneration;
-        let told = self.told.iter().any(|fact| is_durable(
-            &fact.message,
-            from,
-            generation,
-            length,
-            any,
-        ));
+        let told = self.is_told_durable(from, generation, length);
         self.wrong = self.wrong || told && !self.agrees(&shipped.log);
+    }
+
+    /// Whether that leader told so much durable.
+    fn is_told_durable(&self, from: u8, generation: u64, length: u64) -> bool {
+        let any = self.missing == Missing::OwnGeneration;
+        for fact in self.told.iter() {
+            if is_durable(&fact.message, from, generation, length, any) {
+                return true;
+            }
+        }
+        false
     }
 
     /// How many nodes confirmed a ping, with the one that sent it.
     fn confirmers(&self, from: u8, generation: u64, asked: u64) -> usize {
+        let mut count = 0usize;
+        for node in self.nodes.iter() {
+            let number = node.vote.node;
+            if number == from || self.is_confirming(number, generation, asked) {
+                count = count.saturating_add(1);
+            }
+        }
+        count
+    }
+
+    /// Whether a node confirmed a ping.
+    fn is_confirming(&self, number: u8, generation: u64, asked: u64) -> bool {
         let any = self.missing == Missing::OwnRound;
-        self.nodes
-            .iter()
-            .filter(|node| {
-                let number = node.vote.node;
-                number == from
-                    || self.told.iter().any(|fact| is_pong(
-                        &fact.message,
-                        number,
-                        generation,
-                        asked,
-                        any,
-                    ))
-            })
-            .count()
+        for fact in self.told.iter() {
+            if is_pong(&fact.message, number, generation, asked, any) {
+                return true;
+            }
+        }
+        false
     }
 
     /// The position of a ping of the last ask, where more than half of the nodes confirmed it.
@@ -495,10 +551,13 @@ impl Cluster {
 
     /// The least position that answers the last ask.
     fn least_begin(&self, ask: u64) -> Option<u64> {
-        self.told
-            .iter()
-            .filter_map(|fact| self.confirmed(&fact.message, ask))
-            .min()
+        let mut least = None;
+        for fact in self.told.iter() {
+            if let Some(position) = self.confirmed(&fact.message, ask) {
+                least = Some(lesser(least, position));
+            }
+        }
+        least
     }
 
     /// A confirmation may complete the answer of a begin, which is to be fresh.
@@ -510,6 +569,14 @@ impl Cluster {
             self.begins = self.begins.saturating_add(1);
             self.wrong = self.wrong || position < self.before_ask;
         }
+    }
+}
+
+/// The lesser of a position and one that may have been found.
+fn lesser(found: Option<u64>, position: u64) -> u64 {
+    match found {
+        Some(found) => found.min(position),
+        None => position,
     }
 }
 

@@ -16,30 +16,24 @@ struct Met {
     begins: u64,
 }
 
-/// The number after a drawn one.
-fn next(x: u64) -> u64 {
-    x.wrapping_mul(6364136223846793005)
-        .wrapping_add(1442695040888963407)
-}
-
 /// One walk of 100 steps from a drawn number; where `again`, the second half is a further run over what the stores have.
+/// What it met, and the last drawn number. No cluster is held where a step may fail: its destructor would stand there.
 fn walk(
     alloc: Global,
     stores: &[Store],
     missing: Missing,
     seed: u64,
     again: bool,
-) -> Result<(Cluster, u64), AllocError> {
+) -> Result<(Met, u64), AllocError> {
     let mut cluster = Cluster::open(alloc, missing, stores)?;
-    let mut x = seed;
-    for step in 0..100u64 {
-        x = next(x);
-        cluster.draws(x)?;
-        if again && step == 50 {
-            cluster.opens_again();
-        }
-    }
-    Ok((cluster, x))
+    let walked = cluster.walks(seed, again);
+    let met = Met {
+        wrong: u64::from(cluster.wrong),
+        durables: cluster.durables,
+        begins: cluster.begins,
+    };
+    drop(cluster);
+    Ok((met, walked?))
 }
 
 /// 1,000 such walks; each other one has two runs.
@@ -53,11 +47,11 @@ fn walked(alloc: Global, nodes: usize) -> Result<Met, AllocError> {
     let stores = &stores[..nodes.min(7)];
     let mut x: u64 = 20261127;
     for turn in 0..1000u64 {
-        let (cluster, after) = walk(alloc, stores, Missing::Nothing, x, turn % 2 == 1)?;
+        let (found, after) = walk(alloc, stores, Missing::Nothing, x, turn % 2 == 1)?;
         x = after;
-        met.wrong = met.wrong.saturating_add(u64::from(cluster.wrong));
-        met.durables = met.durables.saturating_add(cluster.durables);
-        met.begins = met.begins.saturating_add(cluster.begins);
+        met.wrong = met.wrong.saturating_add(found.wrong);
+        met.durables = met.durables.saturating_add(found.durables);
+        met.begins = met.begins.saturating_add(found.begins);
     }
     Ok(met)
 }
@@ -66,8 +60,12 @@ fn walked(alloc: Global, nodes: usize) -> Result<Met, AllocError> {
 /// far dearer to prove.
 fn gets_on<R: Abort>(rt: &R, met: Met, nodes: usize) {
     assert_eq!(rt; met.wrong, 0, "of {nodes}");
-    assert!(rt; met.durables > 0, "of {nodes}");
-    assert!(rt; met.begins > 0, "of {nodes}");
+    is_some(rt, met.durables, nodes);
+    is_some(rt, met.begins, nodes);
+}
+
+fn is_some<R: Abort>(rt: &R, count: u64, nodes: usize) {
+    assert!(rt; count > 0, "of {nodes}");
 }
 
 /// 100,000 steps of three nodes and of five meet no wrong state, and get somewhere.
@@ -95,8 +93,8 @@ fn unfit_stores() -> [Store; 3] {
 fn is_missed(alloc: Global, stores: &[Store], missing: Missing) -> Result<bool, AllocError> {
     let mut x: u64 = 20261127;
     for _ in 0..2000u64 {
-        let (cluster, after) = walk(alloc, stores, missing, x, false)?;
-        if cluster.wrong {
+        let (found, after) = walk(alloc, stores, missing, x, false)?;
+        if found.wrong > 0 {
             return Ok(true);
         }
         x = after;
@@ -109,19 +107,30 @@ fn needed<R: Abort>(rt: &R, is_needed: bool) {
     assert!(rt; is_needed);
 }
 
+/// Asserts of rules that walks miss each of them.
+fn are_missed<R: Abort>(
+    rt: &R,
+    alloc: Global,
+    stores: &[Store],
+    rules: &[Missing],
+) -> Result<(), AllocError> {
+    for missing in rules {
+        needed(rt, is_missed(alloc, stores, *missing)?);
+    }
+    Ok(())
+}
+
+static OF_EMPTY_STORES: [Missing; 3] = [Missing::Comparison, Missing::OneVote, Missing::OwnAcks];
+
+static OF_UNFIT_STORES: [Missing; 1] = [Missing::Fitting];
+
 /// Walks with one of four rules left out find a wrong state.
 #[test]
 fn walks_miss_a_rule(rt: HostRuntime) -> Result<(), Fail> {
     let stores = [empty_store(); 3];
-    let stores = stores.as_slice();
-    needed(&rt, is_missed(rt.alloc(), stores, Missing::Comparison)?);
-    needed(&rt, is_missed(rt.alloc(), stores, Missing::OneVote)?);
-    needed(&rt, is_missed(rt.alloc(), stores, Missing::OwnAcks)?);
+    are_missed(&rt, rt.alloc(), stores.as_slice(), &OF_EMPTY_STORES)?;
     let stores = unfit_stores();
-    needed(
-        &rt,
-        is_missed(rt.alloc(), stores.as_slice(), Missing::Fitting)?,
-    );
+    are_missed(&rt, rt.alloc(), stores.as_slice(), &OF_UNFIT_STORES)?;
     Ok(())
 }
 
@@ -133,8 +142,11 @@ fn is_wrong(
     steps: &[Step],
 ) -> Result<bool, AllocError> {
     let mut cluster = Cluster::open(alloc, missing, stores)?;
-    cluster.plays(steps)?;
-    Ok(cluster.wrong)
+    let played = cluster.plays(steps);
+    let wrong = cluster.wrong;
+    drop(cluster);
+    played?;
+    Ok(wrong)
 }
 
 /// Whether a run meets a wrong state just where a rule is left out.
@@ -148,55 +160,75 @@ fn is_shown(alloc: Global, missing: Missing, steps: &[Step]) -> Result<bool, All
     Ok(!ruled && is_wrong(alloc, missing, stores.as_slice(), steps)?)
 }
 
+/// The run that shows a rule to be needed.
+fn run_of(missing: Missing) -> &'static [Step] {
+    match missing {
+        Missing::Nothing => &[],
+        Missing::Fitting => &FITTING,
+        Missing::Comparison => &COMPARISON,
+        Missing::GenerationFirst => &GENERATION_FIRST,
+        Missing::OneVote => &ONE_VOTE,
+        Missing::AcceptedBelow => &ACCEPTED_BELOW,
+        Missing::WholeLog => &WHOLE_LOG,
+        Missing::TakingPromises => &TAKING_PROMISES,
+        Missing::OwnAcks => &OWN_ACKS,
+        Missing::NotAbove => &NOT_ABOVE,
+        Missing::Following => &FOLLOWING,
+        Missing::AdoptedLength => &ADOPTED_LENGTH,
+        Missing::NoPromiseAbove => &NO_PROMISE_ABOVE,
+        Missing::OwnRound => &OWN_ROUND,
+        Missing::OwnGeneration => &OWN_GENERATION,
+    }
+}
+
+/// Asserts of rules that the run of each shows it to be needed.
+fn are_shown<R: Abort>(rt: &R, alloc: Global, rules: &[Missing]) -> Result<(), AllocError> {
+    for missing in rules {
+        needed(rt, is_shown(alloc, *missing, run_of(*missing))?);
+    }
+    Ok(())
+}
+
+static OF_ELECTIONS: [Missing; 5] = [
+    Missing::Fitting,
+    Missing::Comparison,
+    Missing::GenerationFirst,
+    Missing::OneVote,
+    Missing::AcceptedBelow,
+];
+
 /// Each rule of votes and leads is needed.
 #[test]
 fn each_rule_of_elections_is_needed(rt: HostRuntime) -> Result<(), Fail> {
-    let alloc = rt.alloc();
-    needed(&rt, is_shown(alloc, Missing::Fitting, &FITTING)?);
-    needed(&rt, is_shown(alloc, Missing::Comparison, &COMPARISON)?);
-    needed(
-        &rt,
-        is_shown(alloc, Missing::GenerationFirst, &GENERATION_FIRST)?,
-    );
-    needed(&rt, is_shown(alloc, Missing::OneVote, &ONE_VOTE)?);
-    needed(
-        &rt,
-        is_shown(alloc, Missing::AcceptedBelow, &ACCEPTED_BELOW)?,
-    );
+    are_shown(&rt, rt.alloc(), &OF_ELECTIONS)?;
     Ok(())
 }
+
+static OF_LOGS: [Missing; 5] = [
+    Missing::WholeLog,
+    Missing::TakingPromises,
+    Missing::OwnAcks,
+    Missing::NotAbove,
+    Missing::Following,
+];
 
 /// Each rule of logs is needed.
 #[test]
 fn each_rule_of_logs_is_needed(rt: HostRuntime) -> Result<(), Fail> {
-    let alloc = rt.alloc();
-    needed(&rt, is_shown(alloc, Missing::WholeLog, &WHOLE_LOG)?);
-    needed(
-        &rt,
-        is_shown(alloc, Missing::TakingPromises, &TAKING_PROMISES)?,
-    );
-    needed(&rt, is_shown(alloc, Missing::OwnAcks, &OWN_ACKS)?);
-    needed(&rt, is_shown(alloc, Missing::NotAbove, &NOT_ABOVE)?);
-    needed(&rt, is_shown(alloc, Missing::Following, &FOLLOWING)?);
+    are_shown(&rt, rt.alloc(), &OF_LOGS)?;
     Ok(())
 }
+
+static OF_ANSWERS: [Missing; 4] = [
+    Missing::AdoptedLength,
+    Missing::NoPromiseAbove,
+    Missing::OwnRound,
+    Missing::OwnGeneration,
+];
 
 /// Each rule of begins and outcomes is needed.
 #[test]
 fn each_rule_of_answers_is_needed(rt: HostRuntime) -> Result<(), Fail> {
-    let alloc = rt.alloc();
-    needed(
-        &rt,
-        is_shown(alloc, Missing::AdoptedLength, &ADOPTED_LENGTH)?,
-    );
-    needed(
-        &rt,
-        is_shown(alloc, Missing::NoPromiseAbove, &NO_PROMISE_ABOVE)?,
-    );
-    needed(&rt, is_shown(alloc, Missing::OwnRound, &OWN_ROUND)?);
-    needed(
-        &rt,
-        is_shown(alloc, Missing::OwnGeneration, &OWN_GENERATION)?,
-    );
+    are_shown(&rt, rt.alloc(), &OF_ANSWERS)?;
     Ok(())
 }

@@ -1,5 +1,5 @@
 //! Steps of a written run.
-use super::cluster::{Cluster, Kept, Told};
+use super::cluster::{Cluster, Kept, Node, Told};
 use election_core::Message;
 use std::alloc::AllocError;
 
@@ -136,24 +136,41 @@ impl Cluster {
         let Some(mut node) = self.at(at) else {
             return Ok(());
         };
+        self.takes(&mut node, step)?;
+        self.put(at, node);
+        Ok(())
+    }
+
+    /// The step of a node. Without a `?` in its arms it is cheaper to prove.
+    fn takes(&mut self, node: &mut Node, step: Step) -> Result<(), AllocError> {
         match step {
-            Step::Append { entry, .. } => self.appends(&mut node, entry)?,
-            Step::Refuse { entry, .. } => self.refuses(&mut node, entry)?,
-            Step::Probe { .. } => self.probes(&node)?,
-            Step::Restart { .. } => self.restarts(&mut node),
+            Step::Append { entry, .. } => self.appends(node, entry),
+            Step::Refuse { entry, .. } => self.refuses(node, entry),
+            Step::Probe { .. } => self.probes(node),
+            Step::Restart { .. } => {
+                self.restarts(node);
+                Ok(())
+            }
             Step::FallTaking {
                 from,
                 generation,
                 ..
-            } => {
-                if let Some(fact) = self.found(Kind::Ship, from, generation) {
-                    self.falls_in(&mut node, &fact, Kept::All)?;
-                }
-            }
-            _ => {}
+            } => self.falls_taking(node, from, generation),
+            _ => Ok(()),
         }
-        self.put(at, node);
-        Ok(())
+    }
+
+    /// A node goes down as it takes a log.
+    fn falls_taking(
+        &mut self,
+        node: &mut Node,
+        from: u8,
+        generation: u64,
+    ) -> Result<(), AllocError> {
+        match self.found(Kind::Ship, from, generation) {
+            Some(fact) => self.falls_in(node, &fact, Kept::All),
+            None => Ok(()),
+        }
     }
 
     /// The last fact of that kind that a node told in a generation.

@@ -17,9 +17,29 @@ fn drawn_kept(x: u64) -> Kept {
     }
 }
 
+/// The number after a drawn one.
+fn next(x: u64) -> u64 {
+    x.wrapping_mul(6364136223846793005)
+        .wrapping_add(1442695040888963407)
+}
+
 impl Cluster {
+    /// 100 steps from a drawn number, with a further run over what the stores have behind the first half where `again`. The
+    /// last drawn number.
+    pub(crate) fn walks(&mut self, seed: u64, again: bool) -> Result<u64, AllocError> {
+        let mut x = seed;
+        for step in 0..100u64 {
+            x = next(x);
+            self.draws(x)?;
+            if again && step == 50 {
+                self.opens_again();
+            }
+        }
+        Ok(x)
+    }
+
     /// One step, drawn by a number.
-    pub(crate) fn draws(&mut self, x: u64) -> Result<(), AllocError> {
+    fn draws(&mut self, x: u64) -> Result<(), AllocError> {
         let kind = (x >> 20) % 32;
         if 9 <= kind {
             return self.spreads(x >> 27);
@@ -28,20 +48,31 @@ impl Cluster {
         let Some(mut node) = self.at(at) else {
             return Ok(())
         };
+        self.takes_part(&mut node, kind, x)?;
+        self.put(at, node);
+        Ok(())
+    }
+
+    /// What a node does by itself, and how it goes down. Without a `?` in its arms it is cheaper to prove.
+    fn takes_part(&mut self, node: &mut Node, kind: u64, x: u64) -> Result<(), AllocError> {
         match kind {
             0 => {
                 let generation = node.vote.promised.saturating_add(1);
-                self.stands(&mut node, generation)?;
+                self.stands(node, generation)
             }
-            1..=3 => self.appends(&mut node, x)?,
-            4 => self.falls(&mut node, x),
-            5 => self.asks(),
-            6 => self.probes(&node)?,
-            7 => self.falls_drawn(&mut node, x)?,
-            _ => self.falls_appending(&mut node, x)?,
+            1..=3 => self.appends(node, x),
+            4 => {
+                self.falls(node, x);
+                Ok(())
+            }
+            5 => {
+                self.asks();
+                Ok(())
+            }
+            6 => self.probes(node),
+            7 => self.falls_drawn(node, x),
+            _ => self.falls_appending(node, x),
         }
-        self.put(at, node);
-        Ok(())
     }
 
     /// The node goes down, maybe in the middle of a stand, and mostly comes up again.
