@@ -1,4 +1,0 @@
-pub mod Known
-pub mod OfLogs
-pub mod Same
-pub mod Kept

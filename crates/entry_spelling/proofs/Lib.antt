@@ -1,4 +1,0 @@
-pub mod EntryLaws
-pub mod RestLemmas
-pub mod SizeLaws
-pub mod TableLaws

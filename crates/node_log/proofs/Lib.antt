@@ -1,5 +1,0 @@
-mod EntryLemmas
-pub mod SameLaws
-mod SpelledLemmas
-mod StandLemmas
-mod StepLemmas

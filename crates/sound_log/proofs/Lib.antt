@@ -1,3 +1,0 @@
-pub mod IdentityLemmas
-pub mod SoundLemmas
-pub mod GrowthLemmas
