@@ -19,8 +19,10 @@
 //! |---|---|---|
 //! | what changes make of the rows | | `apply_changes` of `specs/Applied.antt` |
 //! | the rows of a log, and those at a position | | `rows_of`, `rows_at` of `specs/History.antt` |
+//! | where a run begins in a log, and the rows there | | `Ground` of `specs/History.antt` |
+//! | the rows over a ground, and those at a position | | `rows_over`, `rows_over_at` of `specs/History.antt` |
 //! | the versions that each entry takes away | | `takes_in` of `specs/History.antt` |
-//! | pages that stand for the rows at each position | | `StandsThroughout` of `specs/History.antt` |
+//! | pages that stand for the rows at each position | | `StandsThroughout`, and over a ground `StandsOver`, of `specs/History.antt` |
 //! | the first entry of a log | `setup_entry` | `IsSetup` of `specs/Setups.antt` |
 //! | edits over the pages of a log, as the records of its next entry | `entry_records` | `records_behind` of `edit_records` |
 //! | the next genid | `next_genid` | `next_genid` of `page_workspace` |

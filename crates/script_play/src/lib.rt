@@ -32,11 +32,13 @@
 //! | what is decided at a commit | `verdicts` | `specs/Decisions.antt` |
 //! | what a line is to do, and what is done of it | `effects`, `run` | `specs/Effects.antt` |
 //! | the run so far, as the code keeps it | `run` | `specs/RunViews.antt` |
+//! | where a run begins: the log before it, and the rows there | | `specs/Start.antt` |
 //! | the rows at each position | | `specs/Seen.antt` |
 //! | what the log and the rows keep from line to line | | `specs/Ready.antt` |
 //! | the run so far | `play` | `specs/SoFar.antt` |
 //! | the lines of a history, by the entries of a log | `run` | `specs/EntryLines.antt` |
 //! | what a report is judged by | | `specs/Basis.antt` |
+//! | what a run leaves | `play` | `specs/Played.antt` |
 #![tactic(auto)]
 
 mod effects;
