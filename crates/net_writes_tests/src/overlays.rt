@@ -1,4 +1,4 @@
-use super::tests::{Numbers, delete, insert, is_count, is_so, is_so_of, update};
+use super::tests::{Numbers, row};
 use cdb_values::{List, Row, RowOp, RowRef, Value};
 use net_writes::{Overlay, net};
 use std::alloc::{AllocError, Global};
@@ -32,21 +32,24 @@ fn told(op: &RowOp) -> (u16, u16, u64, i64, i64) {
 }
 
 fn are_same(a: &[RowOp], b: &[RowOp]) -> bool {
-    for (a, b) in a.iter().zip(b.iter()) {
-        if told(a) != told(b) {
-            return false;
-        }
-    }
-    a.len() == b.len()
+    a.len() == b.len() && a.iter().zip(b.iter()).all(|(a, b)| told(a) == told(b))
 }
 
 /// A write to one table: an insert, or an update or a delete of what is named.
 fn write_to(alloc: Global, kind: u16, target: RowRef, value: u16) -> Result<RowOp, AllocError> {
-    match kind {
-        0 => insert(alloc, 0, value as i64),
-        1 => delete(alloc, 0, target, 7),
-        _ => update(alloc, 0, target, 7, value as i64),
-    }
+    let table = 0;
+    let old = row(alloc, 7)?;
+    let row = row(alloc, value as i64)?;
+    Ok(match kind {
+        0 => RowOp::Insert { table, row },
+        1 => RowOp::Delete { table, target, old },
+        _ => RowOp::Update {
+            table,
+            target,
+            old,
+            row,
+        },
+    })
 }
 
 /// The place among the net operations, from 1, of what the write of a number stands for.
@@ -107,7 +110,7 @@ fn are_kept_up(alloc: Global, seed: u64) -> Result<bool, AllocError> {
 #[test]
 fn statements_by_number_and_by_place_come_to_the_same(rt: HostRuntime) {
     for seed in 0..50 {
-        is_so_of(&rt, are_kept_up(rt.alloc(), seed), seed);
+        assert_eq!(rt; are_kept_up(rt.alloc(), seed), Ok(true), "seed {seed}");
     }
 }
 
@@ -121,23 +124,18 @@ fn updated_often(alloc: Global) -> Result<Overlay, AllocError> {
     Ok(overlay)
 }
 
-fn are_updates_to_the_last(ops: &[RowOp]) -> bool {
-    for op in ops {
-        if told(op) != (1, 0, 5, 7, 999) {
-            return false;
-        }
-    }
-    true
-}
-
 #[test]
 fn a_row_updated_often_is_one_operation(rt: HostRuntime) {
     let alloc = rt.alloc();
     let mut overlay = updated_often(alloc).expect(&rt, "memory");
-    is_count(&rt, overlay.count(), 1);
-    is_count(&rt, overlay.writes(), 1000);
+    assert_eq!(rt; overlay.count(), 1);
+    assert_eq!(rt; overlay.writes(), 1000);
     overlay.squeeze(alloc);
-    is_count(&rt, overlay.writes(), 1);
+    assert_eq!(rt; overlay.writes(), 1);
     let net = overlay.into_net(alloc).expect(&rt, "memory");
-    is_so(&rt, are_updates_to_the_last(net.as_slice()));
+    assert!(rt;
+        net.as_slice()
+            .iter()
+            .all(|op| told(op) == (1, 0, 5, 7, 999))
+    );
 }

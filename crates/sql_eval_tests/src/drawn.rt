@@ -1,13 +1,11 @@
 //! Conditions and rows that are drawn by seeds, and what is known of them.
 
-use super::rows::{blob_value, text_value};
 use super::slow::known_of;
-use cdb_values::{List, Value, Version};
+use cdb_values::{Bytes, List, Text, Value, Version};
 use sql_bind::{BoundColumn, BoundOperand, Cmp, Condition};
 use sql_eval::{Truth, test};
 use sql_grammar::Seq;
 use std::alloc::{AllocError, Global};
-use std::process::Abort;
 use std::test::Fail;
 
 /// A row of numbers without much order.
@@ -32,20 +30,20 @@ impl Draws {
 
 /// A value: NULL often, and else one of a few.
 fn draw_value(alloc: Global, draws: &mut Draws) -> Result<Value, AllocError> {
-    match draws.next(14) {
-        0 | 1 | 2 => Ok(Value::Null),
-        3 => Ok(Value::Int(i64::MIN)),
-        4 => Ok(Value::Int(-1)),
-        5 => Ok(Value::Int(0)),
-        6 => Ok(Value::Int(1)),
-        7 => Ok(Value::Int(i64::MAX)),
-        8 => text_value(alloc, b""),
-        9 => text_value(alloc, b"a"),
-        10 => text_value(alloc, b"a\0"),
-        11 => text_value(alloc, b"b"),
-        12 => blob_value(alloc, b"a"),
-        _ => blob_value(alloc, b"\xff"),
-    }
+    Ok(match draws.next(14) {
+        0 | 1 | 2 => Value::Null,
+        3 => Value::Int(i64::MIN),
+        4 => Value::Int(-1),
+        5 => Value::Int(0),
+        6 => Value::Int(1),
+        7 => Value::Int(i64::MAX),
+        8 => Value::Text(Text::copied(alloc, b"")?),
+        9 => Value::Text(Text::copied(alloc, b"a")?),
+        10 => Value::Text(Text::copied(alloc, b"a\0")?),
+        11 => Value::Text(Text::copied(alloc, b"b")?),
+        12 => Value::Blob(Bytes::copied(alloc, b"a")?),
+        _ => Value::Blob(Bytes::copied(alloc, b"\xff")?),
+    })
 }
 
 /// A value or a column, now and then of a table or a place that is not there.
@@ -67,15 +65,6 @@ fn draw_operand(alloc: Global, draws: &mut Draws) -> Result<BoundOperand, AllocE
     Ok(BoundOperand::Column(BoundColumn { place, column }))
 }
 
-/// A value with what is read after it: where that failed, the destructor of the value stands here, and not at each such
-/// step.
-fn beside<T: Drop, U>(value: T, read: Result<U, AllocError>) -> Result<(T, U), AllocError> {
-    match read {
-        Ok(other) => Ok((value, other)),
-        Err(stop) => Err(stop),
-    }
-}
-
 /// A comparison, or a test for NULL.
 fn draw_leaf(alloc: Global, draws: &mut Draws) -> Result<Condition, AllocError> {
     if draws.next(5) == 0 {
@@ -92,7 +81,7 @@ fn draw_leaf(alloc: Global, draws: &mut Draws) -> Result<Condition, AllocError> 
         _ => Cmp::Ge,
     };
     let left = draw_operand(alloc, draws)?;
-    let (left, right) = beside(left, draw_operand(alloc, draws))?;
+    let right = draw_operand(alloc, draws)?;
     Ok(Condition::Compare { op, left, right })
 }
 
@@ -145,40 +134,6 @@ fn is_known(truth: Truth, known: Option<bool>) -> bool {
     }
 }
 
-/// Asserts that a condition is as true as it is known to be.
-fn is_as_known<R: Abort>(rt: &R, truth: Truth, known: Option<bool>, n: u64) {
-    assert!(rt; is_known(truth, known), "condition {n}");
-}
-
-/// Adds the truths of a condition on five drawn combinations, each of which a slower evaluator finds too.
-fn put_truths<R: Abort>(
-    rt: &R,
-    alloc: Global,
-    draws: &mut Draws,
-    n: u64,
-    condition: &Condition,
-    truths: &mut Vec<Truth>,
-) -> Result<(), AllocError> {
-    for _ in 0..5 {
-        let rows = draw_rows(alloc, draws)?;
-        let truth = test(condition, rows.as_slice());
-        is_as_known(rt, truth, known_of(alloc, condition, rows.as_slice())?, n);
-        truths.push(truth)?;
-    }
-    Ok(())
-}
-
-/// Asserts that a truth comes often.
-fn comes_often<R: Abort>(rt: &R, truths: &[Truth], wanted: Truth) {
-    let mut times = 0usize;
-    for truth in truths {
-        if *truth == wanted {
-            times = times.saturating_add(1);
-        }
-    }
-    assert!(rt; times > 100, "{wanted:?} came {times} times");
-}
-
 /// 200 conditions on five combinations each are as true as a slower evaluator finds them, and each truth comes often.
 #[test]
 fn drawn_conditions_are_as_true_as_a_slower_evaluator_finds(rt: HostRuntime) -> Result<(), Fail> {
@@ -187,12 +142,17 @@ fn drawn_conditions_are_as_true_as_a_slower_evaluator_finds(rt: HostRuntime) -> 
     let mut truths = Vec::new(alloc);
     for n in 0..200u64 {
         let condition = draw_condition(alloc, &mut draws, 4)?;
-        let put = put_truths(&rt, alloc, &mut draws, n, &condition, &mut truths);
-        drop(condition);
-        put?;
+        for _ in 0..5 {
+            let rows = draw_rows(alloc, &mut draws)?;
+            let truth = test(&condition, rows.as_slice());
+            let known = known_of(alloc, &condition, rows.as_slice())?;
+            assert!(rt; is_known(truth, known), "condition {n}");
+            truths.push(truth)?;
+        }
     }
-    comes_often(&rt, truths.as_slice(), Truth::No);
-    comes_often(&rt, truths.as_slice(), Truth::Unknown);
-    comes_often(&rt, truths.as_slice(), Truth::Yes);
+    for wanted in [Truth::No, Truth::Unknown, Truth::Yes] {
+        let times = truths.iter().filter(|truth| **truth == wanted).count();
+        assert!(rt; times > 100, "{wanted:?} came {times} times");
+    }
     Ok(())
 }

@@ -1,6 +1,6 @@
 //! Tables for queries, their combinations, and the answer of a query as a line of text.
 
-use cdb_values::{Bytes, List, Row, Text, Value, Version};
+use cdb_values::{List, Row, Text, Value, Version};
 use sql_bind::{BoundColumn, BoundItem, BoundKey, BoundSelect};
 use sql_eval::{EvalFault, shape};
 use std::alloc::{AllocError, Global};
@@ -23,23 +23,13 @@ pub(crate) enum Cell {
     Name(&'static [u8]),
 }
 
-/// The text of these bytes.
-pub(crate) fn text_value(alloc: Global, bytes: &[u8]) -> Result<Value, AllocError> {
-    Ok(Value::Text(Text::copied(alloc, bytes)?))
-}
-
-/// The blob of these bytes.
-pub(crate) fn blob_value(alloc: Global, bytes: &[u8]) -> Result<Value, AllocError> {
-    Ok(Value::Blob(Bytes::copied(alloc, bytes)?))
-}
-
 /// The value of a cell.
 fn value_of(alloc: Global, cell: &Cell) -> Result<Value, AllocError> {
-    match cell {
-        Cell::Null => Ok(Value::Null),
-        Cell::Int(x) => Ok(Value::Int(*x)),
-        Cell::Name(bytes) => text_value(alloc, bytes),
-    }
+    Ok(match cell {
+        Cell::Null => Value::Null,
+        Cell::Int(x) => Value::Int(*x),
+        Cell::Name(bytes) => Value::Text(Text::copied(alloc, bytes)?),
+    })
 }
 
 /// The version with these cells.

@@ -1,11 +1,10 @@
 //! Extremes of SUM, MIN and MAX, integers at the ends of 64 bits, and many groups.
 
-use super::rows::{Asked, answer, blob_value, is_answer, text_value};
-use cdb_values::{List, Value, Version};
+use super::rows::{Asked, answer, is_answer};
+use cdb_values::{Bytes, List, Text, Value, Version};
 use sql_bind::{BoundColumn, BoundItem, BoundKey};
 use sql_eval::int_value;
 use std::alloc::{AllocError, Global};
-use std::process::Abort;
 use std::test::Fail;
 
 const FIRST: BoundColumn = BoundColumn {
@@ -26,40 +25,6 @@ fn combination(alloc: Global, values: Vec<Value>) -> Result<List<Version>, Alloc
         row: List::from_vec(values),
     })?;
     Ok(combination)
-}
-
-/// Adds the combination of one row of one value.
-fn put_one(
-    alloc: Global,
-    combinations: &mut List<List<Version>>,
-    value: Value,
-) -> Result<(), AllocError> {
-    let mut values = Vec::new(alloc);
-    values.push(value)?;
-    combinations.push(combination(alloc, values)?)
-}
-
-/// Adds the combination of one row of two integers.
-fn put_two(
-    alloc: Global,
-    combinations: &mut List<List<Version>>,
-    first: i64,
-    second: i64,
-) -> Result<(), AllocError> {
-    let mut values = Vec::new(alloc);
-    values.push(Value::Int(first))?;
-    values.push(Value::Int(second))?;
-    combinations.push(combination(alloc, values)?)
-}
-
-/// Combinations of integers, with NULL behind each.
-fn with_nulls(alloc: Global, integers: &[i64]) -> Result<List<List<Version>>, AllocError> {
-    let mut combinations = List::new(alloc);
-    for x in integers {
-        put_one(alloc, &mut combinations, Value::Int(*x))?;
-        put_one(alloc, &mut combinations, Value::Null)?;
-    }
-    Ok(combinations)
 }
 
 /// Integers in some order, and the SUM of them.
@@ -90,32 +55,32 @@ fn only_the_total_of_a_sum_counts(rt: HostRuntime) -> Result<(), Fail> {
         limit: None,
     };
     for (integers, wanted) in &SUMS {
-        let combinations = with_nulls(alloc, *integers)?;
+        let mut combinations = List::new(alloc);
+        for x in *integers {
+            combinations.push(combination(alloc, vec![in alloc; Value::Int(*x)]?)?)?;
+            combinations.push(combination(alloc, vec![in alloc; Value::Null]?)?)?;
+        }
         let found = answer(alloc, &asked, &combinations)?;
         is_answer(&rt, found.as_str(), *wanted, "a sum");
     }
     Ok(())
 }
 
-/// Groups, and an integer of each.
-static GROUPED: [(i64, i64); 3] = [(1, 5), (2, i64::MAX), (2, 1)];
-
-static LIMITS: [Option<u64>; 3] = [None, Some(0), Some(1)];
-
 /// A SUM that leaves 64 bits in one group is told also where LIMIT lets no group through.
 #[test]
 fn an_overflow_behind_a_limit(rt: HostRuntime) -> Result<(), Fail> {
     let alloc = rt.alloc();
     let mut combinations = List::new(alloc);
-    for (group, x) in &GROUPED {
-        put_two(alloc, &mut combinations, *group, *x)?;
+    for (group, x) in [(1, 5), (2, i64::MAX), (2, 1)] {
+        let values = vec![in alloc; Value::Int(group), Value::Int(x)]?;
+        combinations.push(combination(alloc, values)?)?;
     }
-    for limit in &LIMITS {
+    for limit in [None, Some(0), Some(1)] {
         let asked = Asked {
             items: &[BoundItem::Column(FIRST), BoundItem::Sum(SECOND)],
             group: &[FIRST],
             order: &[],
-            limit: *limit,
+            limit,
         };
         let found = answer(alloc, &asked, &combinations)?;
         is_answer(&rt, found.as_str(), "overflow", "a sum");
@@ -133,22 +98,14 @@ static INTEGERS: [(i128, Option<i64>); 6] = [
     (-9223372036854775809, None),
 ];
 
-/// The integer that a number is as a value.
-fn int_of(x: i128) -> Option<i64> {
-    match int_value(x) {
-        Some(Value::Int(found)) => Some(found),
-        Some(_) | None => None,
-    }
-}
-
-fn is_integer<R: Abort>(rt: &R, found: Option<i64>, wanted: Option<i64>) {
-    assert_eq!(rt; found, wanted);
-}
-
 #[test]
 fn values_have_64_bits(rt: HostRuntime) {
     for (x, wanted) in &INTEGERS {
-        is_integer(&rt, int_of(*x), *wanted);
+        let found = match int_value(*x) {
+            Some(Value::Int(found)) => Some(found),
+            Some(_) | None => None,
+        };
+        assert_eq!(rt; found, *wanted);
     }
 }
 
@@ -160,26 +117,6 @@ static BYTES: [(&[&[u8]], &str, &str); 4] = [
     (&[], "null|null", "null|null"),
 ];
 
-/// NULL and the texts of these bytes.
-fn texts_of(alloc: Global, words: &[&[u8]]) -> Result<List<List<Version>>, AllocError> {
-    let mut texts = List::new(alloc);
-    put_one(alloc, &mut texts, Value::Null)?;
-    for bytes in words {
-        put_one(alloc, &mut texts, text_value(alloc, *bytes)?)?;
-    }
-    Ok(texts)
-}
-
-/// The blobs of these bytes, and NULL.
-fn blobs_of(alloc: Global, words: &[&[u8]]) -> Result<List<List<Version>>, AllocError> {
-    let mut blobs = List::new(alloc);
-    for bytes in words {
-        put_one(alloc, &mut blobs, blob_value(alloc, *bytes)?)?;
-    }
-    put_one(alloc, &mut blobs, Value::Null)?;
-    Ok(blobs)
-}
-
 #[test]
 fn the_least_and_the_greatest_by_bytes(rt: HostRuntime) -> Result<(), Fail> {
     let alloc = rt.alloc();
@@ -190,28 +127,42 @@ fn the_least_and_the_greatest_by_bytes(rt: HostRuntime) -> Result<(), Fail> {
         limit: None,
     };
     for (words, of_texts, of_blobs) in &BYTES {
-        let found = answer(alloc, &asked, &texts_of(alloc, *words)?)?;
-        is_answer(&rt, found.as_str(), *of_texts, "texts");
-        let found = answer(alloc, &asked, &blobs_of(alloc, *words)?)?;
-        is_answer(&rt, found.as_str(), *of_blobs, "blobs");
+        let mut texts = List::new(alloc);
+        let mut blobs = List::new(alloc);
+        texts.push(combination(alloc, vec![in alloc; Value::Null]?)?)?;
+        for bytes in *words {
+            let text = Value::Text(Text::copied(alloc, *bytes)?);
+            let blob = Value::Blob(Bytes::copied(alloc, *bytes)?);
+            texts.push(combination(alloc, vec![in alloc; text]?)?)?;
+            blobs.push(combination(alloc, vec![in alloc; blob]?)?)?;
+        }
+        blobs.push(combination(alloc, vec![in alloc; Value::Null]?)?)?;
+        is_answer(
+            &rt,
+            answer(alloc, &asked, &texts)?.as_str(),
+            *of_texts,
+            "texts",
+        );
+        is_answer(
+            &rt,
+            answer(alloc, &asked, &blobs)?.as_str(),
+            *of_blobs,
+            "blobs",
+        );
     }
     Ok(())
-}
-
-/// 6,000 combinations of a group and a number.
-fn grouped(alloc: Global) -> Result<List<List<Version>>, AllocError> {
-    let mut combinations = List::new(alloc);
-    for n in 0..6000i64 {
-        put_two(alloc, &mut combinations, 1999i64.wrapping_sub(n % 2000), n)?;
-    }
-    Ok(combinations)
 }
 
 /// 6,000 combinations in 2,000 groups, of which the last to begin are the least.
 #[test]
 fn many_groups_in_the_order_of_their_first_combinations(rt: HostRuntime) -> Result<(), Fail> {
     let alloc = rt.alloc();
-    let combinations = grouped(alloc)?;
+    let mut combinations = List::new(alloc);
+    for n in 0..6000i64 {
+        let group = 1999i64.wrapping_sub(n % 2000);
+        let values = vec![in alloc; Value::Int(group), Value::Int(n)]?;
+        combinations.push(combination(alloc, values)?)?;
+    }
     let mut asked = Asked {
         items: &[
             BoundItem::Column(FIRST),

@@ -1,7 +1,6 @@
 //! The truth tables, and comparisons of values of each kind.
 
-use super::rows::{blob_value, text_value};
-use cdb_values::Value;
+use cdb_values::{Bytes, Text, Value};
 use sql_bind::Cmp;
 use sql_eval::Truth::{No, Unknown, Yes};
 use sql_eval::{Truth, and3, compare, not3, or3};
@@ -59,25 +58,21 @@ static COMPARISONS: [(Cmp, Truth, Truth, Truth); 6] = [
     (Cmp::Ge, No, Yes, Yes),
 ];
 
-static INTEGERS: [i64; 4] = [i64::MIN, -1, 0, i64::MAX];
-
-static TEXTS: [&[u8]; 4] = [b"", b"a", b"a\0", b"b"];
-
-static BLOBS: [&[u8]; 3] = [b"", b"\x7f", b"\xff"];
-
 /// Values in rising order, of each kind but NULL.
 fn rising(alloc: Global) -> Result<Vec<Value>, AllocError> {
-    let mut values = Vec::new(alloc);
-    for x in &INTEGERS {
-        values.push(Value::Int(*x))?;
-    }
-    for bytes in &TEXTS {
-        values.push(text_value(alloc, *bytes)?)?;
-    }
-    for bytes in &BLOBS {
-        values.push(blob_value(alloc, *bytes)?)?;
-    }
-    Ok(values)
+    Ok(vec![in alloc;
+        Value::Int(i64::MIN),
+        Value::Int(-1),
+        Value::Int(0),
+        Value::Int(i64::MAX),
+        Value::Text(Text::copied(alloc, b"")?),
+        Value::Text(Text::copied(alloc, b"a")?),
+        Value::Text(Text::copied(alloc, b"a\0")?),
+        Value::Text(Text::copied(alloc, b"b")?),
+        Value::Blob(Bytes::copied(alloc, b"")?),
+        Value::Blob(Bytes::copied(alloc, b"\x7f")?),
+        Value::Blob(Bytes::copied(alloc, b"\xff")?),
+    ]?)
 }
 
 /// The truth for a left side that is less, equal or greater.

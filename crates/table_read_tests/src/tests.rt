@@ -1,6 +1,5 @@
 use cdb_values::{ColumnDef, ColumnType, KeyDef, Schema, TableDef};
 use std::alloc::{AllocError, Global};
-use std::process::Abort;
 use std::test::*;
 use table_read::*;
 
@@ -63,120 +62,78 @@ fn added(alloc: Global, text: &str, schema: &mut Schema) -> Result<TableDef, Tab
 /// The answer to a text behind the table `s`, in one line.
 fn answer(alloc: Global, text: &str) -> Result<Vec<u8>, AllocError> {
     let mut schema = Schema::new(alloc);
-    drop(added(alloc, "create table s(a int)", &mut schema));
+    let _ = added(alloc, "create table s(a int)", &mut schema);
     match added(alloc, text, &mut schema) {
-        Ok(table) => {
-            let line = shown(alloc, &table);
-            drop(table);
-            line
-        }
+        Ok(table) => shown(alloc, &table),
         Err(TableStop::Unlawful) => Vec::from_slice(alloc, b"unlawful"),
         Err(TableStop::Limit) => Vec::from_slice(alloc, b"limit"),
         Err(TableStop::NoMemory) => Err(AllocError),
     }
 }
 
-/// Asserts the answer to a text. An assertion in a test of its own is far dearer to prove.
-fn is_answered<R: Abort>(rt: &R, alloc: Global, text: &str, want: &str) -> Result<(), AllocError> {
-    let found = answer(alloc, text)?;
-    assert_eq!(rt; found.as_slice(), want.as_bytes(), "{text}");
-    Ok(())
-}
-
-/// Asserts the answers to texts.
-fn are_answered<R: Abort>(rt: &R, alloc: Global, cases: &[(&str, &str)]) -> Result<(), AllocError> {
-    for (text, want) in cases {
-        is_answered(rt, alloc, *text, *want)?;
+#[test]
+fn tables(rt: HostRuntime) -> Result<(), Fail> {
+    for (text, want) in [
+        (
+            "create table t(id integer primary key, v integer)",
+            "t(id i,v i?,) pk!(0,)",
+        ),
+        (
+            " CREATE TABLE T (Id INT NOT NULL, Name TEXT, b Blob);",
+            "t(id i,name t?,b b?,)",
+        ),
+        (
+            "create table orders(id integer primary key, owner integer not null, amount integer, key by_owner (owner))",
+            "orders(id i,owner i,amount i?,) pk!(0,) by_owner(1,)",
+        ),
+        (
+            "create table t(a int not null unique, key k (b, a), b blob not null not null unique)",
+            "t(a i,b b,) a!(0,) k(1,0,) b!(1,)",
+        ),
+        (
+            "create table t(primary key (b, a), a int, b text, c int)",
+            "t(a i,b t,c i?,) pk!(1,0,)",
+        ),
+        (
+            "create table t(a int unique primary key)",
+            "t(a i,) a!(0,) pk!(0,)",
+        ),
+        (
+            "create table t(a int not null, unique u (a), key v (a, a))",
+            "t(a i,) u!(0,) v(0,0,)",
+        ),
+    ] {
+        let found = answer(rt.alloc(), text)?;
+        assert_eq!(rt; found.as_slice(), want.as_bytes(), "{text}");
     }
     Ok(())
 }
 
-/// Asserts how an answer ends.
-fn is_end<R: Abort>(rt: &R, found: &[u8], end: &[u8]) {
-    assert!(rt; found.ends_with(end));
-}
-
-/// Asserts that a limit stops only the table that comes after 64 others.
-fn is_stop<R: Abort>(rt: &R, stop: Option<TableStop>, others: u32) {
-    assert_eq!(rt;
-        stop,
-        if others < 64 {
-            None
-        } else {
-            Some(TableStop::Limit)
-        }
-    );
-}
-
-fn is_count<R: Abort>(rt: &R, found: usize, want: usize) {
-    assert_eq!(rt; found, want);
-}
-
-/// Texts, and the table of each.
-static TABLES: [(&str, &str); 7] = [
-    (
-        "create table t(id integer primary key, v integer)",
-        "t(id i,v i?,) pk!(0,)",
-    ),
-    (
-        " CREATE TABLE T (Id INT NOT NULL, Name TEXT, b Blob);",
-        "t(id i,name t?,b b?,)",
-    ),
-    (
-        "create table orders(id integer primary key, owner integer not null, amount integer, key by_owner (owner))",
-        "orders(id i,owner i,amount i?,) pk!(0,) by_owner(1,)",
-    ),
-    (
-        "create table t(a int not null unique, key k (b, a), b blob not null not null unique)",
-        "t(a i,b b,) a!(0,) k(1,0,) b!(1,)",
-    ),
-    (
-        "create table t(primary key (b, a), a int, b text, c int)",
-        "t(a i,b t,c i?,) pk!(1,0,)",
-    ),
-    (
-        "create table t(a int unique primary key)",
-        "t(a i,) a!(0,) pk!(0,)",
-    ),
-    (
-        "create table t(a int not null, unique u (a), key v (a, a))",
-        "t(a i,) u!(0,) v(0,0,)",
-    ),
-];
-
-#[test]
-fn tables(rt: HostRuntime) -> Result<(), Fail> {
-    are_answered(&rt, rt.alloc(), TABLES.as_slice())?;
-    Ok(())
-}
-
-/// Texts that are unlawful.
-static UNLAWFUL: [&str; 19] = [
-    "",
-    "create table t",
-    "create table t ()",
-    "create table t (a real)",
-    "create table t (a int) x",
-    "create table t (pk int)",
-    "create table t (abcdefghijabcdefghijabcdefghijabc int)",
-    "create table s (a int)",
-    "create table t (a int, A text)",
-    "create table t (a int unique)",
-    "create table t (a int, unique u (a))",
-    "create table t (a int not null unique unique)",
-    "create table t (a int not null unique, key a (a))",
-    "create table t (a int primary key primary key)",
-    "create table t (a int primary key, b int primary key)",
-    "create table t (a int primary key, primary key (a))",
-    "create table t (a int, primary key (b))",
-    "create table t (a int, key k (b))",
-    "create table t (a int, key k (a), key k (a))",
-];
-
 #[test]
 fn unlawful_texts(rt: HostRuntime) -> Result<(), Fail> {
-    for text in &UNLAWFUL {
-        is_answered(&rt, rt.alloc(), text, "unlawful")?;
+    for text in [
+        "",
+        "create table t",
+        "create table t ()",
+        "create table t (a real)",
+        "create table t (a int) x",
+        "create table t (pk int)",
+        "create table t (abcdefghijabcdefghijabcdefghijabc int)",
+        "create table s (a int)",
+        "create table t (a int, A text)",
+        "create table t (a int unique)",
+        "create table t (a int, unique u (a))",
+        "create table t (a int not null unique unique)",
+        "create table t (a int not null unique, key a (a))",
+        "create table t (a int primary key primary key)",
+        "create table t (a int primary key, b int primary key)",
+        "create table t (a int primary key, primary key (a))",
+        "create table t (a int, primary key (b))",
+        "create table t (a int, key k (b))",
+        "create table t (a int, key k (a), key k (a))",
+    ] {
+        let found = answer(rt.alloc(), text)?;
+        assert_eq!(rt; found.as_slice(), b"unlawful".as_slice(), "{text}");
     }
     Ok(())
 }
@@ -193,48 +150,46 @@ fn wide(alloc: Global, columns: u32, end: &str) -> Result<String, AllocError> {
     Ok(text)
 }
 
-/// How many columns, an end, and the answer.
-static WIDE: [(u32, &str, &str); 7] = [
-    (65, ")", "limit"),
-    (300, ", key k (c299))", "limit"),
-    (300, ", unique u (x))", "limit"),
-    (300, ", unique u (c299))", "unlawful"),
-    (300, ", key k (c300))", "unlawful"),
-    (300, ", c7 text)", "unlawful"),
-    (300, ", key k (x), key k (c299))", "unlawful"),
-];
-
 #[test]
 fn wide_tables(rt: HostRuntime) -> Result<(), Fail> {
-    for (columns, end, want) in &WIDE {
-        let text = wide(rt.alloc(), *columns, *end)?;
-        is_answered(&rt, rt.alloc(), &text, *want)?;
+    for (columns, end, want) in [
+        (65, ")", "limit"),
+        (300, ", key k (c299))", "limit"),
+        (300, ", unique u (x))", "limit"),
+        (300, ", unique u (c299))", "unlawful"),
+        (300, ", key k (c300))", "unlawful"),
+        (300, ", c7 text)", "unlawful"),
+        (300, ", key k (x), key k (c299))", "unlawful"),
+    ] {
+        let text = wide(rt.alloc(), columns, end)?;
+        let found = answer(rt.alloc(), &text)?;
+        assert_eq!(rt; found.as_slice(), want.as_bytes(), "{end}");
     }
     let most = answer(rt.alloc(), &wide(rt.alloc(), 64, ", key k (c63))")?)?;
-    is_end(&rt, most.as_slice(), b",c63 i?,) k(3,)");
+    assert!(rt; most.ends_with(b",c63 i?,) k(3,)"));
     Ok(())
 }
 
-/// Texts at the limits, and the answer to each.
-static LIMITS: [(&str, &str); 4] = [
-    (
-        "create table t (a int, key k (a,a,a,a,a,a,a,a))",
-        "t(a i?,) k(0,0,0,0,0,0,0,0,)",
-    ),
-    ("create table t (a int, key k (a,a,a,a,a,a,a,a,a))", "limit"),
-    (
-        "create table t (a int, key a (a), key b (a), key c (a), key d (a), key e (a), key f (a), key g (a), key h (a), key i (a))",
-        "limit",
-    ),
-    (
-        "create table t (a int, key a (a), key b (a), key c (a), key d (a), key e (a), key f (a), key g (a), key h (a), key h (a))",
-        "unlawful",
-    ),
-];
-
 #[test]
 fn limits(rt: HostRuntime) -> Result<(), Fail> {
-    are_answered(&rt, rt.alloc(), LIMITS.as_slice())?;
+    for (text, want) in [
+        (
+            "create table t (a int, key k (a,a,a,a,a,a,a,a))",
+            "t(a i?,) k(0,0,0,0,0,0,0,0,)",
+        ),
+        ("create table t (a int, key k (a,a,a,a,a,a,a,a,a))", "limit"),
+        (
+            "create table t (a int, key a (a), key b (a), key c (a), key d (a), key e (a), key f (a), key g (a), key h (a), key i (a))",
+            "limit",
+        ),
+        (
+            "create table t (a int, key a (a), key b (a), key c (a), key d (a), key e (a), key f (a), key g (a), key h (a), key h (a))",
+            "unlawful",
+        ),
+    ] {
+        let found = answer(rt.alloc(), text)?;
+        assert_eq!(rt; found.as_slice(), want.as_bytes(), "{text}");
+    }
     Ok(())
 }
 
@@ -245,8 +200,16 @@ fn a_schema_of_64_tables_takes_no_more(rt: HostRuntime) -> Result<(), Fail> {
     for at in 0..65u32 {
         let name = at.to_string(alloc)?;
         let text = format!(in alloc; "create table t{name} (a int)")?;
-        is_stop(&rt, added(alloc, &text, &mut schema).err(), at);
+        let stop = added(alloc, &text, &mut schema).err();
+        assert_eq!(rt;
+            stop,
+            if at < 64 {
+                None
+            } else {
+                Some(TableStop::Limit)
+            }
+        );
     }
-    is_count(&rt, schema.tables().len(), 64);
+    assert_eq!(rt; schema.tables().len(), 64);
     Ok(())
 }
