@@ -1,0 +1,4 @@
+pub mod EntryLaws
+pub mod RestLemmas
+pub mod SizeLaws
+pub mod TableLaws

@@ -1,0 +1,5 @@
+mod EntryLemmas
+pub mod SameLaws
+mod SpelledLemmas
+mod StandLemmas
+mod StepLemmas

@@ -1,0 +1,87 @@
+-- A node is up over its store, or down.
+use Rattle.std.proofs.Common.{◌≡◌, inl, inr, ℕ, ◌<◌, ◌≤◌, ◌^◌, List, sym, subst, arith}
+use Rattle.cdb_outside.specs.Faults.{Rose}
+use Rattle.cdb_values.specs.declared.tables.TableDef.{TableDef}
+use Rattle.store_log.specs.declared.standings.Standing.TheVariants.{Log}
+use Rattle.store_log.specs.Held.{StandsFor}
+use Rattle.store_log.specs.Opens.{IsOpened, StandsAlike}
+use Rattle.node_log.specs.Logged.{Logged}
+use Rattle.node_opening.specs.declared.up.WhyNotUp.{WhyNotUp}
+use Rattle.node_opening.specs.declared.up.WhyNotUp.TheVariants as why
+use Rattle.node_opening.specs.Left.{IsLeft, StandsPartway, StopsPartway}
+use Rattle.node_opening.specs.Stands.{IsUpFrom}
+use Rattle.node_opening.specs.Up.{IsTakenUp}
+use Rattle.node_opening.specs.Why.{HasRisen, IsWhy, StopsOn, IsDown}
+use Rattle.node_opening.proofs.OpenedLemmas.{opened_alike}
+
+rose_from : (a b c : ℕ) → a ≤ b → Rose b c → Rose a c
+rose_from a b c n (inl h) = inl (omega arith)
+rose_from a b c n (inr h) = inr h
+
+risen_from : (a b c : ℕ) → a ≤ b → HasRisen b c → HasRisen a c
+risen_from a b c n h = record { told = h.told; rose = rose_from a b h.told n h.rose; later = h.later }
+
+-- a log that was opened, of a node of a cluster
+pub record WasOpened (node cluster : ℕ) (old : List ℕ) (before : ℕ) (l : Logged) : Type 0 where
+  pub stands : StandsFor node cluster old (Log l.promised l.accepted l.entries)
+  pub opened : IsOpened node cluster old l.store.synced
+  pub node_is : l.node ≡ node
+  pub cluster_is : l.cluster ≡ cluster
+  pub later : before ≤ l.store.faults
+
+pub taken_up : (node cluster : ℕ) (old : List ℕ) (before : ℕ) (given : List TableDef) (l : Logged) (size : ℕ) (k : Logged)
+    → WasOpened node cluster old before l → IsUpFrom l given size k → IsTakenUp node cluster old given size k
+taken_up node cluster old before given l size k w u = record {
+  old_promise = l.promised;
+  old_accepted = l.accepted;
+  old_entries = l.entries;
+  stood = record { stands = w.stands; good = u.good };
+  had = u.had;
+  promised = u.begun.promised;
+  accepted = u.begun.accepted;
+  entries = u.begun.entries;
+}
+
+-- a log that was opened, whose node is not up
+pub why_of_down : (w : WhyNotUp) (node cluster : ℕ) (old : List ℕ) (before : ℕ) (l : Logged) (given : List TableDef) (new : List ℕ) (now : ℕ)
+    → WasOpened node cluster old before l → IsDown w l given new now → IsWhy w node cluster old given before now
+why_of_down (why.StoreFault length) node cluster old before l given new now o d = record {
+  rose = risen_from before l.store.faults now o.later d.rose;
+  told = inr (record {
+    promised = l.promised;
+    accepted = l.accepted;
+    entries = l.entries;
+    stood = record { stands = o.stands; good = d.stops.good };
+    had = d.had;
+  });
+}
+why_of_down (why.Refused at) node cluster old before l given new now o d = absurd d
+why_of_down why.Unsound node cluster old before l given new now o d =
+    record { promised = l.promised; accepted = l.accepted; entries = l.entries; stood = o.stands; unsound = d.0 }
+why_of_down (why.Differs table) node cluster old before l given new now o d =
+    record { promised = l.promised; accepted = l.accepted; entries = l.entries; stood = o.stands; other = d.0 }
+why_of_down why.NoMemory node cluster old before l given new now o d = tt
+
+same_alike : (node cluster : ℕ) (old mid new : List ℕ) → node < 256 → cluster < 2 ^ 128 → IsOpened node cluster old mid → new ≡ mid → StandsAlike node cluster old new
+same_alike node cluster old mid new n c opened same =
+    subst (λ (bytes : List ℕ). StandsAlike node cluster old bytes) (sym same) (opened_alike node cluster old mid n c opened)
+
+partway : (node cluster : ℕ) (old : List ℕ) (before : ℕ) (l : Logged) (given : List TableDef) (new : List ℕ) → WasOpened node cluster old before l
+    → StopsOn l new given → StopsPartway node cluster old new given
+partway node cluster old before l given new o s = record {
+  promised = l.promised;
+  accepted = l.accepted;
+  entries = l.entries;
+  stood = record { stands = o.stands; good = s.good };
+  stands = subst (λ (n : ℕ). ∥ StandsPartway n cluster new given l.promised l.accepted l.entries ∥₁) o.node_is
+      (subst (λ (c : ℕ). ∥ StandsPartway l.node c new given l.promised l.accepted l.entries ∥₁) o.cluster_is s.stands);
+}
+
+pub left_of_down : (w : WhyNotUp) (node cluster : ℕ) (old : List ℕ) (before : ℕ) (l : Logged) (given : List TableDef) (new : List ℕ) (now : ℕ)
+    → node < 256 → cluster < 2 ^ 128 → WasOpened node cluster old before l → IsDown w l given new now → IsLeft w node cluster old new given
+left_of_down (why.StoreFault length) node cluster old before l given new now n c o d = inr (partway node cluster old before l given new o d.stops)
+left_of_down (why.Refused at) node cluster old before l given new now n c o d = absurd d
+left_of_down why.Unsound node cluster old before l given new now n c o d = same_alike node cluster old l.store.synced new n c o.opened d.1
+left_of_down (why.Differs table) node cluster old before l given new now n c o d = same_alike node cluster old l.store.synced new n c o.opened d.1
+left_of_down why.NoMemory node cluster old before l given new now n c o (inl same) = inl (same_alike node cluster old l.store.synced new n c o.opened same)
+left_of_down why.NoMemory node cluster old before l given new now n c o (inr stops) = inr (partway node cluster old before l given new o stops)

@@ -1,0 +1,3 @@
+pub mod IdentityLemmas
+pub mod SoundLemmas
+pub mod GrowthLemmas

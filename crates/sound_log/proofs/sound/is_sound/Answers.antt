@@ -1,0 +1,27 @@
+use Rattle.std.proofs.Common.{sym, ap, ◌∙◌}
+use Rattle.std.specs.Bool.{Decides}
+use Rattle.std.specs.Option.{option_copied}
+use Rattle.cdb_values.specs.Rows.{Rows}
+use Rattle.phys_log.specs.Logs.{pages_of}
+use Rattle.table_state.specs.States.{HasState}
+use Rattle.std.proofs.lemmas.Bool.{false≢true}
+use Rattle.std.proofs.lemmas.Result.{IfOk-weaker}
+use Rattle.sound_log.specs.Identities.{ids_in, AreApart}
+use Rattle.sound_log.proofs.SoundLemmas.{not_begun, state_decides}
+use Rattle.sound_log.proofs.sound.is_sound.Goals as goal
+
+pub returns-then-not-are_begun_by : goal.returns-then-not-are_begun_by
+returns-then-not-are_begun_by c = (
+  λ e. absurd (false≢true e),
+  λ h. absurd (not_begun c.args.accepted c.args.log.now c.in-Some.others.now c.in-Some.field-0-0.now (sym c.entries.ensures ∙ c.in-Some.ensures.cases.0)
+      (sym c.are_begun_by.ensures ∙ c.if-not-are_begun_by.true) h),
+)
+
+pub returns : goal.returns
+returns c =
+    let apart : AreApart (ids_in c.in-Some.others.now) = c.in_ok-apart.ensures.0 c.if-not-apart.false in
+    IfOk-weaker c.has_state.result (λ has. Decides has ((rows : Rows) × HasState (pages_of c.args.log.now) c.in-Some-schema.schema.now rows)) _
+    (λ has state. state_decides c.args.accepted c.args.log.now c.in-Some.others.now c.in-Some.field-0-0.now c.in-Some-schema.schema.now has
+    (sym c.entries.ensures ∙ c.in-Some.ensures.cases.0) (sym c.schema.ensures ∙ ap option_copied c.in-Some-schema.is)
+    (sym c.are_begun_by.ensures ∙ c.if-not-are_begun_by.false) apart state)
+    c.has_state.ensures
