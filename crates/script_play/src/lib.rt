@@ -39,6 +39,7 @@
 //! | what a report is judged by | | `specs/Basis.antt` |
 #![tactic(auto)]
 
+mod downs;
 mod effects;
 mod holding;
 mod lines;
@@ -48,4 +49,4 @@ mod run;
 mod states;
 mod verdicts;
 
-pub use playing::{Played, play};
+pub use playing::{Played, play, play_down};
