@@ -86,11 +86,7 @@ fn outside_down(number: u64, level: Level, kind: TextKind) -> Result<DownEffect,
 }
 
 /// A transaction is asked for while no majority is up.
-fn no_majority(
-    number: u64,
-    level: Level,
-    doing: InTransaction,
-) -> Result<DownEffect, AllocError>
+fn no_majority(number: u64, level: Level, doing: InTransaction) -> Result<DownEffect, AllocError>
     ensures { IfOk result (λ p. IsEffectDown p (turned (number + 1) (ReplyLine.NoMajority 0 1 ∷ []) (state (number + 1) level (doing_in doing)))) }
 {
     let Some(next) = number.checked_add(1) else {

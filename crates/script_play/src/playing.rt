@@ -1,20 +1,25 @@
 //! The lines of a script, done one after the other on one node.
-ghost use Rattle.std.specs.Prelude.{◌≡◌, ℕ, ◌-◌, ◌<◌, ◌≤◌, ◌++◌, ◌∷◌, [], List, Some, length, OnOk, IfOk, map, slice_get, unwrap_or};
+ghost use Rattle.std.specs.Prelude.{◌≡◌, ℕ, ◌-◌, ◌<◌, ◌≤◌, ◌++◌, ◌∷◌, [], List, Some, false, true, length, OnOk, IfOk, map, slice_get, unwrap_or};
+ghost use Rattle.cdb_values.specs.Rows.{Rows};
 ghost use Rattle.log_replay.specs.Answers.{schema_of as schema_told};
 ghost use Rattle.log_rows.specs.History.{rows_over_at, takes_in, IsFrom, StandsOver};
-ghost use Rattle.report_laws.specs.History.{Origin, rows_at, taken_at};
-ghost use Rattle.script_play.specs.EntryLines.{AreTold};
-ghost use Rattle.script_form.specs.CanRun.{CanRun, tables_of};
-ghost use Rattle.script_form.specs.declared.scripts.BodyLine.{BodyLine};
+ghost use Rattle.node_log.specs.Logged.{Leaves};
+ghost use Rattle.report_laws.specs.History.{rows_at, taken_at};
 ghost use Rattle.report_laws.specs.Lawful.{Lawful, base_line};
 ghost use Rattle.report_laws.specs.Nodes.{downs};
 ghost use Rattle.report_laws.specs.Play.{InPlayOrder};
-ghost use Rattle.script_play.specs.Basis.{from_origin};
-ghost use Rattle.script_play.specs.Played.{IsPlayed};
+ghost use Rattle.script_form.specs.CanRun.{CanRun, tables_of};
+ghost use Rattle.script_form.specs.declared.scripts.BodyLine.{BodyLine};
+ghost use Rattle.script_play.specs.Basis.{from_origin, from_start};
+ghost use Rattle.script_play.specs.Down.{history_of, with_entries, IsCaused};
+ghost use Rattle.script_play.specs.EntryLines.{AreTold};
+ghost use Rattle.script_play.specs.Played.{downs_by, IsPlayed};
 ghost use Rattle.script_play.specs.Ready.{CanBegin};
-ghost use Rattle.script_play.specs.RunViews.{state_in, IsBeforeLine, IsOpening, IsOpenedLog};
-ghost use Rattle.script_play.specs.Start.{Start, ground_at};
+ghost use Rattle.script_play.specs.RunViews.{state_in, IsBeforeLine, IsOpenedBehind};
+ghost use Rattle.script_play.specs.SoFarDown.{IsBeforeDown};
+ghost use Rattle.script_play.specs.declared.states.SessionState.{SessionState};
 ghost use Rattle.script_play.specs.SoFar.{at_start, report_of, session_at};
+ghost use Rattle.script_play.specs.Start.{Start, base as base_of, ground_of};
 ghost use Rattle.std.specs.Str.{bytes_eq};
 
 use super::downs::run_down;
@@ -66,6 +71,36 @@ pub fn play<D: LogStore + Drop>(
     requires place { base ≡ length start.before }
     requires opened { IsOpenedBehind (tables_of script.now) log.accepted start.before log.entries }
     requires behind { CanBegin (tables_of script.now) start.before start.rows }
+    ensures lawful { IfOk result (λ p. Lawful (from_start script.now start) p.report) }
+    ensures in_order { IfOk result (λ p. InPlayOrder (from_start script.now start) p.report) }
+    ensures entries { IfOk result (λ p. AreTold start.before log.accepted p.report.entries (history_of p.log)) }
+    ensures schema { IfOk result (λ p. schema_told (history_of p.log) ≡ Some (tables_of script.now)) }
+    ensures taken { IfOk result (λ p. (k : ℕ) → base < k → k ≤ length (history_of p.log)
+        → unwrap_or (slice_get (takes_in (history_of p.log)) (k - 1)) [] ≡ taken_at (from_start script.now start) p.report.entries k) }
+    ensures rows { IfOk result (λ p. (k : ℕ) → IsFrom base k → k ≤ length (history_of p.log)
+        → rows_over_at (ground_of start) (history_of p.log) k ≡ rows_at (from_start script.now start) p.report.entries k) }
+    ensures stands { IfOk result (λ p. StandsOver (ground_of start) (tables_of script.now) (history_of p.log)) }
+    ensures faults { IfOk result (λ p. downs p.report.lines ≡ downs_by p.log.failed) }
+    ensures cause { IfOk result (λ p. IsCaused p.log.failed log.store.faults p.log.store.faults) }
+    ensures made { IfOk result (λ p. p.log.failed ≡ false → p.log.accepted ≡ log.accepted) }
+    ensures kept { IfOk result (λ p. p.log.failed ≡ true → Leaves p.log.store (with_entries p.log (history_of p.log) ∷ p.log ∷ [])) }
+{
+    play_behind(alloc, script, log, base)
+}
+
+/// The same, in one clause.
+fn play_behind<D: LogStore + Drop>(
+    alloc: Global,
+    script: &Script,
+    log: NodeLog<D>,
+    base: u64,
+) -> Result<Played<D>, NodeLog<D>>
+    ghost start: { Start }
+    requires can_run { CanRun script.now }
+    requires running { log.failed ≡ false }
+    requires place { base ≡ length start.before }
+    requires opened { IsOpenedBehind (tables_of script.now) log.accepted start.before log.entries }
+    requires behind { CanBegin (tables_of script.now) start.before start.rows }
     ensures { IfOk result (λ p. IsPlayed script.now start log p.report p.log) }
 {
     let mut so_far = opened(alloc, log);
@@ -90,6 +125,15 @@ fn play_on<D: LogStore>(
     base: u64,
     run: &mut RunSoFar<D>,
 ) -> Result<(), AllocError>
+    ghost start: { Start }
+    requires can_run { CanRun script.now }
+    requires running { run.old.log.failed ≡ false }
+    requires place { base ≡ length start.before }
+    requires opened { IsOpenedBehind (tables_of script.now) run.old.log.accepted start.before run.old.log.entries }
+    requires behind { CanBegin (tables_of script.now) start.before start.rows }
+    requires lines { run.old.lines.items ≡ [] }
+    requires entries { run.old.entries.items ≡ [] }
+    ensures { OnOk result ((states : List SessionState) × IsBeforeLine script.now start run.old.log.accepted run.old.log.store.faults [] run.new.lines.items run.new.entries.items run.new.log states) }
 {
     let schema = schema_of(alloc, script.tables.as_slice())?;
     let generation = run.log.accepted();
@@ -178,9 +222,9 @@ fn run_line<D: LogStore>(
 ) -> Result<(), AllocError>
     ghost start: { Start }
     requires tables { schema.now ≡ tables_of script.now }
-    requires before { (left : List BodyLine) × IsBeforeLine script.now start generation (line.now ∷ left) run.old states.old }
-    ensures { OnOk result ((left : List BodyLine) → IsBeforeLine script.now start generation (line.now ∷ left) run.old states.old
-        → IsBeforeLine script.now start generation left run.new states.new) }
+    requires before { (left : List BodyLine) × (had : ℕ) × IsBeforeLine script.now start generation had (line.now ∷ left) run.old.lines.items run.old.entries.items run.old.log states.old }
+    ensures { OnOk result ((left : List BodyLine) (had : ℕ) → IsBeforeLine script.now start generation had (line.now ∷ left) run.old.lines.items run.old.entries.items run.old.log states.old
+        → IsBeforeLine script.now start generation had left run.new.lines.items run.new.entries.items run.new.log states.new) }
 {
     let Act::Say { session, text } = &line.act else {
         return Ok(());
@@ -228,11 +272,15 @@ fn is_same(a: &Name, b: &Name) -> bool
 /// What a run behind a base leaves: its report up to the last position of the history, and the log.
 fn reported<D: LogStore>(alloc: Global, base: u64, run: RunSoFar<D>) -> Played<D>
     requires some { run.log.failed ≡ true → 1 ≤ length run.log.entries }
-    ensures report { result.report ≡ report_of base (heard run.log) run.lines.items run.entries.items }
+    ensures report { result.report ≡ report_of base (length (history_of run.log)) run.lines.items run.entries.items }
     ensures log { result.log ≡ run.log }
 {
     let length = run.log.log().entries().len() as u64;
-    let end = if run.log.has_failed() { length - 1 } else { length };
+    let end = if run.log.has_failed() {
+        length - 1
+    } else {
+        length
+    };
     let RunSoFar {
         lines,
         entries,
@@ -302,6 +350,10 @@ fn run_line_down(
     states: &mut List<SessionState>,
     lines: &mut Vec<Line>,
 ) -> Result<(), AllocError>
+    requires tables { schema.now ≡ tables_of script.now }
+    requires before { (left : List BodyLine) × IsBeforeDown script.now (line.now ∷ left) lines.old.items (map state_in states.old) }
+    ensures { OnOk result ((left : List BodyLine) → IsBeforeDown script.now (line.now ∷ left) lines.old.items (map state_in states.old)
+        → IsBeforeDown script.now left lines.new.items (map state_in states.new)) }
 {
     let Act::Say { session, text } = &line.act else {
         return Ok(());

@@ -1,12 +1,10 @@
 //! The run so far, and how what a line is to do is told and kept.
-ghost use Rattle.std.specs.Prelude.{◌≡◌, ◌+◌, ◌++◌, ◌∷◌, [], false, true, length, None, Some, OnOk, OnErr, IfOk, IfSome, MatchResult};
-ghost use Rattle.cdb_outside.specs.Faults.{Rose};
+ghost use Rattle.std.specs.Prelude.{◌≡◌, ◌+◌, ◌++◌, ◌∷◌, [], List, false, OnOk, OnErr, IfOk, IfSome, ◌⊎◌};
 ghost use Rattle.log_rows.specs.History.{IsCommit};
 ghost use Rattle.phys_log.specs.Logs.{Fits};
 ghost use Rattle.report_laws.specs.Told.{lines_of};
-ghost use Rattle.report_text.specs.declared.reports.Line.TheVariants as line;
-ghost use Rattle.report_text.specs.declared.reports.ReplyLine.TheVariants as reply;
-ghost use Rattle.script_play.specs.Down.{IsAppended, IsFallen, IsKept};
+ghost use Rattle.report_text.specs.declared.reports.Line.{Line};
+ghost use Rattle.script_play.specs.Down.{down_line, IsEntered, IsFallenAt, IsKeptSo, TellsOutcome};
 ghost use Rattle.script_play.specs.Effects.{Grown};
 ghost use Rattle.script_play.specs.EntryLines.{line_of as line_of_entry};
 ghost use Rattle.script_play.specs.RunViews.{IsSameHistory};
@@ -89,10 +87,11 @@ pub(crate) fn apply_effect<D: LogStore>(
     requires fits { IfSome effect.added (Fits run.old.log.entries) }
     requires commit { IfSome effect.added IsCommit }
     requires made { IfSome effect.added (λ e. generation_of e ≡ run.old.log.accepted) }
+    requires told { TellsOutcome effect.replies.items effect.added }
     ensures state { IfOk result (λ after. after ≡ effect.after) }
-    ensures done { OnOk result (IsAppended name.now effect.number effect.replies.items effect.added run.old run.new) }
+    ensures done { OnOk result (IsKeptSo name.now effect.number effect.replies.items effect.added run.old.lines.items run.new.lines.items run.old.entries.items run.new.entries.items run.old.log run.new.log) }
     ensures err_lines { OnErr result (Grown run.old.lines.items run.new.lines.items) }
-    ensures err_same { OnErr result (IsSameHistory run.old run.new) }
+    ensures err_same { OnErr result (IsSameHistory run.old.entries.items run.new.entries.items run.old.log run.new.log) }
 {
     let LineEffect {
         number,
@@ -122,11 +121,13 @@ fn append_committed<D: LogStore>(
     requires fits { Fits run.old.log.entries entry }
     requires commit { IsCommit entry }
     requires made { generation_of entry ≡ run.old.log.accepted }
-    ensures kept { OnOk result (run.new.log.failed ≡ false → IsKept entry run.old run.new) }
-    ensures kept_lines { OnOk result (run.new.log.failed ≡ false → run.new.lines.items ≡ run.old.lines.items) }
-    ensures fallen { OnOk result (run.new.log.failed ≡ true → IsFallen entry run.old run.new) }
+    requires told { (front : List Line) × (outcome : Line) × (run.old.lines.items ≡ front ++ outcome ∷ []) }
+    ensures done { OnOk result (
+        ((run.new.lines.items ≡ run.old.lines.items) × IsEntered entry run.old.entries.items run.new.entries.items run.old.log run.new.log)
+        ⊎ (((front : List Line) (outcome : Line) → run.old.lines.items ≡ front ++ outcome ∷ [] → run.new.lines.items ≡ front ++ down_line ∷ lines_of name.now number (ReplyLine.Lost 1 1 ∷ []))
+        × IsFallenAt entry run.old.entries.items run.new.entries.items run.old.log run.new.log)) }
     ensures err_lines { OnErr result (Grown run.old.lines.items run.new.lines.items) }
-    ensures err_same { OnErr result (IsSameHistory run.old run.new) }
+    ensures err_same { OnErr result (IsSameHistory run.old.entries.items run.new.entries.items run.old.log run.new.log) }
 {
     let had = run.lines.len();
     let told = add_fall(&mut run.lines, name, number);
@@ -135,9 +136,7 @@ fn append_committed<D: LogStore>(
         Appended::Kept => run.lines.truncate(had),
         Appended::Down => {
             // The last line, that the node went down, takes the place of the outcome.
-            if 0 < had {
-                let _committed = run.lines.swap_remove(had - 1);
-            }
+            let _outcome = run.lines.swap_remove(had - 1);
         }
     }
     Ok(())
@@ -145,7 +144,7 @@ fn append_committed<D: LogStore>(
 
 /// Adds the lines that a transaction is lost, and that the node went down, in this order.
 fn add_fall(lines: &mut Vec<Line>, name: &Name, number: u64) -> Result<(), AllocError>
-    ensures ok { OnOk result (lines.new.items ≡ lines.old.items ++ (lines_of name.now number (reply.Lost 1 1 ∷ []) ++ line.Down 1 1 true ∷ [])) }
+    ensures ok { OnOk result (lines.new.items ≡ lines.old.items ++ (lines_of name.now number (ReplyLine.Lost 1 1 ∷ []) ++ down_line ∷ [])) }
     ensures err { OnErr result (Grown lines.old.items lines.new.items) }
 {
     add_reply(lines, name, number, ReplyLine::Lost { node: 1, down: 1 })?;
@@ -154,7 +153,7 @@ fn add_fall(lines: &mut Vec<Line>, name: &Name, number: u64) -> Result<(), Alloc
 
 /// Adds the line that the node went down by a fault of its store.
 pub(crate) fn add_down(lines: &mut Vec<Line>) -> Result<(), AllocError>
-    ensures ok { OnOk result (lines.new.items ≡ lines.old.items ++ line.Down 1 1 true ∷ []) }
+    ensures ok { OnOk result (lines.new.items ≡ lines.old.items ++ down_line ∷ []) }
     ensures err { OnErr result (lines.new.items ≡ lines.old.items) }
 {
     lines.push(Line::Down {
@@ -176,10 +175,10 @@ fn append_entry<D: LogStore>(
     requires fits { Fits run.old.log.entries entry }
     requires commit { IsCommit entry }
     requires made { generation_of entry ≡ run.old.log.accepted }
-    ensures kept { IfOk result (λ a. a ≡ Appended.Kept → IsKept entry run.old run.new) }
-    ensures fallen { IfOk result (λ a. a ≡ Appended.Down → IsFallen entry run.old run.new) }
+    ensures kept { IfOk result (λ a. a ≡ Appended.Kept → IsEntered entry run.old.entries.items run.new.entries.items run.old.log run.new.log) }
+    ensures fallen { IfOk result (λ a. a ≡ Appended.Down → IsFallenAt entry run.old.entries.items run.new.entries.items run.old.log run.new.log) }
     ensures lines { run.new.lines.items ≡ run.old.lines.items }
-    ensures err_same { OnErr result (IsSameHistory run.old run.new) }
+    ensures err_same { OnErr result (IsSameHistory run.old.entries.items run.new.entries.items run.old.log run.new.log) }
 {
     let position = run.log.log().entries().len() as u64 + 1;
     let line = line_of(position, &entry);
