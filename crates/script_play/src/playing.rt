@@ -19,7 +19,7 @@ ghost use Rattle.script_play.specs.RunViews.{state_in, IsBeforeLine, IsOpenedBeh
 ghost use Rattle.script_play.specs.SoFarDown.{IsBeforeDown};
 ghost use Rattle.script_play.specs.declared.states.SessionState.{SessionState};
 ghost use Rattle.script_play.specs.SoFar.{at_start, report_of, session_at};
-ghost use Rattle.script_play.specs.Start.{Start, base as base_of, ground_of};
+ghost use Rattle.script_play.specs.Start.{Start, ground_of};
 ghost use Rattle.std.specs.Str.{bytes_eq};
 
 use super::downs::run_down;
