@@ -14,6 +14,7 @@ pub mod CutLemmas
 pub mod DownLemmas
 pub mod RunLemmas
 pub mod NodeLemmas
+pub mod LossLemmas
 pub mod WholeLemmas
 pub mod StartLemmas
 pub mod CourseLemmas
