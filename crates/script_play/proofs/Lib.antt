@@ -11,7 +11,10 @@ pub mod DecisionLemmas
 pub mod StandingLemmas
 pub mod TurnLemmas
 pub mod CutLemmas
+pub mod DownLemmas
 pub mod RunLemmas
+pub mod NodeLemmas
+pub mod LossLemmas
 pub mod WholeLemmas
 pub mod StartLemmas
 pub mod CourseLemmas

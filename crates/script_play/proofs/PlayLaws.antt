@@ -1,23 +1,24 @@
 -- The run at its opening and at its end, and a line as it is planned and done.
-use Rattle.std.proofs.Common.{◌≡◌, zero, suc, ℕ, List, [], ◌∷◌, length, map, refl, sym, subst, ap, arith, ◌∙◌, Result, Ok, Err, OnOk, IfOk}
+use Rattle.std.proofs.Common.{◌≡◌, zero, suc, ℕ, ◌+◌, ◌++◌, Bool, true, false, List, [], ◌∷◌, length, map, refl, sym, subst, ap, arith, ◌∙◌, Result, Ok, Err, OnOk, IfOk}
 use Rattle.std.specs.Prelude.{slice_get, Some}
-use Rattle.log_rows.specs.History.{Ground, takes_in}
-use Rattle.phys_log.specs.declared.entries.Entry.{Entry}
-use Rattle.report_laws.specs.History.{Basis, Origin}
+use Rattle.log_rows.specs.History.{takes_in}
+use Rattle.node_log.specs.Logged.{Logged, Leaves}
+use Rattle.report_laws.specs.Nodes.{downs}
+use Rattle.report_laws.proofs.NodesLaws.{downs_append}
+use Rattle.report_text.specs.declared.reports.EntryLine.{EntryLine}
+use Rattle.report_text.specs.declared.reports.Line.{Line}
 use Rattle.report_text.specs.declared.reports.Report.{Report}
 use Rattle.script_form.specs.CanRun.{tables_of}
 use Rattle.script_form.specs.declared.scripts.BodyLine.{BodyLine}
 use Rattle.script_form.specs.declared.scripts.Script.{Script}
 use Rattle.script_form.specs.declared.scripts.SessionLine.{SessionLine}
-use Rattle.script_play.specs.Basis.{from_origin, from_start}
 use Rattle.script_play.specs.Doing.{SessionAt}
 use Rattle.script_play.specs.Doing as doing
-use Rattle.script_play.specs.Played.{IsLeft, IsPlayed}
+use Rattle.script_play.specs.Played.{downs_by, IsPlayed}
 use Rattle.script_play.specs.RunViews.{doing_in, seen_in, state_in, AreOwn, IsBeforeLine, IsOwn, IsOwnDoing}
-use Rattle.script_play.specs.SoFar.{now_of, at_start, report_of}
-use Rattle.script_play.specs.Start.{Start, base, ground_at, ground_of}
-use Rattle.script_play.specs.declared.playing.Played.{Played}
-use Rattle.script_play.specs.declared.run.RunSoFar.{RunSoFar}
+use Rattle.script_play.specs.SoFar.{now_of, at_start, report_of, IsAtNode}
+use Rattle.script_play.specs.Down.{down_line, history_of, with_entries, IsHeld, IsHeldBy}
+use Rattle.script_play.specs.Start.{Start, base}
 use Rattle.script_play.specs.declared.states.InTransaction.{InTransaction}
 use Rattle.script_play.specs.declared.states.InTransaction.TheVariants.{No, Open, Aborted}
 use Rattle.script_play.specs.declared.states.SessionState.{SessionState}
@@ -45,60 +46,47 @@ none_left : (rest : List BodyLine) → length rest ≡ 0 → rest ≡ []
 none_left [] is = refl
 none_left (l ∷ ls) is = absurd (omega (arith, is))
 
--- what is judged is the same by the origin as by the start that it is
-same_basis : (script : Script) (origin : Origin) (before : List Entry) → origin.position ≡ length before → origin.tables ≡ tables_of script →
-    from_start script (record { before = before; rows = origin.rows }) ≡ from_origin script origin
-same_basis script origin before place tables = λ j. from_origin script (record { position = sym place j; tables = sym tables j; rows = origin.rows })
+-- how many down lines there are, by whether the node is down
+downs_at : (down : Bool) (script : Script) (lines : List Line) (states : List SessionAt) → IsAtNode down script lines states → downs lines ≡ downs_by down
+downs_at false script lines states is = is
+downs_at true script lines states is =
+    let parts : downs (is.front ++ down_line ∷ is.back) ≡ downs is.front + (downs is.back + 1) = downs_append is.front (down_line ∷ is.back) in
+    let before = is.unhurt in let behind = is.once in
+    ap downs is.is ∙ omega (arith, parts, before, behind)
 
-same_ground : (origin : Origin) (before : List Entry) → origin.position ≡ length before → ground_of (record { before = before; rows = origin.rows }) ≡ ground_at origin
-same_ground origin before place = ap (λ n. record { position = n; rows = origin.rows }) (sym place)
-
--- what a run that is done leaves, by the start and by the origin
-done_so : (script : Script) (start : Start) (generation : ℕ) (run : RunSoFar) (states : List SessionState) → IsBeforeLine script start generation [] run states →
-    IsPlayed script start generation (report_of (base start) (now_of start run.entries.items) run.lines.items run.entries.items) run.log
-done_so script start generation run states before = record {
-  lawful = ends_lawful script start before.0.done run.lines.items run.entries.items (takes_in run.log) (seen_in start run.log) (map state_in states) before.0.so_far;
-  in_order = ends_in_order script start before.0.done run.lines.items run.entries.items (takes_in run.log) (seen_in start run.log) (map state_in states) before.0.so_far;
-  no_fault = before.0.so_far.unhurt;
-  entries = before.2;
-  schema = before.1.schema;
-  taken = λ k first within. before.0.so_far.stored.taken_are k first (let n = before.1.count in omega (arith, n, within));
-  rows = λ k from within. before.0.so_far.stored.rows_are k from (let n = before.1.count in omega (arith, n, within));
-  stands = before.1.stands;
+-- what a run that is done leaves
+done_so : (script : Script) (start : Start) (opened : Logged) (lines : List Line) (entries : List EntryLine) (log : Logged) (states : List SessionState) →
+    IsBeforeLine script start opened.accepted opened.store.faults [] lines entries log states →
+    IsPlayed script start opened (report_of (base start) (now_of start entries) lines entries) log
+done_so script start opened lines entries log states now = record {
+  told = record {
+    lawful = ends_lawful script start log.failed now.before.done lines entries (takes_in (history_of log)) (seen_in start (history_of log)) (map state_in states) now.before.so_far;
+    in_order = ends_in_order script start log.failed now.before.done lines entries (takes_in (history_of log)) (seen_in start (history_of log)) (map state_in states) now.before.so_far;
+    entries = now.told;
+    schema = now.logged.schema;
+    taken = λ k first within. now.before.so_far.stored.taken_are k first (let n = now.logged.count in omega (arith, n, within));
+    rows = λ k from within. now.before.so_far.stored.rows_are k from (let n = now.logged.count in omega (arith, n, within));
+    stands = now.logged.stands;
+  };
+  faults = downs_at log.failed script lines (map state_in states) now.before.so_far.node;
+  held = now.held;
 }
 
-pub done_at : (script : Script) (start : Start) (generation : ℕ) (rest : List BodyLine) (run : RunSoFar) (states : List SessionState) (told : ℕ) (report : Report) (log : List Entry) →
-    IsBeforeLine script start generation rest run states → length rest ≡ 0 → told ≡ base start → report ≡ report_of told (length run.log) run.lines.items run.entries.items → log ≡ run.log →
-    IsPlayed script start generation report log
-done_at script start generation rest run states told report log now ends base_is is same =
-    subst (λ (r : Report). IsPlayed script start generation r log) report_is
-    (subst (λ (es : List Entry). IsPlayed script start generation (report_of (base start) (now_of start run.entries.items) run.lines.items run.entries.items) es) (sym same)
-    (done_so script start generation run states at_end))
+pub done_at : (script : Script) (start : Start) (opened : Logged) (lines : List Line) (entries : List EntryLine) (log : Logged) (states : List SessionState) (told : ℕ) (report : Report) →
+    IsBeforeLine script start opened.accepted opened.store.faults [] lines entries log states → told ≡ base start → report ≡ report_of told (length (history_of log)) lines entries →
+    IsPlayed script start opened report log
+done_at script start opened lines entries log states told report now base_is is =
+    subst (λ (r : Report). IsPlayed script start opened r log) (sym report_is) (done_so script start opened lines entries log states now)
   where
-    at_end : IsBeforeLine script start generation [] run states
-    at_end = subst (λ (r : List BodyLine). IsBeforeLine script start generation r run states) (none_left rest ends) now
+    report_is : report ≡ report_of (base start) (now_of start entries) lines entries
+    report_is = is ∙ ap (λ n. report_of n (length (history_of log)) lines entries) base_is ∙ ap (λ n. report_of (base start) n lines entries) now.logged.count
 
-    report_is : report_of (base start) (now_of start run.entries.items) run.lines.items run.entries.items ≡ report
-    report_is =
-        sym (is ∙ ap (λ n. report_of n (length run.log) run.lines.items run.entries.items) base_is
-        ∙ ap (λ n. report_of (base start) n run.lines.items run.entries.items) at_end.1.count)
+-- what is held of a log, by whether the node is down
+pub held_made : (log : Logged) (generation had : ℕ) → IsHeld generation had log → log.failed ≡ false → log.accepted ≡ generation
+held_made log generation had is up = subst (λ (b : Bool). IsHeldBy b generation log) up is.held
 
-pub at_origin : (script : Script) (origin : Origin) (before : List Entry) (generation : ℕ) (report : Report) (log : List Entry) → origin.position ≡ length before → origin.tables ≡ tables_of script →
-    IsPlayed script (record { before = before; rows = origin.rows }) generation report log → IsLeft script before (from_origin script origin) (ground_at origin) origin.position generation report log
-at_origin script origin before generation report log place tables is =
-    subst (λ (b : Basis). IsLeft script before b (ground_at origin) origin.position generation report log) (same_basis script origin before place tables)
-    (subst (λ (g : Ground). IsLeft script before (from_start script start) g origin.position generation report log) (same_ground origin before place)
-    (subst (λ n. IsLeft script before (from_start script start) (ground_of start) n generation report log) (sym place) is))
-  where
-    start : Start
-    start = record { before = before; rows = origin.rows }
-
--- the same of what the code answers
-pub if_at_origin : {E : Type 0} (result : Result Played E) (script : Script) (origin : Origin) (before : List Entry) (generation : ℕ) → origin.position ≡ length before → origin.tables ≡ tables_of script →
-    IfOk result (λ p. IsPlayed script (record { before = before; rows = origin.rows }) generation p.report p.log) →
-    IfOk result (λ p. IsLeft script before (from_origin script origin) (ground_at origin) origin.position generation p.report p.log)
-if_at_origin (Err e) script origin before generation place tables is = tt
-if_at_origin (Ok p) script origin before generation place tables is = at_origin script origin before generation p.report p.log place tables is
+pub held_left : (log : Logged) (generation had : ℕ) → IsHeld generation had log → log.failed ≡ true → Leaves log.store (with_entries log (history_of log) ∷ log ∷ [])
+held_left log generation had is down = (subst (λ (b : Bool). IsHeldBy b generation log) down is.held).1
 
 pub on_ok : {T E : Type 0} {P Q : Type 0} (r : Result T E) → (P → Q) → OnOk r P → OnOk r Q
 on_ok (Ok x) f is = f is

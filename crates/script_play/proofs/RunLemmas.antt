@@ -83,7 +83,7 @@ pub record Keeps (script : Script) (start : Start) (done : List BodyLine) (l : B
   pub ended : AllByRecursion (IsEnded (done ++ l ∷ [])) entries'
 
 module _ (script : Script) (start : Start) (done left : List BodyLine) (l : BodyLine) (lines : List Line) (entries : List EntryLine) (taken : List (List GenidItem)) (seen : Seen) (states sites' : List SessionAt) (name text : List ℕ)
-    (was : SoFar script start done (l ∷ left) lines entries taken seen states) (is_act : l.act ≡ Say name text) where
+    (was : SoFar script start false done (l ∷ left) lines entries taken seen states) (is_act : l.act ≡ Say name text) where
   abbrev pub place : Place
   place = place_after sql_language name done
 
@@ -102,7 +102,7 @@ module _ (script : Script) (start : Start) (done left : List BodyLine) (l : Body
 
   pub advanced : (entries' : List EntryLine) (taken' : List (List GenidItem)) (seen' : Seen) (number : ℕ) (rs : List ReplyLine) (after : SessionAt) → Keeps script start done l lines entries entries' taken' seen seen' name text number rs after →
       state_of name script.sessions sites' ≡ after → ((m : List ℕ) → bytes_eq name m ≡ false → state_of m script.sessions sites' ≡ state_of m script.sessions states) →
-      SoFar script start (done ++ l ∷ []) left (lines ++ lines_of name number rs) entries' taken' seen' sites'
+      SoFar script start false (done ++ l ∷ []) left (lines ++ lines_of name number rs) entries' taken' seen' sites'
   advanced entries' taken' seen' number rs after keeps own others = record {
     body = was.body ∙ sym (append_assoc done (l ∷ []) left);
     stored = keeps.stored;
@@ -115,7 +115,7 @@ module _ (script : Script) (start : Start) (done left : List BodyLine) (l : Body
     answered = keeps.answered;
     ended = keeps.ended;
     placed = each_append (HasItsPlace script) [] lines mine was.placed laws.placed;
-    unhurt = downs_more lines name number rs was.unhurt;
+    node = downs_more lines name number rs was.node;
   }
     where
       mine : List Line
@@ -135,8 +135,8 @@ module _ (script : Script) (start : Start) (done left : List BodyLine) (l : Body
             replies = rs;
             says = ap (λ n. lines_of name n rs) keeps.belongs;
             turn = subst (λ n. IsTurn n lines name (number_told sql_language place text) (is_own sql_language place text) rs keeps.added) now keeps.turn;
-            kept = none_lost script lines name (number_told sql_language place text) place.pending was.unhurt;
-            majority = none_lacks script lines (sql_language.kind text) place.pending was.unhurt;
+            kept = none_lost script lines name (number_told sql_language place text) place.pending was.node;
+            majority = none_lacks script lines (sql_language.kind text) place.pending was.node;
           }))
 
       own_stands : Standing script start entries' seen'.next name (place_after sql_language name (done ++ l ∷ [])) (told name (lines ++ lines_of name number rs)) (state_of name script.sessions sites')
@@ -282,11 +282,11 @@ module _ (script : Script) (start : Start) (done left : List BodyLine) (l : Body
       IsTurned (world script start entries taken seen) name (turn (world script start entries taken seen) (state_of name script.sessions states) text) lines lines' entries entries' taken' seen' →
       state_of name script.sessions sites' ≡ (turn (world script start entries taken seen) (state_of name script.sessions states) text).after →
       ((m : List ℕ) → bytes_eq name m ≡ false → state_of m script.sessions sites' ≡ state_of m script.sessions states) →
-      SoFar script start (done ++ l ∷ []) left lines' entries' taken' seen' sites'
+      SoFar script start false (done ++ l ∷ []) left lines' entries' taken' seen' sites'
   turned_keeps askable utf8 lines' entries' taken' seen' run own others =
-      subst (λ ls. SoFar script start (done ++ l ∷ []) left ls entries' taken' seen' sites') (sym run.lines_are)
-      (subst (λ es. SoFar script start (done ++ l ∷ []) left (lines ++ lines_of name its_turn.number its_turn.replies) es taken' seen' sites') (sym run.entries_are)
-      (subst (λ ts. SoFar script start (done ++ l ∷ []) left (lines ++ lines_of name its_turn.number its_turn.replies) (entries ++ entries_added name (now_of start entries) its_turn) ts seen' sites') (sym run.taken_are)
+      subst (λ ls. SoFar script start false (done ++ l ∷ []) left ls entries' taken' seen' sites') (sym run.lines_are)
+      (subst (λ es. SoFar script start false (done ++ l ∷ []) left (lines ++ lines_of name its_turn.number its_turn.replies) es taken' seen' sites') (sym run.entries_are)
+      (subst (λ ts. SoFar script start false (done ++ l ∷ []) left (lines ++ lines_of name its_turn.number its_turn.replies) (entries ++ entries_added name (now_of start entries) its_turn) ts seen' sites') (sym run.taken_are)
       (advanced (entries ++ entries_added name (now_of start entries) its_turn) (taken ++ map taken_by its_turn.added) seen' its_turn.number its_turn.replies its_turn.after
       (turn_keeps (entries ++ entries_added name (now_of start entries) its_turn) (taken ++ map taken_by its_turn.added) seen' its_turn goes) own others)))
     where
@@ -306,12 +306,12 @@ module _ (script : Script) (start : Start) (done left : List BodyLine) (l : Body
       IsCutShort (world script start entries taken seen) name c lines lines' entries entries' taken' seen' →
       state_of name script.sessions sites' ≡ c.after →
       ((m : List ℕ) → bytes_eq name m ≡ false → state_of m script.sessions sites' ≡ state_of m script.sessions states) →
-      SoFar script start (done ++ l ∷ []) left lines' entries' taken' seen' sites'
+      SoFar script start false (done ++ l ∷ []) left lines' entries' taken' seen' sites'
   cut_keeps askable utf8 lines' entries' taken' seen' c is run own others =
-      subst (λ ls. SoFar script start (done ++ l ∷ []) left ls entries' taken' seen' sites') (sym run.lines_are)
-      (subst (λ es. SoFar script start (done ++ l ∷ []) left (lines ++ lines_of name c.number (reply.NoMemory ∷ [])) es taken' seen' sites') (sym run.entries_are)
-      (subst (λ ts. SoFar script start (done ++ l ∷ []) left (lines ++ lines_of name c.number (reply.NoMemory ∷ [])) entries ts seen' sites') (sym run.taken_are)
-      (subst (λ (a : Seen). SoFar script start (done ++ l ∷ []) left (lines ++ lines_of name c.number (reply.NoMemory ∷ [])) entries taken a sites') (sym run.rows_are)
+      subst (λ ls. SoFar script start false (done ++ l ∷ []) left ls entries' taken' seen' sites') (sym run.lines_are)
+      (subst (λ es. SoFar script start false (done ++ l ∷ []) left (lines ++ lines_of name c.number (reply.NoMemory ∷ [])) es taken' seen' sites') (sym run.entries_are)
+      (subst (λ ts. SoFar script start false (done ++ l ∷ []) left (lines ++ lines_of name c.number (reply.NoMemory ∷ [])) entries ts seen' sites') (sym run.taken_are)
+      (subst (λ (a : Seen). SoFar script start false (done ++ l ∷ []) left (lines ++ lines_of name c.number (reply.NoMemory ∷ [])) entries taken a sites') (sym run.rows_are)
       (advanced entries taken seen c.number (reply.NoMemory ∷ []) c.after (record {
         stored = was.stored;
         grows = inl refl;

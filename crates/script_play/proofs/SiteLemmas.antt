@@ -191,9 +191,9 @@ pub record Turn (script : Script) (start : Start) (name text : List ℕ) (entrie
   pub is_declared : session_at name script.sessions ≡ None → ⊥
   pub inside : (at : ℕ) → session_at name script.sessions ≡ Some at → at < length states
 
-pub turn_is : (script : Script) (start : Start) (left : List BodyLine) (l : BodyLine) (lines : List Line) (entries : List EntryLine) (log : List Entry) (states : List SessionAt) (name text : List ℕ) →
-    IsBefore script start (l ∷ left) lines entries (takes_in log) (seen_in start log) states → IsLogged start (tables_of script) (now_of start entries) log → l.act ≡ Say name text → Turn script start name text entries log states
-turn_is script start left l lines entries log states name text before logged is_act = record {
+pub turn_is : (script : Script) (start : Start) (down : Bool) (left : List BodyLine) (l : BodyLine) (lines : List Line) (entries : List EntryLine) (log : List Entry) (states : List SessionAt) (name text : List ℕ) →
+    IsBefore script start down (l ∷ left) lines entries (takes_in log) (seen_in start log) states → IsLogged start (tables_of script) (now_of start entries) log → l.act ≡ Say name text → Turn script start name text entries log states
+turn_is script start down left l lines entries log states name text before logged is_act = record {
   ready = ready script start entries log (runs_askable script before.can_run) before.so_far.stored logged;
   to_go = λ at x found has. subst (λ (y : SessionAt). IsReadyToGo start (tables_of script) (now_of start entries) log y.doing) (found_state 0 name script.sessions states at at x found (omega arith) has)
       (doing_ready script start entries log (place_after sql_language name before.done) (place_after sql_language name before.done).pending (state_of name script.sessions states).doing _ before.so_far.stored logged (before.so_far.standing name).doing);
@@ -206,9 +206,9 @@ turn_is script start left l lines entries log states name text before logged is_
 
 -- a line that was taken keeps the run so far
 pub turn_taken : (script : Script) (start : Start) (left : List BodyLine) (l : BodyLine) (lines lines' : List Line) (entries entries' : List EntryLine) (taken taken' : List (List GenidItem)) (seen seen' : Seen) (states : List SessionAt) (name text : List ℕ) (at : ℕ) (x after : SessionAt) →
-    IsBefore script start (l ∷ left) lines entries taken seen states → l.act ≡ Say name text → session_at name script.sessions ≡ Some at → slice_get states at ≡ Some x →
+    IsBefore script start false (l ∷ left) lines entries taken seen states → l.act ≡ Say name text → session_at name script.sessions ≡ Some at → slice_get states at ≡ Some x →
     IsTaken (world_of (tables_of script) seen taken (now_of start entries)) name x text after lines lines' entries entries' taken' seen' →
-    IsBefore script start left lines' entries' taken' seen' (slice_set states at after)
+    IsBefore script start false left lines' entries' taken' seen' (slice_set states at after)
 turn_taken script start left l lines lines' entries entries' taken taken' seen seen' states name text at x after before is_act found has run = record {
   can_run = before.can_run;
   said = before.said.1;
@@ -233,7 +233,7 @@ turn_taken script start left l lines lines' entries entries' taken taken' seen s
     others m differs = other_state 0 name m script.sessions states at at after found (omega arith) differs
 
     go : IsTaken (world_of (tables_of script) seen taken (now_of start entries)) name (state_of name script.sessions states) text after lines lines' entries entries' taken' seen' →
-        SoFar script start (before.done ++ l ∷ []) left lines' entries' taken' seen' (slice_set states at after)
+        SoFar script start false (before.done ++ l ∷ []) left lines' entries' taken' seen' (slice_set states at after)
     go (inl (done, there)) = turned_keeps script start before.done left l lines entries taken seen states (slice_set states at after) name text before.so_far is_act (runs_askable script before.can_run) utf8
         lines' entries' taken' seen' done (own ∙ there) others
     go (inr (c, is, short, there)) = cut_keeps script start before.done left l lines entries taken seen states (slice_set states at after) name text before.so_far is_act (runs_askable script before.can_run) utf8

@@ -1,5 +1,5 @@
 -- The run at its opening: with a log that it begins, and behind one that stands already.
-use Rattle.std.proofs.Common.{◌≡◌, zero, suc, ℕ, ◌-◌, ◌<◌, ◌≤◌, ◌==◌, List, [], ◌∷◌, length, map, refl, sym, subst, ap, arith, ◌∙◌, append-nil, unwrap_or, Bool, if◌then◌else◌}
+use Rattle.std.proofs.Common.{◌≡◌, zero, suc, ℕ, ◌-◌, ◌<◌, ◌≤◌, ◌==◌, List, [], ◌∷◌, length, map, refl, sym, subst, ap, arith, ◌∙◌, append-nil, unwrap_or, Bool, false, if◌then◌else◌}
 use Rattle.std.proofs.lemmas.Bool.{ne_eqb}
 use Rattle.std.specs.List.{AllByRecursion, slice_get}
 use Rattle.std.specs.Prelude.{drop}
@@ -113,14 +113,14 @@ as_many (s ∷ ss) = let rest = as_many ss in omega (arith, rest)
 
 -- the run as it begins, with its log
 pub record Opens (script : Script) (start : Start) (generation : ℕ) (entries : List EntryLine) (logged : List Entry) (states : List SessionAt) : Type 0 where
-  pub before_line : IsBefore script start script.body [] entries (takes_in logged) (seen_in start logged) states
+  pub before_line : IsBefore script start false script.body [] entries (takes_in logged) (seen_in start logged) states
   pub logged_so : IsLogged start (tables_of script) (now_of start entries) logged
   pub told : AreTold start.before generation entries logged
 
 first_is : (script : Script) (start : Start) (taken : List (List GenidItem)) (seen : Seen) (states : List SessionAt) → CanRun script → states ≡ map (λ _. at_start) script.sessions → Stored script start (opening (from_start script start).origin) taken seen →
-    IsBefore script start script.body [] (opening (from_start script start).origin) taken seen states
+    IsBefore script start false script.body [] (opening (from_start script start).origin) taken seen states
 first_is script start taken seen states can starts stored =
-    subst (λ (ss : List SessionAt). IsBefore script start script.body [] (opening (from_start script start).origin) taken seen ss) (sym starts) (record {
+    subst (λ (ss : List SessionAt). IsBefore script start false script.body [] (opening (from_start script start).origin) taken seen ss) (sym starts) (record {
       can_run = can;
       said = can.said;
       same = as_many script.sessions;
@@ -148,7 +148,7 @@ opens_first script rows generation records states can starts at_one = record {
 opens_later : (script : Script) (start : Start) (generation : ℕ) (states : List SessionAt) → CanRun script → states ≡ map (λ _. at_start) script.sessions → 1 ≤ base start → GoesOn (tables_of script) start.before start.rows →
     Opens script start generation [] start.before states
 opens_later script start generation states can starts some goes = record {
-  before_line = subst (λ (es : List EntryLine). IsBefore script start script.body [] es (takes_in start.before) (seen_in start start.before) states) none
+  before_line = subst (λ (es : List EntryLine). IsBefore script start false script.body [] es (takes_in start.before) (seen_in start start.before) states) none
       (first_is script start (takes_in start.before) (seen_in start start.before) states can starts
       (subst (λ (es : List EntryLine). Stored script start es (takes_in start.before) (seen_in start start.before)) (sym none)
       (stored_later script start (takes_in start.before) (seen_in start start.before) some (rows_whole (ground_of start) start.before ∙ there) (ap (λ (r : Rows). r.next) there) (takes_length start.before) goes.kept)));
