@@ -1,0 +1,221 @@
+//! A script is played over the store of its node.
+ghost use Rattle.std.specs.Prelude.{◌≡◌, ◌++◌, ◌∷◌, [], false, map, take, unwrap_or, IfOk, OnOk, IsErr};
+ghost use Rattle.std.specs.Option.{option_copied};
+ghost use Rattle.cdb_values.specs.Rows.{Rows};
+ghost use Rattle.script_form.specs.CanRun.{tables_of, CanRun};
+ghost use Rattle.script_form.specs.Named.{IsNamed};
+ghost use Rattle.script_play.specs.Start.{Start};
+ghost use Rattle.store_log.specs.Keeps.{Stored};
+ghost use Rattle.script_main.specs.Run.{IsTextOver};
+ghost use Rattle.script_main.specs.Runs.{IsDownText, IsRun};
+ghost use Rattle.script_main.specs.Steps.{log_before, IsBegunAt, IsLeftOf, IsNotUpText, IsOpened, IsPlaceIn, IsPlayedText, IsReportText};
+ghost use Rattle.script_main.specs.Stores.{kept_by, start_at, unsaid};
+
+use super::answers::{Answer, differs, let_go, reported, store_refused, unsound};
+use super::begun::Begun;
+use super::statuses::Status;
+use cdb_outside::LogStore;
+use cdb_values::{List, Schema, TableDef};
+use cluster_id::cluster_id;
+use node_log::NodeLog;
+use node_opening::{UpNode, WhyNotUp, open_node};
+use script_form::{Script, TableLine};
+use script_play::{Played, play, play_down};
+use std::alloc::{AllocError, Global};
+
+/// The number of the one node.
+const NODE: u8 = 1;
+
+/// What a script over a store is answered, and the store behind it.
+#[derive(Drop)]
+pub(crate) struct Ended<D: LogStore> {
+    pub store: D,
+    pub answer: Result<Answer, AllocError>,
+}
+
+/// The answer to a script over the store of its node.
+pub(crate) fn play_over<D: LogStore + Drop>(alloc: Global, script: &Script, store: D) -> Ended<D>
+    requires runs { CanRun script.now }
+    requires names { IsNamed script.now }
+    requires settled { D.pending store ≡ [] }
+    ensures text { IfOk result.answer (λ a. IsTextOver script.now (kept_by D.synced D.pending D.faults store) (kept_by D.synced D.pending D.faults result.store) a.status a.text) }
+    ensures settled { D.pending result.store ≡ [] }
+{
+    let Ok(schema) = schema_of(alloc, script.tables.as_slice()) else {
+        return no_memory(store);
+    };
+    let Ok(cluster) = cluster_id(alloc, &script.cluster, script.nodes) else {
+        return no_memory(store);
+    };
+    match open_node(alloc, store, NODE, cluster, &schema) {
+        Ok(up) => play_up(alloc, script, up),
+        Err(down) => Ended {
+            answer: not_up(alloc, script, down.why),
+            store: down.store,
+        },
+    }
+}
+
+/// Want of memory, with the store as it is.
+fn no_memory<D: LogStore>(store: D) -> Ended<D>
+    ensures answer { IsErr result.answer }
+    ensures store { result.store ≡ store }
+{
+    Ended {
+        store,
+        answer: Err(AllocError),
+    }
+}
+
+/// The tables of a script, in order.
+fn schema_of(alloc: Global, tables: &[TableLine]) -> Result<Schema, AllocError>
+    ensures { IfOk result (λ schema. schema ≡ map (λ t. t.table) tables.now) }
+{
+    let mut schema = Schema::new(alloc);
+    let mut rest = tables;
+    'tables: while let Some((line, after)) = rest.split_first() {
+        add_copy(&mut schema, &line.table)?;
+        rest = after;
+    }
+    Ok(schema)
+}
+
+/// Adds a copy of a table. A script that is read has lawful tables, so that memory is all that can be wanting here.
+fn add_copy(schema: &mut Schema, table: &TableDef) -> Result<(), AllocError>
+    ensures { OnOk result (schema.new ≡ schema.old ++ table.now ∷ []) }
+{
+    match schema.add(table.clone()?) {
+        Ok(()) => Ok(()),
+        Err(_) => Err(AllocError),
+    }
+}
+
+/// The answer to a script whose node is not up.
+fn not_up(alloc: Global, script: &Script, why: WhyNotUp) -> Result<Answer, AllocError>
+    requires runs { CanRun script.now }
+    requires names { IsNamed script.now }
+    requires place { IsPlaceIn why (tables_of script.now) }
+    ensures { IfOk result (λ a. IsNotUpText script.now why a.status a.text) }
+{
+    match why {
+        WhyNotUp::StoreFault { .. } => down(alloc, script),
+        WhyNotUp::Refused { at } => store_refused(alloc, NODE, at),
+        WhyNotUp::Unsound => unsound(alloc, NODE),
+        WhyNotUp::Differs { table } => differs(alloc, script.tables.as_slice(), table),
+        WhyNotUp::NoMemory => Err(AllocError),
+    }
+}
+
+/// The answer to a script whose node is down from the opening on.
+fn down(alloc: Global, script: &Script) -> Result<Answer, AllocError>
+    requires runs { CanRun script.now }
+    requires names { IsNamed script.now }
+    ensures status { IfOk result (λ a. a.status ≡ Status.Done) }
+    ensures text { IfOk result (λ a. IsDownText script.now a.text) }
+{
+    let report = play_down(alloc, script, 0)?;
+    let answer = reported(alloc, &report);
+    let_go(report);
+    answer
+}
+
+/// The answer to a script whose node is up. A script without tables has those of the log.
+fn play_up<D: LogStore + Drop>(alloc: Global, script: &Script, up: UpNode<D>) -> Ended<D>
+    requires runs { CanRun script.now }
+    requires names { IsNamed script.now }
+    requires opened { (old : Stored) × IsOpened script.now old up.base up.log }
+    ensures status { IfOk result.answer (λ a. a.status ≡ Status.Done) }
+    ensures text { IfOk result.answer (λ a. (old : Stored) → IsOpened script.now old up.base up.log
+        → IsRun script.now old (kept_by D.synced D.pending D.faults result.store) a.text) }
+    ensures settled { D.pending result.store ≡ [] }
+{
+    let UpNode { log, base } = up;
+    let begun = Begun { log, base };
+    if base == 0 || !script.tables.is_empty() {
+        return play_begun(alloc, script, begun);
+    }
+    match with_tables(alloc, script, begun.log.log().schema()) {
+        Ok(whole) => {
+            let ended = play_begun(alloc, &whole, begun);
+            let_go(whole);
+            ended
+        }
+        Err(_) => no_memory(begun.log.give_back()),
+    }
+}
+
+/// A script with the tables of a log.
+fn with_tables(
+    alloc: Global,
+    script: &Script,
+    schema: Option<&Schema>,
+) -> Result<Script, AllocError>
+    ensures { IfOk result (λ whole. whole
+        ≡ record script.now { tables = map unsaid (unwrap_or (option_copied schema) []) }) }
+{
+    let tables = match schema {
+        Some(schema) => lines_of(alloc, schema.tables())?,
+        None => List::new(alloc),
+    };
+    let mut whole = script.clone()?;
+    whole.tables = tables;
+    Ok(whole)
+}
+
+/// Lines of these tables, that stand in no script.
+fn lines_of(alloc: Global, tables: &[TableDef]) -> Result<List<TableLine>, AllocError>
+    ensures { IfOk result (λ lines. lines ≡ map unsaid tables.now) }
+{
+    let mut lines = List::new(alloc);
+    let mut rest = tables;
+    'tables: while let Some((table, after)) = rest.split_first() {
+        lines.push(TableLine {
+            line: 0,
+            table: table.clone()?,
+        })?;
+        rest = after;
+    }
+    Ok(lines)
+}
+
+/// The answer to a script whose tables are those of the log that was opened.
+fn play_begun<D: LogStore + Drop>(alloc: Global, script: &Script, begun: Begun<D>) -> Ended<D>
+    requires runs { CanRun script.now }
+    requires begun { (rows : Rows) × IsBegunAt script.now begun.base begun.log rows }
+    ensures text { IfOk result.answer (λ a. (rows : Rows) → IsBegunAt script.now begun.base begun.log rows
+        → IsPlayedText script.now (start_at (log_before begun.base begun.log) rows) begun.log (kept_by D.synced D.pending D.faults result.store) a.status a.text) }
+    ensures settled { D.pending result.store ≡ [] }
+{
+    play_from(alloc, script, begun)
+}
+
+/// The same, where it is known at which rows the run begins.
+fn play_from<D: LogStore + Drop>(alloc: Global, script: &Script, begun: Begun<D>) -> Ended<D>
+    ghost start: { Start }
+    requires runs { CanRun script.now }
+    requires before { start.before ≡ log_before begun.base begun.log }
+    requires begun { IsBegunAt script.now begun.base begun.log start.rows }
+    ensures text { IfOk result.answer (λ a. IsPlayedText script.now start begun.log (kept_by D.synced D.pending D.faults result.store) a.status a.text) }
+    ensures settled { D.pending result.store ≡ [] }
+{
+    let Begun { log, base } = begun;
+    match play(alloc, script, log, base) {
+        Ok(played) => told(alloc, played),
+        Err(log) => no_memory(log.give_back()),
+    }
+}
+
+/// The answer to a script that was played.
+fn told<D: LogStore + Drop>(alloc: Global, played: Played<D>) -> Ended<D>
+    ensures text { IfOk result.answer (λ a. IsReportText played.report a.status a.text) }
+    ensures left { IsLeftOf played.log (kept_by D.synced D.pending D.faults result.store) }
+    ensures settled { D.pending result.store ≡ [] }
+{
+    let Played { report, log } = played;
+    let answer = reported(alloc, &report);
+    let_go(report);
+    Ended {
+        store: log.give_back(),
+        answer,
+    }
+}
