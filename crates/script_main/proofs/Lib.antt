@@ -1,2 +1,4 @@
+pub mod ApartLemmas
 pub mod ReportedLemmas
+pub mod TellsLemmas
 pub mod WrittenLemmas

@@ -8,7 +8,7 @@ use Rattle.script_read.specs.ScriptText.{script_of}
 use Rattle.script_form.specs.declared.scripts.Script.{Script}
 use Rattle.store_log.specs.Keeps.{Stored}
 use Rattle.script_main.specs.Runs.{IsRun, IsDownFirst}
-use Rattle.script_main.specs.Stores.{IsAlike, IsBadAt, IsOtherAt, IsUnsound, FirstRose}
+use Rattle.script_main.specs.Stores.{IsAlike, IsBadAt, IsOtherAt, IsUnsound, FirstRose, HasId}
 use Rattle.script_main.specs.Texts.{refused_text, store_text, unsound_text, usage_text}
 use Rattle.script_main.specs.declared.statuses.Status.{Status}
 use Rattle.script_main.specs.declared.statuses.Status.TheVariants as status
@@ -55,7 +55,7 @@ abbrev pub IsScriptText : Result Script Refusal → List Stored → List Stored 
 IsScriptText (Err refused) old new s text = IsRefusalText refused s text × (new ≡ old)
 IsScriptText (Ok script) [] new s text = ⊥
 IsScriptText (Ok script) (o ∷ os) [] s text = ⊥
-IsScriptText (Ok script) (o ∷ os) (n ∷ ns) s text = IsTextOver script o n s text × (ns ≡ os)
+IsScriptText (Ok script) (o ∷ os) (n ∷ ns) s text = IsTextOver script o n s text × HasId script × (ns ≡ os)
 
 -- the text that belongs to a status, by whether the words are a command
 abbrev pub IsText : Bool → Result Script Refusal → List Stored → List Stored → Status → List ℕ → Type 0

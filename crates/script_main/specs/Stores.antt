@@ -1,7 +1,7 @@
 -- The stores of a run, and what the first of them stands for to the one node.
 --
 -- A script that has no table takes those of the log, where the log has entries.
-use Rattle.std.specs.Prelude.{◌≡◌, ◌⊎◌, ℕ, List, [], ◌∷◌, map, drop, length, Some, slice_get}
+use Rattle.std.specs.Prelude.{◌≡◌, ◌⊎◌, ℕ, ◌<◌, ◌^◌, List, [], ◌∷◌, map, drop, length, Some, slice_get}
 use Rattle.cdb_values.specs.Rows.{Rows, no_rows}
 use Rattle.cdb_values.specs.declared.tables.TableDef.{TableDef}
 use Rattle.cluster_id.specs.Named.{id_of}
@@ -31,6 +31,10 @@ pub record IsFirstAlone {A : Type 0} (old new : List A) : Type 0 where
 -- the id of a script's cluster
 abbrev pub cluster_of : Script → ℕ
 cluster_of script = id_of script.cluster script.nodes
+
+-- an id takes 16 bytes
+abbrev pub HasId : Script → Type 0
+HasId script = cluster_of script < 2 ^ 128
 
 -- a table that no line of the script says
 abbrev pub unsaid : TableDef → TableLine

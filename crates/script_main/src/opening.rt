@@ -9,7 +9,7 @@ ghost use Rattle.store_log.specs.Keeps.{Stored};
 ghost use Rattle.script_main.specs.Run.{IsTextOver};
 ghost use Rattle.script_main.specs.Runs.{IsDownText, IsRun};
 ghost use Rattle.script_main.specs.Steps.{log_before, IsBegunAt, IsLeftOf, IsNotUpText, IsOpened, IsPlaceIn, IsPlayedText, IsReportText};
-ghost use Rattle.script_main.specs.Stores.{kept_by, start_at, unsaid};
+ghost use Rattle.script_main.specs.Stores.{kept_by, start_at, unsaid, HasId};
 
 use super::answers::{Answer, differs, let_go, reported, store_refused, unsound};
 use super::begun::Begun;
@@ -39,6 +39,7 @@ pub(crate) fn play_over<D: LogStore + Drop>(alloc: Global, script: &Script, stor
     requires names { IsNamed script.now }
     requires settled { D.pending store ≡ [] }
     ensures text { IfOk result.answer (λ a. IsTextOver script.now (kept_by D.synced D.pending D.faults store) (kept_by D.synced D.pending D.faults result.store) a.status a.text) }
+    ensures id { IfOk result.answer (λ _. HasId script.now) }
     ensures settled { D.pending result.store ≡ [] }
 {
     let Ok(schema) = schema_of(alloc, script.tables.as_slice()) else {
