@@ -33,9 +33,13 @@
 //! | a sound log | `is_sound` | `IsSound` of `specs/Sound.antt` |
 #![tactic(auto)]
 
+mod bytes;
+mod columns;
 mod identities;
 mod laws;
 mod sound;
 
-pub use laws::{sound_logs_grow, sound_logs_stay_sound, standing_logs_have_their_state};
+pub use laws::{
+    sound_logs_go_on, sound_logs_grow, sound_logs_stay_sound, standing_logs_have_their_state,
+};
 pub use sound::is_sound;
