@@ -15,6 +15,7 @@ pub mod DownLemmas
 pub mod RunLemmas
 pub mod NodeLemmas
 pub mod LossLemmas
+pub mod FallLemmas
 pub mod WholeLemmas
 pub mod StartLemmas
 pub mod CourseLemmas

@@ -56,7 +56,7 @@ pub same_name : (name m : List ℕ) → bytes_eq name m ≡ true → name ≡ m
 same_name name m is = same_text name m (sym is)
 
 -- what is over stays over
-past_next : (p : Place) (text : List ℕ) (k : Kind) (pending : Option (List (List ℕ))) (txn : ℕ) → IsPast p.number pending txn → IsPast (next_by p text k pending).number (next_by p text k pending).pending txn
+pub past_next : (p : Place) (text : List ℕ) (k : Kind) (pending : Option (List (List ℕ))) (txn : ℕ) → IsPast p.number pending txn → IsPast (next_by p text k pending).number (next_by p text k pending).pending txn
 past_next p text BeginText None txn is = omega (arith, is)
 past_next p text CommitText None txn is = is
 past_next p text RollbackText None txn is = is
