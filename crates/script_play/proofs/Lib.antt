@@ -12,6 +12,7 @@ pub mod StandingLemmas
 pub mod TurnLemmas
 pub mod CutLemmas
 pub mod DownLemmas
+pub mod DownRunLemmas
 pub mod RunLemmas
 pub mod NodeLemmas
 pub mod LossLemmas
