@@ -42,7 +42,7 @@ use Rattle.script_play.specs.Down.{down_line, turn_down, IsToldDown}
 use Rattle.script_play.specs.SoFar.{at_start, report_of, session_at, state_of}
 use Rattle.script_play.specs.SoFarDown.{IsBeforeDown, IsDoingDown, SoFarDown, StandingDown}
 use Rattle.script_play.specs.Step.{Turned, state, turned}
-use Rattle.script_play.proofs.RunLemmas.{same_itself, same_name}
+use Rattle.script_play.proofs.ComesLemmas.{same_itself, same_name}
 use Rattle.script_play.proofs.SiteLemmas.{declared, found_state, other_state, set_state, within}
 use Rattle.script_play.proofs.WholeLemmas.{starts}
 

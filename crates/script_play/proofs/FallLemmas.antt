@@ -53,8 +53,8 @@ use Rattle.script_play.specs.Start.{Start, base}
 use Rattle.script_play.specs.Step.{Turned, answer_at, committed, outcome, own_line, state, turn, turn_by, turned, world_of}
 use Rattle.script_play.proofs.DownLemmas.{begins_so, ends_lost, stands_down, DownStands}
 use Rattle.script_play.proofs.LossLemmas.{IsUncutUnder, at_the_node, each_front, few_behind, few_more, loses, none_cuts, none_survives, none_told_lost, none_up_there, over_other, over_uncut, plain_cut_none, uncut_where, up_unhurt}
-use Rattle.script_play.proofs.NodeLemmas.{Adds, arrives, went}
-use Rattle.script_play.proofs.RunLemmas.{same_itself, same_name}
+use Rattle.script_play.proofs.NodeLemmas.{Adds, went}
+use Rattle.script_play.proofs.ComesLemmas.{comes, same_itself, same_name}
 use Rattle.script_play.proofs.SiteLemmas.{found_state, other_state, runs_askable, set_state, turn_taken, within}
 use Rattle.script_play.proofs.SqlLaws.{sql_is_answered}
 use Rattle.script_play.proofs.StandingLemmas.{idle_after}
@@ -493,7 +493,7 @@ module _ (script : Script) (start : Start) (done left : List BodyLine) (l : Body
         subst (λ (v : Level). FallsThere site.number v) (sym (was.standing name).level)
         (subst (λ (n : ℕ). FallsThere n place.level) (sym (was.standing name).number)
         (falls script start entries taken seen name place text lines can was.node was.named was.placed (kind_of_text text) place.pending site.doing
-        (arrives script start false done left l lines entries taken seen states name text was is_act (runs_askable script can) utf8) numbers.below numbers.begun))
+        (comes script start false done left l lines entries taken seen states name text was is_act (runs_askable script can) utf8) numbers.below numbers.begun))
 
     -- a line at whose entry the node goes down keeps the run so far
     pub fallen_keeps : (after : SessionAt) (lines' : List Line) (entries' : List EntryLine) (taken' : List (List GenidItem)) (seen' : Seen) →
@@ -543,7 +543,7 @@ module _ (script : Script) (start : Start) (done left : List BodyLine) (l : Body
     StandsThere n level = DownStands script start entries seen name (next_place sql_language place text) (told name lines) (number_by place.number (kind_of_text text) place.pending) (down_there n level)
 
     comes_there : Comes script start entries taken seen name place place.pending site.doing text (kind_of_text text) (told name lines)
-    comes_there = arrives script start true done left l lines entries taken seen states name text was is_act (runs_askable script can) utf8
+    comes_there = comes script start true done left l lines entries taken seen states name text was is_act (runs_askable script can) utf8
 
     tells_there : TellsThere site.number site.level
     tells_there =

@@ -13,10 +13,12 @@ pub mod TurnLemmas
 pub mod CutLemmas
 pub mod DownLemmas
 pub mod DownRunLemmas
+pub mod ComesLemmas
 pub mod RunLemmas
 pub mod NodeLemmas
 pub mod LossLemmas
 pub mod FallLemmas
+pub mod LineLemmas
 pub mod WholeLemmas
 pub mod StartLemmas
 pub mod CourseLemmas

@@ -25,7 +25,7 @@ use Rattle.script_form.specs.CanRun.{IsDeclared}
 use Rattle.script_form.specs.declared.scripts.Script.{Script}
 use Rattle.script_form.specs.declared.scripts.SessionLine.{SessionLine}
 use Rattle.script_play.specs.Down.{down_line}
-use Rattle.script_play.proofs.RunLemmas.{same_itself}
+use Rattle.script_play.proofs.ComesLemmas.{same_itself}
 
 -- the down line is the first behind lines without one
 reaches : (front back : List Line) → downs front ≡ 0 → first_down 1 (front ++ down_line ∷ back) ≡ Some 1

@@ -39,7 +39,8 @@ use Rattle.script_play.specs.SoFar.{now_of, IsBefore, IsDoing, IsOpen, SoFar, St
 use Rattle.script_play.specs.Step.{IsTaken, world_of}
 use Rattle.script_play.specs.Doing.{SessionAt, Doing}
 use Rattle.script_play.specs.Doing as doing
-use Rattle.script_play.proofs.RunLemmas.{same_itself, same_name, turned_keeps, cut_keeps}
+use Rattle.script_play.proofs.ComesLemmas.{same_itself, same_name}
+use Rattle.script_play.proofs.RunLemmas.{turned_keeps, cut_keeps}
 
 -- the place is counted on from a number
 from_least : (k : ℕ) (name : List ℕ) (ss : List SessionLine) (at : ℕ) → session_from k name ss ≡ Some at → k ≤ at
