@@ -1,8 +1,7 @@
 -- A line on a node that is down leaves the session where its work is: its transaction is lost, or was not begun for want of a
 -- majority, and any other line does what it does on a node that is up.
-use Rattle.std.proofs.Common.{◌≡◌, ◌≢◌, ℕ, ◌+◌, List, [], ◌∷◌, ◌++◌, map, refl, sym, subst, ap, arith, Option, Some, None, ◌∙◌, Bool, inl, inr}
+use Rattle.std.proofs.Common.{◌≡◌, ◌≢◌, ℕ, ◌+◌, List, [], ◌∷◌, ◌++◌, refl, sym, subst, ap, arith, Option, Some, None, ◌∙◌, Bool, inl, inr}
 use Rattle.std.proofs.lemmas.List.{append-nil}
-use Rattle.cdb_values.specs.Changes.{taken_by}
 use Rattle.cdb_values.specs.declared.items.GenidItem.{GenidItem}
 use Rattle.cdb_values.specs.declared.rows.RowOp.{RowOp}
 use Rattle.script_form.specs.CanRun.{tables_of}
@@ -10,7 +9,7 @@ use Rattle.script_form.specs.declared.scripts.Script.{Script}
 use Rattle.session_language.specs.Language.{alone, Kind, BeginText, CommitText, RollbackText, LevelText, OtherText}
 use Rattle.session_language.proofs.AnswerLaws.{replies_more}
 use Rattle.report_laws.specs.History.{rows_at, view_of}
-use Rattle.report_laws.specs.Play.{number_by, is_own_by}
+use Rattle.report_laws.specs.Play.{number_by}
 use Rattle.report_laws.specs.Told.{Numbered, IsCut, numbered, alone_at}
 use Rattle.report_laws.specs.Work.{Does, Place, End, ByCommit, ByRollback, WithItsLine, Nowhere, transaction, with_open, with_own_line, closed, next_by}
 use Rattle.report_text.specs.declared.reports.EntryLine.{EntryLine}
@@ -22,11 +21,10 @@ use Rattle.script_play.specs.Doing.{SessionAt, Doing}
 use Rattle.script_play.specs.Doing as doing
 use Rattle.script_play.specs.Down.{turn_down}
 use Rattle.script_play.specs.Seen.{Seen}
-use Rattle.script_play.specs.SoFar.{now_of, Standing}
+use Rattle.script_play.specs.SoFar.{Standing}
 use Rattle.script_play.specs.Start.{Start, base}
-use Rattle.script_play.specs.Step.{Turned, entries_added, state, turn_by, turned}
+use Rattle.script_play.specs.Step.{Turned, state, turned}
 use Rattle.script_play.proofs.StandingLemmas.{idle_after, in_transaction}
-use Rattle.script_play.proofs.StoredLemmas.{world}
 use Rattle.script_play.proofs.TurnLemmas.{Comes, Turns, idle_lines, piece, turns}
 
 -- replies that begin with a begin are some

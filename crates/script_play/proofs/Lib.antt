@@ -17,7 +17,10 @@ pub mod ComesLemmas
 pub mod RunLemmas
 pub mod NodeLemmas
 pub mod LossLemmas
+pub mod OpenLemmas
 pub mod FallLemmas
+pub mod TellLemmas
+pub mod KeepLemmas
 pub mod LineLemmas
 pub mod WholeLemmas
 pub mod StartLemmas

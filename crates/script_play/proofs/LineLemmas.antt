@@ -18,7 +18,7 @@ use Rattle.script_play.specs.SoFar.{now_of, session_at, IsBefore}
 use Rattle.script_play.specs.Start.{Start}
 use Rattle.script_play.specs.Step.{world_of}
 use Rattle.script_play.specs.declared.states.SessionState.{SessionState}
-use Rattle.script_play.proofs.FallLemmas.{taken_on}
+use Rattle.script_play.proofs.KeepLemmas.{taken_on}
 use Rattle.script_play.proofs.SiteLemmas.{Turn, map_get, map_length, map_set, own_after, own_there, told_count, turn_is}
 
 -- what is asked of a session's line, where the session is there

@@ -2,7 +2,6 @@
 -- no majority is up. Before it no session was told of a loss.
 use Rattle.std.proofs.Common.{◌≡◌, ℕ, zero, suc, ◌+◌, ◌*◌, ◌≤◌, ◌<◌, ◌==◌, ◌&&◌, ◌||◌, List, [], ◌∷◌, ◌++◌, refl, sym, subst, ap, arith, ◌∙◌, Bool, true, false, if◌then◌else◌, leb, Some, append_assoc, ◌⊎◌, inl, inr}
 use Rattle.std.proofs.lemmas.Bool.{and_left, and_right, both_ways, eq-eqb, ne_eqb, or_from}
-use Rattle.std.proofs.lemmas.List.{append-nil}
 use Rattle.std.specs.List.{AllByRecursion, list_any}
 use Rattle.std.specs.Str.{bytes_eq}
 use Rattle.session_language.specs.Answers.{IsPlain, ArePlain}
@@ -11,7 +10,7 @@ use Rattle.session_language.proofs.EachLaws.{all_append, all_map}
 use Rattle.report_laws.specs.Cut.{cuts}
 use Rattle.report_laws.specs.Nodes.{downs, up_from, is_up, up_count, are_few, first_down}
 use Rattle.report_laws.specs.Places.{HasItsCause, HasItsPlace, is_loss_by}
-use Rattle.report_laws.specs.Play.{is_begin_of, since_begin, is_cut_of, was_cut, node_among}
+use Rattle.report_laws.specs.Play.{is_begin_of, since_begin, was_cut, node_among}
 use Rattle.report_laws.specs.Told.{Along, Numbered, told, told_by, numbered, lines_of}
 use Rattle.report_laws.specs.Work.{Item, Does, Lone, number_of}
 use Rattle.report_laws.proofs.AlongLaws.{AllOther}

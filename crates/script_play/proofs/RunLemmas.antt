@@ -1,5 +1,5 @@
 -- A line of the script more keeps the run so far.
-use Rattle.std.proofs.Common.{◌≡◌, ℕ, ◌+◌, ◌≤◌, List, [], ◌∷◌, ◌++◌, length, map, refl, sym, subst, ap, arith, Option, Some, None, ◌∙◌, Bool, true, false, append_assoc, ◌⊎◌, inl, inr}
+use Rattle.std.proofs.Common.{◌≡◌, ℕ, ◌+◌, ◌≤◌, List, [], ◌∷◌, ◌++◌, length, map, refl, sym, subst, ap, arith, Some, ◌∙◌, Bool, true, false, append_assoc, ◌⊎◌, inl, inr}
 use Rattle.std.proofs.lemmas.List.{append-nil, length-append}
 use Rattle.std.specs.List.{AllByRecursion}
 use Rattle.std.specs.Str.{bytes_eq, is_utf8}
@@ -13,12 +13,10 @@ use Rattle.script_form.specs.declared.scripts.BodyLine.{BodyLine}
 use Rattle.script_form.specs.declared.scripts.Act.{Act}
 use Rattle.script_form.specs.declared.scripts.Act.TheVariants.{Say}
 use Rattle.report_text.specs.declared.reports.EntryLine.{EntryLine}
-use Rattle.report_text.specs.declared.reports.EntryLine.TheVariants.{Setup, Commit}
 use Rattle.report_text.specs.declared.reports.Line.{Line}
 use Rattle.report_text.specs.declared.reports.ReplyLine.{ReplyLine}
 use Rattle.report_text.specs.declared.reports.ReplyLine.TheVariants as reply
 use Rattle.cdb_values.specs.Changes.{taken_by}
-use Rattle.session_language.specs.Language.{Kind, BeginText, CommitText, RollbackText, LevelText, OtherText}
 use Rattle.report_laws.specs.History.{last_position, view_of}
 use Rattle.report_laws.specs.Lawful.{IsFreshLine}
 use Rattle.report_laws.specs.Paced.{Paced}
@@ -26,7 +24,7 @@ use Rattle.report_laws.specs.Places.{HasItsPlace}
 use Rattle.report_laws.specs.Play.{opening, IsTurn, IsTurnOf, was_cut, IsTimely, IsAppended, number_told, is_own}
 use Rattle.session_language.specs.Replies.{are_up_to, is_last_of}
 use Rattle.report_laws.specs.Told.{Numbered, IsEntryTold, alone_at, told, lines_of, numbered}
-use Rattle.report_laws.specs.Work.{Place, next_by, next_place, place_after}
+use Rattle.report_laws.specs.Work.{Place, next_place, place_after}
 use Rattle.cdb_values.specs.declared.items.GenidItem.{GenidItem}
 use Rattle.session_language.proofs.EachLaws.{each_append, all_append, all_map}
 use Rattle.report_laws.proofs.EntryToldLaws.{entry_told_more, entry_told_stays, told_stands}
