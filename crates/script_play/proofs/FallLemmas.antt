@@ -12,7 +12,7 @@ use Rattle.report_laws.specs.Lawful.{IsFreshLine, NameUpTo}
 use Rattle.report_laws.specs.Nodes.{downs, are_few}
 use Rattle.report_laws.specs.Paced.{Paced}
 use Rattle.report_laws.specs.Places.{GoesDown, HasItsPlace, is_loss_by}
-use Rattle.report_laws.specs.Play.{IsSaid, IsToldFirst, commits, is_own_by, number_by, was_cut}
+use Rattle.report_laws.specs.Play.{IsToldFirst, commits, is_own_by, number_by, was_cut}
 use Rattle.report_laws.specs.Told.{IsCut, IsTold, Numbered, alone_at, lines_of, numbered, told}
 use Rattle.report_laws.specs.Work.{ByCommit, Does, Place, WithItsLine, closed, next_by, transaction, with_own_line}
 use Rattle.report_laws.proofs.EntryToldLaws.{told_stands}
@@ -50,13 +50,7 @@ use Rattle.script_play.proofs.StandingLemmas.{idle_after}
 use Rattle.script_play.proofs.StoredLemmas.{world}
 use Rattle.script_play.proofs.TurnLemmas.{Comes, idle_lines, own_says}
 use Rattle.script_play.proofs.OpenLemmas.{begin_told, open_uncut}
-
--- what is told is right behind the lines before it, where no entry is appended
-pub record IsToldSo (script : Script) (start : Start) (entries : List EntryLine) (lines : List Line) (name : List ℕ) (number : ℕ) (k : Kind) (pending : Option (List (List ℕ))) (mine : List Line) : Type 0 where
-  pub said : IsSaid script (now_of start entries) lines name number k pending mine []
-  pub fresh : EachAfter (IsFreshLine (from_start script start).origin) lines mine
-  pub placed : EachAfter (HasItsPlace script) lines mine
-  pub named : NameUpTo (now_of start entries) mine
+use Rattle.script_play.proofs.ToldLemmas.{IsToldSo}
 
 -- no member of these
 none_any : {A : Type 0} (f : A → Bool) (xs : List A) → AllByRecursion (λ x. f x ≡ false) xs → list_any f xs ≡ false
@@ -133,7 +127,7 @@ module _ (script : Script) (start : Start) (entries : List EntryLine) (lines : L
   )
 
   pub falls_so : (k : Kind) (pending : Option (List (List ℕ))) → commits k pending ≡ true → was_cut lines name number ≡ false → IsToldFirst (now_of start entries) (is_own_by k pending) front →
-      IsToldSo script start entries lines name number k pending (fallen_lines name number front)
+      IsToldSo script (from_start script start).origin (now_of start entries) lines name number k pending (fallen_lines name number front)
   falls_so k pending at_commit uncut first = record {
     said = inr (inr (inr (record {
       at_commit = at_commit;
@@ -167,7 +161,7 @@ module _ (script : Script) (start : Start) (entries : List EntryLine) (lines : L
 
 -- a line that commits, at whose entry the node goes down
 pub record Falls (script : Script) (start : Start) (entries : List EntryLine) (seen : Seen) (lines : List Line) (name : List ℕ) (after : Place) (number : ℕ) (k : Kind) (pending : Option (List (List ℕ))) (t : Turned) (front : List ReplyLine) : Type 0 where
-  pub told_so : IsToldSo script start entries lines name number k pending (fallen_lines name t.number front)
+  pub told_so : IsToldSo script (from_start script start).origin (now_of start entries) lines name number k pending (fallen_lines name t.number front)
   pub stands : Standing script start entries seen.next name after (told name lines ++ told name (fallen_lines name t.number front)) t.after
   pub down : (states : List SessionAt) → ((m : List ℕ) → IsGone (state_of m script.sessions states).doing (told m (lines_of name t.number (reply.Lost 1 1 ∷ [])))) → IsDown script (lines ++ fallen_lines name t.number front) states
   pub idle : t.after.doing ≡ doing.No

@@ -38,7 +38,8 @@ use Rattle.script_play.proofs.ComesLemmas.{comes, same_itself, same_name}
 use Rattle.script_play.proofs.SiteLemmas.{found_state, other_state, runs_askable, set_state, within}
 use Rattle.script_play.proofs.StoredLemmas.{world}
 use Rattle.script_play.proofs.TurnLemmas.{Comes}
-use Rattle.script_play.proofs.FallLemmas.{Falls, IsToldSo, falls, fallen_other}
+use Rattle.script_play.proofs.FallLemmas.{Falls, falls, fallen_other}
+use Rattle.script_play.proofs.ToldLemmas.{IsToldSo}
 use Rattle.script_play.proofs.TellLemmas.{tells}
 use Rattle.script_play.proofs.RunLemmas.{cut_keeps, turned_keeps}
 
@@ -150,7 +151,7 @@ module _ (script : Script) (start : Start) (done left : List BodyLine) (l : Body
     down_there n level = turn_down n level (kind_of_text text) site.doing
 
     abbrev pub TellsThere : ℕ → Level → Type 0
-    TellsThere n level = IsToldSo script start entries lines name (number_by place.number (kind_of_text text) place.pending) (kind_of_text text) place.pending (lines_of name (down_there n level).number (down_there n level).replies)
+    TellsThere n level = IsToldSo script (from_start script start).origin (now_of start entries) lines name (number_by place.number (kind_of_text text) place.pending) (kind_of_text text) place.pending (lines_of name (down_there n level).number (down_there n level).replies)
 
     abbrev pub StandsThere : ℕ → Level → Type 0
     StandsThere n level = DownStands script start entries seen name (next_place sql_language place text) (told name lines) (number_by place.number (kind_of_text text) place.pending) (down_there n level)

@@ -64,7 +64,7 @@ loses name number begin (l ∷ ls) back stands none = pick (is_begin_of name num
     pick false is rest = rest (later is stands)
 
 -- where the one node is down, no majority is up
-few_down : (lines : List Line) → is_up 1 lines ≡ false → are_few 1 lines ≡ true
+pub few_down : (lines : List Line) → is_up 1 lines ≡ false → are_few 1 lines ≡ true
 few_down lines down = pick (is_up 1 lines) down
   where
     pick : (b : Bool) → b ≡ false → (leb 1 1 && leb (2 * (0 + (if b then 1 else 0))) 1) ≡ true

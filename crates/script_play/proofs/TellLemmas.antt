@@ -1,15 +1,13 @@
 -- What a line is told on a node that went down in the run is right.
 use Rattle.std.proofs.Common.{◌≡◌, ℕ, ◌+◌, ◌≤◌, List, [], ◌∷◌, ◌++◌, refl, sym, subst, ap, Option, Some, None, ◌∙◌, Bool, true, false, if◌then◌else◌, inl, inr}
-use Rattle.std.proofs.lemmas.Bool.{and_from, and_left}
 use Rattle.std.proofs.lemmas.List.{append-nil}
 use Rattle.std.specs.List.{AllByRecursion}
 use Rattle.cdb_values.specs.declared.items.GenidItem.{GenidItem}
 use Rattle.cdb_values.specs.declared.rows.RowOp.{RowOp}
 use Rattle.cdb_values.specs.declared.rows.StatementError.TheVariants.{State}
-use Rattle.report_laws.specs.Lawful.{IsFreshAnswer, named_by}
-use Rattle.report_laws.specs.Nodes.{up_count, are_few, first_down}
-use Rattle.report_laws.specs.Places.{HasItsCause, HasItsPlace, is_loss_by}
-use Rattle.report_laws.specs.Play.{IsTimely, begins, is_own_by, node_of, number_by, since_begin, was_cut}
+use Rattle.report_laws.specs.Nodes.{are_few, first_down}
+use Rattle.report_laws.specs.Places.{HasItsPlace, is_loss_by}
+use Rattle.report_laws.specs.Play.{node_of, number_by, since_begin, was_cut}
 use Rattle.report_laws.specs.Told.{Numbered, lines_of, told}
 use Rattle.report_laws.specs.Work.{Place}
 use Rattle.report_laws.proofs.EntryToldLaws.{told_stands}
@@ -19,13 +17,11 @@ use Rattle.report_laws.proofs.WorkLaws.{IsBegun, IsBelow, first_left}
 use Rattle.report_text.specs.declared.reports.EntryLine.{EntryLine}
 use Rattle.report_text.specs.declared.reports.Line.{Line}
 use Rattle.report_text.specs.declared.reports.Line.TheVariants as line
-use Rattle.report_text.specs.declared.reports.ReplyLine.{ReplyLine}
 use Rattle.report_text.specs.declared.reports.ReplyLine.TheVariants as reply
 use Rattle.script_form.specs.CanRun.{CanRun, IsDeclared}
 use Rattle.script_form.specs.declared.scripts.Script.{Script}
 use Rattle.session_language.specs.Each.{EachAfter, StandsIn}
 use Rattle.session_language.specs.Language.{Kind, BeginText, CommitText, RollbackText, LevelText, OtherText}
-use Rattle.session_language.specs.Replies.{are_up_to, is_last_of}
 use Rattle.script_play.specs.Basis.{from_start}
 use Rattle.script_play.specs.Doing.{Doing, SessionAt}
 use Rattle.script_play.specs.Doing as doing
@@ -34,74 +30,30 @@ use Rattle.script_play.specs.Seen.{Seen}
 use Rattle.script_play.specs.SoFar.{IsDown, IsGone, now_of}
 use Rattle.script_play.specs.Start.{Start}
 use Rattle.script_play.specs.Step.{Turned}
-use Rattle.script_play.proofs.LossLemmas.{at_the_node, each_front, loses, none_survives, none_told_lost, none_up_there}
+use Rattle.script_play.proofs.LossLemmas.{at_the_node, each_front, loses, none_survives, none_told_lost}
 use Rattle.script_play.proofs.TurnLemmas.{Comes, WasCutUnder, cut_before}
 use Rattle.script_play.proofs.OpenLemmas.{begin_told, open_uncut}
-use Rattle.script_play.proofs.FallLemmas.{IsToldSo}
+use Rattle.script_play.proofs.ToldLemmas.{IsToldSo, told_lone, told_nothing, told_short}
 
 -- a line on a node that is down
 module _ (script : Script) (start : Start) (entries : List EntryLine) (taken : List (List GenidItem)) (seen : Seen) (name : List ℕ) (p : Place) (text : List ℕ) (lines : List Line) (states : List SessionAt) (can : CanRun script)
     (is_declared : IsDeclared name script.sessions) (places : EachAfter (HasItsPlace script) [] lines) (is : IsDown script lines states) where
   abbrev pub Tells : ℕ → Kind → Option (List (List ℕ)) → Turned → Type 0
-  Tells number k pending t = IsToldSo script start entries lines name number k pending (lines_of name t.number t.replies)
+  Tells number k pending t = IsToldSo script (from_start script start).origin (now_of start entries) lines name number k pending (lines_of name t.number t.replies)
 
   few_here : are_few 1 lines ≡ true
   few_here = subst (λ (n : ℕ). are_few n lines ≡ true) can.one_node is.few
 
-  none_up : up_count script.nodes lines ≡ 0
-  none_up = ap (λ (n : ℕ). up_count n lines) can.one_node ∙ none_up_there lines few_here
-
-  -- it begins a transaction
-  short : (number : ℕ) (k : Kind) (pending : Option (List (List ℕ))) → begins k pending ≡ true → IsToldSo script start entries lines name number k pending (lines_of name number (reply.NoMajority 0 1 ∷ []))
-  short number k pending starts = record {
-    said = inr (inr (inl (record {
-      lacks = and_from (begins k pending) (are_few script.nodes lines) starts is.few;
-      says = ap (λ (m : ℕ). lines_of name number (reply.NoMajority m 1 ∷ [])) (sym none_up) ∙ ap (λ (m : ℕ). lines_of name number (reply.NoMajority (up_count script.nodes lines) m ∷ [])) (sym can.one_node);
-      none = refl;
-    })));
-    fresh = (tt, tt);
-    placed = (record { are_all = sym can.one_node; front = lines; back = []; stands = sym (append-nil lines); since = refl; are_up = sym (none_up_there lines few_here); few = few_here }, tt);
-    named = (tt, tt);
-  }
-
-  -- it has its one reply
-  lone : (k : Kind) (answer : ReplyLine) → begins k None ≡ false → are_up_to (is_last_of (is_own_by k None)) (answer ∷ []) ≡ true → IsTimely (now_of start entries) (now_of start entries + 0) answer →
-      IsFreshAnswer (from_start script start).origin lines name answer → HasItsCause script lines name 0 answer → AllByRecursion (λ b. b ≤ now_of start entries) (named_by answer) →
-      IsToldSo script start entries lines name 0 k None (lines_of name 0 (answer ∷ []))
-  lone k answer starts up_to timely fresh placed named = record {
-    said = inl (record {
-      replies = answer ∷ [];
-      says = refl;
-      turn = record { told = inl up_to; timely = (timely, tt); appended = tt };
-      kept = refl;
-      majority = and_left (begins k None) (are_few script.nodes lines) starts;
-    });
-    fresh = (fresh, tt);
-    placed = (placed, tt);
-    named = (named, tt);
-  }
-
-  -- it is one of a transaction that was cut short
-  skipped : (k : Kind) (texts : List (List ℕ)) → begins k (Some texts) ≡ false → WasCutUnder (told name lines) p.number → IsToldSo script start entries lines name p.number k (Some texts) []
-  skipped k texts starts (cause, cuts_it, stands) = record {
-    said = inl (record {
-      replies = [];
-      says = refl;
-      turn = record { told = inr (refl, was); timely = tt; appended = tt };
-      kept = ap (λ (b : Bool). if b then None else first_down (node_of script name) (since_begin name p.number lines)) was;
-      majority = and_left (begins k (Some texts)) (are_few script.nodes lines) starts;
-    });
-    fresh = tt;
-    placed = tt;
-    named = tt;
-  }
+  -- a transaction was cut short, of which lines are skipped
+  cut_there : (texts : List (List ℕ)) (k : Kind) (c : Comes script start entries taken seen name p (Some texts) doing.Aborted text k (told name lines)) → was_cut lines name p.number ≡ true
+  cut_there texts k c = cut_so (cut_before script start entries taken seen seen name p text (told name lines) texts k c)
     where
-      was : was_cut lines name p.number ≡ true
-      was = cut_at lines name p.number cause cuts_it (told_stands name p.number cause lines stands)
+      cut_so : WasCutUnder (told name lines) p.number → was_cut lines name p.number ≡ true
+      cut_so (cause, cuts_it, stands) = cut_at lines name p.number cause cuts_it (told_stands name p.number cause lines stands)
 
-  -- it is one of a transaction that is open
+  -- a line of one that is open
   lost : (k : Kind) (texts : List (List ℕ)) (begin : ℕ) (ops : List RowOp) (uses : List GenidItem) (c : Comes script start entries taken seen name p (Some texts) (doing.Open begin ops uses) text k (told name lines)) →
-      told name is.back ≡ [] → AllByRecursion (IsBelow p.number) p.over → 1 ≤ p.number → IsToldSo script start entries lines name p.number k (Some texts) (lines_of name p.number (reply.Lost 1 1 ∷ []))
+      told name is.back ≡ [] → AllByRecursion (IsBelow p.number) p.over → 1 ≤ p.number → IsToldSo script (from_start script start).origin (now_of start entries) lines name p.number k (Some texts) (lines_of name p.number (reply.Lost 1 1 ∷ []))
   lost k texts begin ops uses c gone below first = record {
     said = inr (inl (record {
       down = 1;
@@ -148,21 +100,21 @@ module _ (script : Script) (start : Start) (entries : List EntryLine) (taken : L
   -- whatever the line is, and wherever the session is
   pub tells : (k : Kind) (pending : Option (List (List ℕ))) (what : Doing) → Comes script start entries taken seen name p pending what text k (told name lines) → IsGone what (told name is.back) →
       AllByRecursion (IsBelow (first_left p.number pending)) p.over → IsBegun p.number pending → Tells (number_by p.number k pending) k pending (turn_down p.number p.level k what)
-  tells BeginText None doing.No c gone below first = short (p.number + 1) BeginText None refl
-  tells OtherText None doing.No c gone below first = short (p.number + 1) OtherText None refl
-  tells CommitText None doing.No c gone below first = lone CommitText (reply.Error State) refl refl tt tt tt tt
-  tells RollbackText None doing.No c gone below first = lone RollbackText (reply.Error State) refl refl tt tt tt tt
-  tells (LevelText later) None doing.No c gone below first = lone (LevelText later) (reply.Level later) refl refl tt tt tt tt
+  tells BeginText None doing.No c gone below first = told_short script (from_start script start).origin can.one_node (now_of start entries) lines few_here name BeginText None (p.number + 1) refl
+  tells OtherText None doing.No c gone below first = told_short script (from_start script start).origin can.one_node (now_of start entries) lines few_here name OtherText None (p.number + 1) refl
+  tells CommitText None doing.No c gone below first = told_lone script (from_start script start).origin (now_of start entries) lines name CommitText (reply.Error State) refl refl tt tt tt tt
+  tells RollbackText None doing.No c gone below first = told_lone script (from_start script start).origin (now_of start entries) lines name RollbackText (reply.Error State) refl refl tt tt tt tt
+  tells (LevelText later) None doing.No c gone below first = told_lone script (from_start script start).origin (now_of start entries) lines name (LevelText later) (reply.Level later) refl refl tt tt tt tt
   tells BeginText (Some texts) (doing.Open begin ops uses) c gone below first = lost BeginText texts begin ops uses c gone below first
   tells CommitText (Some texts) (doing.Open begin ops uses) c gone below first = lost CommitText texts begin ops uses c gone below first
   tells RollbackText (Some texts) (doing.Open begin ops uses) c gone below first = lost RollbackText texts begin ops uses c gone below first
   tells (LevelText later) (Some texts) (doing.Open begin ops uses) c gone below first = lost (LevelText later) texts begin ops uses c gone below first
   tells OtherText (Some texts) (doing.Open begin ops uses) c gone below first = lost OtherText texts begin ops uses c gone below first
-  tells BeginText (Some texts) doing.Aborted c gone below first = skipped BeginText texts refl (cut_before script start entries taken seen seen name p text (told name lines) texts BeginText c)
-  tells CommitText (Some texts) doing.Aborted c gone below first = skipped CommitText texts refl (cut_before script start entries taken seen seen name p text (told name lines) texts CommitText c)
-  tells RollbackText (Some texts) doing.Aborted c gone below first = skipped RollbackText texts refl (cut_before script start entries taken seen seen name p text (told name lines) texts RollbackText c)
-  tells (LevelText later) (Some texts) doing.Aborted c gone below first = skipped (LevelText later) texts refl (cut_before script start entries taken seen seen name p text (told name lines) texts (LevelText later) c)
-  tells OtherText (Some texts) doing.Aborted c gone below first = skipped OtherText texts refl (cut_before script start entries taken seen seen name p text (told name lines) texts OtherText c)
+  tells BeginText (Some texts) doing.Aborted c gone below first = told_nothing script (from_start script start).origin (now_of start entries) lines name BeginText texts p.number refl (cut_there texts BeginText c)
+  tells CommitText (Some texts) doing.Aborted c gone below first = told_nothing script (from_start script start).origin (now_of start entries) lines name CommitText texts p.number refl (cut_there texts CommitText c)
+  tells RollbackText (Some texts) doing.Aborted c gone below first = told_nothing script (from_start script start).origin (now_of start entries) lines name RollbackText texts p.number refl (cut_there texts RollbackText c)
+  tells (LevelText later) (Some texts) doing.Aborted c gone below first = told_nothing script (from_start script start).origin (now_of start entries) lines name (LevelText later) texts p.number refl (cut_there texts (LevelText later) c)
+  tells OtherText (Some texts) doing.Aborted c gone below first = told_nothing script (from_start script start).origin (now_of start entries) lines name OtherText texts p.number refl (cut_there texts OtherText c)
   tells k None (doing.Open begin ops uses) c gone below first = absurd c.doing
   tells k None doing.Aborted c gone below first = absurd c.doing
   tells k (Some texts) doing.No c gone below first = absurd c.doing
