@@ -1,5 +1,5 @@
 -- A line of a session, as the code keeps the run: what is known before it, and that the run is kept behind it.
-use Rattle.std.proofs.Common.{◌≡◌, ℕ, ◌+◌, ◌<◌, List, ◌∷◌, length, map, sym, subst, ap, arith, Option, Some, None, slice_set}
+use Rattle.std.proofs.Common.{◌≡◌, ℕ, ◌<◌, List, ◌∷◌, length, map, sym, subst, arith, Some, None, slice_set}
 use Rattle.std.specs.List.{slice_get}
 use Rattle.log_rows.specs.History.{takes_in}
 use Rattle.node_log.specs.Logged.{Logged}

@@ -1,8 +1,8 @@
 -- Where a session is, by its place among the sessions, and that a line of its own changes no other.
-use Rattle.std.proofs.Common.{◌≡◌, ◌≢◌, ℕ, zero, suc, ◌+◌, ◌≤◌, ◌<◌, List, [], ◌∷◌, ◌++◌, length, map, refl, sym, subst, ap, arith, Option, Some, None, ◌∙◌, Bool, true, false, ◌⊎◌, inl, inr, if◌then◌else◌, slice_set}
-use Rattle.std.proofs.lemmas.List.{length-append, length-set}
+use Rattle.std.proofs.Common.{◌≡◌, ◌≢◌, ℕ, zero, suc, ◌+◌, ◌≤◌, ◌<◌, List, [], ◌∷◌, length, map, refl, sym, subst, ap, arith, Option, Some, None, ◌∙◌, Bool, true, false, ◌⊎◌, inl, inr, if◌then◌else◌, slice_set}
+use Rattle.std.proofs.lemmas.List.{length-append}
 use Rattle.std.specs.List.{AllByRecursion, slice_get}
-use Rattle.std.specs.Str.{bytes_eq, is_utf8}
+use Rattle.std.specs.Str.{bytes_eq}
 use Rattle.cdb_values.specs.Rows.{Rows}
 use Rattle.cdb_values.specs.declared.rows.RowOp.{RowOp}
 use Rattle.cdb_values.specs.declared.tables.ColumnDef.{ColumnDef}
@@ -15,7 +15,6 @@ use Rattle.table_store.specs.Stored.{Stands}
 use Rattle.script_play.specs.RunViews.{seen_in, AreOwn, IsOwn}
 use Rattle.script_play.specs.declared.states.SessionState.{SessionState}
 use Rattle.script_play.specs.EntryLines.{AreTold, lines_from}
-use Rattle.script_play.specs.Seen.{Seen}
 use Rattle.script_play.specs.Start.{Start, ground_of}
 use Rattle.script_form.specs.CanRun.{CanRun, IsDeclared, IsSaid, tables_of}
 use Rattle.script_form.specs.declared.scripts.Script.{Script}
@@ -35,8 +34,7 @@ use Rattle.script_play.proofs.SoundLaws.{distinct}
 use Rattle.sql_run.specs.Sound.{HasDistinctColumns}
 use Rattle.sql_run.specs.Spelled.{HasColumn}
 use Rattle.script_play.specs.Ready.{IsAble, IsAskable, IsLogged, IsReady, IsReadyToGo}
-use Rattle.script_play.specs.SoFar.{now_of, IsBefore, IsDoing, IsOpen, SoFar, Stored, state_of, session_from, session_at}
-use Rattle.script_play.specs.Step.{IsTaken, world_of}
+use Rattle.script_play.specs.SoFar.{now_of, IsBefore, IsDoing, IsOpen, Stored, state_of, session_from, session_at}
 use Rattle.script_play.specs.Doing.{SessionAt, Doing}
 use Rattle.script_play.specs.Doing as doing
 use Rattle.script_play.proofs.ComesLemmas.{same_itself, same_name}
