@@ -12,9 +12,17 @@ pub mod StandingLemmas
 pub mod TurnLemmas
 pub mod CutLemmas
 pub mod DownLemmas
+pub mod ComesLemmas
 pub mod RunLemmas
 pub mod NodeLemmas
 pub mod LossLemmas
+pub mod ToldLemmas
+pub mod OpenLemmas
+pub mod FallLemmas
+pub mod TellLemmas
+pub mod KeepLemmas
+pub mod DownRunLemmas
+pub mod LineLemmas
 pub mod WholeLemmas
 pub mod StartLemmas
 pub mod CourseLemmas

@@ -1,5 +1,6 @@
 -- The run at its opening and at its end, and a line as it is planned and done.
-use Rattle.std.proofs.Common.{◌≡◌, zero, suc, ℕ, ◌+◌, ◌++◌, Bool, true, false, List, [], ◌∷◌, length, map, refl, sym, subst, ap, arith, ◌∙◌, Result, Ok, Err, OnOk, IfOk}
+use Rattle.std.proofs.Common.{◌≡◌, zero, suc, ℕ, ◌+◌, ◌-◌, ◌≤◌, ◌++◌, Bool, true, false, List, [], ◌∷◌, length, map, refl, sym, subst, ap, arith, ◌∙◌, Result, Ok, Err, OnOk, IfOk}
+use Rattle.std.proofs.lemmas.List.{length-take-le}
 use Rattle.std.specs.Prelude.{slice_get, Some}
 use Rattle.log_rows.specs.History.{takes_in}
 use Rattle.node_log.specs.Logged.{Logged, Leaves}
@@ -8,20 +9,23 @@ use Rattle.report_laws.proofs.NodesLaws.{downs_append}
 use Rattle.report_text.specs.declared.reports.EntryLine.{EntryLine}
 use Rattle.report_text.specs.declared.reports.Line.{Line}
 use Rattle.report_text.specs.declared.reports.Report.{Report}
-use Rattle.script_form.specs.CanRun.{tables_of}
+use Rattle.script_form.specs.CanRun.{CanRun, tables_of}
 use Rattle.script_form.specs.declared.scripts.BodyLine.{BodyLine}
 use Rattle.script_form.specs.declared.scripts.Script.{Script}
 use Rattle.script_form.specs.declared.scripts.SessionLine.{SessionLine}
 use Rattle.script_play.specs.Doing.{SessionAt}
 use Rattle.script_play.specs.Doing as doing
 use Rattle.script_play.specs.Played.{downs_by, IsPlayed}
-use Rattle.script_play.specs.RunViews.{doing_in, seen_in, state_in, AreOwn, IsBeforeLine, IsOwn, IsOwnDoing}
-use Rattle.script_play.specs.SoFar.{now_of, at_start, report_of, IsAtNode}
-use Rattle.script_play.specs.Down.{down_line, history_of, with_entries, IsHeld, IsHeldBy}
+use Rattle.script_play.specs.RunViews.{doing_in, seen_in, state_in, AreOwn, IsBeforeLine, IsOpening, IsOwn, IsOwnDoing}
+use Rattle.script_play.specs.EntryLines.{AreTold}
+use Rattle.script_play.specs.Ready.{CanBegin, IsLogged}
+use Rattle.script_play.specs.SoFar.{now_of, at_start, report_of, IsAtNode, IsBefore}
+use Rattle.script_play.specs.Down.{down_line, history_by, history_of, with_entries, IsCaused, IsHeld, IsHeldBy}
 use Rattle.script_play.specs.Start.{Start, base}
 use Rattle.script_play.specs.declared.states.InTransaction.{InTransaction}
 use Rattle.script_play.specs.declared.states.InTransaction.TheVariants.{No, Open, Aborted}
 use Rattle.script_play.specs.declared.states.SessionState.{SessionState}
+use Rattle.script_play.proofs.StartLemmas.{opens, Opens}
 use Rattle.script_play.proofs.WholeLemmas.{ends_lawful, ends_in_order}
 
 -- no session has an open transaction
@@ -54,6 +58,25 @@ downs_at true script lines states is =
     let before = is.unhurt in let behind = is.once in
     ap downs is.is ∙ omega (arith, parts, before, behind)
 
+-- the run before the first line of the script
+pub begins_at : (script : Script) (start : Start) (log : Logged) (lines : List Line) (entries : List EntryLine) (states : List SessionState) → CanRun script → log.failed ≡ false → lines ≡ [] →
+    IsOpening (tables_of script) log.accepted start.before entries log.entries → CanBegin (tables_of script) start.before start.rows → map state_in states ≡ map (λ _. at_start) script.sessions →
+    IsBeforeLine script start log.accepted log.store.faults script.body lines entries log states
+begins_at script start log lines entries states can up none opening begin starts = record {
+  before = subst (λ (ls : List Line). IsBefore script start log.failed script.body ls entries (takes_in (history_of log)) (seen_in start (history_of log)) (map state_in states)) (sym none)
+      (subst (λ (b : Bool). IsBefore script start b script.body [] entries (takes_in (history_by b log.entries)) (seen_in start (history_by b log.entries)) (map state_in states)) (sym up) first.before_line);
+  logged = subst (λ (b : Bool). IsLogged start (tables_of script) (now_of start entries) (history_by b log.entries)) (sym up) first.logged_so;
+  told = subst (λ (b : Bool). AreTold start.before log.accepted entries (history_by b log.entries)) (sym up) first.told;
+  own = opens_own log.accepted script.sessions states starts;
+  held = record {
+    held = subst (λ (b : Bool). IsHeldBy b log.accepted log) (sym up) refl;
+    caused = subst (λ (b : Bool). IsCaused b log.store.faults log.store.faults) (sym up) (omega arith);
+  };
+}
+  where
+    first : Opens script start log.accepted entries log.entries (map state_in states)
+    first = opens script (tables_of script) start.before start.rows log.accepted entries log.entries (map state_in states) can refl begin opening starts
+
 -- what a run that is done leaves
 done_so : (script : Script) (start : Start) (opened : Logged) (lines : List Line) (entries : List EntryLine) (log : Logged) (states : List SessionState) →
     IsBeforeLine script start opened.accepted opened.store.faults [] lines entries log states →
@@ -80,6 +103,13 @@ done_at script start opened lines entries log states told report now base_is is 
   where
     report_is : report ≡ report_of (base start) (now_of start entries) lines entries
     report_is = is ∙ ap (λ n. report_of n (length (history_of log)) lines entries) base_is ∙ ap (λ n. report_of (base start) n lines entries) now.logged.count
+
+-- how many entries the history of a log has
+pub told_up : (log : Logged) → log.failed ≡ false → length (history_of log) ≡ length log.entries
+told_up log up = ap (λ (b : Bool). length (history_by b log.entries)) up
+
+pub told_down : (log : Logged) → log.failed ≡ true → length (history_of log) ≡ length log.entries - 1
+told_down log down = ap (λ (b : Bool). length (history_by b log.entries)) down ∙ length-take-le (length log.entries - 1) log.entries (omega arith)
 
 -- what is held of a log, by whether the node is down
 pub held_made : (log : Logged) (generation had : ℕ) → IsHeld generation had log → log.failed ≡ false → log.accepted ≡ generation

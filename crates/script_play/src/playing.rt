@@ -137,14 +137,24 @@ fn play_on<D: LogStore>(
 {
     let schema = schema_of(alloc, script.tables.as_slice())?;
     let generation = run.log.accepted();
-    if base == 0 {
-        add_line(&mut run.entries, EntryLine::Setup { position: 1 })?;
-    }
+    open_history(base, &mut run.entries)?;
     let mut states = starts(alloc, script.sessions.as_slice())?;
     let mut rest = script.body.as_slice();
     'lines: while let Some((line, after)) = rest.split_first() {
         run_line(alloc, script, &schema, generation, line, &mut states, run)?;
         rest = after;
+    }
+    Ok(())
+}
+
+/// Opens a history: where it begins with the run, the setup of the tables stands in it.
+fn open_history(base: u64, entries: &mut Vec<EntryLine>) -> Result<(), AllocError>
+    requires none { entries.old.items ≡ [] }
+    ensures first { OnOk result (base ≡ 0 → entries.new.items ≡ EntryLine.Setup 1 ∷ []) }
+    ensures later { OnOk result (1 ≤ base → entries.new.items ≡ []) }
+{
+    if base == 0 {
+        return add_line(entries, EntryLine::Setup { position: 1 });
     }
     Ok(())
 }
@@ -275,12 +285,7 @@ fn reported<D: LogStore>(alloc: Global, base: u64, run: RunSoFar<D>) -> Played<D
     ensures report { result.report ≡ report_of base (length (history_of run.log)) run.lines.items run.entries.items }
     ensures log { result.log ≡ run.log }
 {
-    let length = run.log.log().entries().len() as u64;
-    let end = if run.log.has_failed() {
-        length - 1
-    } else {
-        length
-    };
+    let end = last_told(&run.log);
     let RunSoFar {
         lines,
         entries,
@@ -288,6 +293,16 @@ fn reported<D: LogStore>(alloc: Global, base: u64, run: RunSoFar<D>) -> Played<D
     } = run;
     let report = report_with(alloc, base, lines, entries, end);
     Played { report, log }
+}
+
+/// The last position of the history of a log: where the store failed, the log has one entry more.
+#[tactic(auto, using(crate::proofs::PlayLaws::told_up, crate::proofs::PlayLaws::told_down))]
+fn last_told<D: LogStore>(log: &NodeLog<D>) -> u64
+    requires some { log.now.failed ≡ true → 1 ≤ length log.now.entries }
+    ensures { result ≡ length (history_of log.now) }
+{
+    let count = log.log().entries().len() as u64;
+    if log.has_failed() { count - 1 } else { count }
 }
 
 /// The report of lines and of a history behind a base, up to its last position.
