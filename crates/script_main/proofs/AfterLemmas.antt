@@ -99,9 +99,10 @@ module _ (basis : Basis) where
   apart_made front n [] each = tt
   apart_made front n (entry.Setup g schema records ∷ es) each = apart_made (front ++ Setup n ∷ []) (n + 1) es each.1
   apart_made front n (entry.Commit g id begin level changes records ∷ es) each =
-      let line : EntryLine = Commit n id.session id.txn begin level in
-      (λ among. false≢true (sym (never line (length front) (front ++ line ∷ []) (n + 1) es id (get_next front line []) each.1 among) ∙ its_own n begin id level),
-          apart_made (front ++ line ∷ []) (n + 1) es each.1)
+      let line : EntryLine = Commit n id.session id.txn begin level in (
+        λ among. false≢true (sym (never line (length front) (front ++ line ∷ []) (n + 1) es id (get_next front line []) each.1 among) ∙ its_own n begin id level),
+        apart_made (front ++ line ∷ []) (n + 1) es each.1,
+      )
 
   -- entries behind the first position are those of transactions
   later_commits : (front : List EntryLine) (n : ℕ) (made : List Entry) → (front ≡ [] → origin_at ≡ 0 → ⊥)

@@ -65,7 +65,7 @@ tells_usage play count consumers stores stores' input old new result w = usage_t
 
 -- what a text of a script that was read tells, where something else is so of its store
 
-some_of : TableLine → Option TableLine → TableLine
+abbrev some_of : TableLine → Option TableLine → TableLine
 some_of t None = t
 some_of t (Some u) = u
 

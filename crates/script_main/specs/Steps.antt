@@ -20,7 +20,7 @@ use Rattle.script_play.specs.Ready.{CanBegin}
 use Rattle.script_play.specs.RunViews.{IsOpenedBehind}
 use Rattle.script_play.specs.Start.{Start}
 use Rattle.store_log.specs.Keeps.{Stored}
-use Rattle.script_main.specs.Runs.{IsDownText, IsLeftBy}
+use Rattle.script_main.specs.Runs.{IsDownText, IsLeftBy, IsRun}
 use Rattle.script_main.specs.Stores.{cluster_of, HasRows}
 use Rattle.script_main.specs.Texts.{refused_text, store_text, unsound_text}
 use Rattle.script_main.specs.declared.statuses.Status.{Status}
@@ -67,15 +67,15 @@ pub record IsOpened (script : Script) (old : Stored) (base : ℕ) (log : Logged)
 abbrev pub log_before : ℕ → Logged → List Entry
 log_before base log = take base log.entries
 
--- a run of a script can begin behind the log that a node had when it was opened, at these rows
-pub record IsBegunAt (script : Script) (base : ℕ) (log : Logged) (rows : Rows) : Type 0 where
+-- a run of a script can begin behind the log that a node had before, at these rows
+pub record IsBegunAt (script : Script) (base : ℕ) (before : List Entry) (log : Logged) (rows : Rows) : Type 0 where
   pub node : log.node ≡ 1
   pub running : log.failed ≡ false
   pub same : log.promised ≡ log.accepted
-  pub place : base ≡ length (log_before base log)
-  pub opened : IsOpenedBehind (tables_of script) log.accepted (log_before base log) log.entries
-  pub has_rows : HasRows (log_before base log) rows
-  pub behind : CanBegin (tables_of script) (log_before base log) rows
+  pub place : base ≡ length before
+  pub opened : IsOpenedBehind (tables_of script) log.accepted before log.entries
+  pub has_rows : HasRows before rows
+  pub behind : CanBegin (tables_of script) before rows
 
 -- what is left of a store whose log is given up
 pub record IsLeftOf (log : Logged) (new : Stored) : Type 0 where
@@ -90,3 +90,8 @@ pub record IsPlayedText (script : Script) (start : Start) (log : Logged) (new : 
   pub told : IsTold script start log.accepted report history
   pub is_text : IsReportText report s text
   pub left : IsLeftBy (downs report.lines) log.cluster log.store new log.accepted history
+
+-- the text of a run over a store
+pub record IsRunText (script : Script) (old new : Stored) (s : Status) (text : List ℕ) : Type 0 where
+  pub status_is : s ≡ status.Done
+  pub run : IsRun script old new text

@@ -5,18 +5,19 @@ use super::runs::{has_status, has_written, is_so};
 use cdb_outside::{MemSink, MemSource, MemStore};
 use script_main::{Outside, Status, run};
 use std::alloc::{AllocError, Global};
+use std::process::Abort;
 use std::test::Fail;
 
 /// What a run answers and writes, and the synced bytes of its store behind it.
 #[derive(Drop)]
-struct Ran {
+struct Outcome {
     status: Status,
     text: Vec<u8>,
     bytes: Vec<u8>,
 }
 
 /// A run of a script over a store.
-fn ran_over(alloc: Global, script: &[u8], store: MemStore) -> Result<Ran, AllocError>
+fn ran_over(alloc: Global, script: &[u8], store: MemStore) -> Result<Outcome, AllocError>
     requires { store.waiting ≡ [] }
 {
     let words = vec![in alloc; String::from_str(alloc, "play")?]?;
@@ -31,7 +32,7 @@ fn ran_over(alloc: Global, script: &[u8], store: MemStore) -> Result<Ran, AllocE
         Some(store) => Vec::from_slice(alloc, store.synced())?,
         None => Vec::new(alloc),
     };
-    Ok(Ran {
+    Ok(Outcome {
         status,
         text: Vec::from_slice(alloc, outside.sink.taken())?,
         bytes,
@@ -39,13 +40,13 @@ fn ran_over(alloc: Global, script: &[u8], store: MemStore) -> Result<Ran, AllocE
 }
 
 /// A run of a script over a store with these bytes, which does not fail.
-fn ran(alloc: Global, script: &[u8], bytes: &[u8]) -> Result<Ran, AllocError> {
+fn ran(alloc: Global, script: &[u8], bytes: &[u8]) -> Result<Outcome, AllocError> {
     let store = MemStore::new(Vec::from_slice(alloc, bytes)?, Vec::new(alloc), None, 0);
     ran_over(alloc, script, store)
 }
 
 /// Asserts what a run answers and writes.
-fn tells(rt: &HostRuntime, ran: &Ran, status: Status, text: &[u8], what: &str) {
+fn tells<R: Abort>(rt: &R, ran: &Outcome, status: Status, text: &[u8], what: &str) {
     has_status(rt, ran.status, status);
     has_written(rt, ran.text.as_slice(), text, what);
 }
@@ -127,6 +128,33 @@ fn other_tables_are_refused(rt: HostRuntime) -> Result<(), Fail> {
     Ok(())
 }
 
+/// The header of node 1 in the cluster main/1, the promise and the acceptance of generation 1, and the setup of the table above
+/// without a record, so that there is no meta page.
+static UNSOUND: &[u8] =
+    b"\x01\0\0\0\0\0\0\0\x12\x01\x01\x4b\x87\xe6\x73\xc7\xea\x53\x98\xab\x17\x5f\x9f\xe1\xf8\x36\x17\x02\0\0\0\0\0\0\0\x08\0\0\0\0\0\0\0\x01\x03\0\0\0\0\0\0\0\x08\0\0\0\0\0\0\0\x01\x04\0\0\0\0\0\0\0\x26\0\0\0\0\0\0\0\x01\0\0\x01\x01t\x02\x02id\x01\0\x01v\x01\x01\x01\x02pk\x01\x01\0\0\0\0\0\0\0\0\0";
+
+/// These bytes. A proof that calls this does not carry them.
+fn not_sound() -> &'static [u8] {
+    UNSOUND
+}
+
+/// A log whose pages stand for no rows is told, and the store is left as it is.
+#[test]
+fn a_log_that_is_not_sound_is_told(rt: HostRuntime) -> Result<(), Fail> {
+    let alloc = rt.alloc();
+    let told = ran(alloc, SELECT, not_sound())?;
+    let status = Status::Unsound { node: 1 };
+    tells(
+        &rt,
+        &told,
+        status,
+        b"unsound 1\n",
+        "a log that is not sound",
+    );
+    has_written(&rt, told.bytes.as_slice(), not_sound(), "the store");
+    Ok(())
+}
+
 /// What is told where the store fails at the entry of the insert.
 static LOST: &[u8] =
     b"a 1 begin 1\na 1 changed 1\ndown 1 1 fault\na 1 lost 1 1\na 2 nomajority 0 1\nentry 1 schema\nend 1\n";
@@ -135,7 +163,7 @@ static LOST: &[u8] =
 static DOWN: &[u8] = b"down 1 1 fault\na 1 nomajority 0 1\na 2 nomajority 0 1\nend 0\n";
 
 /// What is told by a run over a store whose call of this number fails, and whose halt keeps nothing.
-fn failed(alloc: Global, call: u64) -> Result<Ran, AllocError> {
+fn failed(alloc: Global, call: u64) -> Result<Outcome, AllocError> {
     let fails = vec![in alloc; call]?;
     ran_over(
         alloc,
