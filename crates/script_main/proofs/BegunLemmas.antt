@@ -23,7 +23,18 @@ use Rattle.script_main.proofs.BeginLemmas.{begins, opened_behind, Begins}
 use Rattle.script_main.proofs.ScriptLemmas.{can_run_unsaid, log_tables, log_taken, own_tables, tables_with}
 use Rattle.script_main.specs.Known.{HasOneState, IsKnown}
 use Rattle.script_main.specs.Steps.{log_before, IsBegunAt, IsOpened}
-use Rattle.script_main.specs.Stores.{unsaid, with_tables, HasRows}
+use Rattle.script_main.specs.Stores.{cluster_of, unsaid, with_tables, HasRows}
+
+-- a node that was opened over a store
+pub opened_as : (script : Script) (old : Stored) (base cluster : ℕ) (given : List TableDef) (log : Logged) → cluster ≡ cluster_of script → given ≡ tables_of script →
+    IsTakenUp 1 cluster old.synced given base log → log.node ≡ 1 → log.cluster ≡ cluster → log.failed ≡ false → old.faults ≤ log.store.faults → IsOpened script old base log
+opened_as script old base cluster given log is same taken node named running later = record {
+  taken = subst (λ (c : ℕ). IsTakenUp 1 c old.synced (tables_of script) base log) is (subst (λ (ts : List TableDef). IsTakenUp 1 cluster old.synced ts base log) same taken);
+  node = node;
+  cluster = named ∙ is;
+  running = running;
+  later = later;
+}
 
 -- what a node that goes on with a log had before
 goes_behind : (generation : ℕ) (given : List TableDef) (before log : List Entry) (base : ℕ) → base ≡ length before → GoesOn generation given before log → take base log ≡ before

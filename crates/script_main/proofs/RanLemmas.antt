@@ -229,3 +229,18 @@ place_in script (why.Refused at) old before now is = tt
 place_in script why.Unsound old before now is = tt
 place_in script (why.Differs place) old before now is = is.other.difference.within
 place_in script why.NoMemory old before now is = tt
+
+-- why a node is not up, of the script's cluster and tables
+pub why_of : (script : Script) (w : WhyNotUp) (cluster : ℕ) (given : List TableDef) (old : List ℕ) (before now : ℕ) → cluster ≡ cluster_of script → given ≡ tables_of script →
+    IsWhy w 1 cluster old given before now → IsWhy w 1 (cluster_of script) old (tables_of script) before now
+why_of script w cluster given old before now is same why =
+    subst (λ (c : ℕ). IsWhy w 1 c old (tables_of script) before now) is (subst (λ (ts : List TableDef). IsWhy w 1 cluster old ts before now) same why)
+
+pub left_as : (script : Script) (w : WhyNotUp) (cluster : ℕ) (given : List TableDef) (old new : List ℕ) → cluster ≡ cluster_of script → given ≡ tables_of script →
+    IsLeft w 1 cluster old new given → IsLeft w 1 (cluster_of script) old new (tables_of script)
+left_as script w cluster given old new is same left =
+    subst (λ (c : ℕ). IsLeft w 1 c old new (tables_of script)) is (subst (λ (ts : List TableDef). IsLeft w 1 cluster old new ts) same left)
+
+-- the text of a run is one of a script over its store
+pub run_text : (script : Script) (old new : Stored) (s : Status) (text : List ℕ) → IsRunText script old new s text → IsTextOver script old new s text
+run_text script old new s text r = subst (λ (t : Status). IsTextOver script old new t text) (sym r.status_is) (inl r.run)

@@ -122,6 +122,10 @@ log_tables script [] none some = absurd (omega arith)
 log_tables script (e ∷ es) none some =
     ap (λ (lines : List TableLine). record script { tables = tables_or lines (history.tables_of (e ∷ es)) }) (sym none)
 
+-- a copy of a script whose tables are replaced
+pub with_lines : (script copy : Script) (lines tables : List TableLine) → copy ≡ script → lines ≡ tables → record copy { tables = lines } ≡ record script { tables = tables }
+with_lines script copy lines tables same is = λ j. record (same j) { tables = is j }
+
 -- a script with the tables of a log can run
 
 all_said : (tables : List TableDef) → AllByRecursion HasColumns tables → AllByRecursion (λ (t : TableLine). t.table.columns ≢ []) (map unsaid tables)

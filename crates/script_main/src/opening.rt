@@ -8,12 +8,13 @@ ghost use Rattle.report_laws.specs.Lawful.{Lawful};
 ghost use Rattle.report_laws.specs.Nodes.{downs};
 ghost use Rattle.report_laws.specs.Play.{InPlayOrder};
 ghost use Rattle.script_play.specs.Basis.{from_nothing};
+ghost use Rattle.script_form.specs.declared.scripts.Script.{Script};
 ghost use Rattle.script_play.specs.Start.{Start};
 ghost use Rattle.store_log.specs.Keeps.{Stored};
 ghost use Rattle.script_main.specs.Run.{IsTextOver};
 ghost use Rattle.script_main.specs.Runs.{IsDownText};
 ghost use Rattle.script_main.specs.Steps.{log_before, IsBegunAt, IsLeftOf, IsNotUpText, IsOpened, IsPlaceIn, IsPlayedText, IsReportText, IsRunText};
-ghost use Rattle.script_main.specs.Stores.{kept_by, start_at, unsaid, HasId};
+ghost use Rattle.script_main.specs.Stores.{cluster_of, kept_by, start_at, unsaid, HasId};
 
 use super::answers::{Answer, differs, let_go, reported, store_refused, unsound};
 use super::begun::Begun;
@@ -55,7 +56,28 @@ pub(crate) fn play_over<D: LogStore + Drop>(alloc: Global, script: &Script, stor
     let Ok(cluster) = cluster_id(alloc, &script.cluster, script.nodes) else {
         return no_memory(store);
     };
-    match open_node(alloc, store, NODE, cluster, &schema) {
+    let ended = open_and_play(alloc, script, store, cluster, &schema);
+    let_go(schema);
+    ended
+}
+
+/// The same, by the id of the script's cluster and its tables.
+fn open_and_play<D: LogStore + Drop>(
+    alloc: Global,
+    script: &Script,
+    store: D,
+    cluster: u128,
+    schema: &Schema,
+) -> Ended<D>
+    requires runs { CanRun script.now }
+    requires names { IsNamed script.now }
+    requires settled { D.pending store ≡ [] }
+    requires cluster { cluster ≡ cluster_of script.now }
+    requires schema { schema.now ≡ tables_of script.now }
+    ensures text { IfOk result.answer (λ a. IsTextOver script.now (kept_by D.synced D.pending D.faults store) (kept_by D.synced D.pending D.faults result.store) a.status a.text) }
+    ensures settled { D.pending result.store ≡ [] }
+{
+    match open_node(alloc, store, NODE, cluster, schema) {
         Ok(up) => play_up(alloc, script, up),
         Err(down) => refuse(alloc, script, down),
     }
@@ -164,7 +186,7 @@ fn play_up<D: LogStore + Drop>(alloc: Global, script: &Script, up: UpNode<D>) ->
         → IsRunText script.now old (kept_by D.synced D.pending D.faults result.store) a.status a.text) }
     ensures settled { D.pending result.store ≡ [] }
 {
-    let begun = begin(script, up);
+    let begun = begin(up);
     if begun.base == 0 || !script.tables.as_slice().is_empty() {
         play_own(alloc, script, begun)
     } else {
@@ -173,8 +195,8 @@ fn play_up<D: LogStore + Drop>(alloc: Global, script: &Script, up: UpNode<D>) ->
 }
 
 /// The log of a node that is up, which stands for some rows.
-fn begin<D: LogStore>(_script: &Script, up: UpNode<D>) -> Begun<D>
-    requires opened { (old : Stored) × IsOpened _script.now old up.base up.log }
+fn begin<D: LogStore>(up: UpNode<D>) -> Begun<D>
+    requires opened { (script : Script) × (old : Stored) × IsOpened script old up.base up.log }
     ensures base { result.base ≡ up.base }
     ensures log { result.log ≡ up.log }
 {
@@ -224,9 +246,16 @@ fn with_tables(alloc: Global, script: &Script, log: &PagedLog) -> Result<Script,
     ensures { IfOk result (λ whole. whole ≡ record script.now { tables = map unsaid (tables_of_log log.now) }) }
 {
     let tables = logged_lines(alloc, log)?;
-    let mut whole = script.clone()?;
+    let mut whole = copied(script)?;
     whole.tables = tables;
     Ok(whole)
+}
+
+/// A copy of a script.
+fn copied(script: &Script) -> Result<Script, AllocError>
+    ensures { IfOk result (λ copy. copy ≡ script.now) }
+{
+    script.clone()
 }
 
 /// The tables of a log, as lines that stand in no script.

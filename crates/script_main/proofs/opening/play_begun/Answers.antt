@@ -10,12 +10,15 @@ pub play_from-requires : goal.play_from-requires
 play_from-requires g c κs within =
     let b = c.args.begun in
     let before = log_before b.base b.log in
-    let has = c.requires.1.1 in (
-      c.requires.runs,
+    let has = c.requires.begun in (
+      within,
       (
-        refl,
-        subst (λ (r : Rows). IsBegunAt c.args.script.now b.base before b.log r)
-            (known_are b.base b.log b.known (only_state before c.pages_stand_for_one_state.ensures.one) has.0 has.1.has_rows) has.1,
+        c.requires.runs,
+        (
+          refl,
+          subst (λ (r : Rows). IsBegunAt c.args.script.now b.base before b.log r)
+              (known_are b.base b.log b.known (only_state before c.pages_stand_for_one_state.ensures.one) has.0 has.1.has_rows) has.1,
+        ),
       ),
     )
 
