@@ -46,7 +46,8 @@ all_rest (l ∷ all) (y ∷ ys) (suc at) x starts is = let later : map state_in 
 pub opens_own : (generation : ℕ) (sessions : List SessionLine) (states : List SessionState) → map state_in states ≡ map (λ _. at_start) sessions → AreOwn generation sessions states
 opens_own generation sessions states starts at s x line is = rests_own generation s.name x (all_rest sessions states at x starts is)
 
-none_left : (rest : List BodyLine) → length rest ≡ 0 → rest ≡ []
+-- no line is left
+pub none_left : (rest : List BodyLine) → length rest ≡ 0 → rest ≡ []
 none_left [] is = refl
 none_left (l ∷ ls) is = absurd (omega (arith, is))
 

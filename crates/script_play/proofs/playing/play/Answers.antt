@@ -16,11 +16,11 @@ returns-clause-schema g c = if_ok c.play_behind.result (λ p played. played.told
 
 pub returns-clause-taken : goal.returns-clause-taken
 returns-clause-taken g c =
-    if_ok c.play_behind.result (λ p played k first within. played.told.taken k (let b = c.requires.1.1.0 in omega (arith, b, first)) within) c.play_behind.ensures
+    if_ok c.play_behind.result (λ p played k first within. played.told.taken k (let b = c.requires.1.1.1.0 in omega (arith, b, first)) within) c.play_behind.ensures
 
 pub returns-clause-rows : goal.returns-clause-rows
 returns-clause-rows g c =
-    if_ok c.play_behind.result (λ p played k from within. played.told.rows k (from.0, let b = c.requires.1.1.0 in let f = from.1 in omega (arith, b, f)) within) c.play_behind.ensures
+    if_ok c.play_behind.result (λ p played k from within. played.told.rows k (from.0, let b = c.requires.1.1.1.0 in let f = from.1 in omega (arith, b, f)) within) c.play_behind.ensures
 
 pub returns-clause-stands : goal.returns-clause-stands
 returns-clause-stands g c = if_ok c.play_behind.result (λ p played. played.told.stands) c.play_behind.ensures
