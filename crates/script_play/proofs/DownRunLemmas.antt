@@ -1,12 +1,12 @@
 -- A run on a node that is down from the opening on: each line keeps what holds of it, and it ends with a report that is lawful
 -- and in the order of play.
-use Rattle.std.proofs.Common.{◌≡◌, ℕ, ◌+◌, ◌*◌, ◌≤◌, ◌<◌, ◌==◌, ◌&&◌, List, [], ◌∷◌, ◌++◌, length, map, refl, sym, subst, ap, arith, Option, Some, None, ◌∙◌, Bool, true, false, append_assoc, inl, inr, if◌then◌else◌, leb, slice_set}
+use Rattle.std.proofs.Common.{◌≡◌, ℕ, ◌+◌, ◌<◌, List, [], ◌∷◌, ◌++◌, length, map, refl, sym, subst, ap, arith, Option, Some, None, ◌∙◌, Bool, true, false, append_assoc, inl, inr, if◌then◌else◌, slice_set}
 use Rattle.std.proofs.lemmas.List.{append-nil, length-set}
-use Rattle.std.specs.List.{AllByRecursion, slice_get}
+use Rattle.std.specs.List.{slice_get}
 use Rattle.std.specs.Str.{bytes_eq}
 use Rattle.cdb_values.specs.declared.rows.Level.{Level}
 use Rattle.cdb_values.specs.declared.rows.StatementError.TheVariants.{State}
-use Rattle.script_form.specs.CanRun.{CanRun, IsDeclared, IsSaid as IsSaidOf}
+use Rattle.script_form.specs.CanRun.{CanRun, IsSaid as IsSaidOf}
 use Rattle.script_form.specs.declared.scripts.Act.{Act}
 use Rattle.script_form.specs.declared.scripts.Act.TheVariants.{Say}
 use Rattle.script_form.specs.declared.scripts.BodyLine.{BodyLine}
@@ -15,11 +15,11 @@ use Rattle.script_form.specs.declared.scripts.SessionLine.{SessionLine}
 use Rattle.session_language.specs.Each.{EachAfter}
 use Rattle.session_language.specs.Language.{Kind, BeginText, CommitText, RollbackText, LevelText, OtherText}
 use Rattle.session_language.proofs.EachLaws.{each_append}
-use Rattle.report_laws.specs.History.{Basis, Origin, last_position, view_of}
+use Rattle.report_laws.specs.History.{Origin, last_position, view_of}
 use Rattle.report_laws.specs.Lawful.{IsFreshLine, Lawful}
-use Rattle.report_laws.specs.Nodes.{downs, is_up, up_count, are_few, first_down}
-use Rattle.report_laws.specs.Places.{HasItsPlace, IsShort}
-use Rattle.report_laws.specs.Play.{begins, is_own_by, lacks_majority, loss_of, node_of, number_by, opened_behind, opening, since_begin, was_cut, InPlayOrder, InTurns, IsSaid, IsShortThere, IsTurn, IsTurnOf}
+use Rattle.report_laws.specs.Nodes.{downs, is_up, are_few}
+use Rattle.report_laws.specs.Places.{HasItsPlace}
+use Rattle.report_laws.specs.Play.{number_by, opened_behind, opening, was_cut, InPlayOrder, InTurns, IsTurnOf}
 use Rattle.report_laws.specs.Told.{Along, Numbered, IsCut, IsTold, alone_at, lines_of, numbered, told}
 use Rattle.report_laws.specs.Work.{Transaction, Item, Does, Lone, Place, End, ByCommit, ByRollback, WithItsLine, Nowhere, items_at, next_by, next_place, number_of, open_item, place_after, transaction, with_open, work, start as place_first}
 use Rattle.report_laws.proofs.EntryToldLaws.{told_stands}
@@ -30,7 +30,6 @@ use Rattle.report_laws.proofs.ToldLaws.{along_append, along_one, told_append, to
 use Rattle.report_laws.proofs.WorkLaws.{after_own, after_other}
 use Rattle.report_text.specs.declared.reports.EntryLine.{EntryLine}
 use Rattle.report_text.specs.declared.reports.Line.{Line}
-use Rattle.report_text.specs.declared.reports.Line.TheVariants as line
 use Rattle.report_text.specs.declared.reports.ReplyLine.{ReplyLine}
 use Rattle.report_text.specs.declared.reports.Report.{Report}
 use Rattle.report_text.specs.declared.reports.ReplyLine.TheVariants as reply
@@ -42,9 +41,11 @@ use Rattle.script_play.specs.Doing as doing
 use Rattle.script_play.specs.Down.{down_line, turn_down, IsToldDown}
 use Rattle.script_play.specs.SoFar.{at_start, report_of, session_at, state_of}
 use Rattle.script_play.specs.SoFarDown.{IsBeforeDown, IsDoingDown, SoFarDown, StandingDown}
-use Rattle.script_play.specs.Step.{Turned, state, turned}
-use Rattle.script_play.proofs.RunLemmas.{same_itself, same_name}
+use Rattle.script_play.specs.Step.{Turned, state}
+use Rattle.script_play.proofs.ComesLemmas.{same_itself, same_name}
 use Rattle.script_play.proofs.SiteLemmas.{declared, found_state, other_state, set_state, within}
+use Rattle.script_play.proofs.LossLemmas.{few_down}
+use Rattle.script_play.proofs.ToldLemmas.{IsToldSo, told_lone, told_nothing, told_short}
 use Rattle.script_play.proofs.WholeLemmas.{starts}
 
 -- ---- where a session stands behind a line of its own
@@ -68,17 +69,17 @@ none_begun script origin t = record {
 
 module _ (script : Script) (origin : Origin) (name text : List ℕ) (p : Place) (lines before : List Numbered) (mine : List ReplyLine)
     (is : lines ≡ before ++ numbered p.number mine) (past : Along (IsTold (from_origin script origin) (view_of (from_origin script origin) []) name) p.over before) where
-  abbrev pub IsToldSo : Item → List ReplyLine → Type 0
-  IsToldSo item replies = IsTold (from_origin script origin) (view_of (from_origin script origin) []) name item replies
+  abbrev pub IsToldOf : Item → List ReplyLine → Type 0
+  IsToldOf item replies = IsTold (from_origin script origin) (view_of (from_origin script origin) []) name item replies
 
   -- the session did something more, and is in no transaction
-  goes_idle : (item : Item) (replies : List ReplyLine) (number : ℕ) (level : Level) (all : List Numbered) → IsToldSo item replies → all ≡ before ++ numbered (number_of item) replies →
+  goes_idle : (item : Item) (replies : List ReplyLine) (number : ℕ) (level : Level) (all : List Numbered) → IsToldOf item replies → all ≡ before ++ numbered (number_of item) replies →
       StandingDown (from_origin script origin) name (record { over = p.over ++ item ∷ []; number = number; level = level; pending = None }) all (state number level doing.No)
   goes_idle item replies number level all told_so says = record {
     before = before ++ numbered (number_of item) replies;
     mine = [];
     is = says ∙ sym (append-nil (before ++ numbered (number_of item) replies));
-    past = along_append IsToldSo p.over (item ∷ []) before (numbered (number_of item) replies) past (along_one IsToldSo item replies told_so);
+    past = along_append IsToldOf p.over (item ∷ []) before (numbered (number_of item) replies) past (along_one IsToldOf item replies told_so);
     number = refl;
     level = refl;
     doing = refl;
@@ -139,108 +140,35 @@ module _ (script : Script) (origin : Origin) (name text : List ℕ) (p : Place) 
   stands_behind k (Some texts) (doing.Open begin ops uses) so = absurd so
 
   -- all that a session did, where the script ends there
-  along_all : (pending : Option (List (List ℕ))) (what : Doing) → IsDoingDown pending what mine → Along IsToldSo (p.over ++ open_item p pending) (before ++ numbered p.number mine)
-  along_all None doing.No none = subst (λ (rs : List ReplyLine). Along IsToldSo (p.over ++ []) (before ++ numbered p.number rs)) (sym none) (along_append IsToldSo p.over [] before [] past refl)
+  along_all : (pending : Option (List (List ℕ))) (what : Doing) → IsDoingDown pending what mine → Along IsToldOf (p.over ++ open_item p pending) (before ++ numbered p.number mine)
+  along_all None doing.No none = subst (λ (rs : List ReplyLine). Along IsToldOf (p.over ++ []) (before ++ numbered p.number rs)) (sym none) (along_append IsToldOf p.over [] before [] past refl)
   along_all None (doing.Open begin ops uses) so = absurd so
   along_all None doing.Aborted so = absurd so
   along_all (Some texts) doing.No so = absurd so
   along_all (Some texts) (doing.Open begin ops uses) so = absurd so
-  along_all (Some texts) doing.Aborted so = subst (λ (rs : List ReplyLine). Along IsToldSo (p.over ++ Does (transaction p.number texts p.level Nowhere) ∷ []) (before ++ numbered p.number rs)) (sym so)
-      (along_append IsToldSo p.over (Does (transaction p.number texts p.level Nowhere) ∷ []) before (numbered p.number (reply.NoMajority 0 1 ∷ [])) past
-      (along_one IsToldSo (Does (transaction p.number texts p.level Nowhere)) (reply.NoMajority 0 1 ∷ []) (inr (none_begun script origin (transaction p.number texts p.level Nowhere)))))
+  along_all (Some texts) doing.Aborted so = subst (λ (rs : List ReplyLine). Along IsToldOf (p.over ++ Does (transaction p.number texts p.level Nowhere) ∷ []) (before ++ numbered p.number rs)) (sym so)
+      (along_append IsToldOf p.over (Does (transaction p.number texts p.level Nowhere) ∷ []) before (numbered p.number (reply.NoMajority 0 1 ∷ [])) past
+      (along_one IsToldOf (Does (transaction p.number texts p.level Nowhere)) (reply.NoMajority 0 1 ∷ []) (inr (none_begun script origin (transaction p.number texts p.level Nowhere)))))
 
 -- ---- what a line is told while no node is up
 
--- no majority is up where the one node is down
-none_up_there : (lines : List Line) → is_up 1 lines ≡ false → up_count 1 lines ≡ 0
-none_up_there lines down = ap (λ (b : Bool). 0 + (if b then 1 else 0)) down
-
-few_there : (lines : List Line) → is_up 1 lines ≡ false → are_few 1 lines ≡ true
-few_there lines down = ap (λ (n : ℕ). leb 1 1 && leb (2 * n) 1) (none_up_there lines down)
-
--- what a line is told is right, and has its place
-pub record IsToldRight (script : Script) (origin : Origin) (now : ℕ) (lines : List Line) (name : List ℕ) (number : ℕ) (k : Kind) (pending : Option (List (List ℕ))) (t : Turned) : Type 0 where
-  pub said : IsSaid script now lines name number k pending (lines_of name t.number t.replies) []
-  pub fresh : EachAfter (IsFreshLine origin) lines (lines_of name t.number t.replies)
-  pub placed : EachAfter (HasItsPlace script) lines (lines_of name t.number t.replies)
-
 module _ (script : Script) (origin : Origin) (one : script.nodes ≡ 1) (now : ℕ) (lines : List Line) (down : is_up 1 lines ≡ false) (name : List ℕ) where
-  are_few_there : are_few script.nodes lines ≡ true
-  are_few_there = subst (λ (n : ℕ). are_few n lines ≡ true) (sym one) (few_there lines down)
-
-  so_told : reply.NoMajority 0 1 ≡ reply.NoMajority (up_count script.nodes lines) script.nodes
-  so_told = subst (λ (n : ℕ). reply.NoMajority 0 1 ≡ reply.NoMajority (up_count n lines) n) (sym one) (ap (λ (n : ℕ). reply.NoMajority n 1) (sym (none_up_there lines down)))
-
-  is_short : IsShort script lines name 0 1
-  is_short = record {
-    are_all = sym one;
-    front = lines;
-    back = [];
-    stands = sym (append-nil lines);
-    since = refl;
-    are_up = sym (none_up_there lines down);
-    few = few_there lines down;
-  }
-
-  -- a line that begins a transaction
-  told_short : (k : Kind) (number : ℕ) (after : SessionAt) → lacks_majority script lines k None ≡ true → IsToldRight script origin now lines name number k None (turned number (reply.NoMajority 0 1 ∷ []) after)
-  told_short k number after lacks = record {
-    said = inr (inr (inl (record { lacks = lacks; says = ap (λ (r : ReplyLine). lines_of name number (r ∷ [])) so_told; none = refl })));
-    fresh = (tt, tt);
-    placed = (is_short, tt);
-  }
-
-  -- one outside a transaction that begins none
-  told_misplaced : (k : Kind) (after : SessionAt) → lacks_majority script lines k None ≡ false → is_own_by k None ≡ false → IsToldRight script origin now lines name 0 k None (turned 0 (reply.Error State ∷ []) after)
-  told_misplaced k after majority none_own = record {
-    said = inl (record {
-      replies = reply.Error State ∷ [];
-      says = refl;
-      turn = subst (λ (b : Bool). IsTurn now lines name 0 b (reply.Error State ∷ []) []) (sym none_own) (record { told = inl refl; timely = (tt, tt); appended = tt });
-      kept = refl;
-      majority = majority;
-    });
-    fresh = (tt, tt);
-    placed = (tt, tt);
-  }
-
-  told_level : (later : Level) (after : SessionAt) → IsToldRight script origin now lines name 0 (LevelText later) None (turned 0 (reply.Level later ∷ []) after)
-  told_level later after = record {
-    said = inl (record { replies = reply.Level later ∷ []; says = refl; turn = record { told = inl refl; timely = (tt, tt); appended = tt }; kept = refl; majority = refl });
-    fresh = (tt, tt);
-    placed = (tt, tt);
-  }
-
-  -- one of a transaction that was cut short
-  told_nothing : (k : Kind) (texts : List (List ℕ)) (number : ℕ) (after : SessionAt) → lacks_majority script lines k (Some texts) ≡ false → was_cut lines name number ≡ true → IsToldRight script origin now lines name number k (Some texts) (turned number [] after)
-  told_nothing k texts number after majority cut = record {
-    said = inl (record {
-      replies = [];
-      says = refl;
-      turn = record { told = inr (refl, cut); timely = tt; appended = tt };
-      kept = ap (λ (b : Bool). if b then None else first_down (node_of script name) (since_begin name number lines)) cut;
-      majority = majority;
-    });
-    fresh = tt;
-    placed = tt;
-  }
-
   was_cut_there : (before : List Numbered) (number : ℕ) (mine : List ReplyLine) → told name lines ≡ before ++ numbered number mine → mine ≡ reply.NoMajority 0 1 ∷ [] → was_cut lines name number ≡ true
   was_cut_there before number mine is so =
       cut_at lines name number (reply.NoMajority 0 1) refl (told_stands name number (reply.NoMajority 0 1) lines (before, [], is ∙ ap (λ (rs : List ReplyLine). before ++ numbered number rs) so))
 
   told_right : (p : Place) (before : List Numbered) (mine : List ReplyLine) → told name lines ≡ before ++ numbered p.number mine → (k : Kind) (pending : Option (List (List ℕ))) (what : Doing) → IsDoingDown pending what mine →
-      IsToldRight script origin now lines name (number_by p.number k pending) k pending (turn_down p.number p.level k what)
-  told_right p before mine is BeginText None doing.No none = told_short BeginText (p.number + 1) _ are_few_there
-  told_right p before mine is CommitText None doing.No none = told_misplaced CommitText _ refl refl
-  told_right p before mine is RollbackText None doing.No none = told_misplaced RollbackText _ refl refl
-  told_right p before mine is (LevelText later) None doing.No none = told_level later _
-  told_right p before mine is OtherText None doing.No none = told_short OtherText (p.number + 1) _ are_few_there
-  told_right p before mine is BeginText (Some texts) doing.Aborted so = told_nothing BeginText texts p.number _ refl (was_cut_there before p.number mine is so)
-  told_right p before mine is CommitText (Some texts) doing.Aborted so = told_nothing CommitText texts p.number _ refl (was_cut_there before p.number mine is so)
-  told_right p before mine is RollbackText (Some texts) doing.Aborted so = told_nothing RollbackText texts p.number _ refl (was_cut_there before p.number mine is so)
-  told_right p before mine is (LevelText later) (Some texts) doing.Aborted so = told_nothing (LevelText later) texts p.number _ refl (was_cut_there before p.number mine is so)
-  told_right p before mine is OtherText (Some texts) doing.Aborted so = told_nothing OtherText texts p.number _ refl (was_cut_there before p.number mine is so)
+      IsToldSo script origin now lines name (number_by p.number k pending) k pending (lines_of name (turn_down p.number p.level k what).number (turn_down p.number p.level k what).replies)
+  told_right p before mine is BeginText None doing.No none = told_short script origin one now lines (few_down lines down) name BeginText None (p.number + 1) refl
+  told_right p before mine is CommitText None doing.No none = told_lone script origin now lines name CommitText (reply.Error State) refl refl tt tt tt tt
+  told_right p before mine is RollbackText None doing.No none = told_lone script origin now lines name RollbackText (reply.Error State) refl refl tt tt tt tt
+  told_right p before mine is (LevelText later) None doing.No none = told_lone script origin now lines name (LevelText later) (reply.Level later) refl refl tt tt tt tt
+  told_right p before mine is OtherText None doing.No none = told_short script origin one now lines (few_down lines down) name OtherText None (p.number + 1) refl
+  told_right p before mine is BeginText (Some texts) doing.Aborted so = told_nothing script origin now lines name BeginText texts p.number refl (was_cut_there before p.number mine is so)
+  told_right p before mine is CommitText (Some texts) doing.Aborted so = told_nothing script origin now lines name CommitText texts p.number refl (was_cut_there before p.number mine is so)
+  told_right p before mine is RollbackText (Some texts) doing.Aborted so = told_nothing script origin now lines name RollbackText texts p.number refl (was_cut_there before p.number mine is so)
+  told_right p before mine is (LevelText later) (Some texts) doing.Aborted so = told_nothing script origin now lines name (LevelText later) texts p.number refl (was_cut_there before p.number mine is so)
+  told_right p before mine is OtherText (Some texts) doing.Aborted so = told_nothing script origin now lines name OtherText texts p.number refl (was_cut_there before p.number mine is so)
   told_right p before mine is k None (doing.Open begin ops uses) so = absurd so
   told_right p before mine is k None doing.Aborted so = absurd so
   told_right p before mine is k (Some texts) doing.No so = absurd so
@@ -270,8 +198,8 @@ module _ (script : Script) (origin : Origin) (one : script.nodes ≡ 1) (done le
   down_there = subst (λ (ls : List Line). is_up 1 ls ≡ false) (sym was.lines_are)
       (is_down_behind 1 1 true [] was.rest (none_up script (down_line ∷ []) was.rest (subst (λ (ls : List Line). EachAfter (HasItsPlace script) [] ls) was.lines_are was.placed).1))
 
-  right : IsToldRight script origin (last_position origin []) lines name (number_by place.number (kind_of_text text) place.pending) (kind_of_text text) place.pending its_turn
-  right = subst (λ (t : Turned). IsToldRight script origin (last_position origin []) lines name (number_by place.number (kind_of_text text) place.pending) (kind_of_text text) place.pending t) turn_there
+  right : IsToldSo script origin (last_position origin []) lines name (number_by place.number (kind_of_text text) place.pending) (kind_of_text text) place.pending (lines_of name its_turn.number its_turn.replies)
+  right = subst (λ (t : Turned). IsToldSo script origin (last_position origin []) lines name (number_by place.number (kind_of_text text) place.pending) (kind_of_text text) place.pending (lines_of name t.number t.replies)) turn_there
       (told_right script origin one (last_position origin []) lines down_there name place (was.standing name).before (was.standing name).mine (was.standing name).is (kind_of_text text) place.pending site.doing (was.standing name).doing)
 
   behind : StandingDown (from_origin script origin) name (next_place sql_language place text) (told name lines ++ numbered its_turn.number its_turn.replies) its_turn.after

@@ -1,7 +1,6 @@
 -- A line that appends no entry keeps the run so far, wherever the node stands before it and behind it.
-use Rattle.std.proofs.Common.{◌≡◌, ℕ, ◌+◌, ◌≤◌, List, [], ◌∷◌, ◌++◌, length, refl, sym, subst, ap, arith, ◌∙◌, Bool, true, false, append_assoc}
+use Rattle.std.proofs.Common.{◌≡◌, ℕ, List, [], ◌∷◌, ◌++◌, length, refl, sym, subst, ap, arith, ◌∙◌, Bool, true, false, append_assoc}
 use Rattle.std.proofs.lemmas.List.{append-nil}
-use Rattle.std.specs.List.{AllByRecursion}
 use Rattle.std.specs.Str.{bytes_eq}
 use Rattle.cdb_values.specs.declared.items.GenidItem.{GenidItem}
 use Rattle.report_laws.specs.History.{last_position, view_of}
@@ -15,7 +14,6 @@ use Rattle.report_laws.proofs.LineLaws.{in_turns_more}
 use Rattle.report_laws.proofs.ToldLaws.{told_append}
 use Rattle.report_laws.proofs.WorkLaws.{after_own, after_other}
 use Rattle.report_text.specs.declared.reports.EntryLine.{EntryLine}
-use Rattle.report_text.specs.declared.reports.EntryLine.TheVariants.{Setup, Commit}
 use Rattle.report_text.specs.declared.reports.Line.{Line}
 use Rattle.script_form.specs.declared.scripts.Act.TheVariants.{Say}
 use Rattle.script_form.specs.declared.scripts.BodyLine.{BodyLine}
@@ -23,13 +21,12 @@ use Rattle.script_form.specs.declared.scripts.Script.{Script}
 use Rattle.session_language.specs.Each.{EachAfter}
 use Rattle.session_language.proofs.EachLaws.{each_append, all_append, all_map}
 use Rattle.sql_answer.specs.Language.{sql_language}
-use Rattle.sql_answer.specs.Reading.{kind_of_text}
 use Rattle.script_play.specs.Basis.{from_start}
 use Rattle.script_play.specs.Doing.{SessionAt}
 use Rattle.script_play.specs.Seen.{Seen}
-use Rattle.script_play.specs.SoFar.{now_of, state_of, IsAtNode, IsEnded, IsPast, SoFar, Standing}
+use Rattle.script_play.specs.SoFar.{now_of, state_of, IsAtNode, IsEnded, SoFar, Standing}
 use Rattle.script_play.specs.Start.{Start}
-use Rattle.script_play.proofs.RunLemmas.{past_next, same_itself, same_name}
+use Rattle.script_play.proofs.ComesLemmas.{ended_later, same_itself, same_name}
 
 -- what such a line leaves
 pub record Adds (script : Script) (start : Start) (down' : Bool) (done : List BodyLine) (l : BodyLine) (lines mine : List Line) (entries : List EntryLine) (seen : Seen) (name text : List ℕ) (sites' : List SessionAt) : Type 0 where
@@ -44,16 +41,6 @@ pub record Adds (script : Script) (start : Start) (down' : Bool) (done : List Bo
 module _ (script : Script) (start : Start) (down down' : Bool) (done left : List BodyLine) (l : BodyLine) (lines mine : List Line) (entries : List EntryLine) (taken : List (List GenidItem)) (seen : Seen) (states sites' : List SessionAt) (name text : List ℕ)
     (was : SoFar script start down done (l ∷ left) lines entries taken seen states) (is_act : l.act ≡ Say name text) (adds : Adds script start down' done l lines mine entries seen name text sites')
     (stay : (m : List ℕ) → bytes_eq name m ≡ false → state_of m script.sessions sites' ≡ state_of m script.sessions states) where
-  -- an entry of a transaction that is over stays so
-  ended_on : (e : EntryLine) → IsEnded done e → IsEnded (done ++ l ∷ []) e
-  ended_on (Setup position) is = tt
-  ended_on (Commit position session txn begin level) is = pick (bytes_eq name session) refl
-    where
-      pick : (b : Bool) → bytes_eq name session ≡ b → IsPast (place_after sql_language session (done ++ l ∷ [])).number (place_after sql_language session (done ++ l ∷ [])).pending txn
-      pick true same = subst (λ p. IsPast p.number p.pending txn) (sym (after_own sql_language session name text l done is_act same))
-          (past_next (place_after sql_language session done) text (kind_of_text text) (place_after sql_language session done).pending txn is)
-      pick false differs = subst (λ p. IsPast p.number p.pending txn) (sym (after_other sql_language session name text l done is_act differs)) is
-
   own_stands : Standing script start entries seen.next name (place_after sql_language name (done ++ l ∷ [])) (told name (lines ++ mine)) (state_of name script.sessions sites')
   own_stands =
       subst (λ p. Standing script start entries seen.next name p (told name (lines ++ mine)) (state_of name script.sessions sites')) (sym (after_own sql_language name name text l done is_act (same_itself name)))
@@ -89,7 +76,7 @@ module _ (script : Script) (start : Start) (down down' : Bool) (done left : List
     order = in_turns_more (from_start script start) [] done l [] lines (opening (from_start script start).origin) was.later mine [] was.order its_turn_of;
     named = all_append _ lines mine was.named adds.named;
     answered = all_map (IsEntryTold (from_start script start) (view_of (from_start script start) entries) lines) _ (λ e is. entry_told_more (from_start script start) (view_of (from_start script start) entries) lines mine e is) entries was.answered;
-    ended = all_map (IsEnded done) _ ended_on entries was.ended;
+    ended = all_map (IsEnded done) _ (ended_later done l name text is_act) entries was.ended;
     placed = each_append (HasItsPlace script) [] lines mine was.placed adds.placed;
     node = adds.node;
   }
