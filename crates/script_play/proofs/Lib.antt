@@ -30,4 +30,5 @@ pub mod SiteLemmas
 pub mod SqlLaws
 pub mod PlayLaws
 pub mod TakeLemmas
+pub mod AppendLemmas
 pub mod TextLemmas

@@ -1,5 +1,5 @@
 //! The run so far, and how what a line is to do is told and kept.
-ghost use Rattle.std.specs.Prelude.{◌≡◌, ◌+◌, ◌++◌, ◌∷◌, [], List, false, OnOk, OnErr, IfOk, IfSome, ◌⊎◌};
+ghost use Rattle.std.specs.Prelude.{◌≡◌, ◌≤◌, ◌+◌, ◌++◌, ◌∷◌, [], List, length, false, OnOk, OnErr, IfOk, IfSome, ◌⊎◌};
 ghost use Rattle.log_rows.specs.History.{IsCommit};
 ghost use Rattle.phys_log.specs.Logs.{Fits};
 ghost use Rattle.report_laws.specs.Told.{lines_of};
@@ -11,7 +11,7 @@ ghost use Rattle.script_play.specs.RunViews.{IsSameHistory};
 ghost use Rattle.store_log.specs.Held.{generation_of};
 
 use super::effects::LineEffect;
-use super::holding::beside;
+use super::holding::{beside, let_go};
 use super::states::SessionState;
 use cdb_outside::LogStore;
 use cdb_values::Name;
@@ -101,10 +101,12 @@ pub(crate) fn apply_effect<D: LogStore>(
     } = effect;
     add_replies(&mut run.lines, name, number, replies)?;
     match added {
-        None => {}
-        Some(entry) => append_committed(alloc, name, number, entry, run)?,
+        None => Ok(after),
+        Some(entry) => {
+            append_committed(alloc, name, number, entry, run)?;
+            Ok(after)
+        }
     }
-    Ok(after)
 }
 
 /// Appends the entry of a transaction whose outcome is the last line, that it is committed. Where the store fails, the node
@@ -133,13 +135,24 @@ fn append_committed<D: LogStore>(
     let told = add_fall(&mut run.lines, name, number);
     let (entry, ()) = beside(entry, told)?;
     match append_entry(alloc, entry, run)? {
-        Appended::Kept => run.lines.truncate(had),
+        Appended::Kept => {
+            run.lines.truncate(had);
+            Ok(())
+        }
         Appended::Down => {
-            // The last line, that the node went down, takes the place of the outcome.
-            let _outcome = run.lines.swap_remove(had - 1);
+            put_down(&mut run.lines);
+            Ok(())
         }
     }
-    Ok(())
+}
+
+/// Puts the last line, that the node went down, in the place of the outcome of the transaction that is lost.
+fn put_down(lines: &mut Vec<Line>)
+    requires { 3 ≤ length lines.old.items }
+    ensures { (front : List Line) (outcome lost down : Line) → lines.old.items ≡ front ++ outcome ∷ lost ∷ down ∷ [] → lines.new.items ≡ front ++ down ∷ lost ∷ [] }
+{
+    let place = lines.len() - 3;
+    let_go(lines.swap_remove(place));
 }
 
 /// Adds the lines that a transaction is lost, and that the node went down, in this order.
@@ -185,17 +198,17 @@ fn append_entry<D: LogStore>(
     let (entry, line) = beside(entry, line)?;
     let (entry, ()) = beside(entry, add_line(&mut run.entries, line))?;
     if !has_spelling(&entry) {
-        let _ = run.entries.pop();
+        let_go(run.entries.pop());
         return Err(AllocError);
     }
     match run.log.append(alloc, entry) {
         Ok(()) => Ok(Appended::Kept),
         Err(KeepFault::StoreFault) => {
-            let _ = run.entries.pop();
+            let_go(run.entries.pop());
             Ok(Appended::Down)
         }
         Err(KeepFault::NoMemory) => {
-            let _ = run.entries.pop();
+            let_go(run.entries.pop());
             Err(AllocError)
         }
     }
