@@ -1,5 +1,5 @@
 -- The run at its opening and at its end, and a line as it is planned and done.
-use Rattle.std.proofs.Common.{◌≡◌, zero, suc, ℕ, ◌+◌, ◌-◌, ◌≤◌, ◌++◌, Bool, true, false, List, [], ◌∷◌, length, map, refl, sym, subst, ap, arith, ◌∙◌, Result, Ok, Err, OnOk, OnErr, IfOk}
+use Rattle.std.proofs.Common.{◌≡◌, zero, suc, ℕ, ◌+◌, ◌-◌, ◌++◌, Bool, true, false, List, [], ◌∷◌, length, map, refl, sym, subst, ap, arith, ◌∙◌, Result, Ok, Err, OnOk, OnErr, IfOk}
 use Rattle.std.proofs.lemmas.List.{length-take-le}
 use Rattle.std.specs.Prelude.{slice_get, Some}
 use Rattle.cdb_values.specs.declared.tables.TableDef.{TableDef}
