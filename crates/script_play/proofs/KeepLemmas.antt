@@ -33,7 +33,7 @@ use Rattle.script_play.specs.Start.{Start}
 use Rattle.script_play.specs.Step.{IsTaken, Turned, turn, turn_by, world_of}
 use Rattle.script_play.proofs.DownLemmas.{stands_down, DownStands}
 use Rattle.script_play.proofs.LossLemmas.{few_more}
-use Rattle.script_play.proofs.NodeLemmas.{Adds, went}
+use Rattle.script_play.proofs.NodeLemmas.{AddsLines, adds_lines, went}
 use Rattle.script_play.proofs.ComesLemmas.{comes, same_itself, same_name}
 use Rattle.script_play.proofs.SiteLemmas.{found_state, other_state, runs_askable, set_state, within}
 use Rattle.script_play.proofs.StoredLemmas.{world}
@@ -118,7 +118,8 @@ module _ (script : Script) (start : Start) (done left : List BodyLine) (l : Body
         (subst (λ (es : List EntryLine). SoFar script start true (done ++ l ∷ []) left (lines ++ mine) es taken' seen' sites') (sym fall.still.entries_are)
         (subst (λ (ts : List (List GenidItem)). SoFar script start true (done ++ l ∷ []) left (lines ++ mine) entries ts seen' sites') (sym fall.still.taken_are)
         (subst (λ (a : Seen). SoFar script start true (done ++ l ∷ []) left (lines ++ mine) entries taken a sites') (sym fall.still.rows_are)
-        (went script start false true done left l lines mine entries taken seen states sites' name text was is_act adds others))))
+        (went script start false true done left l lines mine entries taken seen states sites' name text was is_act entries taken seen
+        (adds_lines script start false true done left l lines mine entries taken seen states sites' name text was is_act adds) others))))
       where
         t : Turned
         t = turn_there site.number site.level
@@ -134,7 +135,7 @@ module _ (script : Script) (start : Start) (done left : List BodyLine) (l : Body
             (subst (λ (d : Doing). IsGone d (told name (lines_of name t.number (reply.Lost 1 1 ∷ [])))) (sym (ap (λ (x : SessionAt). x.doing) (own ∙ fall.after_is) ∙ its.idle)) tt)
             (λ m differs. subst (λ (ls : List Numbered). IsGone (state_of m script.sessions sites').doing ls) (sym (told_other m name t.number (reply.Lost 1 1 ∷ []) differs)) (none_gone (state_of m script.sessions sites').doing))
 
-        adds : Adds script start true done l lines mine entries seen name text sites'
+        adds : AddsLines script start true done l lines mine entries seen name text sites'
         adds = record {
           stands = subst (λ (x : SessionAt). Standing script start entries seen.next name (next_place sql_language place text) (told name lines ++ told name mine) x) (sym (own ∙ fall.after_is)) its.stands;
           others = λ m differs. fallen_other name m t.number fall.outcome.front differs;
@@ -180,7 +181,8 @@ module _ (script : Script) (start : Start) (done left : List BodyLine) (l : Body
         (subst (λ (es : List EntryLine). SoFar script start true (done ++ l ∷ []) left (lines ++ mine) es taken' seen' sites') (sym run.still.entries_are)
         (subst (λ (ts : List (List GenidItem)). SoFar script start true (done ++ l ∷ []) left (lines ++ mine) entries ts seen' sites') (sym run.still.taken_are)
         (subst (λ (a : Seen). SoFar script start true (done ++ l ∷ []) left (lines ++ mine) entries taken a sites') (sym run.still.rows_are)
-        (went script start true true done left l lines mine entries taken seen states sites' name text was is_act adds others))))
+        (went script start true true done left l lines mine entries taken seen states sites' name text was is_act entries taken seen
+        (adds_lines script start true true done left l lines mine entries taken seen states sites' name text was is_act adds) others))))
       where
         t : Turned
         t = down_there site.number site.level
@@ -207,7 +209,7 @@ module _ (script : Script) (start : Start) (done left : List BodyLine) (l : Body
               same_gone;
         }
 
-        adds : Adds script start true done l lines mine entries seen name text sites'
+        adds : AddsLines script start true done l lines mine entries seen name text sites'
         adds = record {
           stands = subst (λ (x : SessionAt). Standing script start entries seen.next name (next_place sql_language place text) (told name lines ++ told name mine) x) (sym (own ∙ run.told.after_is))
               (subst (λ (ls : List Numbered). Standing script start entries seen.next name (next_place sql_language place text) (told name lines ++ ls) t.after) (sym (told_own name name t.number t.replies (same_itself name))) stands_there.stands);
