@@ -221,24 +221,26 @@ module _ (script : Script) (start : Start) (done left : List BodyLine) (l : Body
           node = node;
         }
 
--- a session's line was done, and the session is put back
-module _ (script : Script) (start : Start) (down : Bool) (left : List BodyLine) (l : BodyLine) (lines : List Line) (entries : List EntryLine) (taken : List (List GenidItem)) (seen : Seen) (states : List SessionAt) (name text : List ℕ) (at : ℕ) (x after : SessionAt)
-    (before : IsBefore script start down (l ∷ left) lines entries taken seen states) (is_act : l.act ≡ Say name text) (found : session_at name script.sessions ≡ Some at) (has : slice_get states at ≡ Some x) where
-  is_said : IsDeclared name script.sessions × (is_utf8 text ≡ true)
-  is_said = subst (λ (a : Act). IsSaidBy script.sessions a) is_act before.said.0
+-- a session whose line was done is put back: it is there, and every other one is where it was
+pub record IsBack (script : Script) (states : List SessionAt) (name text : List ℕ) (at : ℕ) (x after : SessionAt) : Type 0 where
+  pub said : IsDeclared name script.sessions × (is_utf8 text ≡ true)
+  pub its : state_of name script.sessions states ≡ x
+  pub own : state_of name script.sessions (slice_set states at after) ≡ after
+  pub others : (m : List ℕ) → bytes_eq name m ≡ false → state_of m script.sessions (slice_set states at after) ≡ state_of m script.sessions states
 
-  its : state_of name script.sessions states ≡ x
-  its = found_state 0 name script.sessions states at at x found (omega arith) has
+module _ (script : Script) (start : Start) (down : Bool) (left : List BodyLine) (l : BodyLine) (lines : List Line) (entries : List EntryLine) (taken : List (List GenidItem)) (seen : Seen) (states : List SessionAt)
+    (before : IsBefore script start down (l ∷ left) lines entries taken seen states) where
+  is_back : (name text : List ℕ) (at : ℕ) (x after : SessionAt) → l.act ≡ Say name text → session_at name script.sessions ≡ Some at → slice_get states at ≡ Some x → IsBack script states name text at x after
+  is_back name text at x after is_act found has = record {
+    said = subst (λ (a : Act). IsSaidBy script.sessions a) is_act before.said.0;
+    its = found_state 0 name script.sessions states at at x found (omega arith) has;
+    own = set_state 0 name script.sessions states at at after found (omega arith) (let w = within 0 name script.sessions at found in let same = before.same in omega (arith, w, same));
+    others = λ m differs. other_state 0 name m script.sessions states at at after found (omega arith) differs;
+  }
 
-  own : state_of name script.sessions (slice_set states at after) ≡ after
-  own = set_state 0 name script.sessions states at at after found (omega arith) (let w = within 0 name script.sessions at found in let same = before.same in omega (arith, w, same))
-
-  others : (m : List ℕ) → bytes_eq name m ≡ false → state_of m script.sessions (slice_set states at after) ≡ state_of m script.sessions states
-  others m differs = other_state 0 name m script.sessions states at at after found (omega arith) differs
-
-  put_back : (down' : Bool) (lines' : List Line) (entries' : List EntryLine) (taken' : List (List GenidItem)) (seen' : Seen) → SoFar script start down' (before.done ++ l ∷ []) left lines' entries' taken' seen' (slice_set states at after) →
+  put_back : (at : ℕ) (after : SessionAt) (down' : Bool) (lines' : List Line) (entries' : List EntryLine) (taken' : List (List GenidItem)) (seen' : Seen) → SoFar script start down' (before.done ++ l ∷ []) left lines' entries' taken' seen' (slice_set states at after) →
       IsBefore script start down' left lines' entries' taken' seen' (slice_set states at after)
-  put_back down' lines' entries' taken' seen' so_far = record {
+  put_back at after down' lines' entries' taken' seen' so_far = record {
     can_run = before.can_run;
     said = before.said.1;
     same = length-set states at after ∙ before.same;
@@ -252,32 +254,30 @@ pub taken_on : (script : Script) (start : Start) (down down' : Bool) (left : Lis
     IsTakenOn down down' (world_of (tables_of script) seen taken (now_of start entries)) name x text after lines lines' entries entries' taken' seen' →
     IsBefore script start down' left lines' entries' taken' seen' (slice_set states at after)
 taken_on script start false false left l lines lines' entries entries' taken taken' seen seen' states name text at x after before is_act found has run =
-    put_back script start false left l lines entries taken seen states name text at x after before is_act found has false lines' entries' taken' seen'
-    (go (subst (λ (y : SessionAt). IsTaken (world_of (tables_of script) seen taken (now_of start entries)) name y text after lines lines' entries entries' taken' seen') (sym (its script start false left l lines entries taken seen states name text at x after before is_act found has)) run))
+    put_back script start false left l lines entries taken seen states before at after false lines' entries' taken' seen'
+    (go (subst (λ (y : SessionAt). IsTaken (world script start entries taken seen) name y text after lines lines' entries entries' taken' seen') (sym back.its) run))
   where
-    utf8 : is_utf8 text ≡ true
-    utf8 = (is_said script start false left l lines entries taken seen states name text at x after before is_act found has).1
+    back : IsBack script states name text at x after
+    back = is_back script start false left l lines entries taken seen states before name text at x after is_act found has
 
-    go : IsTaken (world_of (tables_of script) seen taken (now_of start entries)) name (state_of name script.sessions states) text after lines lines' entries entries' taken' seen' →
+    go : IsTaken (world script start entries taken seen) name (state_of name script.sessions states) text after lines lines' entries entries' taken' seen' →
         SoFar script start false (before.done ++ l ∷ []) left lines' entries' taken' seen' (slice_set states at after)
-    go (inl (done, there)) = turned_keeps script start before.done left l lines entries taken seen states (slice_set states at after) name text before.so_far is_act (runs_askable script before.can_run) utf8
-        lines' entries' taken' seen' done (own script start false left l lines entries taken seen states name text at x after before is_act found has ∙ there) (others script start false left l lines entries taken seen states name text at x after before is_act found has)
-    go (inr (c, is, short, there)) = cut_keeps script start before.done left l lines entries taken seen states (slice_set states at after) name text before.so_far is_act (runs_askable script before.can_run) utf8
-        lines' entries' taken' seen' c is short (own script start false left l lines entries taken seen states name text at x after before is_act found has ∙ there) (others script start false left l lines entries taken seen states name text at x after before is_act found has)
+    go (inl (done, there)) = turned_keeps script start before.done left l lines entries taken seen states (slice_set states at after) name text before.so_far is_act (runs_askable script before.can_run) back.said.1
+        lines' entries' taken' seen' done (back.own ∙ there) back.others
+    go (inr (c, is, short, there)) = cut_keeps script start before.done left l lines entries taken seen states (slice_set states at after) name text before.so_far is_act (runs_askable script before.can_run) back.said.1
+        lines' entries' taken' seen' c is short (back.own ∙ there) back.others
 taken_on script start true false left l lines lines' entries entries' taken taken' seen seen' states name text at x after before is_act found has run = absurd run
 taken_on script start false true left l lines lines' entries entries' taken taken' seen seen' states name text at x after before is_act found has run =
-    put_back script start false left l lines entries taken seen states name text at x after before is_act found has true lines' entries' taken' seen'
-    (fallen_keeps script start before.done left l lines entries taken seen states (slice_set states at after) name text before.can_run is_act
-    (is_said script start false left l lines entries taken seen states name text at x after before is_act found has)
-    (others script start false left l lines entries taken seen states name text at x after before is_act found has) before.so_far after lines' entries' taken' seen'
-    (subst (λ (y : SessionAt). IsFallen (world_of (tables_of script) seen taken (now_of start entries)) name (turn (world_of (tables_of script) seen taken (now_of start entries)) y text) after lines lines' entries entries' taken' seen')
-    (sym (its script start false left l lines entries taken seen states name text at x after before is_act found has)) run)
-    (own script start false left l lines entries taken seen states name text at x after before is_act found has))
+    put_back script start false left l lines entries taken seen states before at after true lines' entries' taken' seen'
+    (fallen_keeps script start before.done left l lines entries taken seen states (slice_set states at after) name text before.can_run is_act back.said back.others before.so_far after lines' entries' taken' seen'
+    (subst (λ (y : SessionAt). IsFallen (world script start entries taken seen) name (turn (world script start entries taken seen) y text) after lines lines' entries entries' taken' seen') (sym back.its) run) back.own)
+  where
+    back : IsBack script states name text at x after
+    back = is_back script start false left l lines entries taken seen states before name text at x after is_act found has
 taken_on script start true true left l lines lines' entries entries' taken taken' seen seen' states name text at x after before is_act found has run =
-    put_back script start true left l lines entries taken seen states name text at x after before is_act found has true lines' entries' taken' seen'
-    (down_keeps script start before.done left l lines entries taken seen states (slice_set states at after) name text before.can_run is_act
-    (is_said script start true left l lines entries taken seen states name text at x after before is_act found has)
-    (others script start true left l lines entries taken seen states name text at x after before is_act found has) before.so_far after lines' entries' taken' seen'
-    (subst (λ (y : SessionAt). IsDoneDown (world_of (tables_of script) seen taken (now_of start entries)) name y text after lines lines' entries entries' taken' seen')
-    (sym (its script start true left l lines entries taken seen states name text at x after before is_act found has)) run)
-    (own script start true left l lines entries taken seen states name text at x after before is_act found has))
+    put_back script start true left l lines entries taken seen states before at after true lines' entries' taken' seen'
+    (down_keeps script start before.done left l lines entries taken seen states (slice_set states at after) name text before.can_run is_act back.said back.others before.so_far after lines' entries' taken' seen'
+    (subst (λ (y : SessionAt). IsDoneDown (world script start entries taken seen) name y text after lines lines' entries entries' taken' seen') (sym back.its) run) back.own)
+  where
+    back : IsBack script states name text at x after
+    back = is_back script start true left l lines entries taken seen states before name text at x after is_act found has
