@@ -12,8 +12,8 @@ use Rattle.script_play.proofs.LineLemmas.{declared_there, inside_there, ready_th
 use Rattle.script_play.proofs.SiteLemmas.{inside_set, set_again}
 use Rattle.script_play.proofs.playing.run_line.Goals as goal
 
-pub returns-in_default-find_session : goal.returns-in_default-find_session
-returns-in_default-find_session g c = λ left had before.
+pub returns-in_default-find_session-clause-done : goal.returns-in_default-find_session-clause-done
+returns-in_default-find_session-clause-done g c = λ left had before.
     absurd (declared_there c.args.script.now g.start c.args.generation had left c.args.line.now c.args.run.now.lines.items c.args.run.now.entries.items c.args.run.now.log c.args.states.now c.in-Say.session c.in-Say.text before c.in-Say.is
     (sym (c.find_session.ensures ∙ ap (λ ss. session_at c.in-Say.session ss) c.as_slice.ensures) ∙ c.in_default-find_session.is))
 
@@ -41,12 +41,12 @@ run_session_line-requires g c = λ κs lives. (
     its = ready_there c.args.script.now g.start c.args.generation c.requires.1.1.1 c.requires.1.1.0 c.args.line.now c.args.run.now.lines.items c.args.run.now.entries.items c.args.run.now.log c.args.states.now c.in-Say.session c.in-Say.text c.requires.1.1.2 c.in-Say.is
         c.in-Some.at c.replace_at-state.result (sym (c.find_session.ensures ∙ ap (λ ss. session_at c.in-Say.session ss) c.as_slice.ensures) ∙ c.in-Some.is) c.replace_at-state.ensures.before
 
-pub returns : goal.returns
-returns g c = λ left had before.
+pub returns-clause-done : goal.returns-clause-done
+returns-clause-done g c = λ left had before.
     subst (λ (ss : List SessionState). IsBeforeLine c.args.script.now g.start c.args.generation had left c.run_session_line.new.run.lines.items c.run_session_line.new.run.entries.items c.run_session_line.new.run.log ss)
     (sym (c.replace_at-at_rest.ensures.after ∙ ap (λ (ss : List SessionState). slice_set ss c.in-Some.at c.in_ok-after.after) c.replace_at-state.ensures.after ∙ set_again c.args.states.now c.in-Some.at c.at_rest.result c.in_ok-after.after))
     (taken_there c.args.script.now g.start c.args.generation had left c.args.line.now c.args.run.now.lines.items c.args.run.now.entries.items c.args.run.now.log c.args.states.now c.in-Say.session c.as_bytes.result.now before
     (c.in-Say.is ∙ ap (λ t. Say c.in-Say.session t) (sym c.as_bytes.ensures))
     c.in-Some.at c.replace_at-state.result c.in_ok-after.after c.run_session_line.new.run.lines.items c.run_session_line.new.run.entries.items c.run_session_line.new.run.log
     (sym (c.find_session.ensures ∙ ap (λ ss. session_at c.in-Say.session ss) c.as_slice.ensures) ∙ c.in-Some.is) c.replace_at-state.ensures.before
-    (subst (λ (ts : List TableDef). IsTakenFrom g.start c.args.generation ts c.in-Say.session c.replace_at-state.result c.as_bytes.result.now c.in_ok-after.after c.args.run.now.lines.items c.run_session_line.new.run.lines.items c.args.run.now.entries.items c.run_session_line.new.run.entries.items c.args.run.now.log c.run_session_line.new.run.log) c.requires.1.0 c.in_ok-after.ensures))
+    (subst (λ (ts : List TableDef). IsTakenFrom g.start c.args.generation ts c.in-Say.session c.replace_at-state.result c.as_bytes.result.now c.in_ok-after.after c.args.run.now.lines.items c.run_session_line.new.run.lines.items c.args.run.now.entries.items c.run_session_line.new.run.entries.items c.args.run.now.log c.run_session_line.new.run.log) c.requires.1.0 c.in_ok-after.ensures.taken))
