@@ -1,8 +1,7 @@
 -- A line on a node that is down leaves the session where its work is: its transaction is lost, or was not begun for want of a
 -- majority, and any other line does what it does on a node that is up.
-use Rattle.std.proofs.Common.{◌≡◌, ℕ, ◌+◌, List, [], ◌∷◌, ◌++◌, map, refl, sym, subst, ap, arith, Option, Some, None, ◌∙◌, inl, inr}
+use Rattle.std.proofs.Common.{◌≡◌, ◌≢◌, ℕ, ◌+◌, List, [], ◌∷◌, ◌++◌, refl, sym, subst, ap, arith, Option, Some, None, ◌∙◌, Bool, inl, inr}
 use Rattle.std.proofs.lemmas.List.{append-nil}
-use Rattle.cdb_values.specs.Changes.{taken_by}
 use Rattle.cdb_values.specs.declared.items.GenidItem.{GenidItem}
 use Rattle.cdb_values.specs.declared.rows.RowOp.{RowOp}
 use Rattle.script_form.specs.CanRun.{tables_of}
@@ -10,23 +9,30 @@ use Rattle.script_form.specs.declared.scripts.Script.{Script}
 use Rattle.session_language.specs.Language.{alone, Kind, BeginText, CommitText, RollbackText, LevelText, OtherText}
 use Rattle.session_language.proofs.AnswerLaws.{replies_more}
 use Rattle.report_laws.specs.History.{rows_at, view_of}
-use Rattle.report_laws.specs.Play.{number_by, is_own_by}
+use Rattle.report_laws.specs.Play.{number_by}
 use Rattle.report_laws.specs.Told.{Numbered, IsCut, numbered, alone_at}
 use Rattle.report_laws.specs.Work.{Does, Place, End, ByCommit, ByRollback, WithItsLine, Nowhere, transaction, with_open, with_own_line, closed, next_by}
 use Rattle.report_text.specs.declared.reports.EntryLine.{EntryLine}
+use Rattle.report_text.specs.declared.reports.ReplyLine.{ReplyLine}
 use Rattle.report_text.specs.declared.reports.ReplyLine.TheVariants as reply
 use Rattle.sql_answer.specs.Language.{sql_language}
 use Rattle.script_play.specs.Basis.{from_start}
-use Rattle.script_play.specs.Doing.{Doing}
+use Rattle.script_play.specs.Doing.{SessionAt, Doing}
 use Rattle.script_play.specs.Doing as doing
 use Rattle.script_play.specs.Down.{turn_down}
 use Rattle.script_play.specs.Seen.{Seen}
-use Rattle.script_play.specs.SoFar.{now_of, Standing}
+use Rattle.script_play.specs.SoFar.{Standing}
 use Rattle.script_play.specs.Start.{Start, base}
-use Rattle.script_play.specs.Step.{Turned, entries_added, state, turn_by, turned}
+use Rattle.script_play.specs.Step.{Turned, state, turned}
 use Rattle.script_play.proofs.StandingLemmas.{idle_after, in_transaction}
-use Rattle.script_play.proofs.StoredLemmas.{world}
 use Rattle.script_play.proofs.TurnLemmas.{Comes, Turns, idle_lines, piece, turns}
+
+-- replies that begin with a begin are some
+pub begins_so : (begin : ℕ) (rs mine : List ReplyLine) → mine ≡ reply.Begin begin ∷ rs → mine ≢ []
+begins_so begin rs mine is = λ none. some (sym is ∙ none)
+  where
+    some : reply.Begin begin ∷ rs ≡ [] → ⊥
+    some bad = cc
 
 -- where the session stands behind the line
 pub record DownStands (script : Script) (start : Start) (entries : List EntryLine) (seen : Seen) (name : List ℕ) (after : Place) (lines : List Numbered) (told : ℕ) (t : Turned) : Type 0 where
@@ -52,7 +58,7 @@ module _ (script : Script) (start : Start) (entries : List EntryLine) (taken : L
       is_ran = refl;
       cause = reply.Lost 1 1;
       is_cause = refl;
-      may = λ none. let bad = sym c.doing.says ∙ none in cc;
+      may = begins_so begin _ c.mine c.doing.says;
       front = c.mine;
       rest = (sql_language.answer (tables_of script) (rows_at (from_start script start) entries begin).tables (alone sql_language (tables_of script) (rows_at (from_start script start) entries begin) texts).ops text).replies;
       fits = ap (λ rs. rs ++ (sql_language.answer (tables_of script) (rows_at (from_start script start) entries begin).tables (alone sql_language (tables_of script) (rows_at (from_start script start) entries begin) texts).ops text).replies) c.doing.says
@@ -67,7 +73,7 @@ module _ (script : Script) (start : Start) (entries : List EntryLine) (taken : L
       number = refl;
     }
 
-    ends_lost : (end : End) → DownGoal (closed p texts end) p.number (turned p.number (reply.Lost 1 1 ∷ []) (state p.number p.level doing.No))
+    pub ends_lost : (end : End) → DownGoal (closed p texts end) p.number (turned p.number (reply.Lost 1 1 ∷ []) (state p.number p.level doing.No))
     ends_lost end = record {
       stands = idle_after script start entries entries (inl refl) name p c.before c.past (Does (transaction p.number texts p.level end)) (c.mine ++ reply.Lost 1 1 ∷ []) (lines ++ numbered p.number (reply.Lost 1 1 ∷ [])) seen.next p.number p.level
           (inr (record {
@@ -81,7 +87,7 @@ module _ (script : Script) (start : Start) (entries : List EntryLine) (taken : L
             fits = append-nil c.mine ∙ c.doing.says;
             cause = reply.Lost 1 1;
             is_cause = refl;
-            may = λ none. let bad = sym c.doing.says ∙ none in cc;
+            may = begins_so begin _ c.mine c.doing.says;
             says = refl;
           }))
           (piece lines c.before p.number c.mine (reply.Lost 1 1 ∷ []) c.is);
@@ -105,29 +111,29 @@ module _ (script : Script) (start : Start) (entries : List EntryLine) (taken : L
   }
 
   -- a line that does what it does on a node that is up, and adds nothing
-  as_up : (after : Place) (told number : ℕ) (own : _) (replies : _) (at : _) → Turns script start (entries) (entries ++ []) (taken ++ []) seen seen name after lines told own (turned number replies at) → DownGoal after told (turned number replies at)
+  as_up : (after : Place) (told number : ℕ) (own : Bool) (replies : List ReplyLine) (at : SessionAt) → Turns script start entries (entries ++ []) (taken ++ []) seen seen name after lines told own (turned number replies at) → DownGoal after told (turned number replies at)
   as_up after told number own replies at turn = record {
     stands = subst (λ (es : List EntryLine). Standing script start es seen.next name after (lines ++ numbered number replies) at) (append-nil entries) turn.stands;
     number = turn.number;
   }
 
-  pub downs : (k : Kind) (pending : Option (List (List ℕ))) (what : Doing) → Comes script start entries taken seen name p pending what text k lines →
+  pub stands_down : (k : Kind) (pending : Option (List (List ℕ))) (what : Doing) → Comes script start entries taken seen name p pending what text k lines →
       DownGoal (next_by p text k pending) (number_by p.number k pending) (turn_down p.number p.level k what)
-  downs BeginText None doing.No c = begin_few c
-  downs OtherText None doing.No c = own_few c
-  downs CommitText None doing.No c = as_up _ _ _ _ _ _ (turns script start entries taken seen seen name p text lines CommitText None doing.No c refl)
-  downs RollbackText None doing.No c = as_up _ _ _ _ _ _ (turns script start entries taken seen seen name p text lines RollbackText None doing.No c refl)
-  downs (LevelText later) None doing.No c = as_up _ _ _ _ _ _ (turns script start entries taken seen seen name p text lines (LevelText later) None doing.No c refl)
-  downs BeginText (Some texts) (doing.Open begin ops uses) c = goes_lost texts begin ops uses BeginText c
-  downs CommitText (Some texts) (doing.Open begin ops uses) c = ends_lost texts begin ops uses CommitText c ByCommit
-  downs RollbackText (Some texts) (doing.Open begin ops uses) c = ends_lost texts begin ops uses RollbackText c ByRollback
-  downs (LevelText later) (Some texts) (doing.Open begin ops uses) c = goes_lost texts begin ops uses (LevelText later) c
-  downs OtherText (Some texts) (doing.Open begin ops uses) c = goes_lost texts begin ops uses OtherText c
-  downs BeginText (Some texts) doing.Aborted c = as_up _ _ _ _ _ _ (turns script start entries taken seen seen name p text lines BeginText (Some texts) doing.Aborted c refl)
-  downs CommitText (Some texts) doing.Aborted c = as_up _ _ _ _ _ _ (turns script start entries taken seen seen name p text lines CommitText (Some texts) doing.Aborted c refl)
-  downs RollbackText (Some texts) doing.Aborted c = as_up _ _ _ _ _ _ (turns script start entries taken seen seen name p text lines RollbackText (Some texts) doing.Aborted c refl)
-  downs (LevelText later) (Some texts) doing.Aborted c = as_up _ _ _ _ _ _ (turns script start entries taken seen seen name p text lines (LevelText later) (Some texts) doing.Aborted c refl)
-  downs OtherText (Some texts) doing.Aborted c = as_up _ _ _ _ _ _ (turns script start entries taken seen seen name p text lines OtherText (Some texts) doing.Aborted c refl)
-  downs k None (doing.Open begin ops uses) c = absurd c.doing
-  downs k None doing.Aborted c = absurd c.doing
-  downs k (Some texts) doing.No c = absurd c.doing
+  stands_down BeginText None doing.No c = begin_few c
+  stands_down OtherText None doing.No c = own_few c
+  stands_down CommitText None doing.No c = as_up _ _ _ _ _ _ (turns script start entries taken seen seen name p text lines CommitText None doing.No c refl)
+  stands_down RollbackText None doing.No c = as_up _ _ _ _ _ _ (turns script start entries taken seen seen name p text lines RollbackText None doing.No c refl)
+  stands_down (LevelText later) None doing.No c = as_up _ _ _ _ _ _ (turns script start entries taken seen seen name p text lines (LevelText later) None doing.No c refl)
+  stands_down BeginText (Some texts) (doing.Open begin ops uses) c = goes_lost texts begin ops uses BeginText c
+  stands_down CommitText (Some texts) (doing.Open begin ops uses) c = ends_lost texts begin ops uses CommitText c ByCommit
+  stands_down RollbackText (Some texts) (doing.Open begin ops uses) c = ends_lost texts begin ops uses RollbackText c ByRollback
+  stands_down (LevelText later) (Some texts) (doing.Open begin ops uses) c = goes_lost texts begin ops uses (LevelText later) c
+  stands_down OtherText (Some texts) (doing.Open begin ops uses) c = goes_lost texts begin ops uses OtherText c
+  stands_down BeginText (Some texts) doing.Aborted c = as_up _ _ _ _ _ _ (turns script start entries taken seen seen name p text lines BeginText (Some texts) doing.Aborted c refl)
+  stands_down CommitText (Some texts) doing.Aborted c = as_up _ _ _ _ _ _ (turns script start entries taken seen seen name p text lines CommitText (Some texts) doing.Aborted c refl)
+  stands_down RollbackText (Some texts) doing.Aborted c = as_up _ _ _ _ _ _ (turns script start entries taken seen seen name p text lines RollbackText (Some texts) doing.Aborted c refl)
+  stands_down (LevelText later) (Some texts) doing.Aborted c = as_up _ _ _ _ _ _ (turns script start entries taken seen seen name p text lines (LevelText later) (Some texts) doing.Aborted c refl)
+  stands_down OtherText (Some texts) doing.Aborted c = as_up _ _ _ _ _ _ (turns script start entries taken seen seen name p text lines OtherText (Some texts) doing.Aborted c refl)
+  stands_down k None (doing.Open begin ops uses) c = absurd c.doing
+  stands_down k None doing.Aborted c = absurd c.doing
+  stands_down k (Some texts) doing.No c = absurd c.doing

@@ -22,9 +22,9 @@ use Rattle.script_form.specs.declared.scripts.SessionLine.{SessionLine}
 use Rattle.script_play.specs.Basis.{from_start}
 use Rattle.script_play.specs.Decisions.{HasName}
 use Rattle.script_play.specs.Doing.{SessionAt}
-use Rattle.script_play.specs.EntryLines.{AreTold}
+use Rattle.script_play.specs.EntryLines.{AreTold, IsMadeIn, lines_from}
 use Rattle.script_play.specs.Ready.{AreKept, CanBegin, GoesOn, IsLogged}
-use Rattle.script_play.specs.RunViews.{seen_in, IsOpening, IsOpenedLog}
+use Rattle.script_play.specs.RunViews.{seen_in, IsOpening, IsOpenedBehind, IsOpenedLog}
 use Rattle.script_play.specs.Seen.{Seen}
 use Rattle.script_play.specs.SoFar.{now_of, IsBefore, Stored, at_start}
 use Rattle.script_play.specs.Start.{Start, base, ground_of}
@@ -35,6 +35,20 @@ use Rattle.table_store.specs.Stored.{Stands}
 pub none_before : (before : List Entry) → length before ≡ 0 → before ≡ []
 none_before [] is = refl
 none_before (e ∷ es) is = absurd (omega (arith, is))
+
+-- the setup of the tables stands in a history that begins with the run
+pub opening_is : (tables : List TableDef) (generation told : ℕ) (before : List Entry) (entries : List EntryLine) (logged : List Entry) → told ≡ length before → (told ≡ 0 → entries ≡ Setup 1 ∷ []) → (1 ≤ told → entries ≡ []) →
+    IsOpenedBehind tables generation before logged → IsOpening tables generation before entries logged
+opening_is tables generation told before entries logged count first later is = record {
+  first = λ none. (first (count ∙ ap (λ (es : List Entry). length es) none), is.first none);
+  later = λ some. (later (omega (arith, count, some)), is.later some);
+}
+
+-- the entries of a log at its opening are told
+pub begun : (tables : List TableDef) (generation : ℕ) (before logged : List Entry) → IsOpenedBehind tables generation before logged → (entries : List EntryLine) × AreTold before generation entries logged
+begun tables generation [] logged is =
+    (lines_from 1 logged, record { made = logged; behind = refl; told = refl; in_it = subst (λ (es : List Entry). AllByRecursion (IsMadeIn generation) es) (sym (is.first refl).is) (refl, tt) })
+begun tables generation (e ∷ es) logged is = ([], record { made = []; behind = is.later (omega arith) ∙ sym (append-nil (e ∷ es)); told = refl; in_it = tt })
 
 -- ---- a run that begins its log
 

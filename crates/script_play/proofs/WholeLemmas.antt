@@ -31,7 +31,8 @@ use Rattle.script_play.specs.SoFar.{now_of, SoFar, Stored, Standing, IsEnded, Is
 use Rattle.script_play.specs.Doing.{SessionAt, Doing}
 use Rattle.script_play.specs.Doing as doing
 
-starts : (name : List ℕ) (sessions : List SessionLine) → state_of name sessions (map (λ _. at_start) sessions) ≡ at_start
+-- a session that has done nothing is at its start
+pub starts : (name : List ℕ) (sessions : List SessionLine) → state_of name sessions (map (λ _. at_start) sessions) ≡ at_start
 starts name [] = refl
 starts name (s ∷ ss) = pick (bytes_eq s.name name) (starts name ss)
   where

@@ -1,5 +1,5 @@
 //! The lines of a script, done one after the other on one node.
-ghost use Rattle.std.specs.Prelude.{◌≡◌, ℕ, ◌-◌, ◌<◌, ◌≤◌, ◌++◌, ◌∷◌, [], List, Some, false, true, length, OnOk, IfOk, map, slice_get, unwrap_or};
+ghost use Rattle.std.specs.Prelude.{◌≡◌, ℕ, ◌-◌, ◌<◌, ◌≤◌, ◌++◌, ◌∷◌, [], List, Some, false, true, length, OnOk, OnErr, IfOk, IfErr, map, slice_get, unwrap_or};
 ghost use Rattle.cdb_values.specs.Rows.{Rows};
 ghost use Rattle.log_replay.specs.Answers.{schema_of as schema_told};
 ghost use Rattle.log_rows.specs.History.{rows_over_at, takes_in, IsFrom, StandsOver};
@@ -13,9 +13,9 @@ ghost use Rattle.script_form.specs.declared.scripts.BodyLine.{BodyLine};
 ghost use Rattle.script_play.specs.Basis.{from_origin, from_start};
 ghost use Rattle.script_play.specs.Down.{history_of, with_entries, IsCaused};
 ghost use Rattle.script_play.specs.EntryLines.{AreTold};
-ghost use Rattle.script_play.specs.Played.{downs_by, IsPlayed};
+ghost use Rattle.script_play.specs.Played.{downs_by, IsGivenUp, IsPlayed};
 ghost use Rattle.script_play.specs.Ready.{CanBegin};
-ghost use Rattle.script_play.specs.RunViews.{state_in, IsBeforeLine, IsOpenedBehind};
+ghost use Rattle.script_play.specs.RunViews.{state_in, IsBeforeLine, IsOpenedBehind, IsSameHistory};
 ghost use Rattle.script_play.specs.SoFarDown.{IsBeforeDown};
 ghost use Rattle.script_play.specs.declared.states.SessionState.{SessionState};
 ghost use Rattle.script_play.specs.SoFar.{at_start, report_of, session_at};
@@ -58,7 +58,8 @@ pub struct Played<D: LogStore> {
 /// from the last position of the opened log on the pages of the log stand for the rows of the history. As long as the node is
 /// up its store stands for the log; else what a stop leaves of it stands for the log of the history, or for one entry more.
 ///
-/// The error is want of memory, with the log.
+/// The error is want of memory, with the log: it has the entries before the run and such as a history would tell, and is held
+/// as the log of a run that is done.
 pub fn play<D: LogStore + Drop>(
     alloc: Global,
     script: &Script,
@@ -84,11 +85,12 @@ pub fn play<D: LogStore + Drop>(
     ensures cause { IfOk result (λ p. IsCaused p.log.failed log.store.faults p.log.store.faults) }
     ensures made { IfOk result (λ p. p.log.failed ≡ false → p.log.accepted ≡ log.accepted) }
     ensures kept { IfOk result (λ p. p.log.failed ≡ true → Leaves p.log.store (with_entries p.log (history_of p.log) ∷ p.log ∷ [])) }
+    ensures given_up { IfErr result (λ l. IsGivenUp start log l) }
 {
     play_behind(alloc, script, log, base)
 }
 
-/// The same, in one clause.
+/// The same, in one clause for each answer.
 fn play_behind<D: LogStore + Drop>(
     alloc: Global,
     script: &Script,
@@ -101,7 +103,8 @@ fn play_behind<D: LogStore + Drop>(
     requires place { base ≡ length start.before }
     requires opened { IsOpenedBehind (tables_of script.now) log.accepted start.before log.entries }
     requires behind { CanBegin (tables_of script.now) start.before start.rows }
-    ensures { IfOk result (λ p. IsPlayed script.now start log p.report p.log) }
+    ensures played { IfOk result (λ p. IsPlayed script.now start log p.report p.log) }
+    ensures given_up { IfErr result (λ l. IsGivenUp start log l) }
 {
     let mut so_far = opened(alloc, log);
     match play_on(alloc, script, base, &mut so_far) {
@@ -133,18 +136,29 @@ fn play_on<D: LogStore>(
     requires behind { CanBegin (tables_of script.now) start.before start.rows }
     requires lines { run.old.lines.items ≡ [] }
     requires entries { run.old.entries.items ≡ [] }
-    ensures { OnOk result ((states : List SessionState) × IsBeforeLine script.now start run.old.log.accepted run.old.log.store.faults [] run.new.lines.items run.new.entries.items run.new.log states) }
+    ensures done { OnOk result ((states : List SessionState) × IsBeforeLine script.now start run.old.log.accepted run.old.log.store.faults [] run.new.lines.items run.new.entries.items run.new.log states) }
+    ensures given_up { OnErr result (IsGivenUp start run.old.log run.new.log) }
 {
     let schema = schema_of(alloc, script.tables.as_slice())?;
     let generation = run.log.accepted();
-    if base == 0 {
-        add_line(&mut run.entries, EntryLine::Setup { position: 1 })?;
-    }
+    open_history(base, &mut run.entries)?;
     let mut states = starts(alloc, script.sessions.as_slice())?;
     let mut rest = script.body.as_slice();
     'lines: while let Some((line, after)) = rest.split_first() {
         run_line(alloc, script, &schema, generation, line, &mut states, run)?;
         rest = after;
+    }
+    Ok(())
+}
+
+/// Opens a history: where it begins with the run, the setup of the tables stands in it.
+fn open_history(base: u64, entries: &mut Vec<EntryLine>) -> Result<(), AllocError>
+    requires none { entries.old.items ≡ [] }
+    ensures first { OnOk result (base ≡ 0 → entries.new.items ≡ EntryLine.Setup 1 ∷ []) }
+    ensures later { OnOk result (1 ≤ base → entries.new.items ≡ []) }
+{
+    if base == 0 {
+        return add_line(entries, EntryLine::Setup { position: 1 });
     }
     Ok(())
 }
@@ -223,8 +237,9 @@ fn run_line<D: LogStore>(
     ghost start: { Start }
     requires tables { schema.now ≡ tables_of script.now }
     requires before { (left : List BodyLine) × (had : ℕ) × IsBeforeLine script.now start generation had (line.now ∷ left) run.old.lines.items run.old.entries.items run.old.log states.old }
-    ensures { OnOk result ((left : List BodyLine) (had : ℕ) → IsBeforeLine script.now start generation had (line.now ∷ left) run.old.lines.items run.old.entries.items run.old.log states.old
+    ensures done { OnOk result ((left : List BodyLine) (had : ℕ) → IsBeforeLine script.now start generation had (line.now ∷ left) run.old.lines.items run.old.entries.items run.old.log states.old
         → IsBeforeLine script.now start generation had left run.new.lines.items run.new.entries.items run.new.log states.new) }
+    ensures same { OnErr result (IsSameHistory run.old.entries.items run.new.entries.items run.old.log run.new.log) }
 {
     let Act::Say { session, text } = &line.act else {
         return Ok(());
@@ -275,12 +290,7 @@ fn reported<D: LogStore>(alloc: Global, base: u64, run: RunSoFar<D>) -> Played<D
     ensures report { result.report ≡ report_of base (length (history_of run.log)) run.lines.items run.entries.items }
     ensures log { result.log ≡ run.log }
 {
-    let length = run.log.log().entries().len() as u64;
-    let end = if run.log.has_failed() {
-        length - 1
-    } else {
-        length
-    };
+    let end = last_told(&run.log);
     let RunSoFar {
         lines,
         entries,
@@ -288,6 +298,16 @@ fn reported<D: LogStore>(alloc: Global, base: u64, run: RunSoFar<D>) -> Played<D
     } = run;
     let report = report_with(alloc, base, lines, entries, end);
     Played { report, log }
+}
+
+/// The last position of the history of a log: where the store failed, the log has one entry more.
+#[tactic(auto, using(crate::proofs::PlayLaws::told_up, crate::proofs::PlayLaws::told_down))]
+fn last_told<D: LogStore>(log: &NodeLog<D>) -> u64
+    requires some { log.now.failed ≡ true → 1 ≤ length log.now.entries }
+    ensures { result ≡ length (history_of log.now) }
+{
+    let count = log.log().entries().len() as u64;
+    if log.has_failed() { count - 1 } else { count }
 }
 
 /// The report of lines and of a history behind a base, up to its last position.
