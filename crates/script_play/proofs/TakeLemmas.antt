@@ -38,7 +38,7 @@ use Rattle.script_play.proofs.SqlLaws.{kept_answer}
 use Rattle.script_play.specs.Effects.{IsEffect, IsAdded, IsEntryOf, IsOfIts, Named, cut_in, lines_added, named_so}
 use Rattle.script_play.specs.Doing.{SessionAt, Doing}
 use Rattle.script_play.specs.Doing as doing
-use Rattle.script_play.specs.Down.{behind_cut, fallen_lines, history_by, history_of, turn_down, with_entries, HasOutcome, IsFallenAt, IsHeld, IsKeptSo, IsToldDown, TellsOutcome}
+use Rattle.script_play.specs.Down.{behind_cut, fallen_lines, history_of, turn_down, with_entries, HasOutcome, IsFallenAt, IsKeptSo, IsToldDown, TellsOutcome}
 use Rattle.script_play.specs.EntryLines.{AreTold, IsMadeIn, line_of, lines_from}
 use Rattle.script_play.specs.Falls.{IsDoneOn, IsFallen, IsTakenOn}
 use Rattle.script_play.specs.Ready.{AreKept, IsAble, IsKeptOp, IsLogged, IsReady}
@@ -47,7 +47,7 @@ use Rattle.script_play.specs.declared.states.InTransaction.{InTransaction}
 use Rattle.script_play.specs.declared.states.InTransaction.TheVariants.{No, Open, Aborted}
 use Rattle.script_play.specs.Seen.{Seen}
 use Rattle.script_play.specs.Start.{Start, base, ground_of}
-use Rattle.script_play.specs.Step.{World, Turned, IsTaken, IsTurned, IsKept, answer_of, outcome, turn_of, cut_by, world_of}
+use Rattle.script_play.specs.Step.{World, Turned, IsTurned, IsKept, answer_of, outcome, turn_of, cut_by}
 use Rattle.script_play.specs.declared.effects.LineEffect.{LineEffect}
 use Rattle.script_play.specs.declared.states.SessionState.{SessionState}
 
