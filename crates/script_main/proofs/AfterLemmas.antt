@@ -2,27 +2,26 @@
 --
 -- Its entries from before the run have other identities, since they began earlier; those of the run are apart, since no
 -- session and number comes twice in a lawful history.
-use Rattle.std.proofs.Common.{◌≡◌, ◌≤◌, ◌<◌, ◌^◌, ◌+◌, ◌-◌, ◌==◌, ◌&&◌, Bool, true, false, inl, inr, ℕ, zero, suc, List, [], ◌∷◌, ◌++◌, length, take, drop, map, Option, Some, unwrap_or, refl, sym, ap, ◌∙◌, subst, arith, append_assoc, append-nil}
+use Rattle.std.proofs.Common.{◌≡◌, ◌≤◌, ◌<◌, ◌^◌, ◌+◌, ◌-◌, ◌==◌, ◌&&◌, Bool, true, false, inl, inr, ℕ, zero, suc, List, [], ◌∷◌, ◌++◌, length, drop, Option, Some, unwrap_or, refl, sym, ap, ◌∙◌, subst, arith, append_assoc, append-nil}
 use Rattle.std.proofs.Math.Seq.{take-length}
 use Rattle.std.proofs.lemmas.Bool.{false≢true}
 use Rattle.std.proofs.lemmas.Bool.Decides.{Decides-eqb}
 use Rattle.std.proofs.lemmas.List.{length-append}
 use Rattle.std.proofs.lemmas.Slice.Eq.{bytes_eq-Decides}
 use Rattle.std.specs.List.{AllByRecursion, slice_get}
-use Rattle.std.specs.Str.{bytes_eq}
 use Rattle.cdb_values.specs.Good.{AllFit, IsGood}
 use Rattle.cdb_values.specs.Rows.{Rows, no_rows, apply_all}
 use Rattle.cdb_values.specs.declared.rows.Level.{Level}
 use Rattle.cdb_values.specs.declared.tables.TableDef.{TableDef}
 use Rattle.log_replay.specs.Answers.{schema_of}
-use Rattle.log_rows.specs.History.{rows_over, rows_over_at, IsCommit, IsFrom, StandsOver}
+use Rattle.log_rows.specs.History.{rows_over, IsCommit}
 use Rattle.page_workspace.specs.Spare.{count_of}
 use Rattle.phys_log.specs.Logs.{pages_of}
 use Rattle.phys_log.specs.declared.entries.CommitId.{CommitId}
 use Rattle.phys_log.specs.declared.entries.Entry.{Entry}
 use Rattle.phys_log.specs.declared.entries.Entry.TheVariants as entry
-use Rattle.report_laws.specs.History.{Basis, alone_on, ops_alone, ops_of, rows_after, rows_at, states_of, last_position, is_entry_of, view_of, IsCommitAfter, IsEntryAfter}
-use Rattle.report_laws.specs.Work.{Transaction, transaction_of}
+use Rattle.report_laws.specs.History.{Basis, ops_alone, ops_of, rows_after, rows_at, states_of, last_position, is_entry_of, IsEntryAfter}
+use Rattle.report_laws.specs.Work.{Transaction}
 use Rattle.report_laws.proofs.HistoryLaws.{last_more, rows_new}
 use Rattle.report_text.specs.declared.reports.Report.{Report}
 use Rattle.report_text.specs.declared.reports.EntryLine.{EntryLine}

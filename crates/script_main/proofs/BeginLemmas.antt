@@ -1,6 +1,6 @@
 -- A run can begin behind a log that was taken up: its rows fit their tables, have genids below the next one, and are rows
 -- that can be told.
-use Rattle.std.proofs.Common.{◌≡◌, ◌≢◌, ◌≤◌, ◌<◌, inl, inr, ℕ, List, [], ◌∷◌, length, refl, sym, ap, ◌∙◌, subst, arith}
+use Rattle.std.proofs.Common.{◌≡◌, ◌≢◌, ◌≤◌, inl, inr, ℕ, List, [], ◌∷◌, length, refl, sym, ap, ◌∙◌, subst, arith}
 use Rattle.std.proofs.lemmas.Str.{is_utf8-from_IsUtf8}
 use Rattle.std.specs.List.{AllByRecursion}
 use Rattle.cdb_values.specs.Good.{AllFit, FitsColumns, FitsTable}

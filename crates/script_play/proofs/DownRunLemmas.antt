@@ -31,6 +31,7 @@ use Rattle.report_laws.proofs.WorkLaws.{after_own, after_other}
 use Rattle.report_text.specs.declared.reports.EntryLine.{EntryLine}
 use Rattle.report_text.specs.declared.reports.Line.{Line}
 use Rattle.report_text.specs.declared.reports.ReplyLine.{ReplyLine}
+use Rattle.report_text.specs.declared.reports.Report.{Report}
 use Rattle.report_text.specs.declared.reports.ReplyLine.TheVariants as reply
 use Rattle.sql_answer.specs.Language.{sql_language}
 use Rattle.sql_answer.specs.Reading.{kind_of_text}
@@ -316,7 +317,7 @@ first_down_is script lines states can one starts_so =
     }))
 
 -- what a run on a node that is down tells
-pub record IsToldOut (script : Script) (origin : Origin) (lines : List Line) : Type 0 where
+record IsToldOut (script : Script) (origin : Origin) (lines : List Line) : Type 0 where
   pub lawful : Lawful (from_origin script origin) (report_of origin.position origin.position lines [])
   pub in_order : InPlayOrder (from_origin script origin) (report_of origin.position origin.position lines [])
   pub once : downs lines ≡ 1
@@ -336,7 +337,7 @@ module _ (script : Script) (origin : Origin) (can : CanRun script) (done : List 
   none_opened : opened_behind (from_origin script origin) (down_line ∷ []) ≡ []
   none_opened = ap (λ (n : ℕ). if are_few n (down_line ∷ []) then [] else opening origin) can.one_node
 
-  pub ends_down : IsToldOut script origin lines
+  ends_down : IsToldOut script origin lines
   ends_down = record {
     lawful = record {
       replies = told_along;
@@ -360,3 +361,27 @@ module _ (script : Script) (origin : Origin) (can : CanRun script) (done : List 
     };
     once = ap downs was.lines_are ∙ ap (λ (n : ℕ). n + 1) was.once;
   }
+
+-- the report of a run of which no line is left
+pub record IsOutReport (script : Script) (origin : Origin) (report : Report) : Type 0 where
+  pub lawful : Lawful (from_origin script origin) report
+  pub in_order : InPlayOrder (from_origin script origin) report
+  pub once : downs report.lines ≡ 1
+  pub none : report.entries ≡ []
+
+none_left : (left : List BodyLine) → length left ≡ 0 → left ≡ []
+none_left [] is = refl
+none_left (l ∷ ls) is = absurd (omega (arith, is))
+
+pub reports_out : (script : Script) (origin : Origin) (left : List BodyLine) (lines : List Line) (states : List SessionAt) (entries : List EntryLine) (report : Report) →
+    IsBeforeDown script left lines states → length left ≡ 0 → entries ≡ [] → report ≡ report_of origin.position origin.position lines entries → IsOutReport script origin report
+reports_out script origin left lines states entries report before ends none is = subst (λ (r : Report). IsOutReport script origin r) (sym report_is) (record { lawful = out.lawful; in_order = out.in_order; once = out.once; none = refl })
+  where
+    report_is : report ≡ report_of origin.position origin.position lines []
+    report_is = is ∙ ap (λ (es : List EntryLine). report_of origin.position origin.position lines es) none
+
+    at_end : IsBeforeDown script [] lines states
+    at_end = subst (λ (bs : List BodyLine). IsBeforeDown script bs lines states) (none_left left ends) before
+
+    out : IsToldOut script origin lines
+    out = ends_down script origin at_end.can_run at_end.done lines states (at_end.so_far origin)

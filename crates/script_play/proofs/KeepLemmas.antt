@@ -33,7 +33,7 @@ use Rattle.script_play.specs.Start.{Start}
 use Rattle.script_play.specs.Step.{IsTaken, Turned, turn, turn_by, world_of}
 use Rattle.script_play.proofs.DownLemmas.{stands_down, DownStands}
 use Rattle.script_play.proofs.LossLemmas.{few_more}
-use Rattle.script_play.proofs.NodeLemmas.{Adds, went}
+use Rattle.script_play.proofs.NodeLemmas.{AddsLines, adds_lines, went}
 use Rattle.script_play.proofs.ComesLemmas.{comes, same_itself, same_name}
 use Rattle.script_play.proofs.SiteLemmas.{found_state, other_state, runs_askable, set_state, within}
 use Rattle.script_play.proofs.StoredLemmas.{world}
@@ -118,7 +118,8 @@ module _ (script : Script) (start : Start) (done left : List BodyLine) (l : Body
         (subst (λ (es : List EntryLine). SoFar script start true (done ++ l ∷ []) left (lines ++ mine) es taken' seen' sites') (sym fall.still.entries_are)
         (subst (λ (ts : List (List GenidItem)). SoFar script start true (done ++ l ∷ []) left (lines ++ mine) entries ts seen' sites') (sym fall.still.taken_are)
         (subst (λ (a : Seen). SoFar script start true (done ++ l ∷ []) left (lines ++ mine) entries taken a sites') (sym fall.still.rows_are)
-        (went script start false true done left l lines mine entries taken seen states sites' name text was is_act adds others))))
+        (went script start false true done left l lines mine entries taken seen states sites' name text was is_act entries taken seen
+        (adds_lines script start false true done left l lines mine entries taken seen states sites' name text was is_act adds) others))))
       where
         t : Turned
         t = turn_there site.number site.level
@@ -134,7 +135,7 @@ module _ (script : Script) (start : Start) (done left : List BodyLine) (l : Body
             (subst (λ (d : Doing). IsGone d (told name (lines_of name t.number (reply.Lost 1 1 ∷ [])))) (sym (ap (λ (x : SessionAt). x.doing) (own ∙ fall.after_is) ∙ its.idle)) tt)
             (λ m differs. subst (λ (ls : List Numbered). IsGone (state_of m script.sessions sites').doing ls) (sym (told_other m name t.number (reply.Lost 1 1 ∷ []) differs)) (none_gone (state_of m script.sessions sites').doing))
 
-        adds : Adds script start true done l lines mine entries seen name text sites'
+        adds : AddsLines script start true done l lines mine entries seen name text sites'
         adds = record {
           stands = subst (λ (x : SessionAt). Standing script start entries seen.next name (next_place sql_language place text) (told name lines ++ told name mine) x) (sym (own ∙ fall.after_is)) its.stands;
           others = λ m differs. fallen_other name m t.number fall.outcome.front differs;
@@ -180,7 +181,8 @@ module _ (script : Script) (start : Start) (done left : List BodyLine) (l : Body
         (subst (λ (es : List EntryLine). SoFar script start true (done ++ l ∷ []) left (lines ++ mine) es taken' seen' sites') (sym run.still.entries_are)
         (subst (λ (ts : List (List GenidItem)). SoFar script start true (done ++ l ∷ []) left (lines ++ mine) entries ts seen' sites') (sym run.still.taken_are)
         (subst (λ (a : Seen). SoFar script start true (done ++ l ∷ []) left (lines ++ mine) entries taken a sites') (sym run.still.rows_are)
-        (went script start true true done left l lines mine entries taken seen states sites' name text was is_act adds others))))
+        (went script start true true done left l lines mine entries taken seen states sites' name text was is_act entries taken seen
+        (adds_lines script start true true done left l lines mine entries taken seen states sites' name text was is_act adds) others))))
       where
         t : Turned
         t = down_there site.number site.level
@@ -207,7 +209,7 @@ module _ (script : Script) (start : Start) (done left : List BodyLine) (l : Body
               same_gone;
         }
 
-        adds : Adds script start true done l lines mine entries seen name text sites'
+        adds : AddsLines script start true done l lines mine entries seen name text sites'
         adds = record {
           stands = subst (λ (x : SessionAt). Standing script start entries seen.next name (next_place sql_language place text) (told name lines ++ told name mine) x) (sym (own ∙ run.told.after_is))
               (subst (λ (ls : List Numbered). Standing script start entries seen.next name (next_place sql_language place text) (told name lines ++ ls) t.after) (sym (told_own name name t.number t.replies (same_itself name))) stands_there.stands);
@@ -219,24 +221,26 @@ module _ (script : Script) (start : Start) (done left : List BodyLine) (l : Body
           node = node;
         }
 
--- a session's line was done, and the session is put back
-module _ (script : Script) (start : Start) (down : Bool) (left : List BodyLine) (l : BodyLine) (lines : List Line) (entries : List EntryLine) (taken : List (List GenidItem)) (seen : Seen) (states : List SessionAt) (name text : List ℕ) (at : ℕ) (x after : SessionAt)
-    (before : IsBefore script start down (l ∷ left) lines entries taken seen states) (is_act : l.act ≡ Say name text) (found : session_at name script.sessions ≡ Some at) (has : slice_get states at ≡ Some x) where
-  is_said : IsDeclared name script.sessions × (is_utf8 text ≡ true)
-  is_said = subst (λ (a : Act). IsSaidBy script.sessions a) is_act before.said.0
+-- a session whose line was done is put back: it is there, and every other one is where it was
+pub record IsBack (script : Script) (states : List SessionAt) (name text : List ℕ) (at : ℕ) (x after : SessionAt) : Type 0 where
+  pub said : IsDeclared name script.sessions × (is_utf8 text ≡ true)
+  pub its : state_of name script.sessions states ≡ x
+  pub own : state_of name script.sessions (slice_set states at after) ≡ after
+  pub others : (m : List ℕ) → bytes_eq name m ≡ false → state_of m script.sessions (slice_set states at after) ≡ state_of m script.sessions states
 
-  its : state_of name script.sessions states ≡ x
-  its = found_state 0 name script.sessions states at at x found (omega arith) has
+module _ (script : Script) (start : Start) (down : Bool) (left : List BodyLine) (l : BodyLine) (lines : List Line) (entries : List EntryLine) (taken : List (List GenidItem)) (seen : Seen) (states : List SessionAt)
+    (before : IsBefore script start down (l ∷ left) lines entries taken seen states) where
+  is_back : (name text : List ℕ) (at : ℕ) (x after : SessionAt) → l.act ≡ Say name text → session_at name script.sessions ≡ Some at → slice_get states at ≡ Some x → IsBack script states name text at x after
+  is_back name text at x after is_act found has = record {
+    said = subst (λ (a : Act). IsSaidBy script.sessions a) is_act before.said.0;
+    its = found_state 0 name script.sessions states at at x found (omega arith) has;
+    own = set_state 0 name script.sessions states at at after found (omega arith) (let w = within 0 name script.sessions at found in let same = before.same in omega (arith, w, same));
+    others = λ m differs. other_state 0 name m script.sessions states at at after found (omega arith) differs;
+  }
 
-  own : state_of name script.sessions (slice_set states at after) ≡ after
-  own = set_state 0 name script.sessions states at at after found (omega arith) (let w = within 0 name script.sessions at found in let same = before.same in omega (arith, w, same))
-
-  others : (m : List ℕ) → bytes_eq name m ≡ false → state_of m script.sessions (slice_set states at after) ≡ state_of m script.sessions states
-  others m differs = other_state 0 name m script.sessions states at at after found (omega arith) differs
-
-  put_back : (down' : Bool) (lines' : List Line) (entries' : List EntryLine) (taken' : List (List GenidItem)) (seen' : Seen) → SoFar script start down' (before.done ++ l ∷ []) left lines' entries' taken' seen' (slice_set states at after) →
+  put_back : (at : ℕ) (after : SessionAt) (down' : Bool) (lines' : List Line) (entries' : List EntryLine) (taken' : List (List GenidItem)) (seen' : Seen) → SoFar script start down' (before.done ++ l ∷ []) left lines' entries' taken' seen' (slice_set states at after) →
       IsBefore script start down' left lines' entries' taken' seen' (slice_set states at after)
-  put_back down' lines' entries' taken' seen' so_far = record {
+  put_back at after down' lines' entries' taken' seen' so_far = record {
     can_run = before.can_run;
     said = before.said.1;
     same = length-set states at after ∙ before.same;
@@ -250,32 +254,30 @@ pub taken_on : (script : Script) (start : Start) (down down' : Bool) (left : Lis
     IsTakenOn down down' (world_of (tables_of script) seen taken (now_of start entries)) name x text after lines lines' entries entries' taken' seen' →
     IsBefore script start down' left lines' entries' taken' seen' (slice_set states at after)
 taken_on script start false false left l lines lines' entries entries' taken taken' seen seen' states name text at x after before is_act found has run =
-    put_back script start false left l lines entries taken seen states name text at x after before is_act found has false lines' entries' taken' seen'
-    (go (subst (λ (y : SessionAt). IsTaken (world_of (tables_of script) seen taken (now_of start entries)) name y text after lines lines' entries entries' taken' seen') (sym (its script start false left l lines entries taken seen states name text at x after before is_act found has)) run))
+    put_back script start false left l lines entries taken seen states before at after false lines' entries' taken' seen'
+    (go (subst (λ (y : SessionAt). IsTaken (world script start entries taken seen) name y text after lines lines' entries entries' taken' seen') (sym back.its) run))
   where
-    utf8 : is_utf8 text ≡ true
-    utf8 = (is_said script start false left l lines entries taken seen states name text at x after before is_act found has).1
+    back : IsBack script states name text at x after
+    back = is_back script start false left l lines entries taken seen states before name text at x after is_act found has
 
-    go : IsTaken (world_of (tables_of script) seen taken (now_of start entries)) name (state_of name script.sessions states) text after lines lines' entries entries' taken' seen' →
+    go : IsTaken (world script start entries taken seen) name (state_of name script.sessions states) text after lines lines' entries entries' taken' seen' →
         SoFar script start false (before.done ++ l ∷ []) left lines' entries' taken' seen' (slice_set states at after)
-    go (inl (done, there)) = turned_keeps script start before.done left l lines entries taken seen states (slice_set states at after) name text before.so_far is_act (runs_askable script before.can_run) utf8
-        lines' entries' taken' seen' done (own script start false left l lines entries taken seen states name text at x after before is_act found has ∙ there) (others script start false left l lines entries taken seen states name text at x after before is_act found has)
-    go (inr (c, is, short, there)) = cut_keeps script start before.done left l lines entries taken seen states (slice_set states at after) name text before.so_far is_act (runs_askable script before.can_run) utf8
-        lines' entries' taken' seen' c is short (own script start false left l lines entries taken seen states name text at x after before is_act found has ∙ there) (others script start false left l lines entries taken seen states name text at x after before is_act found has)
+    go (inl (done, there)) = turned_keeps script start before.done left l lines entries taken seen states (slice_set states at after) name text before.so_far is_act (runs_askable script before.can_run) back.said.1
+        lines' entries' taken' seen' done (back.own ∙ there) back.others
+    go (inr (c, is, short, there)) = cut_keeps script start before.done left l lines entries taken seen states (slice_set states at after) name text before.so_far is_act (runs_askable script before.can_run) back.said.1
+        lines' entries' taken' seen' c is short (back.own ∙ there) back.others
 taken_on script start true false left l lines lines' entries entries' taken taken' seen seen' states name text at x after before is_act found has run = absurd run
 taken_on script start false true left l lines lines' entries entries' taken taken' seen seen' states name text at x after before is_act found has run =
-    put_back script start false left l lines entries taken seen states name text at x after before is_act found has true lines' entries' taken' seen'
-    (fallen_keeps script start before.done left l lines entries taken seen states (slice_set states at after) name text before.can_run is_act
-    (is_said script start false left l lines entries taken seen states name text at x after before is_act found has)
-    (others script start false left l lines entries taken seen states name text at x after before is_act found has) before.so_far after lines' entries' taken' seen'
-    (subst (λ (y : SessionAt). IsFallen (world_of (tables_of script) seen taken (now_of start entries)) name (turn (world_of (tables_of script) seen taken (now_of start entries)) y text) after lines lines' entries entries' taken' seen')
-    (sym (its script start false left l lines entries taken seen states name text at x after before is_act found has)) run)
-    (own script start false left l lines entries taken seen states name text at x after before is_act found has))
+    put_back script start false left l lines entries taken seen states before at after true lines' entries' taken' seen'
+    (fallen_keeps script start before.done left l lines entries taken seen states (slice_set states at after) name text before.can_run is_act back.said back.others before.so_far after lines' entries' taken' seen'
+    (subst (λ (y : SessionAt). IsFallen (world script start entries taken seen) name (turn (world script start entries taken seen) y text) after lines lines' entries entries' taken' seen') (sym back.its) run) back.own)
+  where
+    back : IsBack script states name text at x after
+    back = is_back script start false left l lines entries taken seen states before name text at x after is_act found has
 taken_on script start true true left l lines lines' entries entries' taken taken' seen seen' states name text at x after before is_act found has run =
-    put_back script start true left l lines entries taken seen states name text at x after before is_act found has true lines' entries' taken' seen'
-    (down_keeps script start before.done left l lines entries taken seen states (slice_set states at after) name text before.can_run is_act
-    (is_said script start true left l lines entries taken seen states name text at x after before is_act found has)
-    (others script start true left l lines entries taken seen states name text at x after before is_act found has) before.so_far after lines' entries' taken' seen'
-    (subst (λ (y : SessionAt). IsDoneDown (world_of (tables_of script) seen taken (now_of start entries)) name y text after lines lines' entries entries' taken' seen')
-    (sym (its script start true left l lines entries taken seen states name text at x after before is_act found has)) run)
-    (own script start true left l lines entries taken seen states name text at x after before is_act found has))
+    put_back script start true left l lines entries taken seen states before at after true lines' entries' taken' seen'
+    (down_keeps script start before.done left l lines entries taken seen states (slice_set states at after) name text before.can_run is_act back.said back.others before.so_far after lines' entries' taken' seen'
+    (subst (λ (y : SessionAt). IsDoneDown (world script start entries taken seen) name y text after lines lines' entries entries' taken' seen') (sym back.its) run) back.own)
+  where
+    back : IsBack script states name text at x after
+    back = is_back script start true left l lines entries taken seen states before name text at x after is_act found has

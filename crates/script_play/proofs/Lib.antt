@@ -13,8 +13,8 @@ pub mod TurnLemmas
 pub mod CutLemmas
 pub mod DownLemmas
 pub mod ComesLemmas
-pub mod RunLemmas
 pub mod NodeLemmas
+pub mod RunLemmas
 pub mod LossLemmas
 pub mod ToldLemmas
 pub mod OpenLemmas

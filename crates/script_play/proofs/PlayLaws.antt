@@ -1,7 +1,8 @@
 -- The run at its opening and at its end, and a line as it is planned and done.
-use Rattle.std.proofs.Common.{◌≡◌, zero, suc, ℕ, ◌+◌, ◌-◌, ◌≤◌, ◌++◌, Bool, true, false, List, [], ◌∷◌, length, map, refl, sym, subst, ap, arith, ◌∙◌, Result, Ok, Err, OnOk, IfOk}
+use Rattle.std.proofs.Common.{◌≡◌, zero, suc, ℕ, ◌+◌, ◌-◌, ◌++◌, Bool, true, false, List, [], ◌∷◌, length, map, refl, sym, subst, ap, arith, ◌∙◌, Result, Ok, Err, OnOk, OnErr, IfOk}
 use Rattle.std.proofs.lemmas.List.{length-take-le}
 use Rattle.std.specs.Prelude.{slice_get, Some}
+use Rattle.cdb_values.specs.declared.tables.TableDef.{TableDef}
 use Rattle.log_rows.specs.History.{takes_in}
 use Rattle.node_log.specs.Logged.{Logged, Leaves}
 use Rattle.report_laws.specs.Nodes.{downs}
@@ -15,8 +16,8 @@ use Rattle.script_form.specs.declared.scripts.Script.{Script}
 use Rattle.script_form.specs.declared.scripts.SessionLine.{SessionLine}
 use Rattle.script_play.specs.Doing.{SessionAt}
 use Rattle.script_play.specs.Doing as doing
-use Rattle.script_play.specs.Played.{downs_by, IsPlayed}
-use Rattle.script_play.specs.RunViews.{doing_in, seen_in, state_in, AreOwn, IsBeforeLine, IsOpening, IsOwn, IsOwnDoing}
+use Rattle.script_play.specs.Played.{downs_by, IsGivenUp, IsPlayed}
+use Rattle.script_play.specs.RunViews.{doing_in, seen_in, state_in, AreOwn, IsBeforeLine, IsOpenedBehind, IsOpening, IsOwn, IsOwnDoing}
 use Rattle.script_play.specs.EntryLines.{AreTold}
 use Rattle.script_play.specs.Ready.{CanBegin, IsLogged}
 use Rattle.script_play.specs.SoFar.{now_of, at_start, report_of, IsAtNode, IsBefore}
@@ -25,7 +26,7 @@ use Rattle.script_play.specs.Start.{Start, base}
 use Rattle.script_play.specs.declared.states.InTransaction.{InTransaction}
 use Rattle.script_play.specs.declared.states.InTransaction.TheVariants.{No, Open, Aborted}
 use Rattle.script_play.specs.declared.states.SessionState.{SessionState}
-use Rattle.script_play.proofs.StartLemmas.{opens, Opens}
+use Rattle.script_play.proofs.StartLemmas.{begun, opens, Opens}
 use Rattle.script_play.proofs.WholeLemmas.{ends_lawful, ends_in_order}
 
 -- no session has an open transaction
@@ -46,7 +47,8 @@ all_rest (l ∷ all) (y ∷ ys) (suc at) x starts is = let later : map state_in 
 pub opens_own : (generation : ℕ) (sessions : List SessionLine) (states : List SessionState) → map state_in states ≡ map (λ _. at_start) sessions → AreOwn generation sessions states
 opens_own generation sessions states starts at s x line is = rests_own generation s.name x (all_rest sessions states at x starts is)
 
-none_left : (rest : List BodyLine) → length rest ≡ 0 → rest ≡ []
+-- no line is left
+pub none_left : (rest : List BodyLine) → length rest ≡ 0 → rest ≡ []
 none_left [] is = refl
 none_left (l ∷ ls) is = absurd (omega (arith, is))
 
@@ -58,6 +60,13 @@ downs_at true script lines states is =
     let before = is.unhurt in let behind = is.once in
     ap downs is.is ∙ omega (arith, parts, before, behind)
 
+-- a log at its opening is held
+held_first : (log : Logged) → log.failed ≡ false → IsHeld log.accepted log.store.faults log
+held_first log up = record {
+  held = subst (λ (b : Bool). IsHeldBy b log.accepted log) (sym up) refl;
+  caused = subst (λ (b : Bool). IsCaused b log.store.faults log.store.faults) (sym up) (omega arith);
+}
+
 -- the run before the first line of the script
 pub begins_at : (script : Script) (start : Start) (log : Logged) (lines : List Line) (entries : List EntryLine) (states : List SessionState) → CanRun script → log.failed ≡ false → lines ≡ [] →
     IsOpening (tables_of script) log.accepted start.before entries log.entries → CanBegin (tables_of script) start.before start.rows → map state_in states ≡ map (λ _. at_start) script.sessions →
@@ -68,10 +77,7 @@ begins_at script start log lines entries states can up none opening begin starts
   logged = subst (λ (b : Bool). IsLogged start (tables_of script) (now_of start entries) (history_by b log.entries)) (sym up) first.logged_so;
   told = subst (λ (b : Bool). AreTold start.before log.accepted entries (history_by b log.entries)) (sym up) first.told;
   own = opens_own log.accepted script.sessions states starts;
-  held = record {
-    held = subst (λ (b : Bool). IsHeldBy b log.accepted log) (sym up) refl;
-    caused = subst (λ (b : Bool). IsCaused b log.store.faults log.store.faults) (sym up) (omega arith);
-  };
+  held = held_first log up;
 }
   where
     first : Opens script start log.accepted entries log.entries (map state_in states)
@@ -104,6 +110,26 @@ done_at script start opened lines entries log states told report now base_is is 
     report_is : report ≡ report_of (base start) (now_of start entries) lines entries
     report_is = is ∙ ap (λ n. report_of n (length (history_of log)) lines entries) base_is ∙ ap (λ n. report_of (base start) n lines entries) now.logged.count
 
+-- a run is given up before the first line of the script
+pub given_first : (tables : List TableDef) (start : Start) (log : Logged) → log.failed ≡ false → IsOpenedBehind tables log.accepted start.before log.entries → IsGivenUp start log log
+given_first tables start log up is = record {
+  entries = first.0;
+  told = subst (λ (b : Bool). AreTold start.before log.accepted first.0 (history_by b log.entries)) (sym up) first.1;
+  held = held_first log up;
+}
+  where
+    first : (entries : List EntryLine) × AreTold start.before log.accepted entries log.entries
+    first = begun tables log.accepted start.before log.entries is
+
+-- and at a line, which leaves the log as it was
+pub given_at : (script : Script) (start : Start) (opened log log' : Logged) (generation : ℕ) (left : List BodyLine) (lines : List Line) (entries : List EntryLine) (states : List SessionState) →
+    IsBeforeLine script start generation opened.store.faults left lines entries log states → generation ≡ opened.accepted → log' ≡ log → IsGivenUp start opened log'
+given_at script start opened log log' generation left lines entries states now made same = subst (λ (l : Logged). IsGivenUp start opened l) (sym same) (record {
+  entries = entries;
+  told = subst (λ (n : ℕ). AreTold start.before n entries (history_of log)) made now.told;
+  held = subst (λ (n : ℕ). IsHeld n opened.store.faults log) made now.held;
+})
+
 -- how many entries the history of a log has
 pub told_up : (log : Logged) → log.failed ≡ false → length (history_of log) ≡ length log.entries
 told_up log up = ap (λ (b : Bool). length (history_by b log.entries)) up
@@ -125,3 +151,7 @@ on_ok (Err e) f is = tt
 pub if_ok : {T E : Type 0} {P Q : T → Type 0} (r : Result T E) → ((x : T) → P x → Q x) → IfOk r P → IfOk r Q
 if_ok (Ok x) f is = f x is
 if_ok (Err e) f is = tt
+
+pub on_err : {T E : Type 0} {P : Type 0} (r : Result T E) → P → OnErr r P
+on_err (Ok x) is = tt
+on_err (Err e) is = is

@@ -1,5 +1,5 @@
 -- A line of the script more keeps the run so far.
-use Rattle.std.proofs.Common.{◌≡◌, ℕ, ◌+◌, ◌≤◌, List, [], ◌∷◌, ◌++◌, length, map, refl, sym, subst, ap, arith, Some, ◌∙◌, Bool, true, false, append_assoc, ◌⊎◌, inl, inr}
+use Rattle.std.proofs.Common.{◌≡◌, ℕ, ◌+◌, ◌≤◌, List, [], ◌∷◌, ◌++◌, length, map, refl, sym, subst, ap, arith, Some, ◌∙◌, Bool, true, false, ◌⊎◌, inl, inr}
 use Rattle.std.proofs.lemmas.List.{append-nil, length-append}
 use Rattle.std.specs.List.{AllByRecursion}
 use Rattle.std.specs.Str.{bytes_eq, is_utf8}
@@ -17,22 +17,20 @@ use Rattle.report_text.specs.declared.reports.Line.{Line}
 use Rattle.report_text.specs.declared.reports.ReplyLine.{ReplyLine}
 use Rattle.report_text.specs.declared.reports.ReplyLine.TheVariants as reply
 use Rattle.cdb_values.specs.Changes.{taken_by}
-use Rattle.report_laws.specs.History.{last_position, view_of}
-use Rattle.report_laws.specs.Lawful.{IsFreshLine}
+use Rattle.report_laws.specs.History.{view_of}
 use Rattle.report_laws.specs.Paced.{Paced}
-use Rattle.report_laws.specs.Places.{HasItsPlace}
-use Rattle.report_laws.specs.Play.{opening, IsTurn, IsTurnOf, was_cut, IsTimely, IsAppended, number_told, is_own}
+use Rattle.report_laws.specs.Play.{IsTurn, IsTurnOf, was_cut, IsTimely, IsAppended, number_told, is_own}
 use Rattle.session_language.specs.Replies.{are_up_to, is_last_of}
 use Rattle.report_laws.specs.Told.{Numbered, IsEntryTold, alone_at, told, lines_of, numbered}
 use Rattle.report_laws.specs.Work.{Place, next_place, place_after}
 use Rattle.cdb_values.specs.declared.items.GenidItem.{GenidItem}
-use Rattle.session_language.proofs.EachLaws.{each_append, all_append, all_map}
+use Rattle.session_language.proofs.EachLaws.{all_append, all_map}
 use Rattle.report_laws.proofs.EntryToldLaws.{entry_told_more, entry_told_stays, told_stands}
-use Rattle.report_laws.proofs.LineLaws.{ArePaced, paced_laws, named_more, in_turns_more, timely_paced}
+use Rattle.report_laws.proofs.LineLaws.{ArePaced, paced_laws, timely_paced}
 use Rattle.report_laws.proofs.NodesLaws.{none_lost, none_lacks, downs_more}
 use Rattle.report_laws.proofs.PieceLaws.{cut_at}
 use Rattle.report_laws.proofs.ToldLaws.{told_append, told_own, told_other}
-use Rattle.report_laws.proofs.WorkLaws.{after_own, after_other}
+use Rattle.report_laws.proofs.WorkLaws.{after_own}
 use Rattle.script_play.specs.Basis.{from_start}
 use Rattle.sql_answer.specs.Language.{sql_language}
 use Rattle.script_play.specs.Ready.{IsAskable}
@@ -40,8 +38,9 @@ use Rattle.script_play.specs.SoFar.{now_of, SoFar, Stored, Standing, IsPast, IsE
 use Rattle.script_play.specs.Step.{Turned, Cut, IsTurned, IsCutShort, IsKept, turn, turn_by, cut_by, entries_added}
 use Rattle.script_play.specs.Doing.{SessionAt}
 use Rattle.script_play.proofs.StoredLemmas.{world, entry_of}
-use Rattle.script_play.proofs.StandingLemmas.{Grows, grows_length, stands_on}
-use Rattle.script_play.proofs.ComesLemmas.{comes, ended_later, same_itself, same_name}
+use Rattle.script_play.proofs.StandingLemmas.{Grows, grows_length}
+use Rattle.script_play.proofs.NodeLemmas.{went}
+use Rattle.script_play.proofs.ComesLemmas.{comes, ended_later, same_itself}
 use Rattle.script_play.proofs.TurnLemmas.{Turns, IsNews, WasCutUnder, turns}
 use Rattle.script_play.proofs.CutLemmas.{CutStands, cuts}
 
@@ -70,20 +69,29 @@ module _ (script : Script) (start : Start) (done left : List BodyLine) (l : Body
   pub advanced : (entries' : List EntryLine) (taken' : List (List GenidItem)) (seen' : Seen) (number : ℕ) (rs : List ReplyLine) (after : SessionAt) → Keeps script start done l lines entries entries' taken' seen seen' name text number rs after →
       state_of name script.sessions sites' ≡ after → ((m : List ℕ) → bytes_eq name m ≡ false → state_of m script.sessions sites' ≡ state_of m script.sessions states) →
       SoFar script start false (done ++ l ∷ []) left (lines ++ lines_of name number rs) entries' taken' seen' sites'
-  advanced entries' taken' seen' number rs after keeps own others = record {
-    body = was.body ∙ sym (append_assoc done (l ∷ []) left);
+  advanced entries' taken' seen' number rs after keeps own others = went script start false false done left l lines mine entries taken seen states sites' name text was is_act entries' taken' seen' (record {
     stored = keeps.stored;
-    standing = standing;
-    fresh = each_append (IsFreshLine (from_start script start).origin) [] lines mine was.fresh laws.fresh;
-    later = was.later ++ keeps.added;
-    begins = keeps.grown ∙ ap (λ (es : List EntryLine). es ++ keeps.added) was.begins ∙ append_assoc (opening (from_start script start).origin) was.later keeps.added;
-    order = in_turns_more (from_start script start) [] done l [] lines (opening (from_start script start).origin) was.later mine keeps.added was.order its_turn_of;
-    named = all_append _ lines mine (named_more (now_of start entries) (now_of start entries') lines longer was.named) laws.named;
+    grows = keeps.grows;
+    next = keeps.next;
+    stands = subst (λ (x : SessionAt). Standing script start entries' seen'.next name (next_place sql_language place text) (told name lines ++ told name mine) x) (sym own)
+        (subst (λ ls. Standing script start entries' seen'.next name (next_place sql_language place text) (told name lines ++ ls) after) (sym (told_own name name number rs (same_itself name))) keeps.stands);
+    others = λ m differs. told_other m name number rs differs;
+    fresh = laws.fresh;
+    placed = laws.placed;
+    named = laws.named;
+    added = keeps.added;
+    grown = keeps.grown;
+    turn = subst (λ (a : Act). IsTurnOf (from_start script start) (now_of start entries) done lines a mine keeps.added) (sym is_act) (inl (record {
+      replies = rs;
+      says = ap (λ n. lines_of name n rs) keeps.belongs;
+      turn = keeps.turn;
+      kept = none_lost script lines name (number_told sql_language place text) place.pending was.node;
+      majority = none_lacks script lines (sql_language.kind text) place.pending was.node;
+    }));
     answered = keeps.answered;
     ended = keeps.ended;
-    placed = each_append (HasItsPlace script) [] lines mine was.placed laws.placed;
     node = downs_more lines name number rs was.node;
-  }
+  }) others
     where
       mine : List Line
       mine = lines_of name number rs
@@ -93,38 +101,6 @@ module _ (script : Script) (start : Start) (done left : List BodyLine) (l : Body
 
       laws : ArePaced script (from_start script start).origin name number lines (now_of start entries') rs
       laws = paced_laws script (from_start script start).origin name number (now_of start entries) (now_of start entries') lines rs was.named was.stored.opened.0 was.stored.opened.1 longer keeps.paced
-
-      its_turn_of : IsTurnOf (from_start script start) (last_position (from_start script start).origin (opening (from_start script start).origin ++ was.later)) done lines l.act mine keeps.added
-      its_turn_of =
-          let count : length entries ≡ length (opening (from_start script start).origin ++ was.later) = ap (λ (es : List EntryLine). length es) was.begins in
-          let now : now_of start entries ≡ last_position (from_start script start).origin (opening (from_start script start).origin ++ was.later) = omega (arith, count) in
-          subst (λ (a : Act). IsTurnOf (from_start script start) (last_position (from_start script start).origin (opening (from_start script start).origin ++ was.later)) done lines a mine keeps.added) (sym is_act) (inl (record {
-            replies = rs;
-            says = ap (λ n. lines_of name n rs) keeps.belongs;
-            turn = subst (λ n. IsTurn n lines name (number_told sql_language place text) (is_own sql_language place text) rs keeps.added) now keeps.turn;
-            kept = none_lost script lines name (number_told sql_language place text) place.pending was.node;
-            majority = none_lacks script lines (sql_language.kind text) place.pending was.node;
-          }))
-
-      own_stands : Standing script start entries' seen'.next name (place_after sql_language name (done ++ l ∷ [])) (told name (lines ++ lines_of name number rs)) (state_of name script.sessions sites')
-      own_stands =
-          subst (λ (p : Place). Standing script start entries' seen'.next name p (told name (lines ++ lines_of name number rs)) (state_of name script.sessions sites')) (sym own_place)
-          (subst (λ ls. Standing script start entries' seen'.next name (next_place sql_language place text) ls (state_of name script.sessions sites')) (sym (told_append name lines (lines_of name number rs) ∙ ap (λ ls. told name lines ++ ls) (told_own name name number rs (same_itself name))))
-          (subst (λ (x : SessionAt). Standing script start entries' seen'.next name (next_place sql_language place text) (told name lines ++ numbered number rs) x) (sym own) keeps.stands))
-
-      other_stands : (m : List ℕ) → bytes_eq name m ≡ false → Standing script start entries' seen'.next m (place_after sql_language m (done ++ l ∷ [])) (told m (lines ++ lines_of name number rs)) (state_of m script.sessions sites')
-      other_stands m differs =
-          subst (λ (p : Place). Standing script start entries' seen'.next m p (told m (lines ++ lines_of name number rs)) (state_of m script.sessions sites')) (sym (after_other sql_language m name text l done is_act differs))
-          (subst (λ ls. Standing script start entries' seen'.next m (place_after sql_language m done) ls (state_of m script.sessions sites')) (sym (told_append m lines (lines_of name number rs) ∙ ap (λ ls. told m lines ++ ls) (told_other m name number rs differs) ∙ append-nil (told m lines)))
-          (subst (λ (x : SessionAt). Standing script start entries' seen'.next m (place_after sql_language m done) (told m lines) x) (sym (others m differs))
-          (stands_on script start entries entries' seen.next seen'.next m (place_after sql_language m done) (told m lines) (state_of m script.sessions states) keeps.grows keeps.next (was.standing m))))
-
-      standing : (m : List ℕ) → Standing script start entries' seen'.next m (place_after sql_language m (done ++ l ∷ [])) (told m (lines ++ lines_of name number rs)) (state_of m script.sessions sites')
-      standing m = pick (bytes_eq name m) refl
-        where
-          pick : (b : Bool) → bytes_eq name m ≡ b → Standing script start entries' seen'.next m (place_after sql_language m (done ++ l ∷ [])) (told m (lines ++ lines_of name number rs)) (state_of m script.sessions sites')
-          pick true same = subst (λ n. Standing script start entries' seen'.next n (place_after sql_language n (done ++ l ∷ [])) (told n (lines ++ lines_of name number rs)) (state_of n script.sessions sites')) (same_name name m same) own_stands
-          pick false differs = other_stands m differs
 
   -- what a line leaves, where it did what it does
   pub turn_keeps : (entries' : List EntryLine) (taken' : List (List GenidItem)) (seen' : Seen) (t : Turned) → Turns script start entries entries' taken' seen seen' name (next_place sql_language place text) (told name lines) (number_told sql_language place text) (is_own sql_language place text) t →

@@ -1,6 +1,6 @@
 -- Where a session is, by its place among the sessions, and that a line of its own changes no other.
 use Rattle.std.proofs.Common.{◌≡◌, ◌≢◌, ℕ, zero, suc, ◌+◌, ◌≤◌, ◌<◌, List, [], ◌∷◌, length, map, refl, sym, subst, ap, arith, Option, Some, None, ◌∙◌, Bool, true, false, ◌⊎◌, inl, inr, if◌then◌else◌, slice_set}
-use Rattle.std.proofs.lemmas.List.{length-append}
+use Rattle.std.proofs.lemmas.List.{length-append, length-set}
 use Rattle.std.specs.List.{AllByRecursion, slice_get}
 use Rattle.std.specs.Str.{bytes_eq}
 use Rattle.cdb_values.specs.Rows.{Rows}
@@ -207,6 +207,10 @@ pub set_again : {A : Type 0} (xs : List A) (i : ℕ) (x y : A) → slice_set (sl
 set_again [] i x y = refl
 set_again (z ∷ zs) zero x y = refl
 set_again (z ∷ zs) (suc i) x y = ap (λ rest. z ∷ rest) (set_again zs i x y)
+
+-- a place is inside a list still, where something is put there
+pub inside_set : {A : Type 0} (xs ys : List A) (i : ℕ) (x : A) → ys ≡ slice_set xs i x → i < length xs → i < length ys
+inside_set {A} xs ys i x is inside = subst (λ (zs : List A). i < length zs) (sym is) (subst (λ (n : ℕ). i < n) (sym (length-set xs i x)) inside)
 
 -- the line of a session at its place has its name
 pub found_line : (k : ℕ) (name : List ℕ) (ss : List SessionLine) (at i : ℕ) → session_from k name ss ≡ Some at → at ≡ k + i → (s : SessionLine) × (slice_get ss i ≡ Some s) × (s.name ≡ name)

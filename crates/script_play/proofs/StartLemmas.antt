@@ -22,7 +22,7 @@ use Rattle.script_form.specs.declared.scripts.SessionLine.{SessionLine}
 use Rattle.script_play.specs.Basis.{from_start}
 use Rattle.script_play.specs.Decisions.{HasName}
 use Rattle.script_play.specs.Doing.{SessionAt}
-use Rattle.script_play.specs.EntryLines.{AreTold}
+use Rattle.script_play.specs.EntryLines.{AreTold, IsMadeIn, lines_from}
 use Rattle.script_play.specs.Ready.{AreKept, CanBegin, GoesOn, IsLogged}
 use Rattle.script_play.specs.RunViews.{seen_in, IsOpening, IsOpenedBehind, IsOpenedLog}
 use Rattle.script_play.specs.Seen.{Seen}
@@ -43,6 +43,12 @@ opening_is tables generation told before entries logged count first later is = r
   first = λ none. (first (count ∙ ap (λ (es : List Entry). length es) none), is.first none);
   later = λ some. (later (omega (arith, count, some)), is.later some);
 }
+
+-- the entries of a log at its opening are told
+pub begun : (tables : List TableDef) (generation : ℕ) (before logged : List Entry) → IsOpenedBehind tables generation before logged → (entries : List EntryLine) × AreTold before generation entries logged
+begun tables generation [] logged is =
+    (lines_from 1 logged, record { made = logged; behind = refl; told = refl; in_it = subst (λ (es : List Entry). AllByRecursion (IsMadeIn generation) es) (sym (is.first refl).is) (refl, tt) })
+begun tables generation (e ∷ es) logged is = ([], record { made = []; behind = is.later (omega arith) ∙ sym (append-nil (e ∷ es)); told = refl; in_it = tt })
 
 -- ---- a run that begins its log
 

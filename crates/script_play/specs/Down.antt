@@ -6,7 +6,7 @@
 --
 -- From there on nothing is read and nothing is appended. A transaction that is open since is lost at the next line of its
 -- session, whatever that line is, and none begins, since no majority is up.
-use Rattle.std.specs.Prelude.{◌≡◌, ◌≢◌, ℕ, ◌+◌, ◌-◌, ◌≤◌, ◌++◌, ◌∷◌, [], List, Bool, true, false, Option, Some, None, length, take, if◌then◌else◌, option_to_list, ◌⊎◌}
+use Rattle.std.specs.Prelude.{◌≡◌, ℕ, ◌+◌, ◌-◌, ◌≤◌, ◌++◌, ◌∷◌, [], List, Bool, true, false, Option, Some, None, length, take, ◌⊎◌}
 use Rattle.cdb_outside.specs.Faults.{Rose}
 use Rattle.cdb_values.specs.declared.rows.Level.{Level}
 use Rattle.cdb_values.specs.declared.rows.StatementError.TheVariants.{State}

@@ -8,6 +8,7 @@ use Rattle.report_laws.specs.History.{rows_at, taken_at}
 use Rattle.report_laws.specs.Lawful.{Lawful}
 use Rattle.report_laws.specs.Nodes.{downs}
 use Rattle.report_laws.specs.Play.{InPlayOrder}
+use Rattle.report_text.specs.declared.reports.EntryLine.{EntryLine}
 use Rattle.report_text.specs.declared.reports.Report.{Report}
 use Rattle.script_form.specs.CanRun.{tables_of}
 use Rattle.script_form.specs.declared.scripts.Script.{Script}
@@ -35,4 +36,11 @@ pub record IsTold (script : Script) (start : Start) (generation : ℕ) (report :
 pub record IsPlayed (script : Script) (start : Start) (opened : Logged) (report : Report) (log : Logged) : Type 0 where
   pub told : IsTold script start opened.accepted report (history_of log)
   pub faults : downs report.lines ≡ downs_by log.failed
+  pub held : IsHeld opened.accepted opened.store.faults log
+
+-- the log of a run that was given up, and that was opened so: it is the one before the run with entries of the run, as a history
+-- tells them, and it is held as that of a run that is done
+pub record IsGivenUp (start : Start) (opened log : Logged) : Type 0 where
+  pub entries : List EntryLine
+  pub told : AreTold start.before opened.accepted entries (history_of log)
   pub held : IsHeld opened.accepted opened.store.faults log

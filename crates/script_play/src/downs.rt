@@ -15,6 +15,7 @@ ghost use Rattle.script_play.specs.Effects.{IsEffectDown};
 ghost use Rattle.script_play.specs.RunViews.{doing_in, state_in};
 ghost use Rattle.script_play.specs.Step.{state, turned};
 
+use super::holding::let_go;
 use super::run::add_reply;
 use super::states::{InTransaction, SessionState};
 use cdb_values::{Level, Name, StatementError};
@@ -63,7 +64,10 @@ fn down_effect(state: SessionState, kind: TextKind) -> Result<DownEffect, AllocE
     } = state;
     match doing {
         InTransaction::No => outside_down(number, level, kind),
-        InTransaction::Open(_) => Ok(lost(number, level, kind)),
+        InTransaction::Open(session) => {
+            let_go(session);
+            Ok(lost(number, level, kind))
+        }
         InTransaction::Aborted => Ok(skipped(number, level, kind)),
     }
 }

@@ -45,7 +45,8 @@ pub(crate) fn run_session_line<D: LogStore>(
     requires ready_to_go { IsReadyToGo start schema.now (length (history_of run.old.log)) (history_of run.old.log) (doing_in state.doing) }
     requires own { IsOwn generation name.now state }
     requires held { IsHeldBy run.old.log.failed generation run.old.log }
-    ensures { IfOk result (λ after. IsTakenFrom start generation schema.now name.now state text.now after run.old.lines.items run.new.lines.items run.old.entries.items run.new.entries.items run.old.log run.new.log) }
+    ensures taken { IfOk result (λ after. IsTakenFrom start generation schema.now name.now state text.now after run.old.lines.items run.new.lines.items run.old.entries.items run.new.entries.items run.old.log run.new.log) }
+    ensures err_same { OnErr result (IsSameHistory run.old.entries.items run.new.entries.items run.old.log run.new.log) }
 {
     let (state, prepared) = beside(state, read_text(alloc, schema, text))?;
     let kind = prepared.kind();

@@ -1,5 +1,5 @@
 //! The lines of a script, done one after the other on one node.
-ghost use Rattle.std.specs.Prelude.{◌≡◌, ℕ, ◌-◌, ◌<◌, ◌≤◌, ◌++◌, ◌∷◌, [], List, Some, false, true, length, OnOk, IfOk, map, slice_get, unwrap_or};
+ghost use Rattle.std.specs.Prelude.{◌≡◌, ℕ, ◌-◌, ◌<◌, ◌≤◌, ◌++◌, ◌∷◌, [], List, Some, false, true, length, OnOk, OnErr, IfOk, IfErr, map, slice_get, unwrap_or};
 ghost use Rattle.cdb_values.specs.Rows.{Rows};
 ghost use Rattle.log_replay.specs.Answers.{schema_of as schema_told};
 ghost use Rattle.log_rows.specs.History.{rows_over_at, takes_in, IsFrom, StandsOver};
@@ -13,9 +13,9 @@ ghost use Rattle.script_form.specs.declared.scripts.BodyLine.{BodyLine};
 ghost use Rattle.script_play.specs.Basis.{from_origin, from_start};
 ghost use Rattle.script_play.specs.Down.{history_of, with_entries, IsCaused};
 ghost use Rattle.script_play.specs.EntryLines.{AreTold};
-ghost use Rattle.script_play.specs.Played.{downs_by, IsPlayed};
+ghost use Rattle.script_play.specs.Played.{downs_by, IsGivenUp, IsPlayed};
 ghost use Rattle.script_play.specs.Ready.{CanBegin};
-ghost use Rattle.script_play.specs.RunViews.{state_in, IsBeforeLine, IsOpenedBehind};
+ghost use Rattle.script_play.specs.RunViews.{state_in, IsBeforeLine, IsOpenedBehind, IsSameHistory};
 ghost use Rattle.script_play.specs.SoFarDown.{IsBeforeDown};
 ghost use Rattle.script_play.specs.declared.states.SessionState.{SessionState};
 ghost use Rattle.script_play.specs.SoFar.{at_start, report_of, session_at};
@@ -58,7 +58,8 @@ pub struct Played<D: LogStore> {
 /// from the last position of the opened log on the pages of the log stand for the rows of the history. As long as the node is
 /// up its store stands for the log; else what a stop leaves of it stands for the log of the history, or for one entry more.
 ///
-/// The error is want of memory, with the log.
+/// The error is want of memory, with the log: it has the entries before the run and such as a history would tell, and is held
+/// as the log of a run that is done.
 pub fn play<D: LogStore + Drop>(
     alloc: Global,
     script: &Script,
@@ -84,11 +85,12 @@ pub fn play<D: LogStore + Drop>(
     ensures cause { IfOk result (λ p. IsCaused p.log.failed log.store.faults p.log.store.faults) }
     ensures made { IfOk result (λ p. p.log.failed ≡ false → p.log.accepted ≡ log.accepted) }
     ensures kept { IfOk result (λ p. p.log.failed ≡ true → Leaves p.log.store (with_entries p.log (history_of p.log) ∷ p.log ∷ [])) }
+    ensures given_up { IfErr result (λ l. IsGivenUp start log l) }
 {
     play_behind(alloc, script, log, base)
 }
 
-/// The same, in one clause.
+/// The same, in one clause for each answer.
 fn play_behind<D: LogStore + Drop>(
     alloc: Global,
     script: &Script,
@@ -101,7 +103,8 @@ fn play_behind<D: LogStore + Drop>(
     requires place { base ≡ length start.before }
     requires opened { IsOpenedBehind (tables_of script.now) log.accepted start.before log.entries }
     requires behind { CanBegin (tables_of script.now) start.before start.rows }
-    ensures { IfOk result (λ p. IsPlayed script.now start log p.report p.log) }
+    ensures played { IfOk result (λ p. IsPlayed script.now start log p.report p.log) }
+    ensures given_up { IfErr result (λ l. IsGivenUp start log l) }
 {
     let mut so_far = opened(alloc, log);
     match play_on(alloc, script, base, &mut so_far) {
@@ -133,7 +136,8 @@ fn play_on<D: LogStore>(
     requires behind { CanBegin (tables_of script.now) start.before start.rows }
     requires lines { run.old.lines.items ≡ [] }
     requires entries { run.old.entries.items ≡ [] }
-    ensures { OnOk result ((states : List SessionState) × IsBeforeLine script.now start run.old.log.accepted run.old.log.store.faults [] run.new.lines.items run.new.entries.items run.new.log states) }
+    ensures done { OnOk result ((states : List SessionState) × IsBeforeLine script.now start run.old.log.accepted run.old.log.store.faults [] run.new.lines.items run.new.entries.items run.new.log states) }
+    ensures given_up { OnErr result (IsGivenUp start run.old.log run.new.log) }
 {
     let schema = schema_of(alloc, script.tables.as_slice())?;
     let generation = run.log.accepted();
@@ -233,8 +237,9 @@ fn run_line<D: LogStore>(
     ghost start: { Start }
     requires tables { schema.now ≡ tables_of script.now }
     requires before { (left : List BodyLine) × (had : ℕ) × IsBeforeLine script.now start generation had (line.now ∷ left) run.old.lines.items run.old.entries.items run.old.log states.old }
-    ensures { OnOk result ((left : List BodyLine) (had : ℕ) → IsBeforeLine script.now start generation had (line.now ∷ left) run.old.lines.items run.old.entries.items run.old.log states.old
+    ensures done { OnOk result ((left : List BodyLine) (had : ℕ) → IsBeforeLine script.now start generation had (line.now ∷ left) run.old.lines.items run.old.entries.items run.old.log states.old
         → IsBeforeLine script.now start generation had left run.new.lines.items run.new.entries.items run.new.log states.new) }
+    ensures same { OnErr result (IsSameHistory run.old.entries.items run.new.entries.items run.old.log run.new.log) }
 {
     let Act::Say { session, text } = &line.act else {
         return Ok(());

@@ -11,7 +11,7 @@ ghost use Rattle.script_play.specs.RunViews.{IsSameHistory};
 ghost use Rattle.store_log.specs.Held.{generation_of};
 
 use super::effects::LineEffect;
-use super::holding::beside;
+use super::holding::{beside, let_go};
 use super::states::SessionState;
 use cdb_outside::LogStore;
 use cdb_values::Name;
@@ -152,7 +152,7 @@ fn put_down(lines: &mut Vec<Line>)
     ensures { (front : List Line) (outcome lost down : Line) → lines.old.items ≡ front ++ outcome ∷ lost ∷ down ∷ [] → lines.new.items ≡ front ++ down ∷ lost ∷ [] }
 {
     let place = lines.len() - 3;
-    let _outcome = lines.swap_remove(place);
+    let_go(lines.swap_remove(place));
 }
 
 /// Adds the lines that a transaction is lost, and that the node went down, in this order.
@@ -198,17 +198,17 @@ fn append_entry<D: LogStore>(
     let (entry, line) = beside(entry, line)?;
     let (entry, ()) = beside(entry, add_line(&mut run.entries, line))?;
     if !has_spelling(&entry) {
-        let _ = run.entries.pop();
+        let_go(run.entries.pop());
         return Err(AllocError);
     }
     match run.log.append(alloc, entry) {
         Ok(()) => Ok(Appended::Kept),
         Err(KeepFault::StoreFault) => {
-            let _ = run.entries.pop();
+            let_go(run.entries.pop());
             Ok(Appended::Down)
         }
         Err(KeepFault::NoMemory) => {
-            let _ = run.entries.pop();
+            let_go(run.entries.pop());
             Err(AllocError)
         }
     }
