@@ -25,9 +25,9 @@ use Rattle.script_form.specs.CanRun.{tables_of, CanRun}
 use Rattle.script_form.specs.Named.{IsNamed}
 use Rattle.script_form.specs.declared.scripts.Script.{Script}
 use Rattle.script_play.specs.Basis.{from_start}
-use Rattle.script_play.specs.Down.{history_of, history_by, with_entries, IsCaused}
+use Rattle.script_play.specs.Down.{history_of, history_by, owner_of, with_entries, IsCaused, Owner}
 use Rattle.script_play.specs.EntryLines.{AreTold}
-use Rattle.script_play.specs.Played.{downs_by, IsSameNode, IsTold}
+use Rattle.script_play.specs.Played.{downs_by, IsTold}
 use Rattle.script_play.specs.Start.{Start, base, ground_of}
 use Rattle.store_log.specs.declared.standings.Standing.TheVariants.{Log}
 use Rattle.store_log.specs.Held.{StandsFor}
@@ -76,27 +76,43 @@ some_of (e ∷ es) tables is = omega arith
 
 -- what is left behind a run
 
+-- a log of the same node, in the same generations
+record IsSameNode (before after : Logged) : Type 0 where
+  node : after.node ≡ before.node
+  cluster : after.cluster ≡ before.cluster
+  promised : after.promised ≡ before.promised
+  accepted : after.accepted ≡ before.accepted
+
+owns_as : (after before : Logged) → owner_of after ≡ owner_of before → IsSameNode before after
+owns_as after before same = record {
+  node = ap (λ (o : Owner). o.node) same;
+  cluster = ap (λ (o : Owner). o.cluster) same;
+  promised = ap (λ (o : Owner). o.promised) same;
+  accepted = ap (λ (o : Owner). o.accepted) same;
+}
+
 -- the log of a node in the generation in which it stood
-keeps_of : (old log : Logged) (bytes : List ℕ) (es : List Entry) → IsSameNode old log → old.node ≡ 1 → old.promised ≡ old.accepted → Stand bytes (with_entries log es) → Keeps old.cluster bytes old.accepted es
-keeps_of old log bytes es same node stood stands =
+keeps_of : (old log : Logged) (bytes : List ℕ) (es : List Entry) → owner_of log ≡ owner_of old → old.node ≡ 1 → old.promised ≡ old.accepted → Stand bytes (with_entries log es) → Keeps old.cluster bytes old.accepted es
+keeps_of old log bytes es owns node stood stands =
+    let same = owns_as log old owns in
     subst (λ (n : ℕ). StandsFor n old.cluster bytes (Log old.accepted old.accepted es)) (same.node ∙ node)
     (subst (λ (c : ℕ). StandsFor log.node c bytes (Log old.accepted old.accepted es)) same.cluster
     (subst (λ (p : ℕ). StandsFor log.node log.cluster bytes (Log p old.accepted es)) (same.promised ∙ stood)
     (subst (λ (a : ℕ). StandsFor log.node log.cluster bytes (Log log.promised a es)) same.accepted stands)))
 
-or_more : (old log : Logged) (bytes : List ℕ) (e : Entry) → IsSameNode old log → old.node ≡ 1 → old.promised ≡ old.accepted → log.entries ≡ history_by true log.entries ++ e ∷ []
+or_more : (old log : Logged) (bytes : List ℕ) (e : Entry) → owner_of log ≡ owner_of old → old.node ≡ 1 → old.promised ≡ old.accepted → log.entries ≡ history_by true log.entries ++ e ∷ []
     → StandForOne bytes (with_entries log (history_by true log.entries) ∷ log ∷ []) → Keeps old.cluster bytes old.accepted (history_by true log.entries) ⊎ Keeps old.cluster bytes old.accepted (history_by true log.entries ++ e ∷ [])
 or_more old log bytes e same node stood last (inl s) = inl (keeps_of old log bytes (history_by true log.entries) same node stood s)
 or_more old log bytes e same node stood last (inr (inl s)) =
     inr (subst (λ (es : List Entry). Keeps old.cluster bytes old.accepted es) last (keeps_of old log bytes log.entries same node stood s))
 or_more old log bytes e same node stood last (inr (inr none)) = absurd none
 
-left_up : (old log : Logged) (new : Stored) (count : ℕ) → IsSameNode old log → old.node ≡ 1 → old.promised ≡ old.accepted → count ≡ 0 → ∥ Stand new.synced log ∥₁
+left_up : (old log : Logged) (new : Stored) (count : ℕ) → owner_of log ≡ owner_of old → old.node ≡ 1 → old.promised ≡ old.accepted → count ≡ 0 → ∥ Stand new.synced log ∥₁
     → IsLeftBy count old.cluster old.store new old.accepted log.entries
 left_up old log new count same node stood none stands =
     inl (none, ∥∥₁_map stands (λ (s : Stand new.synced log). keeps_of old log new.synced log.entries same node stood s))
 
-left_down : (old log : Logged) (new : Stored) (count : ℕ) (tables : List TableDef) → IsSameNode old log → old.node ≡ 1 → old.promised ≡ old.accepted → count ≡ 1 → Rose old.store.faults log.store.faults
+left_down : (old log : Logged) (new : Stored) (count : ℕ) (tables : List TableDef) → owner_of log ≡ owner_of old → old.node ≡ 1 → old.promised ≡ old.accepted → count ≡ 1 → Rose old.store.faults log.store.faults
     → IsLeftOf log new → schema_of (history_by true log.entries) ≡ Some tables → Leaves log.store (with_entries log (history_by true log.entries) ∷ log ∷ [])
     → IsLeftBy count old.cluster old.store new old.accepted (history_by true log.entries)
 left_down old log new count tables same node stood one rose left schema leaves =
@@ -111,7 +127,7 @@ left_down old log new count tables same node stood one rose left schema leaves =
     )
 
 -- what a run leaves of its store, by whether its node is down
-pub left_by : (failed : Bool) (old log : Logged) (new : Stored) (count : ℕ) (tables : List TableDef) → log.failed ≡ failed → IsSameNode old log → old.node ≡ 1 → old.promised ≡ old.accepted
+pub left_by : (failed : Bool) (old log : Logged) (new : Stored) (count : ℕ) (tables : List TableDef) → log.failed ≡ failed → owner_of log ≡ owner_of old → old.node ≡ 1 → old.promised ≡ old.accepted
     → count ≡ downs_by log.failed → IsCaused log.failed old.store.faults log.store.faults → IsLeftOf log new → schema_of (history_of log) ≡ Some tables
     → (log.failed ≡ true → Leaves log.store (with_entries log (history_of log) ∷ log ∷ []))
     → IsLeftBy count old.cluster old.store new old.accepted (history_of log)
@@ -127,7 +143,7 @@ left_by true old log new count tables is same node stood counted caused left sch
 
 -- what is told of a run
 pub played_text : (script : Script) (start : Start) (opened log : Logged) (report : Report) (new : Stored) (s : Status) (text : List ℕ) (b : ℕ) → b ≡ base start →
-    IsSameNode opened log → opened.node ≡ 1 → opened.promised ≡ opened.accepted →
+    owner_of log ≡ owner_of opened → opened.node ≡ 1 → opened.promised ≡ opened.accepted →
     Lawful (from_start script start) report → InPlayOrder (from_start script start) report → AreTold start.before opened.accepted report.entries (history_of log) →
     schema_of (history_of log) ≡ Some (tables_of script) →
     ((k : ℕ) → b < k → k ≤ length (history_of log) → unwrap_or (slice_get (takes_in (history_of log)) (k - 1)) [] ≡ taken_at (from_start script start) report.entries k) →
