@@ -17,7 +17,7 @@ use Rattle.phys_log.specs.Logs.{Fits, page_at}
 use Rattle.phys_log.specs.declared.entries.Entry.{Entry}
 use Rattle.phys_log.specs.declared.entries.Entry.TheVariants.{Setup as EntrySetup, Commit as EntryCommit}
 use Rattle.sql_answer.specs.Answers.{Meaning}
-use Rattle.sql_answer.specs.Language.{meaning, bound_in, sql_language}
+use Rattle.sql_answer.specs.Language.{sql_language}
 use Rattle.sql_answer.specs.Reading.{kind_of_text}
 use Rattle.sql_run.specs.Texts.{answer_to}
 use Rattle.report_text.specs.declared.reports.EntryLine.{EntryLine}
@@ -38,14 +38,12 @@ use Rattle.script_play.proofs.SqlLaws.{kept_answer}
 use Rattle.script_play.specs.Effects.{IsEffect, IsAdded, IsEntryOf, IsOfIts, Named, cut_in, lines_added, named_so}
 use Rattle.script_play.specs.Doing.{SessionAt, Doing}
 use Rattle.script_play.specs.Doing as doing
-use Rattle.script_play.specs.Down.{behind_cut, fallen_lines, history_of, turn_down, with_entries, HasOutcome, IsFallenAt, IsKeptSo, IsToldDown, TellsOutcome}
+use Rattle.script_play.specs.Down.{fallen_lines, with_entries, HasOutcome, IsFallenAt, IsKeptSo, TellsOutcome}
 use Rattle.script_play.specs.EntryLines.{AreTold, IsMadeIn, line_of, lines_from}
-use Rattle.script_play.specs.Falls.{IsDoneOn, IsFallen, IsTakenOn}
 use Rattle.script_play.specs.Ready.{AreKept, IsAble, IsKeptOp, IsLogged, IsReady}
-use Rattle.script_play.specs.RunViews.{doing_in, state_in, seen_in, world, IsDoneFrom, IsOfText, IsOwn, IsOwnDoing, IsShut, IsTakenFrom}
+use Rattle.script_play.specs.RunViews.{state_in, seen_in, world, IsDoneFrom, IsOfText, IsOwn, IsOwnDoing, IsShut, IsTakenFrom}
 use Rattle.script_play.specs.declared.states.InTransaction.{InTransaction}
 use Rattle.script_play.specs.declared.states.InTransaction.TheVariants.{No, Open, Aborted}
-use Rattle.script_play.specs.Seen.{Seen}
 use Rattle.script_play.specs.Start.{Start, base, ground_of}
 use Rattle.script_play.specs.Step.{World, Turned, IsTurned, IsKept, answer_of, outcome, turn_of, cut_by}
 use Rattle.script_play.specs.declared.effects.LineEffect.{LineEffect}
@@ -434,94 +432,6 @@ cut_taken start generation tables log log' name before text k cut (Ok after) lin
     (subst (λ (o : Option SessionState). IfSome o (λ (x : SessionState). IsShut x.doing)) there shut)
     (ap (λ (x : Kind). cut_by before.number before.level x (state_in before).doing) (sym is)
     ∙ subst (λ (o : Option SessionState). IfSome o (λ (x : SessionState). cut_by before.number before.level k (state_in before).doing ≡ cut_in x)) there its) told es)
-
--- a line that was done on a node that was up, by its prepared text
-taken_on : (w : World) (name : List ℕ) (before after : SessionState) (text : List ℕ) (meant : Meaning) (k : Kind) (lines lines' : List Line) (entries entries' : List EntryLine) (taken' : List (List GenidItem)) (seen' : Seen) (down : Bool) →
-    k ≡ kind_of_text text → meant ≡ meaning bound_in w.tables text →
-    IsDoneOn down w name (turn_of w before.number before.level meant k (state_in before).doing) (state_in after) lines lines' entries entries' taken' seen' →
-    IsTakenOn false down w name (state_in before) text (state_in after) lines lines' entries entries' taken' seen'
-taken_on w name before after text meant k lines lines' entries entries' taken' seen' false is means done =
-    inl (subst (λ (m : Meaning). Done m (kind_of_text text)) means (subst (λ (x : Kind). Done meant x) is done))
-  where
-    Done : Meaning → Kind → Type 0
-    Done m x = IsTurned w name (turn_of w before.number before.level m x (state_in before).doing) lines lines' entries entries' taken' seen' × (state_in after ≡ (turn_of w before.number before.level m x (state_in before).doing).after)
-taken_on w name before after text meant k lines lines' entries entries' taken' seen' true is means done =
-    subst (λ (m : Meaning). Fallen m (kind_of_text text)) means (subst (λ (x : Kind). Fallen meant x) is done)
-  where
-    Fallen : Meaning → Kind → Type 0
-    Fallen m x = IsFallen w name (turn_of w before.number before.level m x (state_in before).doing) (state_in after) lines lines' entries entries' taken' seen'
-
-pub done_taken : (start : Start) (generation : ℕ) (tables : List TableDef) (name : List ℕ) (before after : SessionState) (text : List ℕ) (meant : Meaning) (k : Kind) (lines lines' : List Line) (entries entries' : List EntryLine) (log log' : Logged) →
-    log.failed ≡ false → k ≡ kind_of_text text → meant ≡ meaning bound_in tables text →
-    IsDoneFrom start generation tables name (turn_of (world start tables log.entries) before.number before.level meant k (doing_in before.doing)) after lines lines' entries entries' log log' →
-    IsTakenFrom start generation tables name before text after lines lines' entries entries' log log'
-done_taken start generation tables name before after text meant k lines lines' entries entries' log log' up is means done =
-    subst (λ (l : Logged). IsTakenFrom start generation tables name before text after lines lines' entries entries' l log') (sym (is_up log up)) (record {
-      taken = taken_on (world start tables log.entries) name before after text meant k lines lines' entries entries' (takes_in (history_of log')) (seen_in start (history_of log')) log'.failed is means was.done;
-      logged = was.logged;
-      told = was.told;
-      own = was.own;
-      held = was.held;
-    })
-  where
-    was : IsDoneFrom start generation tables name (turn_of (world start tables log.entries) before.number before.level meant k (doing_in before.doing)) after lines lines' entries entries' (up_log log) log'
-    was = subst (λ (l : Logged). IsDoneFrom start generation tables name (turn_of (world start tables log.entries) before.number before.level meant k (doing_in before.doing)) after lines lines' entries entries' l log') (is_up log up) done
-
--- the same of what the code answers
-pub all_taken : {E : Type 0} (result : Result SessionState E) (start : Start) (generation : ℕ) (tables : List TableDef) (name : List ℕ) (before : SessionState) (text : List ℕ) (meant : Meaning) (k : Kind) (lines lines' : List Line) (entries entries' : List EntryLine) (log log' : Logged) →
-    log.failed ≡ false → k ≡ kind_of_text text → meant ≡ meaning bound_in tables text →
-    IfOk result (λ after. IsDoneFrom start generation tables name (turn_of (world start tables log.entries) before.number before.level meant k (doing_in before.doing)) after lines lines' entries entries' log log') →
-    IfOk result (λ after. IsTakenFrom start generation tables name before text after lines lines' entries entries' log log')
-all_taken (Err e) start generation tables name before text meant k lines lines' entries entries' log log' up is means done = tt
-all_taken (Ok after) start generation tables name before text meant k lines lines' entries entries' log log' up is means done =
-    done_taken start generation tables name before after text meant k lines lines' entries entries' log log' up is means done
-
--- no transaction is open behind a line on a node that is down
-abbrev IsClosed : Doing → Type 0
-IsClosed doing.No = Unit {0}
-IsClosed (doing.Open begin ops uses) = ⊥
-IsClosed doing.Aborted = Unit {0}
-
-cut_closes : (k : Kind) → IsClosed (behind_cut k)
-cut_closes BeginText = tt
-cut_closes CommitText = tt
-cut_closes RollbackText = tt
-cut_closes (LevelText later) = tt
-cut_closes OtherText = tt
-
-down_closes : (number : ℕ) (level : Level) (k : Kind) (d : Doing) → IsClosed (turn_down number level k d).after.doing
-down_closes number level k (doing.Open begin ops uses) = cut_closes k
-down_closes number level k doing.Aborted = cut_closes k
-down_closes number level BeginText doing.No = tt
-down_closes number level CommitText doing.No = tt
-down_closes number level RollbackText doing.No = tt
-down_closes number level (LevelText later) doing.No = tt
-down_closes number level OtherText doing.No = tt
-
-closed_shut : (d : InTransaction) → IsClosed (doing_in d) → IsShut d
-closed_shut No closed = tt
-closed_shut (Open session) closed = absurd closed
-closed_shut Aborted closed = tt
-
--- a line on a node that is down
-pub down_taken : {E : Type 0} (result : Result SessionState E) (start : Start) (generation : ℕ) (tables : List TableDef) (name : List ℕ) (before : SessionState) (text : List ℕ) (k : Kind) (lines lines' : List Line) (entries : List EntryLine) (log : Logged) →
-    log.failed ≡ true → k ≡ kind_of_text text → IsLogged start tables (length (history_of log)) (history_of log) →
-    IfOk result (λ after. IsToldDown name (turn_down before.number before.level k (doing_in before.doing)) (state_in after) lines lines') →
-    IfOk result (λ after. IsTakenFrom start generation tables name before text after lines lines' entries entries log log)
-down_taken (Err e) start generation tables name before text k lines lines' entries log down is logged told = tt
-down_taken (Ok after) start generation tables name before text k lines lines' entries log down is logged told = record {
-  taken = subst (λ (b : Bool). IsTakenOn b b (world start tables (history_of log)) name (state_in before) text (state_in after) lines lines' entries entries (takes_in (history_of log)) (seen_in start (history_of log))) (sym down) (record {
-    told = its;
-    still = record { entries_are = refl; taken_are = refl; rows_are = refl };
-  });
-  logged = logged;
-  told = λ was. was;
-  own = shut_own generation name after (closed_shut after.doing (subst (λ (s : SessionAt). IsClosed s.doing) (sym its.after_is) (down_closes before.number before.level (kind_of_text text) (doing_in before.doing))));
-  held = λ had was. was;
-}
-  where
-    its : IsToldDown name (turn_down before.number before.level (kind_of_text text) (doing_in before.doing)) (state_in after) lines lines'
-    its = subst (λ (x : Kind). IsToldDown name (turn_down before.number before.level x (doing_in before.doing)) (state_in after) lines lines') is told
 
 pub of_ok : {T E : Type 0} {P Q : T → Type 0} (r : Result T E) → ((x : T) → P x → Q x) → IfOk r P → IfOk r Q
 of_ok (Ok x) f is = f x is
