@@ -75,10 +75,6 @@ never draft line read next out e =
 is_out : (x y : Said) → is_built x ≡ false → ok_of x ≡ ok_of y → is_built y ≡ false
 is_out x y h e = subst (λ s. is_built s ≡ false) (same_ok x y e) h
 
-cluster_out : (line : ℕ) (name : Option (List ℕ)) (x : Said) → cluster_said line name ≡ Ok x → is_built x ≡ false
-cluster_out line None x e = absurd cc
-cluster_out line (Some name) x e = is_out (said.Cluster name) x refl (then_ok (is_name name) _ _ x e).1
-
 workers_out : (line : ℕ) (workers : Option ℕ) (x : Said) → workers_said line workers ≡ Ok x → is_built x ≡ false
 workers_out line None x e = absurd cc
 workers_out line (Some workers) x e = is_out (said.Workers workers) x refl (else_ok ((workers == 0) || nat_lt 64 workers) _ _ x e).1
@@ -306,6 +302,38 @@ only_node nodes node h e = within (and_first (nat_le 1 node) _ e) (subst (λ n. 
     within : nat_le 1 node ≡ true → nat_le node 1 ≡ true → node ≡ 1
     within a b = grind arith
 
+cluster_keeps : (draft : Draft) (line : ℕ) (name : Option (List ℕ)) (next : Draft) → Going draft line → draft.part ≤ 2 → and_then (cluster_said line name) (if_built draft line) ≡ Ok next → Stage next (line + 1)
+cluster_keeps draft line None next g p e = absurd cc
+cluster_keeps draft line (Some name) next g p e =
+    let a = and_ok (cluster_said line (Some name)) (if_built draft line) next e in
+    let b = then_ok (is_name name) _ _ a.0 a.1.0 in
+    let same : said.Cluster name ≡ a.0 = same_ok _ _ b.1 in
+    let built : if_built draft line (said.Cluster name) ≡ Ok next = subst (λ s. if_built draft line s ≡ Ok next) (sym same) a.1.1 in
+    let k = built_ok draft line (said.Cluster name) next built in
+    subst (λ d. Stage d (line + 1)) k.1 (at_going (record {
+      begun = refl;
+      nodes = g.nodes;
+      watches = g.watches;
+      few = g.few;
+      sessions = g.sessions;
+      new = g.new;
+      session_names = g.session_names;
+      schema = g.schema;
+      taken = g.taken;
+      table_names = g.table_names;
+      texts = g.texts;
+      columns = g.columns;
+      tables_part = inl (no_tables draft g.tables_part (before_tables p));
+      body_part = inl (no_body draft g.body_part (before_body p));
+      lines = rising_later _ line g.lines;
+    }))
+  where
+    before_tables : draft.part ≤ 2 → draft.part ≤ 4
+    before_tables h = omega arith
+
+    before_body : draft.part ≤ 2 → draft.part ≤ 5
+    before_body h = omega arith
+
 session_keeps : (draft : Draft) (line : ℕ) (parts : Option ((List ℕ × ℕ) × Bool)) (next : Draft) → Going draft line → draft.part ≤ 4 → and_then (session_said draft line parts) (if_built draft line) ≡ Ok next → Stage next (line + 1)
 session_keeps draft line None next g p e = absurd cc
 session_keeps draft line (Some ((name, node), hasql)) next g p e =
@@ -430,7 +458,8 @@ say_keeps draft line (Some (name, text)) next g e =
 told_keeps : (draft : Draft) (line : ℕ) (rest : List ℕ) (keyword : Keyword) (next : Draft) → Stage draft line → may_come draft.part (keyword_part keyword) ≡ true → and_then (told draft line rest keyword) (if_built draft line) ≡ Ok next → Stage next (line + 1)
 told_keeps draft line rest keywords.Nodes next (at_fresh f) m e = nodes_keeps draft line (only_number rest) next f e
 told_keeps draft line rest keywords.Nodes next (at_going g) m e = absurd (no_nodes draft.part g.begun m)
-told_keeps draft line rest keywords.Cluster next stage m e = absurd (never draft line (cluster_said line (only_fitting rest)) next (cluster_out line (only_fitting rest)) e)
+told_keeps draft line rest keywords.Cluster next (at_fresh f) m e = absurd (not_first 2 refl draft.part f.part m)
+told_keeps draft line rest keywords.Cluster next (at_going g) m e = cluster_keeps draft line (only_fitting rest) next g (come_later draft.part 2 g.begun m) e
 told_keeps draft line rest keywords.Workers next stage m e = absurd (never draft line (workers_said line (only_number rest)) next (workers_out line (only_number rest)) e)
 told_keeps draft line rest keywords.Session next (at_fresh f) m e = absurd (not_first 4 refl draft.part f.part m)
 told_keeps draft line rest keywords.Session next (at_going g) m e = session_keeps draft line (session_of rest) next g (come_later draft.part 4 g.begun m) e

@@ -1,7 +1,7 @@
 -- What runs today. A line that has no other reason against it and does not run has reason 10.
 --
--- Run are scripts of one node, whose sessions do not survive it, with any tables, and whose lines are texts of
--- sessions. Of the statements two run later: `set transaction serializable`, and a query with SELECTV. A text that
+-- Run are scripts of one node of any cluster, whose sessions do not survive it, with any tables, and whose lines are
+-- texts of sessions. Of the statements two run later: `set transaction serializable`, and a query with SELECTV. A text that
 -- is no statement runs: it is answered so.
 use Rattle.std.specs.Prelude.{ℕ, ◌==◌, List, Bool, true, false, not, ◌&&◌, Result, Ok, Err}
 use Rattle.std.specs.Str.{is_utf8}
@@ -45,7 +45,7 @@ runs acts.Feed = false
 -- whether what a line says runs
 abbrev pub is_built : Said → Bool
 is_built (said.Nodes nodes) = nodes == 1
-is_built (said.Cluster name) = false
+is_built (said.Cluster name) = true
 is_built (said.Workers workers) = false
 is_built (said.Session session) = not session.hasql
 is_built (said.Watch place) = false

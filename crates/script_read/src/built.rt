@@ -18,7 +18,7 @@ pub fn runs_today(alloc: Global, said: &Said) -> Result<bool, AllocError>
 {
     match said {
         Said::Nodes(nodes) => Ok(*nodes == 1),
-        Said::Cluster(_) => Ok(false),
+        Said::Cluster(_) => Ok(true),
         Said::Workers(_) => Ok(false),
         Said::Session(session) => Ok(!session.hasql),
         Said::Watch(_) => Ok(false),

@@ -130,6 +130,25 @@ fn a_script_is_read(rt: HostRuntime) -> Result<(), Fail> {
     look_at(&rt, rt.alloc(), bytes.as_slice())
 }
 
+/// Asserts that these bytes are a script of a cluster of this name.
+fn is_of_cluster<R: Abort>(rt: &R, alloc: Global, bytes: &[u8], name: &[u8]) {
+    match read_script(alloc, bytes, 1, 0) {
+        Ok(script) => same_bytes(rt, script.cluster.as_bytes(), name),
+        Err(_) => same_bytes(rt, b"", name),
+    }
+}
+
+#[test]
+fn a_cluster_has_its_name(rt: HostRuntime) {
+    is_of_cluster(
+        &rt,
+        rt.alloc(),
+        b"nodes 1\ncluster books\nsession a 1",
+        b"books",
+    );
+    is_of_cluster(&rt, rt.alloc(), b"nodes 1\nsession a 1", b"main");
+}
+
 /// Asserts that these bytes are refused at that line for that reason.
 fn refused<R: Abort>(rt: &R, alloc: Global, bytes: &[u8], line: u64, why: u8) {
     assert!(rt;
@@ -171,7 +190,7 @@ fn each_reason_is_told(rt: HostRuntime) {
 fn the_first_line_is_told_with_its_smallest_reason(rt: HostRuntime) {
     refused(&rt, rt.alloc(), b"nodes 8\n\xff", 1, 4);
     refused(&rt, rt.alloc(), b"nodes 1\nworkers 0\nhello", 2, 8);
-    refused(&rt, rt.alloc(), b"nodes 1\ncluster c\nsession A 1", 2, 10);
+    refused(&rt, rt.alloc(), b"nodes 1\nworkers 2\nsession A 1", 2, 10);
     refused(&rt, rt.alloc(), b"hello \xff", 1, 1);
     refused(&rt, rt.alloc(), b"session A 9", 1, 3);
     refused(&rt, rt.alloc(), b"nodes 1\nsession A 9", 2, 5);

@@ -18,7 +18,7 @@ static NAMES: [&[u8]; 3] = [
 /// of that line for each name, 0 for none. In `create` lines and statements, letters are of either case. A
 /// statement that does not read is none with SELECTV.
 static OF_NAMES: [(&[u8], &[u8]); 16] = [
-    (b"nodes 1\ncluster @", &[10, 3, 3]),
+    (b"nodes 1\ncluster @", &[0, 3, 3]),
     (b"nodes 1\nsession @ 1", &[0, 5, 5]),
     (b"nodes 1\ncreate table @(a int)", &[0, 7, 0]),
     (b"nodes 1\ncreate table t(@ int)", &[0, 7, 0]),

@@ -22,10 +22,10 @@ static BEHIND: [(&[u8], Option<(u64, u8)>); 7] = [
     (b"nodes 8\n\xff", Some((1, 4))),
     (b"nodes 8\nx", Some((1, 4))),
     (b"nodes 2\nnodes 8", Some((1, 8))),
-    (b"nodes 1\ncluster c\na:", Some((2, 10))),
-    (b"nodes 1\ncluster c\nstop 0", Some((2, 10))),
-    (b"nodes 1\ncluster c\ncreate", Some((2, 10))),
-    (b"nodes 1\ncluster c\nworkers 0", Some((2, 10))),
+    (b"nodes 1\nworkers 4\na:", Some((2, 10))),
+    (b"nodes 1\nworkers 4\nstop 0", Some((2, 10))),
+    (b"nodes 1\nworkers 4\ncreate", Some((2, 10))),
+    (b"nodes 1\nworkers 4\nwatch T", Some((2, 10))),
 ];
 
 /// Lines with two reasons, of which the smaller is told.

@@ -78,14 +78,14 @@ fn part_of(text: &str, words: &str) -> u8 {
     }
 }
 
-fn cluster(pieces: &[&str]) -> u8 {
+fn cluster(pieces: &[&str]) -> Option<u8> {
     let [_, name] = pieces else {
-        return 3;
+        return Some(3);
     };
     if is_name(name) && is_well_formed(name) {
-        10
+        None
     } else {
-        3
+        Some(3)
     }
 }
 
@@ -278,7 +278,7 @@ impl Told {
         let pieces = pieces.as_slice();
         match self.part {
             1 => Ok(self.nodes(pieces)),
-            2 => Ok(Some(cluster(pieces))),
+            2 => Ok(cluster(pieces)),
             3 => Ok(Some(workers(pieces))),
             4 => self.session(alloc, pieces),
             5 => self.create(alloc, words),

@@ -1,17 +1,9 @@
-use Rattle.std.proofs.Common.{◌≡◌, ◌∙◌, ◌++◌, ◌∷◌, [], List, ap, map, subst, sym}
-use Rattle.report_laws.specs.History.{Origin}
-use Rattle.report_laws.specs.Lawful.{Lawful}
-use Rattle.report_laws.specs.Nodes.{downs}
-use Rattle.report_laws.specs.Play.{InPlayOrder}
-use Rattle.report_text.specs.declared.reports.EntryLine.{EntryLine}
-use Rattle.report_text.specs.declared.reports.Report.{Report}
-use Rattle.script_form.specs.CanRun.{CanRun, tables_of}
+use Rattle.std.proofs.Common.{◌∙◌, ◌++◌, ◌∷◌, [], List, ap, map, subst, sym}
+use Rattle.script_form.specs.CanRun.{tables_of}
 use Rattle.script_form.specs.declared.scripts.BodyLine.{BodyLine}
-use Rattle.script_form.specs.declared.scripts.Script.{Script}
-use Rattle.script_play.specs.Basis.{from_origin}
 use Rattle.script_play.specs.Down.{down_line}
 use Rattle.script_play.specs.RunViews.{state_in}
-use Rattle.script_play.specs.SoFar.{at_start, report_of}
+use Rattle.script_play.specs.SoFar.{at_start}
 use Rattle.script_play.specs.SoFarDown.{IsBeforeDown}
 use Rattle.script_play.proofs.DownRunLemmas.{first_down_is, reports_out}
 use Rattle.script_play.proofs.playing.play_down.Goals as goal

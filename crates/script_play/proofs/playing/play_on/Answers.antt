@@ -1,4 +1,4 @@
-use Rattle.std.proofs.Common.{◌≡◌, ◌∙◌, ℕ, [], List, ap, map, subst, sym}
+use Rattle.std.proofs.Common.{◌∙◌, ℕ, [], List, ap, map, subst, sym}
 use Rattle.script_form.specs.CanRun.{tables_of}
 use Rattle.script_form.specs.declared.scripts.BodyLine.{BodyLine}
 use Rattle.script_play.specs.RunViews.{IsBeforeLine}
