@@ -1,5 +1,6 @@
 //! Tables on pages to be measured: `bench_tables WORK COUNT` does one kind of work with that many rows, and prints what
 //! came of it. The table has an integer, its primary key, and a drawn one below 1,000,000 with a key that is not unique.
+//! `bench_tables selects others COUNT` and `bench_tables selects same COUNT` have a log of two such tables of 1,000 rows.
 //!
 //! | WORK | What is printed |
 //! |---|---|
@@ -7,13 +8,19 @@
 //! | `inserts` | how long rows take to be inserted by one transaction each, and how many edits they have |
 //! | `updates` | how long rows take to be found by their keys and updated by one transaction each, and how many edits they have |
 //! | `reads` | how long rows take to be found to be a state, to be read whole, and to be read by 1,000 intervals |
+//! | `selects others` | how long selects of a row by its primary key take at a position so many commits back that updated the other table, and how many pages were granted |
+//! | `selects same` | the same, of a row that each of the commits updated |
 #![tactic(auto)]
 
+mod logs;
 mod reads;
+mod selects;
 mod stores;
 mod updates;
 
+use crate::logs::Updated;
 use crate::reads::{count_between, count_rows, standing_rows};
+use crate::selects::measure_selects;
 use crate::stores::{insert_rows, new_space, pages_of_edits, schema_of_bench};
 use crate::updates::update_rows;
 use cdb_values::Schema;
@@ -26,16 +33,38 @@ use std::{env, io};
 
 fn main(rt: HostRuntime) -> io::Result<()> {
     let mut words = env::args(&rt)?.skip(1);
-    let (Some(work), Some(count)) = (words.next(), words.next()) else {
-        return println!(rt; "usage: bench_tables counts|inserts|updates|reads COUNT");
+    let (Some(work), Some(second)) = (words.next(), words.next()) else {
+        return println!(rt;
+            "usage: bench_tables counts|inserts|updates|reads|selects others|selects same COUNT"
+        );
     };
-    let count = count.as_str().parse::<u32>().unwrap_or(0);
+    if work.as_str() == "selects" {
+        return measure_selects(&rt, updated_of(second.as_str()), count_of(words.next()));
+    }
+    let count = count_of(Some(second));
     let schema = schema_of_bench(rt.alloc())?;
     match work.as_str() {
         "inserts" => measure_inserts(&rt, &schema, count),
         "updates" => measure_updates(&rt, &schema, count),
         "reads" => measure_reads(&rt, &schema, count),
         _ => count_all(&rt, &schema, count),
+    }
+}
+
+/// The count that a word tells, 0 where it tells none.
+fn count_of(word: Option<String>) -> u32 {
+    match word {
+        Some(word) => word.as_str().parse::<u32>().unwrap_or(0),
+        None => 0,
+    }
+}
+
+/// Which rows a word tells to be updated.
+fn updated_of(word: &str) -> Updated {
+    if word == "same" {
+        Updated::SameRow
+    } else {
+        Updated::OtherRows
     }
 }
 

@@ -9,7 +9,7 @@ use plan_run::RowSource;
 use std::alloc::{AllocError, Global};
 
 /// The interval of the row of a number, by its primary key.
-fn interval_of(alloc: Global, number: u32) -> Result<Interval, AllocError> {
+pub(crate) fn interval_of(alloc: Global, number: u32) -> Result<Interval, AllocError> {
     let mut equal = List::new(alloc);
     equal.push(Value::Int(i64::from(number)))?;
     Ok(Interval {

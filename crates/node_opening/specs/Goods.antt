@@ -1,8 +1,9 @@
--- A log that a node may take up: it is sound, and has the given tables.
+-- A log that a node may take up: it is sound, its rows are of bytes, and it has the given tables.
 use Rattle.std.specs.Prelude.{◌≡◌, ◌⊎◌, ℕ, List, []}
 use Rattle.cdb_values.specs.declared.tables.TableDef.{TableDef}
 use Rattle.log_rows.specs.History.{tables_of}
 use Rattle.phys_log.specs.declared.entries.Entry.{Entry}
+use Rattle.sound_log.specs.Bytes.{AreOfBytes}
 use Rattle.sound_log.specs.Sound.{IsSound}
 use Rattle.store_log.specs.declared.standings.Standing.TheVariants.{Log}
 use Rattle.store_log.specs.Held.{StandsFor}
@@ -14,6 +15,7 @@ HasTables given entries = (entries ≡ []) ⊎ AreMatched given (tables_of entri
 
 pub record IsGood (accepted : ℕ) (entries : List Entry) (given : List TableDef) : Type 0 where
   pub sound : IsSound accepted entries
+  pub bytes : AreOfBytes entries
   pub tables : HasTables given entries
 
 -- the bytes of a store stand for such a log

@@ -2,8 +2,13 @@
 #![tactic(auto)]
 
 mod answers;
+mod begun;
+mod commands;
+mod opening;
 mod running;
 mod statuses;
+mod stores;
 
+pub use commands::store_folder;
 pub use running::run;
 pub use statuses::{Outside, Status, exit_status};

@@ -10,4 +10,6 @@ mod runs;
 #[cfg(test)]
 mod slow;
 #[cfg(test)]
+mod stored;
+#[cfg(test)]
 mod tests;

@@ -11,7 +11,18 @@ pub mod DecisionLemmas
 pub mod StandingLemmas
 pub mod TurnLemmas
 pub mod CutLemmas
+pub mod DownLemmas
+pub mod ComesLemmas
+pub mod NodeLemmas
 pub mod RunLemmas
+pub mod LossLemmas
+pub mod ToldLemmas
+pub mod OpenLemmas
+pub mod FallLemmas
+pub mod TellLemmas
+pub mod KeepLemmas
+pub mod DownRunLemmas
+pub mod LineLemmas
 pub mod WholeLemmas
 pub mod StartLemmas
 pub mod CourseLemmas
@@ -19,4 +30,5 @@ pub mod SiteLemmas
 pub mod SqlLaws
 pub mod PlayLaws
 pub mod TakeLemmas
+pub mod AppendLemmas
 pub mod TextLemmas

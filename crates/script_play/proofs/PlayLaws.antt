@@ -1,26 +1,32 @@
 -- The run at its opening and at its end, and a line as it is planned and done.
-use Rattle.std.proofs.Common.{◌≡◌, zero, suc, ℕ, List, [], ◌∷◌, length, map, refl, sym, subst, ap, arith, ◌∙◌, Result, Ok, Err, OnOk, IfOk}
+use Rattle.std.proofs.Common.{◌≡◌, zero, suc, ℕ, ◌+◌, ◌-◌, ◌++◌, Bool, true, false, List, [], ◌∷◌, length, map, refl, sym, subst, ap, arith, ◌∙◌, Result, Ok, Err, OnOk, OnErr, IfOk}
+use Rattle.std.proofs.lemmas.List.{length-take-le}
 use Rattle.std.specs.Prelude.{slice_get, Some}
-use Rattle.log_rows.specs.History.{Ground, takes_in}
-use Rattle.phys_log.specs.declared.entries.Entry.{Entry}
-use Rattle.report_laws.specs.History.{Basis, Origin}
+use Rattle.cdb_values.specs.declared.tables.TableDef.{TableDef}
+use Rattle.log_rows.specs.History.{takes_in}
+use Rattle.node_log.specs.Logged.{Logged, Leaves}
+use Rattle.report_laws.specs.Nodes.{downs}
+use Rattle.report_laws.proofs.NodesLaws.{downs_append}
+use Rattle.report_text.specs.declared.reports.EntryLine.{EntryLine}
+use Rattle.report_text.specs.declared.reports.Line.{Line}
 use Rattle.report_text.specs.declared.reports.Report.{Report}
-use Rattle.script_form.specs.CanRun.{tables_of}
+use Rattle.script_form.specs.CanRun.{CanRun, tables_of}
 use Rattle.script_form.specs.declared.scripts.BodyLine.{BodyLine}
 use Rattle.script_form.specs.declared.scripts.Script.{Script}
 use Rattle.script_form.specs.declared.scripts.SessionLine.{SessionLine}
-use Rattle.script_play.specs.Basis.{from_origin, from_start}
 use Rattle.script_play.specs.Doing.{SessionAt}
 use Rattle.script_play.specs.Doing as doing
-use Rattle.script_play.specs.Played.{IsLeft, IsPlayed}
-use Rattle.script_play.specs.RunViews.{doing_in, seen_in, state_in, AreOwn, IsBeforeLine, IsOwn, IsOwnDoing}
-use Rattle.script_play.specs.SoFar.{now_of, at_start, report_of}
-use Rattle.script_play.specs.Start.{Start, base, ground_at, ground_of}
-use Rattle.script_play.specs.declared.playing.Played.{Played}
-use Rattle.script_play.specs.declared.run.RunSoFar.{RunSoFar}
+use Rattle.script_play.specs.Played.{downs_by, IsGivenUp, IsPlayed}
+use Rattle.script_play.specs.RunViews.{doing_in, seen_in, state_in, AreOwn, IsBeforeLine, IsOpenedBehind, IsOpening, IsOwn, IsOwnDoing}
+use Rattle.script_play.specs.EntryLines.{AreTold}
+use Rattle.script_play.specs.Ready.{CanBegin, IsLogged}
+use Rattle.script_play.specs.SoFar.{now_of, at_start, report_of, IsAtNode, IsBefore}
+use Rattle.script_play.specs.Down.{down_line, history_by, history_of, with_entries, IsCaused, IsHeld, IsHeldBy}
+use Rattle.script_play.specs.Start.{Start, base}
 use Rattle.script_play.specs.declared.states.InTransaction.{InTransaction}
 use Rattle.script_play.specs.declared.states.InTransaction.TheVariants.{No, Open, Aborted}
 use Rattle.script_play.specs.declared.states.SessionState.{SessionState}
+use Rattle.script_play.proofs.StartLemmas.{begun, opens, Opens}
 use Rattle.script_play.proofs.WholeLemmas.{ends_lawful, ends_in_order}
 
 -- no session has an open transaction
@@ -41,64 +47,102 @@ all_rest (l ∷ all) (y ∷ ys) (suc at) x starts is = let later : map state_in 
 pub opens_own : (generation : ℕ) (sessions : List SessionLine) (states : List SessionState) → map state_in states ≡ map (λ _. at_start) sessions → AreOwn generation sessions states
 opens_own generation sessions states starts at s x line is = rests_own generation s.name x (all_rest sessions states at x starts is)
 
-none_left : (rest : List BodyLine) → length rest ≡ 0 → rest ≡ []
+-- no line is left
+pub none_left : (rest : List BodyLine) → length rest ≡ 0 → rest ≡ []
 none_left [] is = refl
 none_left (l ∷ ls) is = absurd (omega (arith, is))
 
--- what is judged is the same by the origin as by the start that it is
-same_basis : (script : Script) (origin : Origin) (before : List Entry) → origin.position ≡ length before → origin.tables ≡ tables_of script →
-    from_start script (record { before = before; rows = origin.rows }) ≡ from_origin script origin
-same_basis script origin before place tables = λ j. from_origin script (record { position = sym place j; tables = sym tables j; rows = origin.rows })
+-- how many down lines there are, by whether the node is down
+downs_at : (down : Bool) (script : Script) (lines : List Line) (states : List SessionAt) → IsAtNode down script lines states → downs lines ≡ downs_by down
+downs_at false script lines states is = is
+downs_at true script lines states is =
+    let parts : downs (is.front ++ down_line ∷ is.back) ≡ downs is.front + (downs is.back + 1) = downs_append is.front (down_line ∷ is.back) in
+    let before = is.unhurt in let behind = is.once in
+    ap downs is.is ∙ omega (arith, parts, before, behind)
 
-same_ground : (origin : Origin) (before : List Entry) → origin.position ≡ length before → ground_of (record { before = before; rows = origin.rows }) ≡ ground_at origin
-same_ground origin before place = ap (λ n. record { position = n; rows = origin.rows }) (sym place)
-
--- what a run that is done leaves, by the start and by the origin
-done_so : (script : Script) (start : Start) (generation : ℕ) (run : RunSoFar) (states : List SessionState) → IsBeforeLine script start generation [] run states →
-    IsPlayed script start generation (report_of (base start) (now_of start run.entries.items) run.lines.items run.entries.items) run.log
-done_so script start generation run states before = record {
-  lawful = ends_lawful script start before.0.done run.lines.items run.entries.items (takes_in run.log) (seen_in start run.log) (map state_in states) before.0.so_far;
-  in_order = ends_in_order script start before.0.done run.lines.items run.entries.items (takes_in run.log) (seen_in start run.log) (map state_in states) before.0.so_far;
-  no_fault = before.0.so_far.unhurt;
-  entries = before.2;
-  schema = before.1.schema;
-  taken = λ k first within. before.0.so_far.stored.taken_are k first (let n = before.1.count in omega (arith, n, within));
-  rows = λ k from within. before.0.so_far.stored.rows_are k from (let n = before.1.count in omega (arith, n, within));
-  stands = before.1.stands;
+-- a log at its opening is held
+held_first : (log : Logged) → log.failed ≡ false → IsHeld log.accepted log.store.faults log
+held_first log up = record {
+  held = subst (λ (b : Bool). IsHeldBy b log.accepted log) (sym up) refl;
+  caused = subst (λ (b : Bool). IsCaused b log.store.faults log.store.faults) (sym up) (omega arith);
 }
 
-pub done_at : (script : Script) (start : Start) (generation : ℕ) (rest : List BodyLine) (run : RunSoFar) (states : List SessionState) (told : ℕ) (report : Report) (log : List Entry) →
-    IsBeforeLine script start generation rest run states → length rest ≡ 0 → told ≡ base start → report ≡ report_of told (length run.log) run.lines.items run.entries.items → log ≡ run.log →
-    IsPlayed script start generation report log
-done_at script start generation rest run states told report log now ends base_is is same =
-    subst (λ (r : Report). IsPlayed script start generation r log) report_is
-    (subst (λ (es : List Entry). IsPlayed script start generation (report_of (base start) (now_of start run.entries.items) run.lines.items run.entries.items) es) (sym same)
-    (done_so script start generation run states at_end))
+-- the run before the first line of the script
+pub begins_at : (script : Script) (start : Start) (log : Logged) (lines : List Line) (entries : List EntryLine) (states : List SessionState) → CanRun script → log.failed ≡ false → lines ≡ [] →
+    IsOpening (tables_of script) log.accepted start.before entries log.entries → CanBegin (tables_of script) start.before start.rows → map state_in states ≡ map (λ _. at_start) script.sessions →
+    IsBeforeLine script start log.accepted log.store.faults script.body lines entries log states
+begins_at script start log lines entries states can up none opening begin starts = record {
+  before = subst (λ (ls : List Line). IsBefore script start log.failed script.body ls entries (takes_in (history_of log)) (seen_in start (history_of log)) (map state_in states)) (sym none)
+      (subst (λ (b : Bool). IsBefore script start b script.body [] entries (takes_in (history_by b log.entries)) (seen_in start (history_by b log.entries)) (map state_in states)) (sym up) first.before_line);
+  logged = subst (λ (b : Bool). IsLogged start (tables_of script) (now_of start entries) (history_by b log.entries)) (sym up) first.logged_so;
+  told = subst (λ (b : Bool). AreTold start.before log.accepted entries (history_by b log.entries)) (sym up) first.told;
+  own = opens_own log.accepted script.sessions states starts;
+  held = held_first log up;
+}
   where
-    at_end : IsBeforeLine script start generation [] run states
-    at_end = subst (λ (r : List BodyLine). IsBeforeLine script start generation r run states) (none_left rest ends) now
+    first : Opens script start log.accepted entries log.entries (map state_in states)
+    first = opens script (tables_of script) start.before start.rows log.accepted entries log.entries (map state_in states) can refl begin opening starts
 
-    report_is : report_of (base start) (now_of start run.entries.items) run.lines.items run.entries.items ≡ report
-    report_is =
-        sym (is ∙ ap (λ n. report_of n (length run.log) run.lines.items run.entries.items) base_is
-        ∙ ap (λ n. report_of (base start) n run.lines.items run.entries.items) at_end.1.count)
+-- what a run that is done leaves
+done_so : (script : Script) (start : Start) (opened : Logged) (lines : List Line) (entries : List EntryLine) (log : Logged) (states : List SessionState) →
+    IsBeforeLine script start opened.accepted opened.store.faults [] lines entries log states →
+    IsPlayed script start opened (report_of (base start) (now_of start entries) lines entries) log
+done_so script start opened lines entries log states now = record {
+  told = record {
+    lawful = ends_lawful script start log.failed now.before.done lines entries (takes_in (history_of log)) (seen_in start (history_of log)) (map state_in states) now.before.so_far;
+    in_order = ends_in_order script start log.failed now.before.done lines entries (takes_in (history_of log)) (seen_in start (history_of log)) (map state_in states) now.before.so_far;
+    entries = now.told;
+    schema = now.logged.schema;
+    taken = λ k first within. now.before.so_far.stored.taken_are k first (let n = now.logged.count in omega (arith, n, within));
+    rows = λ k from within. now.before.so_far.stored.rows_are k from (let n = now.logged.count in omega (arith, n, within));
+    stands = now.logged.stands;
+  };
+  faults = downs_at log.failed script lines (map state_in states) now.before.so_far.node;
+  held = now.held;
+}
 
-pub at_origin : (script : Script) (origin : Origin) (before : List Entry) (generation : ℕ) (report : Report) (log : List Entry) → origin.position ≡ length before → origin.tables ≡ tables_of script →
-    IsPlayed script (record { before = before; rows = origin.rows }) generation report log → IsLeft script before (from_origin script origin) (ground_at origin) origin.position generation report log
-at_origin script origin before generation report log place tables is =
-    subst (λ (b : Basis). IsLeft script before b (ground_at origin) origin.position generation report log) (same_basis script origin before place tables)
-    (subst (λ (g : Ground). IsLeft script before (from_start script start) g origin.position generation report log) (same_ground origin before place)
-    (subst (λ n. IsLeft script before (from_start script start) (ground_of start) n generation report log) (sym place) is))
+pub done_at : (script : Script) (start : Start) (opened : Logged) (lines : List Line) (entries : List EntryLine) (log : Logged) (states : List SessionState) (told : ℕ) (report : Report) →
+    IsBeforeLine script start opened.accepted opened.store.faults [] lines entries log states → told ≡ base start → report ≡ report_of told (length (history_of log)) lines entries →
+    IsPlayed script start opened report log
+done_at script start opened lines entries log states told report now base_is is =
+    subst (λ (r : Report). IsPlayed script start opened r log) (sym report_is) (done_so script start opened lines entries log states now)
   where
-    start : Start
-    start = record { before = before; rows = origin.rows }
+    report_is : report ≡ report_of (base start) (now_of start entries) lines entries
+    report_is = is ∙ ap (λ n. report_of n (length (history_of log)) lines entries) base_is ∙ ap (λ n. report_of (base start) n lines entries) now.logged.count
 
--- the same of what the code answers
-pub if_at_origin : {E : Type 0} (result : Result Played E) (script : Script) (origin : Origin) (before : List Entry) (generation : ℕ) → origin.position ≡ length before → origin.tables ≡ tables_of script →
-    IfOk result (λ p. IsPlayed script (record { before = before; rows = origin.rows }) generation p.report p.log) →
-    IfOk result (λ p. IsLeft script before (from_origin script origin) (ground_at origin) origin.position generation p.report p.log)
-if_at_origin (Err e) script origin before generation place tables is = tt
-if_at_origin (Ok p) script origin before generation place tables is = at_origin script origin before generation p.report p.log place tables is
+-- a run is given up before the first line of the script
+pub given_first : (tables : List TableDef) (start : Start) (log : Logged) → log.failed ≡ false → IsOpenedBehind tables log.accepted start.before log.entries → IsGivenUp start log log
+given_first tables start log up is = record {
+  entries = first.0;
+  told = subst (λ (b : Bool). AreTold start.before log.accepted first.0 (history_by b log.entries)) (sym up) first.1;
+  held = held_first log up;
+}
+  where
+    first : (entries : List EntryLine) × AreTold start.before log.accepted entries log.entries
+    first = begun tables log.accepted start.before log.entries is
+
+-- and at a line, which leaves the log as it was
+pub given_at : (script : Script) (start : Start) (opened log log' : Logged) (generation : ℕ) (left : List BodyLine) (lines : List Line) (entries : List EntryLine) (states : List SessionState) →
+    IsBeforeLine script start generation opened.store.faults left lines entries log states → generation ≡ opened.accepted → log' ≡ log → IsGivenUp start opened log'
+given_at script start opened log log' generation left lines entries states now made same = subst (λ (l : Logged). IsGivenUp start opened l) (sym same) (record {
+  entries = entries;
+  told = subst (λ (n : ℕ). AreTold start.before n entries (history_of log)) made now.told;
+  held = subst (λ (n : ℕ). IsHeld n opened.store.faults log) made now.held;
+})
+
+-- how many entries the history of a log has
+pub told_up : (log : Logged) → log.failed ≡ false → length (history_of log) ≡ length log.entries
+told_up log up = ap (λ (b : Bool). length (history_by b log.entries)) up
+
+pub told_down : (log : Logged) → log.failed ≡ true → length (history_of log) ≡ length log.entries - 1
+told_down log down = ap (λ (b : Bool). length (history_by b log.entries)) down ∙ length-take-le (length log.entries - 1) log.entries (omega arith)
+
+-- what is held of a log, by whether the node is down
+pub held_made : (log : Logged) (generation had : ℕ) → IsHeld generation had log → log.failed ≡ false → log.accepted ≡ generation
+held_made log generation had is up = subst (λ (b : Bool). IsHeldBy b generation log) up is.held
+
+pub held_left : (log : Logged) (generation had : ℕ) → IsHeld generation had log → log.failed ≡ true → Leaves log.store (with_entries log (history_of log) ∷ log ∷ [])
+held_left log generation had is down = (subst (λ (b : Bool). IsHeldBy b generation log) down is.held).1
 
 pub on_ok : {T E : Type 0} {P Q : Type 0} (r : Result T E) → (P → Q) → OnOk r P → OnOk r Q
 on_ok (Ok x) f is = f is
@@ -107,3 +151,7 @@ on_ok (Err e) f is = tt
 pub if_ok : {T E : Type 0} {P Q : T → Type 0} (r : Result T E) → ((x : T) → P x → Q x) → IfOk r P → IfOk r Q
 if_ok (Ok x) f is = f x is
 if_ok (Err e) f is = tt
+
+pub on_err : {T E : Type 0} {P : Type 0} (r : Result T E) → P → OnErr r P
+on_err (Ok x) is = tt
+on_err (Err e) is = is

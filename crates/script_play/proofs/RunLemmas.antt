@@ -1,9 +1,8 @@
 -- A line of the script more keeps the run so far.
-use Rattle.std.proofs.Common.{◌≡◌, ℕ, ◌+◌, ◌≤◌, List, [], ◌∷◌, ◌++◌, length, map, refl, sym, subst, ap, arith, Option, Some, None, ◌∙◌, Bool, true, false, append_assoc, ◌⊎◌, inl, inr, eq-eqb}
+use Rattle.std.proofs.Common.{◌≡◌, ℕ, ◌+◌, ◌≤◌, List, [], ◌∷◌, ◌++◌, length, map, refl, sym, subst, ap, arith, Some, ◌∙◌, Bool, true, false, ◌⊎◌, inl, inr}
 use Rattle.std.proofs.lemmas.List.{append-nil, length-append}
 use Rattle.std.specs.List.{AllByRecursion}
 use Rattle.std.specs.Str.{bytes_eq, is_utf8}
-use Rattle.std.specs.Cmp.Lexicographic.{same_text}
 use Rattle.cdb_values.specs.declared.rows.Level.{Level}
 use Rattle.script_play.specs.Seen.{Seen}
 use Rattle.script_play.specs.Start.{Start}
@@ -14,28 +13,24 @@ use Rattle.script_form.specs.declared.scripts.BodyLine.{BodyLine}
 use Rattle.script_form.specs.declared.scripts.Act.{Act}
 use Rattle.script_form.specs.declared.scripts.Act.TheVariants.{Say}
 use Rattle.report_text.specs.declared.reports.EntryLine.{EntryLine}
-use Rattle.report_text.specs.declared.reports.EntryLine.TheVariants.{Setup, Commit}
 use Rattle.report_text.specs.declared.reports.Line.{Line}
 use Rattle.report_text.specs.declared.reports.ReplyLine.{ReplyLine}
 use Rattle.report_text.specs.declared.reports.ReplyLine.TheVariants as reply
 use Rattle.cdb_values.specs.Changes.{taken_by}
-use Rattle.session_language.specs.Language.{Kind, BeginText, CommitText, RollbackText, LevelText, OtherText}
-use Rattle.report_laws.specs.History.{last_position, view_of}
-use Rattle.report_laws.specs.Lawful.{IsFreshLine}
+use Rattle.report_laws.specs.History.{view_of}
 use Rattle.report_laws.specs.Paced.{Paced}
-use Rattle.report_laws.specs.Places.{HasItsPlace}
-use Rattle.report_laws.specs.Play.{opening, IsTurn, IsTurnOf, was_cut, IsTimely, IsAppended, number_told, is_own}
+use Rattle.report_laws.specs.Play.{IsTurn, IsTurnOf, was_cut, IsTimely, IsAppended, number_told, is_own}
 use Rattle.session_language.specs.Replies.{are_up_to, is_last_of}
 use Rattle.report_laws.specs.Told.{Numbered, IsEntryTold, alone_at, told, lines_of, numbered}
-use Rattle.report_laws.specs.Work.{Place, next_by, next_place, place_after}
+use Rattle.report_laws.specs.Work.{Place, next_place, place_after}
 use Rattle.cdb_values.specs.declared.items.GenidItem.{GenidItem}
-use Rattle.session_language.proofs.EachLaws.{each_append, all_append, all_map}
+use Rattle.session_language.proofs.EachLaws.{all_append, all_map}
 use Rattle.report_laws.proofs.EntryToldLaws.{entry_told_more, entry_told_stays, told_stands}
-use Rattle.report_laws.proofs.LineLaws.{ArePaced, paced_laws, named_more, in_turns_more, timely_paced}
+use Rattle.report_laws.proofs.LineLaws.{ArePaced, paced_laws, timely_paced}
 use Rattle.report_laws.proofs.NodesLaws.{none_lost, none_lacks, downs_more}
 use Rattle.report_laws.proofs.PieceLaws.{cut_at}
 use Rattle.report_laws.proofs.ToldLaws.{told_append, told_own, told_other}
-use Rattle.report_laws.proofs.WorkLaws.{after_own, after_other, its_transaction}
+use Rattle.report_laws.proofs.WorkLaws.{after_own}
 use Rattle.script_play.specs.Basis.{from_start}
 use Rattle.sql_answer.specs.Language.{sql_language}
 use Rattle.script_play.specs.Ready.{IsAskable}
@@ -43,30 +38,11 @@ use Rattle.script_play.specs.SoFar.{now_of, SoFar, Stored, Standing, IsPast, IsE
 use Rattle.script_play.specs.Step.{Turned, Cut, IsTurned, IsCutShort, IsKept, turn, turn_by, cut_by, entries_added}
 use Rattle.script_play.specs.Doing.{SessionAt}
 use Rattle.script_play.proofs.StoredLemmas.{world, entry_of}
-use Rattle.script_play.proofs.StandingLemmas.{Grows, grows_length, stands_on}
-use Rattle.script_play.proofs.TurnLemmas.{Comes, Turns, IsNews, IsPastOf, WasCutUnder, turns}
+use Rattle.script_play.proofs.StandingLemmas.{Grows, grows_length}
+use Rattle.script_play.proofs.NodeLemmas.{went}
+use Rattle.script_play.proofs.ComesLemmas.{comes, ended_later, same_itself}
+use Rattle.script_play.proofs.TurnLemmas.{Turns, IsNews, WasCutUnder, turns}
 use Rattle.script_play.proofs.CutLemmas.{CutStands, cuts}
-
--- a name is the same as itself, and names that are the same are one
-pub same_itself : (name : List ℕ) → bytes_eq name name ≡ true
-same_itself [] = refl
-same_itself (b ∷ bs) = rw (eq-eqb b b refl) (same_itself bs)
-
-pub same_name : (name m : List ℕ) → bytes_eq name m ≡ true → name ≡ m
-same_name name m is = same_text name m (sym is)
-
--- what is over stays over
-past_next : (p : Place) (text : List ℕ) (k : Kind) (pending : Option (List (List ℕ))) (txn : ℕ) → IsPast p.number pending txn → IsPast (next_by p text k pending).number (next_by p text k pending).pending txn
-past_next p text BeginText None txn is = omega (arith, is)
-past_next p text CommitText None txn is = is
-past_next p text RollbackText None txn is = is
-past_next p text (LevelText later) None txn is = is
-past_next p text OtherText None txn is = omega (arith, is)
-past_next p text BeginText (Some texts) txn is = is
-past_next p text CommitText (Some texts) txn is = omega (arith, is)
-past_next p text RollbackText (Some texts) txn is = omega (arith, is)
-past_next p text (LevelText later) (Some texts) txn is = is
-past_next p text OtherText (Some texts) txn is = is
 
 -- what a line of the script leaves, so that the run so far is kept
 pub record Keeps (script : Script) (start : Start) (done : List BodyLine) (l : BodyLine) (lines : List Line) (entries entries' : List EntryLine) (taken' : List (List GenidItem)) (seen seen' : Seen) (name text : List ℕ) (number : ℕ) (rs : List ReplyLine) (after : SessionAt) : Type 0 where
@@ -83,40 +59,39 @@ pub record Keeps (script : Script) (start : Start) (done : List BodyLine) (l : B
   pub ended : AllByRecursion (IsEnded (done ++ l ∷ [])) entries'
 
 module _ (script : Script) (start : Start) (done left : List BodyLine) (l : BodyLine) (lines : List Line) (entries : List EntryLine) (taken : List (List GenidItem)) (seen : Seen) (states sites' : List SessionAt) (name text : List ℕ)
-    (was : SoFar script start done (l ∷ left) lines entries taken seen states) (is_act : l.act ≡ Say name text) where
+    (was : SoFar script start false done (l ∷ left) lines entries taken seen states) (is_act : l.act ≡ Say name text) where
   abbrev pub place : Place
   place = place_after sql_language name done
 
   own_place : place_after sql_language name (done ++ l ∷ []) ≡ next_place sql_language place text
   own_place = after_own sql_language name name text l done is_act (same_itself name)
 
-  -- an entry of a transaction that is over stays so
-  pub ended_later : (e : EntryLine) → IsEnded done e → IsEnded (done ++ l ∷ []) e
-  ended_later (Setup position) is = tt
-  ended_later (Commit position session txn begin level) is = pick (bytes_eq name session) refl
-    where
-      pick : (b : Bool) → bytes_eq name session ≡ b → IsPast (place_after sql_language session (done ++ l ∷ [])).number (place_after sql_language session (done ++ l ∷ [])).pending txn
-      pick true same = subst (λ (p : Place). IsPast p.number p.pending txn) (sym (after_own sql_language session name text l done is_act same))
-          (past_next (place_after sql_language session done) text (kind_of_text text) (place_after sql_language session done).pending txn is)
-      pick false differs = subst (λ (p : Place). IsPast p.number p.pending txn) (sym (after_other sql_language session name text l done is_act differs)) is
-
   pub advanced : (entries' : List EntryLine) (taken' : List (List GenidItem)) (seen' : Seen) (number : ℕ) (rs : List ReplyLine) (after : SessionAt) → Keeps script start done l lines entries entries' taken' seen seen' name text number rs after →
       state_of name script.sessions sites' ≡ after → ((m : List ℕ) → bytes_eq name m ≡ false → state_of m script.sessions sites' ≡ state_of m script.sessions states) →
-      SoFar script start (done ++ l ∷ []) left (lines ++ lines_of name number rs) entries' taken' seen' sites'
-  advanced entries' taken' seen' number rs after keeps own others = record {
-    body = was.body ∙ sym (append_assoc done (l ∷ []) left);
+      SoFar script start false (done ++ l ∷ []) left (lines ++ lines_of name number rs) entries' taken' seen' sites'
+  advanced entries' taken' seen' number rs after keeps own others = went script start false false done left l lines mine entries taken seen states sites' name text was is_act entries' taken' seen' (record {
     stored = keeps.stored;
-    standing = standing;
-    fresh = each_append (IsFreshLine (from_start script start).origin) [] lines mine was.fresh laws.fresh;
-    later = was.later ++ keeps.added;
-    begins = keeps.grown ∙ ap (λ (es : List EntryLine). es ++ keeps.added) was.begins ∙ append_assoc (opening (from_start script start).origin) was.later keeps.added;
-    order = in_turns_more (from_start script start) [] done l [] lines (opening (from_start script start).origin) was.later mine keeps.added was.order its_turn_of;
-    named = all_append _ lines mine (named_more (now_of start entries) (now_of start entries') lines longer was.named) laws.named;
+    grows = keeps.grows;
+    next = keeps.next;
+    stands = subst (λ (x : SessionAt). Standing script start entries' seen'.next name (next_place sql_language place text) (told name lines ++ told name mine) x) (sym own)
+        (subst (λ ls. Standing script start entries' seen'.next name (next_place sql_language place text) (told name lines ++ ls) after) (sym (told_own name name number rs (same_itself name))) keeps.stands);
+    others = λ m differs. told_other m name number rs differs;
+    fresh = laws.fresh;
+    placed = laws.placed;
+    named = laws.named;
+    added = keeps.added;
+    grown = keeps.grown;
+    turn = subst (λ (a : Act). IsTurnOf (from_start script start) (now_of start entries) done lines a mine keeps.added) (sym is_act) (inl (record {
+      replies = rs;
+      says = ap (λ n. lines_of name n rs) keeps.belongs;
+      turn = keeps.turn;
+      kept = none_lost script lines name (number_told sql_language place text) place.pending was.node;
+      majority = none_lacks script lines (sql_language.kind text) place.pending was.node;
+    }));
     answered = keeps.answered;
     ended = keeps.ended;
-    placed = each_append (HasItsPlace script) [] lines mine was.placed laws.placed;
-    unhurt = downs_more lines name number rs was.unhurt;
-  }
+    node = downs_more lines name number rs was.node;
+  }) others
     where
       mine : List Line
       mine = lines_of name number rs
@@ -126,58 +101,6 @@ module _ (script : Script) (start : Start) (done left : List BodyLine) (l : Body
 
       laws : ArePaced script (from_start script start).origin name number lines (now_of start entries') rs
       laws = paced_laws script (from_start script start).origin name number (now_of start entries) (now_of start entries') lines rs was.named was.stored.opened.0 was.stored.opened.1 longer keeps.paced
-
-      its_turn_of : IsTurnOf (from_start script start) (last_position (from_start script start).origin (opening (from_start script start).origin ++ was.later)) done lines l.act mine keeps.added
-      its_turn_of =
-          let count : length entries ≡ length (opening (from_start script start).origin ++ was.later) = ap (λ (es : List EntryLine). length es) was.begins in
-          let now : now_of start entries ≡ last_position (from_start script start).origin (opening (from_start script start).origin ++ was.later) = omega (arith, count) in
-          subst (λ (a : Act). IsTurnOf (from_start script start) (last_position (from_start script start).origin (opening (from_start script start).origin ++ was.later)) done lines a mine keeps.added) (sym is_act) (inl (record {
-            replies = rs;
-            says = ap (λ n. lines_of name n rs) keeps.belongs;
-            turn = subst (λ n. IsTurn n lines name (number_told sql_language place text) (is_own sql_language place text) rs keeps.added) now keeps.turn;
-            kept = none_lost script lines name (number_told sql_language place text) place.pending was.unhurt;
-            majority = none_lacks script lines (sql_language.kind text) place.pending was.unhurt;
-          }))
-
-      own_stands : Standing script start entries' seen'.next name (place_after sql_language name (done ++ l ∷ [])) (told name (lines ++ lines_of name number rs)) (state_of name script.sessions sites')
-      own_stands =
-          subst (λ (p : Place). Standing script start entries' seen'.next name p (told name (lines ++ lines_of name number rs)) (state_of name script.sessions sites')) (sym own_place)
-          (subst (λ ls. Standing script start entries' seen'.next name (next_place sql_language place text) ls (state_of name script.sessions sites')) (sym (told_append name lines (lines_of name number rs) ∙ ap (λ ls. told name lines ++ ls) (told_own name name number rs (same_itself name))))
-          (subst (λ (x : SessionAt). Standing script start entries' seen'.next name (next_place sql_language place text) (told name lines ++ numbered number rs) x) (sym own) keeps.stands))
-
-      other_stands : (m : List ℕ) → bytes_eq name m ≡ false → Standing script start entries' seen'.next m (place_after sql_language m (done ++ l ∷ [])) (told m (lines ++ lines_of name number rs)) (state_of m script.sessions sites')
-      other_stands m differs =
-          subst (λ (p : Place). Standing script start entries' seen'.next m p (told m (lines ++ lines_of name number rs)) (state_of m script.sessions sites')) (sym (after_other sql_language m name text l done is_act differs))
-          (subst (λ ls. Standing script start entries' seen'.next m (place_after sql_language m done) ls (state_of m script.sessions sites')) (sym (told_append m lines (lines_of name number rs) ∙ ap (λ ls. told m lines ++ ls) (told_other m name number rs differs) ∙ append-nil (told m lines)))
-          (subst (λ (x : SessionAt). Standing script start entries' seen'.next m (place_after sql_language m done) (told m lines) x) (sym (others m differs))
-          (stands_on script start entries entries' seen.next seen'.next m (place_after sql_language m done) (told m lines) (state_of m script.sessions states) keeps.grows keeps.next (was.standing m))))
-
-      standing : (m : List ℕ) → Standing script start entries' seen'.next m (place_after sql_language m (done ++ l ∷ [])) (told m (lines ++ lines_of name number rs)) (state_of m script.sessions sites')
-      standing m = pick (bytes_eq name m) refl
-        where
-          pick : (b : Bool) → bytes_eq name m ≡ b → Standing script start entries' seen'.next m (place_after sql_language m (done ++ l ∷ [])) (told m (lines ++ lines_of name number rs)) (state_of m script.sessions sites')
-          pick true same = subst (λ n. Standing script start entries' seen'.next n (place_after sql_language n (done ++ l ∷ [])) (told n (lines ++ lines_of name number rs)) (state_of n script.sessions sites')) (same_name name m same) own_stands
-          pick false differs = other_stands m differs
-
-  -- the session before its line
-  pub comes : AllByRecursion IsAskable (tables_of script) → is_utf8 text ≡ true → Comes script start entries taken seen name place place.pending (state_of name script.sessions states).doing text (kind_of_text text) (told name lines)
-  comes askable utf8 = record {
-    askable = askable;
-    utf8 = utf8;
-    stored = was.stored;
-    before = (was.standing name).before;
-    mine = (was.standing name).mine;
-    is = (was.standing name).is;
-    past = (was.standing name).past;
-    doing = (was.standing name).doing;
-    entered = all_map (IsEnded done) (IsPastOf name place.number place.pending) of_name entries was.ended;
-    its = λ t ends number. its_transaction sql_language name name text script.body done left l t was.body is_act (same_itself name)
-        (ap (λ (p : Place). p.over) own_place ∙ ends) (number ∙ ap (λ (p : Place). p.number) (sym own_place));
-  }
-    where
-      of_name : (e : EntryLine) → IsEnded done e → IsPastOf name place.number place.pending e
-      of_name (Setup position) is = tt
-      of_name (Commit position session txn begin level) is = λ same. subst (λ n. IsPast (place_after sql_language n done).number (place_after sql_language n done).pending txn) (same_name session name same) is
 
   -- what a line leaves, where it did what it does
   pub turn_keeps : (entries' : List EntryLine) (taken' : List (List GenidItem)) (seen' : Seen) (t : Turned) → Turns script start entries entries' taken' seen seen' name (next_place sql_language place text) (told name lines) (number_told sql_language place text) (is_own sql_language place text) t →
@@ -259,9 +182,9 @@ module _ (script : Script) (start : Start) (done left : List BodyLine) (l : Body
               }
 
       ended : IsNews script start name (told name lines) entries entries' (next_place sql_language place text) t → AllByRecursion (IsEnded (done ++ l ∷ [])) entries'
-      ended (inl same) = subst (λ es. AllByRecursion (IsEnded (done ++ l ∷ [])) es) (sym same) (all_map (IsEnded done) _ ended_later entries was.ended)
+      ended (inl same) = subst (λ es. AllByRecursion (IsEnded (done ++ l ∷ [])) es) (sym same) (all_map (IsEnded done) _ (ended_later done l name text is_act) entries was.ended)
       ended (inr (more, stands, past, begins)) = subst (λ es. AllByRecursion (IsEnded (done ++ l ∷ [])) es) (sym more)
-          (all_append _ entries (entry_of name t.number t.begin t.after.level (now_of start entries) ∷ []) (all_map (IsEnded done) _ ended_later entries was.ended)
+          (all_append _ entries (entry_of name t.number t.begin t.after.level (now_of start entries) ∷ []) (all_map (IsEnded done) _ (ended_later done l name text is_act) entries was.ended)
           (subst (λ (p : Place). IsPast p.number p.pending t.number) (sym own_place) past, tt))
 
   -- what the line does, by the number of transactions that the session has begun, and its level
@@ -282,11 +205,11 @@ module _ (script : Script) (start : Start) (done left : List BodyLine) (l : Body
       IsTurned (world script start entries taken seen) name (turn (world script start entries taken seen) (state_of name script.sessions states) text) lines lines' entries entries' taken' seen' →
       state_of name script.sessions sites' ≡ (turn (world script start entries taken seen) (state_of name script.sessions states) text).after →
       ((m : List ℕ) → bytes_eq name m ≡ false → state_of m script.sessions sites' ≡ state_of m script.sessions states) →
-      SoFar script start (done ++ l ∷ []) left lines' entries' taken' seen' sites'
+      SoFar script start false (done ++ l ∷ []) left lines' entries' taken' seen' sites'
   turned_keeps askable utf8 lines' entries' taken' seen' run own others =
-      subst (λ ls. SoFar script start (done ++ l ∷ []) left ls entries' taken' seen' sites') (sym run.lines_are)
-      (subst (λ es. SoFar script start (done ++ l ∷ []) left (lines ++ lines_of name its_turn.number its_turn.replies) es taken' seen' sites') (sym run.entries_are)
-      (subst (λ ts. SoFar script start (done ++ l ∷ []) left (lines ++ lines_of name its_turn.number its_turn.replies) (entries ++ entries_added name (now_of start entries) its_turn) ts seen' sites') (sym run.taken_are)
+      subst (λ ls. SoFar script start false (done ++ l ∷ []) left ls entries' taken' seen' sites') (sym run.lines_are)
+      (subst (λ es. SoFar script start false (done ++ l ∷ []) left (lines ++ lines_of name its_turn.number its_turn.replies) es taken' seen' sites') (sym run.entries_are)
+      (subst (λ ts. SoFar script start false (done ++ l ∷ []) left (lines ++ lines_of name its_turn.number its_turn.replies) (entries ++ entries_added name (now_of start entries) its_turn) ts seen' sites') (sym run.taken_are)
       (advanced (entries ++ entries_added name (now_of start entries) its_turn) (taken ++ map taken_by its_turn.added) seen' its_turn.number its_turn.replies its_turn.after
       (turn_keeps (entries ++ entries_added name (now_of start entries) its_turn) (taken ++ map taken_by its_turn.added) seen' its_turn goes) own others)))
     where
@@ -298,7 +221,7 @@ module _ (script : Script) (start : Start) (done left : List BodyLine) (l : Body
 
       goes : TurnsAt seen' (state_of name script.sessions states).number (state_of name script.sessions states).level
       goes = subst (λ (v : Level). KeptAt seen' (state_of name script.sessions states).number v → TurnsAt seen' (state_of name script.sessions states).number v) level
-          (subst (λ n. KeptAt seen' n place.level → TurnsAt seen' n place.level) number (turns script start entries taken seen seen' name place text (told name lines) (kind_of_text text) place.pending (state_of name script.sessions states).doing (comes askable utf8))) run.rows_are
+          (subst (λ n. KeptAt seen' n place.level → TurnsAt seen' n place.level) number (turns script start entries taken seen seen' name place text (told name lines) (kind_of_text text) place.pending (state_of name script.sessions states).doing (comes script start false done left l lines entries taken seen states name text was is_act askable utf8))) run.rows_are
 
   -- and so does one that was cut short
   pub cut_keeps : AllByRecursion IsAskable (tables_of script) → is_utf8 text ≡ true → (lines' : List Line) (entries' : List EntryLine) (taken' : List (List GenidItem)) (seen' : Seen) (c : Cut) →
@@ -306,12 +229,12 @@ module _ (script : Script) (start : Start) (done left : List BodyLine) (l : Body
       IsCutShort (world script start entries taken seen) name c lines lines' entries entries' taken' seen' →
       state_of name script.sessions sites' ≡ c.after →
       ((m : List ℕ) → bytes_eq name m ≡ false → state_of m script.sessions sites' ≡ state_of m script.sessions states) →
-      SoFar script start (done ++ l ∷ []) left lines' entries' taken' seen' sites'
+      SoFar script start false (done ++ l ∷ []) left lines' entries' taken' seen' sites'
   cut_keeps askable utf8 lines' entries' taken' seen' c is run own others =
-      subst (λ ls. SoFar script start (done ++ l ∷ []) left ls entries' taken' seen' sites') (sym run.lines_are)
-      (subst (λ es. SoFar script start (done ++ l ∷ []) left (lines ++ lines_of name c.number (reply.NoMemory ∷ [])) es taken' seen' sites') (sym run.entries_are)
-      (subst (λ ts. SoFar script start (done ++ l ∷ []) left (lines ++ lines_of name c.number (reply.NoMemory ∷ [])) entries ts seen' sites') (sym run.taken_are)
-      (subst (λ (a : Seen). SoFar script start (done ++ l ∷ []) left (lines ++ lines_of name c.number (reply.NoMemory ∷ [])) entries taken a sites') (sym run.rows_are)
+      subst (λ ls. SoFar script start false (done ++ l ∷ []) left ls entries' taken' seen' sites') (sym run.lines_are)
+      (subst (λ es. SoFar script start false (done ++ l ∷ []) left (lines ++ lines_of name c.number (reply.NoMemory ∷ [])) es taken' seen' sites') (sym run.entries_are)
+      (subst (λ ts. SoFar script start false (done ++ l ∷ []) left (lines ++ lines_of name c.number (reply.NoMemory ∷ [])) entries ts seen' sites') (sym run.taken_are)
+      (subst (λ (a : Seen). SoFar script start false (done ++ l ∷ []) left (lines ++ lines_of name c.number (reply.NoMemory ∷ [])) entries taken a sites') (sym run.rows_are)
       (advanced entries taken seen c.number (reply.NoMemory ∷ []) c.after (record {
         stored = was.stored;
         grows = inl refl;
@@ -323,11 +246,11 @@ module _ (script : Script) (start : Start) (done left : List BodyLine) (l : Body
         grown = sym (append-nil entries);
         turn = record { told = inl (cut_up_to (is_own sql_language place text)); timely = (tt, tt); appended = tt };
         answered = all_map (IsEntryTold (from_start script start) (view_of (from_start script start) entries) lines) _ later entries was.answered;
-        ended = all_map (IsEnded done) _ ended_later entries was.ended;
+        ended = all_map (IsEnded done) _ (ended_later done l name text is_act) entries was.ended;
       }) own others))))
     where
       stands : CutStands script start entries seen name (next_place sql_language place text) (told name lines) (number_told sql_language place text) c
-      stands = cuts script start entries taken seen name place text (told name lines) (kind_of_text text) place.pending (state_of name script.sessions states).doing (comes askable utf8) c
+      stands = cuts script start entries taken seen name place text (told name lines) (kind_of_text text) place.pending (state_of name script.sessions states).doing (comes script start false done left l lines entries taken seen states name text was is_act askable utf8) c
           (ap (λ n. cut_by n place.level (kind_of_text text) (state_of name script.sessions states).doing) (sym (was.standing name).number)
           ∙ ap (λ (v : Level). cut_by (state_of name script.sessions states).number v (kind_of_text text) (state_of name script.sessions states).doing) (sym (was.standing name).level) ∙ is)
 

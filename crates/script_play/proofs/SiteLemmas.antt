@@ -1,8 +1,8 @@
 -- Where a session is, by its place among the sessions, and that a line of its own changes no other.
-use Rattle.std.proofs.Common.{◌≡◌, ◌≢◌, ℕ, zero, suc, ◌+◌, ◌≤◌, ◌<◌, List, [], ◌∷◌, ◌++◌, length, map, refl, sym, subst, ap, arith, Option, Some, None, ◌∙◌, Bool, true, false, ◌⊎◌, inl, inr, if◌then◌else◌, slice_set}
+use Rattle.std.proofs.Common.{◌≡◌, ◌≢◌, ℕ, zero, suc, ◌+◌, ◌≤◌, ◌<◌, List, [], ◌∷◌, length, map, refl, sym, subst, ap, arith, Option, Some, None, ◌∙◌, Bool, true, false, ◌⊎◌, inl, inr, if◌then◌else◌, slice_set}
 use Rattle.std.proofs.lemmas.List.{length-append, length-set}
 use Rattle.std.specs.List.{AllByRecursion, slice_get}
-use Rattle.std.specs.Str.{bytes_eq, is_utf8}
+use Rattle.std.specs.Str.{bytes_eq}
 use Rattle.cdb_values.specs.Rows.{Rows}
 use Rattle.cdb_values.specs.declared.rows.RowOp.{RowOp}
 use Rattle.cdb_values.specs.declared.tables.ColumnDef.{ColumnDef}
@@ -15,7 +15,6 @@ use Rattle.table_store.specs.Stored.{Stands}
 use Rattle.script_play.specs.RunViews.{seen_in, AreOwn, IsOwn}
 use Rattle.script_play.specs.declared.states.SessionState.{SessionState}
 use Rattle.script_play.specs.EntryLines.{AreTold, lines_from}
-use Rattle.script_play.specs.Seen.{Seen}
 use Rattle.script_play.specs.Start.{Start, ground_of}
 use Rattle.script_form.specs.CanRun.{CanRun, IsDeclared, IsSaid, tables_of}
 use Rattle.script_form.specs.declared.scripts.Script.{Script}
@@ -35,11 +34,10 @@ use Rattle.script_play.proofs.SoundLaws.{distinct}
 use Rattle.sql_run.specs.Sound.{HasDistinctColumns}
 use Rattle.sql_run.specs.Spelled.{HasColumn}
 use Rattle.script_play.specs.Ready.{IsAble, IsAskable, IsLogged, IsReady, IsReadyToGo}
-use Rattle.script_play.specs.SoFar.{now_of, IsBefore, IsDoing, IsOpen, SoFar, Stored, state_of, session_from, session_at}
-use Rattle.script_play.specs.Step.{IsTaken, world_of}
+use Rattle.script_play.specs.SoFar.{now_of, IsBefore, IsDoing, IsOpen, Stored, state_of, session_from, session_at}
 use Rattle.script_play.specs.Doing.{SessionAt, Doing}
 use Rattle.script_play.specs.Doing as doing
-use Rattle.script_play.proofs.RunLemmas.{same_itself, same_name, turned_keeps, cut_keeps}
+use Rattle.script_play.proofs.ComesLemmas.{same_itself, same_name}
 
 -- the place is counted on from a number
 from_least : (k : ℕ) (name : List ℕ) (ss : List SessionLine) (at : ℕ) → session_from k name ss ≡ Some at → k ≤ at
@@ -191,9 +189,9 @@ pub record Turn (script : Script) (start : Start) (name text : List ℕ) (entrie
   pub is_declared : session_at name script.sessions ≡ None → ⊥
   pub inside : (at : ℕ) → session_at name script.sessions ≡ Some at → at < length states
 
-pub turn_is : (script : Script) (start : Start) (left : List BodyLine) (l : BodyLine) (lines : List Line) (entries : List EntryLine) (log : List Entry) (states : List SessionAt) (name text : List ℕ) →
-    IsBefore script start (l ∷ left) lines entries (takes_in log) (seen_in start log) states → IsLogged start (tables_of script) (now_of start entries) log → l.act ≡ Say name text → Turn script start name text entries log states
-turn_is script start left l lines entries log states name text before logged is_act = record {
+pub turn_is : (script : Script) (start : Start) (down : Bool) (left : List BodyLine) (l : BodyLine) (lines : List Line) (entries : List EntryLine) (log : List Entry) (states : List SessionAt) (name text : List ℕ) →
+    IsBefore script start down (l ∷ left) lines entries (takes_in log) (seen_in start log) states → IsLogged start (tables_of script) (now_of start entries) log → l.act ≡ Say name text → Turn script start name text entries log states
+turn_is script start down left l lines entries log states name text before logged is_act = record {
   ready = ready script start entries log (runs_askable script before.can_run) before.so_far.stored logged;
   to_go = λ at x found has. subst (λ (y : SessionAt). IsReadyToGo start (tables_of script) (now_of start entries) log y.doing) (found_state 0 name script.sessions states at at x found (omega arith) has)
       (doing_ready script start entries log (place_after sql_language name before.done) (place_after sql_language name before.done).pending (state_of name script.sessions states).doing _ before.so_far.stored logged (before.so_far.standing name).doing);
@@ -204,46 +202,15 @@ turn_is script start left l lines entries log states name text before logged is_
     said : IsDeclared name script.sessions
     said = (subst (λ (a : Act). IsSaid script.sessions a) is_act before.said.0).0
 
--- a line that was taken keeps the run so far
-pub turn_taken : (script : Script) (start : Start) (left : List BodyLine) (l : BodyLine) (lines lines' : List Line) (entries entries' : List EntryLine) (taken taken' : List (List GenidItem)) (seen seen' : Seen) (states : List SessionAt) (name text : List ℕ) (at : ℕ) (x after : SessionAt) →
-    IsBefore script start (l ∷ left) lines entries taken seen states → l.act ≡ Say name text → session_at name script.sessions ≡ Some at → slice_get states at ≡ Some x →
-    IsTaken (world_of (tables_of script) seen taken (now_of start entries)) name x text after lines lines' entries entries' taken' seen' →
-    IsBefore script start left lines' entries' taken' seen' (slice_set states at after)
-turn_taken script start left l lines lines' entries entries' taken taken' seen seen' states name text at x after before is_act found has run = record {
-  can_run = before.can_run;
-  said = before.said.1;
-  same = length-set states at after ∙ before.same;
-  done = before.done ++ l ∷ [];
-  so_far = go (subst (λ (y : SessionAt). IsTaken (world_of (tables_of script) seen taken (now_of start entries)) name y text after lines lines' entries entries' taken' seen') (sym its) run);
-}
-  where
-    utf8 : is_utf8 text ≡ true
-    utf8 = (subst (λ (a : Act). IsSaid script.sessions a) is_act before.said.0).1
-
-    its : state_of name script.sessions states ≡ x
-    its = found_state 0 name script.sessions states at at x found (omega arith) has
-
-    inside : at < length states
-    inside = let w = within 0 name script.sessions at found in let same = before.same in omega (arith, w, same)
-
-    own : state_of name script.sessions (slice_set states at after) ≡ after
-    own = set_state 0 name script.sessions states at at after found (omega arith) inside
-
-    others : (m : List ℕ) → bytes_eq name m ≡ false → state_of m script.sessions (slice_set states at after) ≡ state_of m script.sessions states
-    others m differs = other_state 0 name m script.sessions states at at after found (omega arith) differs
-
-    go : IsTaken (world_of (tables_of script) seen taken (now_of start entries)) name (state_of name script.sessions states) text after lines lines' entries entries' taken' seen' →
-        SoFar script start (before.done ++ l ∷ []) left lines' entries' taken' seen' (slice_set states at after)
-    go (inl (done, there)) = turned_keeps script start before.done left l lines entries taken seen states (slice_set states at after) name text before.so_far is_act (runs_askable script before.can_run) utf8
-        lines' entries' taken' seen' done (own ∙ there) others
-    go (inr (c, is, short, there)) = cut_keeps script start before.done left l lines entries taken seen states (slice_set states at after) name text before.so_far is_act (runs_askable script before.can_run) utf8
-        lines' entries' taken' seen' c is short (own ∙ there) others
-
 -- what is put at a place twice is what was put there last
 pub set_again : {A : Type 0} (xs : List A) (i : ℕ) (x y : A) → slice_set (slice_set xs i x) i y ≡ slice_set xs i y
 set_again [] i x y = refl
 set_again (z ∷ zs) zero x y = refl
 set_again (z ∷ zs) (suc i) x y = ap (λ rest. z ∷ rest) (set_again zs i x y)
+
+-- a place is inside a list still, where something is put there
+pub inside_set : {A : Type 0} (xs ys : List A) (i : ℕ) (x : A) → ys ≡ slice_set xs i x → i < length xs → i < length ys
+inside_set {A} xs ys i x is inside = subst (λ (zs : List A). i < length zs) (sym is) (subst (λ (n : ℕ). i < n) (sym (length-set xs i x)) inside)
 
 -- the line of a session at its place has its name
 pub found_line : (k : ℕ) (name : List ℕ) (ss : List SessionLine) (at i : ℕ) → session_from k name ss ≡ Some at → at ≡ k + i → (s : SessionLine) × (slice_get ss i ≡ Some s) × (s.name ≡ name)

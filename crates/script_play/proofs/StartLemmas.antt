@@ -1,5 +1,5 @@
 -- The run at its opening: with a log that it begins, and behind one that stands already.
-use Rattle.std.proofs.Common.{◌≡◌, zero, suc, ℕ, ◌-◌, ◌<◌, ◌≤◌, ◌==◌, List, [], ◌∷◌, length, map, refl, sym, subst, ap, arith, ◌∙◌, append-nil, unwrap_or, Bool, if◌then◌else◌}
+use Rattle.std.proofs.Common.{◌≡◌, zero, suc, ℕ, ◌-◌, ◌<◌, ◌≤◌, ◌==◌, List, [], ◌∷◌, length, map, refl, sym, subst, ap, arith, ◌∙◌, append-nil, unwrap_or, Bool, false, if◌then◌else◌}
 use Rattle.std.proofs.lemmas.Bool.{ne_eqb}
 use Rattle.std.specs.List.{AllByRecursion, slice_get}
 use Rattle.std.specs.Prelude.{drop}
@@ -22,9 +22,9 @@ use Rattle.script_form.specs.declared.scripts.SessionLine.{SessionLine}
 use Rattle.script_play.specs.Basis.{from_start}
 use Rattle.script_play.specs.Decisions.{HasName}
 use Rattle.script_play.specs.Doing.{SessionAt}
-use Rattle.script_play.specs.EntryLines.{AreTold}
+use Rattle.script_play.specs.EntryLines.{AreTold, IsMadeIn, lines_from}
 use Rattle.script_play.specs.Ready.{AreKept, CanBegin, GoesOn, IsLogged}
-use Rattle.script_play.specs.RunViews.{seen_in, IsOpening, IsOpenedLog}
+use Rattle.script_play.specs.RunViews.{seen_in, IsOpening, IsOpenedBehind, IsOpenedLog}
 use Rattle.script_play.specs.Seen.{Seen}
 use Rattle.script_play.specs.SoFar.{now_of, IsBefore, Stored, at_start}
 use Rattle.script_play.specs.Start.{Start, base, ground_of}
@@ -35,6 +35,20 @@ use Rattle.table_store.specs.Stored.{Stands}
 pub none_before : (before : List Entry) → length before ≡ 0 → before ≡ []
 none_before [] is = refl
 none_before (e ∷ es) is = absurd (omega (arith, is))
+
+-- the setup of the tables stands in a history that begins with the run
+pub opening_is : (tables : List TableDef) (generation told : ℕ) (before : List Entry) (entries : List EntryLine) (logged : List Entry) → told ≡ length before → (told ≡ 0 → entries ≡ Setup 1 ∷ []) → (1 ≤ told → entries ≡ []) →
+    IsOpenedBehind tables generation before logged → IsOpening tables generation before entries logged
+opening_is tables generation told before entries logged count first later is = record {
+  first = λ none. (first (count ∙ ap (λ (es : List Entry). length es) none), is.first none);
+  later = λ some. (later (omega (arith, count, some)), is.later some);
+}
+
+-- the entries of a log at its opening are told
+pub begun : (tables : List TableDef) (generation : ℕ) (before logged : List Entry) → IsOpenedBehind tables generation before logged → (entries : List EntryLine) × AreTold before generation entries logged
+begun tables generation [] logged is =
+    (lines_from 1 logged, record { made = logged; behind = refl; told = refl; in_it = subst (λ (es : List Entry). AllByRecursion (IsMadeIn generation) es) (sym (is.first refl).is) (refl, tt) })
+begun tables generation (e ∷ es) logged is = ([], record { made = []; behind = is.later (omega arith) ∙ sym (append-nil (e ∷ es)); told = refl; in_it = tt })
 
 -- ---- a run that begins its log
 
@@ -113,14 +127,14 @@ as_many (s ∷ ss) = let rest = as_many ss in omega (arith, rest)
 
 -- the run as it begins, with its log
 pub record Opens (script : Script) (start : Start) (generation : ℕ) (entries : List EntryLine) (logged : List Entry) (states : List SessionAt) : Type 0 where
-  pub before_line : IsBefore script start script.body [] entries (takes_in logged) (seen_in start logged) states
+  pub before_line : IsBefore script start false script.body [] entries (takes_in logged) (seen_in start logged) states
   pub logged_so : IsLogged start (tables_of script) (now_of start entries) logged
   pub told : AreTold start.before generation entries logged
 
 first_is : (script : Script) (start : Start) (taken : List (List GenidItem)) (seen : Seen) (states : List SessionAt) → CanRun script → states ≡ map (λ _. at_start) script.sessions → Stored script start (opening (from_start script start).origin) taken seen →
-    IsBefore script start script.body [] (opening (from_start script start).origin) taken seen states
+    IsBefore script start false script.body [] (opening (from_start script start).origin) taken seen states
 first_is script start taken seen states can starts stored =
-    subst (λ (ss : List SessionAt). IsBefore script start script.body [] (opening (from_start script start).origin) taken seen ss) (sym starts) (record {
+    subst (λ (ss : List SessionAt). IsBefore script start false script.body [] (opening (from_start script start).origin) taken seen ss) (sym starts) (record {
       can_run = can;
       said = can.said;
       same = as_many script.sessions;
@@ -148,7 +162,7 @@ opens_first script rows generation records states can starts at_one = record {
 opens_later : (script : Script) (start : Start) (generation : ℕ) (states : List SessionAt) → CanRun script → states ≡ map (λ _. at_start) script.sessions → 1 ≤ base start → GoesOn (tables_of script) start.before start.rows →
     Opens script start generation [] start.before states
 opens_later script start generation states can starts some goes = record {
-  before_line = subst (λ (es : List EntryLine). IsBefore script start script.body [] es (takes_in start.before) (seen_in start start.before) states) none
+  before_line = subst (λ (es : List EntryLine). IsBefore script start false script.body [] es (takes_in start.before) (seen_in start start.before) states) none
       (first_is script start (takes_in start.before) (seen_in start start.before) states can starts
       (subst (λ (es : List EntryLine). Stored script start es (takes_in start.before) (seen_in start start.before)) (sym none)
       (stored_later script start (takes_in start.before) (seen_in start start.before) some (rows_whole (ground_of start) start.before ∙ there) (ap (λ (r : Rows). r.next) there) (takes_length start.before) goes.kept)));

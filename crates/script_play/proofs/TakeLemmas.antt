@@ -1,8 +1,10 @@
 -- A line that is planned, done or cut short: what each step needs and leaves.
-use Rattle.std.proofs.Common.{◌≡◌, ℕ, ◌+◌, ◌≤◌, ◌<◌, List, [], ◌∷◌, ◌++◌, length, map, refl, sym, subst, ap, arith, Option, Some, None, ◌∙◌, Result, Ok, Err, IfOk, OnOk, IfSome, inl, inr, option_to_list, append-nil, append_assoc}
+use Rattle.std.proofs.Common.{◌≡◌, ◌≢◌, ℕ, ◌+◌, ◌-◌, ◌≤◌, ◌<◌, Bool, true, false, List, [], ◌∷◌, ◌++◌, length, map, take, refl, sym, subst, ap, arith, Option, Some, None, ◌∙◌, Result, Ok, Err, IfOk, OnOk, IfSome, inl, inr, option_to_list, append-nil, append_assoc}
+use Rattle.std.proofs.Math.Seq.{take-append_seam}
 use Rattle.std.proofs.lemmas.List.{length-append}
 use Rattle.std.specs.List.{AllByRecursion}
 use Rattle.std.specs.Prelude.{drop}
+use Rattle.cdb_outside.specs.Faults.{Rose}
 use Rattle.cdb_values.specs.Rows.{Rows, apply_all}
 use Rattle.cdb_values.specs.declared.rows.Level.{Level}
 use Rattle.cdb_values.specs.declared.rows.RowOp.{RowOp}
@@ -10,11 +12,12 @@ use Rattle.cdb_values.specs.declared.tables.TableDef.{TableDef}
 use Rattle.live_operations.specs.Live.{AreLive}
 use Rattle.log_rows.specs.History.{rows_over, rows_over_at, takes_in, IsCommit, IsFrom}
 use Rattle.log_rows.proofs.HistoryLemmas.{rows_earlier, rows_whole, stand_more, schema_front, takes_more}
+use Rattle.node_log.specs.Logged.{Logged, Leaves, with_entry}
 use Rattle.phys_log.specs.Logs.{Fits, page_at}
 use Rattle.phys_log.specs.declared.entries.Entry.{Entry}
 use Rattle.phys_log.specs.declared.entries.Entry.TheVariants.{Setup as EntrySetup, Commit as EntryCommit}
 use Rattle.sql_answer.specs.Answers.{Meaning}
-use Rattle.sql_answer.specs.Language.{meaning, bound_in, sql_language}
+use Rattle.sql_answer.specs.Language.{sql_language}
 use Rattle.sql_answer.specs.Reading.{kind_of_text}
 use Rattle.sql_run.specs.Texts.{answer_to}
 use Rattle.report_text.specs.declared.reports.EntryLine.{EntryLine}
@@ -23,22 +26,26 @@ use Rattle.report_text.specs.declared.reports.Line.{Line}
 use Rattle.report_text.specs.declared.reports.ReplyLine.{ReplyLine}
 use Rattle.report_text.specs.declared.reports.ReplyLine.TheVariants as reply
 use Rattle.cdb_values.specs.Changes.{taken_by}
-use Rattle.session_language.specs.Language.{Kind}
+use Rattle.session_language.specs.Language.{Kind, BeginText, CommitText, RollbackText, LevelText, OtherText}
 use Rattle.report_laws.specs.Told.{lines_of}
 use Rattle.cdb_values.specs.declared.items.GenidItem.{GenidItem}
+use Rattle.store_log.specs.Held.{generation_of}
+use Rattle.store_log.specs.Keeps.{Stored}
 use Rattle.table_store.specs.Stored.{Stands}
 use Rattle.script_play.specs.Decisions.{added_by}
 use Rattle.script_play.proofs.LiveLemmas.{stands_distinct, text_alone_leaves_live}
 use Rattle.script_play.proofs.SqlLaws.{kept_answer}
 use Rattle.script_play.specs.Effects.{IsEffect, IsAdded, IsEntryOf, IsOfIts, Named, cut_in, lines_added, named_so}
+use Rattle.script_play.specs.Doing.{SessionAt, Doing}
+use Rattle.script_play.specs.Doing as doing
+use Rattle.script_play.specs.Down.{fallen_lines, with_entries, HasOutcome, IsFallenAt, IsKeptSo, TellsOutcome}
 use Rattle.script_play.specs.EntryLines.{AreTold, IsMadeIn, line_of, lines_from}
 use Rattle.script_play.specs.Ready.{AreKept, IsAble, IsKeptOp, IsLogged, IsReady}
-use Rattle.script_play.specs.RunViews.{state_in, seen_in, IsOfText, IsOwn, IsOwnDoing, IsShut}
+use Rattle.script_play.specs.RunViews.{state_in, seen_in, world, IsDoneFrom, IsOfText, IsOwn, IsOwnDoing, IsShut, IsTakenFrom}
 use Rattle.script_play.specs.declared.states.InTransaction.{InTransaction}
 use Rattle.script_play.specs.declared.states.InTransaction.TheVariants.{No, Open, Aborted}
-use Rattle.script_play.specs.Seen.{Seen}
 use Rattle.script_play.specs.Start.{Start, base, ground_of}
-use Rattle.script_play.specs.Step.{World, Turned, IsTaken, IsTurned, IsKept, answer_of, outcome, turn_of, cut_by, world_of}
+use Rattle.script_play.specs.Step.{World, Turned, IsTurned, IsKept, answer_of, outcome, turn_of, cut_by}
 use Rattle.script_play.specs.declared.effects.LineEffect.{LineEffect}
 use Rattle.script_play.specs.declared.states.SessionState.{SessionState}
 
@@ -194,12 +201,17 @@ told_more before generation log log' added entries entries' made kept grows is =
     count : length log + 1 ≡ length before + 1 + length is.made
     count = let n = ap (λ (es : List Entry). length es) is.behind in omega (arith, n, length-append before is.made)
 
+-- what a line leaves of a log that stays up, by the entries of the log
+abbrev WasDone : Start → ℕ → List TableDef → List ℕ → Turned → SessionState → List Line → List Line → List EntryLine → List EntryLine → List Entry → List Entry → Type 0
+WasDone start generation tables name t after lines lines' entries entries' log log' =
+    IsTurned (world start tables log) name t lines lines' entries entries' (takes_in log') (seen_in start log') × (state_in after ≡ t.after) × IsLogged start tables (length log') log'
+    × (AreTold start.before generation entries log → AreTold start.before generation entries' log') × IsOwn generation name after
+
 -- a plan that was done is what the line does
-pub effect_done : (start : Start) (generation : ℕ) (tables : List TableDef) (log log' : List Entry) (name : List ℕ) (p : LineEffect) (t : Turned) (after : SessionState) (lines lines' : List Line) (entries entries' : List EntryLine) →
+effect_done : (start : Start) (generation : ℕ) (tables : List TableDef) (log log' : List Entry) (name : List ℕ) (p : LineEffect) (t : Turned) (after : SessionState) (lines lines' : List Line) (entries entries' : List EntryLine) →
     IsLogged start tables (length log) log → IsFrom (base start) (length log) → IsEffect start generation tables log name p t → after ≡ p.after →
     lines' ≡ lines ++ lines_of name p.number p.replies.items → entries' ≡ entries ++ lines_added (length log) p.added → log' ≡ log ++ option_to_list p.added →
-    IsTurned (world_of tables (seen_in start log) (takes_in log) (length log)) name t lines lines' entries entries' (takes_in log') (seen_in start log') × (state_in after ≡ t.after) × IsLogged start tables (length log') log'
-    × (AreTold start.before generation entries log → AreTold start.before generation entries' log') × IsOwn generation name after
+    WasDone start generation tables name t after lines lines' entries entries' log log'
 effect_done start generation tables log log' name p t after lines lines' entries entries' logged opened is there told kept grows = (
   record {
     lines_are = told ∙ ap (λ n. lines ++ lines_of name n p.replies.items) is.number ∙ ap (λ rs. lines ++ lines_of name t.number rs) is.replies;
@@ -217,15 +229,174 @@ effect_done start generation tables log log' name p t after lines lines' entries
     its : Kept start tables log (log ++ option_to_list p.added) (length log) t.added
     its = kept_added start tables log (length log) logged opened p.added (named_so generation name t.number t.begin t.after.level) t.added is.added
 
+-- the same of a log that stayed
+told_same : (before : List Entry) (generation : ℕ) (log log' : List Entry) (entries entries' : List EntryLine) → entries' ≡ entries → log' ≡ log → AreTold before generation entries log → AreTold before generation entries' log'
+told_same before generation log log' entries entries' es same is = record {
+  made = is.made;
+  behind = same ∙ is.behind;
+  told = es ∙ is.told;
+  in_it = is.in_it;
+}
+
+-- a log that is up, written so
+abbrev up_log : Logged → Logged
+up_log log = record log { failed = false }
+
+is_up : (log : Logged) → log.failed ≡ false → log ≡ up_log log
+is_up log up = ap (λ (b : Bool). record log { failed = b }) up
+
+-- a node that was up is up behind a line
+done_up : (start : Start) (generation : ℕ) (tables : List TableDef) (name : List ℕ) (t : Turned) (after : SessionState) (lines lines' : List Line) (entries entries' : List EntryLine) (log log' : Logged) →
+    log.failed ≡ false → log'.failed ≡ log.failed → log'.accepted ≡ log.accepted → log.store.faults ≤ log'.store.faults →
+    WasDone start generation tables name t after lines lines' entries entries' log.entries log'.entries → IsDoneFrom start generation tables name t after lines lines' entries entries' log log'
+done_up start generation tables name t after lines lines' entries entries' log log' up stays accepted later was =
+    subst (λ (l : Logged). IsDoneFrom start generation tables name t after lines lines' entries entries' l log') (sym (is_up log up))
+    (subst (λ (l : Logged). IsDoneFrom start generation tables name t after lines lines' entries entries' (up_log log) l) (sym (is_up log' (stays ∙ up))) (record {
+      done = (was.0, was.1);
+      logged = was.2;
+      told = was.3;
+      own = was.4;
+      held = λ had is. record {
+        held = accepted ∙ is.held;
+        caused = let c : had ≤ log.store.faults = is.caused in omega (arith, c, later);
+      };
+    }))
+
+-- a log with an entry at which its store failed
+abbrev fallen_log : Logged → Entry → Stored → Logged
+fallen_log log entry store = record (with_entry log entry) { store = store; failed = true }
+
+without_last : (es : List Entry) (entry : Entry) → take (length (es ++ entry ∷ []) - 1) (es ++ entry ∷ []) ≡ es
+without_last es entry = ap (λ n. take n (es ++ entry ∷ [])) count ∙ take-append_seam es (entry ∷ [])
+  where
+    count : length (es ++ entry ∷ []) - 1 ≡ length es
+    count = omega (arith, length-append es (entry ∷ []))
+
+rose_since : (had before now : ℕ) → had ≤ before → Rose before now → Rose had now
+rose_since had before now from (inl rises) = inl (omega (arith, from, rises))
+rose_since had before now from (inr last) = inr last
+
+left_so : (log : Logged) (entry : Entry) (store : Stored) (es : List Entry) → es ≡ log.entries → Leaves store (log ∷ with_entry log entry ∷ []) →
+    Leaves store (with_entries (fallen_log log entry store) es ∷ fallen_log log entry store ∷ [])
+left_so log entry store es is left = subst (λ (x : List Entry). Leaves store (with_entries (fallen_log log entry store) x ∷ fallen_log log entry store ∷ [])) (sym is) left
+
+-- a node that was up goes down at the entry of a line
+done_fallen : (start : Start) (generation : ℕ) (tables : List TableDef) (name : List ℕ) (t : Turned) (after : SessionState) (lines lines' : List Line) (entries entries' : List EntryLine) (log log' : Logged) (entry : Entry) (outcome : HasOutcome t.replies) →
+    log.failed ≡ false → IsLogged start tables (length log.entries) log.entries → t.added ≢ [] → lines' ≡ lines ++ fallen_lines name t.number outcome.front → state_in after ≡ t.after → IsOwn generation name after →
+    IsFallenAt entry entries entries' log log' → IsDoneFrom start generation tables name t after lines lines' entries entries' log log'
+done_fallen start generation tables name t after lines lines' entries entries' log log' entry outcome up logged commits told there own fell =
+    subst (λ (l : Logged). IsDoneFrom start generation tables name t after lines lines' entries entries' l log') (sym (is_up log up))
+    (subst (λ (l : Logged). IsDoneFrom start generation tables name t after lines lines' entries entries' (up_log log) l) (sym fell.log_is) (record {
+      done = record {
+        commits = commits;
+        outcome = outcome;
+        lines_are = told;
+        after_is = there;
+        still = record {
+          entries_are = fell.entries_are;
+          taken_are = ap (λ (es : List Entry). takes_in es) (without_last log.entries entry);
+          rows_are = ap (λ (es : List Entry). seen_in start es) (without_last log.entries entry);
+        };
+      };
+      logged = subst (λ (es : List Entry). IsLogged start tables (length es) es) (sym (without_last log.entries entry)) logged;
+      told = told_same start.before generation log.entries (take (length (log.entries ++ entry ∷ []) - 1) (log.entries ++ entry ∷ [])) entries entries' fell.entries_are (without_last log.entries entry);
+      own = own;
+      held = λ had is. record {
+        held = (omega (arith, length-append log.entries (entry ∷ [])), left_so log entry log'.store (take (length (log.entries ++ entry ∷ []) - 1) (log.entries ++ entry ∷ [])) (without_last log.entries entry) fell.left);
+        caused = rose_since had log.store.faults log'.store.faults is.caused fell.rose;
+      };
+    }))
+
+-- where an entry is appended, operations are committed
+adds_some : (start : Start) (tables : List TableDef) (log : List Entry) (entry : Entry) (named : Named) (all : List (List RowOp)) → IsAdded start tables log (Some entry) named all → all ≢ []
+adds_some start tables log entry named [] is = absurd is
+adds_some start tables log entry named (ops ∷ more) is = λ none. cc
+
+-- what was told and kept of a plan is what the line does
+effect_kept : (start : Start) (generation : ℕ) (tables : List TableDef) (name : List ℕ) (p : LineEffect) (t : Turned) (after : SessionState) (lines lines' : List Line) (entries entries' : List EntryLine) (log log' : Logged) →
+    log.failed ≡ false → IsLogged start tables (length log.entries) log.entries → IsFrom (base start) (length log.entries) → IsEffect start generation tables log.entries name p t → after ≡ p.after →
+    IsKeptSo name p.number p.replies.items p.added lines lines' entries entries' log log' → IsDoneFrom start generation tables name t after lines lines' entries entries' log log'
+effect_kept start generation tables name p t after lines lines' entries entries' log log' up logged opened is there kept = go p.added refl kept
+  where
+    done : entries' ≡ entries ++ lines_added (length log.entries) p.added → log'.entries ≡ log.entries ++ option_to_list p.added → lines' ≡ lines ++ lines_of name p.number p.replies.items →
+        WasDone start generation tables name t after lines lines' entries entries' log.entries log'.entries
+    done es grows told = effect_done start generation tables log.entries log'.entries name p t after lines lines' entries entries' logged opened is there told es grows
+
+    go : (added : Option Entry) → p.added ≡ added → IsKeptSo name p.number p.replies.items added lines lines' entries entries' log log' → IsDoneFrom start generation tables name t after lines lines' entries entries' log log'
+    go None none (told, es, same) =
+        done_up start generation tables name t after lines lines' entries entries' log log' up (ap (λ (l : Logged). l.failed) same) (ap (λ (l : Logged). l.accepted) same)
+        (let n = ap (λ (l : Logged). l.store.faults) same in omega (arith, n))
+        (done (es ∙ sym (append-nil entries) ∙ ap (λ (o : Option Entry). entries ++ lines_added (length log.entries) o) (sym none))
+        (ap (λ (l : Logged). l.entries) same ∙ sym (append-nil log.entries) ∙ ap (λ (o : Option Entry). log.entries ++ option_to_list o) (sym none)) told)
+    go (Some entry) some (inl (told, entered)) =
+        done_up start generation tables name t after lines lines' entries entries' log log' up (ap (λ (l : Logged). l.failed) entered.log_is) (ap (λ (l : Logged). l.accepted) entered.log_is) entered.later
+        (done (entered.entries_are ∙ ap (λ (o : Option Entry). entries ++ lines_added (length log.entries) o) (sym some))
+        (ap (λ (l : Logged). l.entries) entered.log_is ∙ ap (λ (o : Option Entry). log.entries ++ option_to_list o) (sym some)) told)
+    go (Some entry) some (inr (told, falls, fell)) =
+        done_fallen start generation tables name t after lines lines' entries entries' log log' entry (record { front = told.front; outcome = told.outcome; is = sym is.replies ∙ told.is }) up logged
+        (adds_some start tables log.entries entry (named_so generation name t.number t.begin t.after.level) t.added
+        (subst (λ (o : Option Entry). IsAdded start tables log.entries o (named_so generation name t.number t.begin t.after.level) t.added) some is.added))
+        (falls ∙ ap (λ n. lines ++ fallen_lines name n told.front) is.number) (ap (λ (s : SessionState). state_in s) there ∙ is.after) (subst (λ (s : SessionState). IsOwn generation name s) (sym there) is.own) fell
+
 -- the same of what the code answers
-pub effect_taken : {E : Type 0} (result : Result SessionState E) (start : Start) (generation : ℕ) (tables : List TableDef) (log log' : List Entry) (name : List ℕ) (p : LineEffect) (t : Turned) (lines lines' : List Line) (entries entries' : List EntryLine) →
-    IsLogged start tables (length log) log → IsFrom (base start) (length log) → IsEffect start generation tables log name p t → IfOk result (λ after. after ≡ p.after) →
-    OnOk result (lines' ≡ lines ++ lines_of name p.number p.replies.items) → OnOk result (entries' ≡ entries ++ lines_added (length log) p.added) → OnOk result (log' ≡ log ++ option_to_list p.added) →
-    IfOk result (λ after. IsTurned (world_of tables (seen_in start log) (takes_in log) (length log)) name t lines lines' entries entries' (takes_in log') (seen_in start log') × (state_in after ≡ t.after) × IsLogged start tables (length log') log'
-    × (AreTold start.before generation entries log → AreTold start.before generation entries' log') × IsOwn generation name after)
-effect_taken (Err e) start generation tables log log' name p t lines lines' entries entries' logged opened is there told kept grows = tt
-effect_taken (Ok after) start generation tables log log' name p t lines lines' entries entries' logged opened is there told kept grows =
-    effect_done start generation tables log log' name p t after lines lines' entries entries' logged opened is there told kept grows
+pub effect_taken : {E : Type 0} (result : Result SessionState E) (start : Start) (generation : ℕ) (tables : List TableDef) (name : List ℕ) (p : LineEffect) (t : Turned) (lines lines' : List Line) (entries entries' : List EntryLine) (log log' : Logged) →
+    log.failed ≡ false → IsLogged start tables (length log.entries) log.entries → IsFrom (base start) (length log.entries) → IsEffect start generation tables log.entries name p t → IfOk result (λ after. after ≡ p.after) →
+    OnOk result (IsKeptSo name p.number p.replies.items p.added lines lines' entries entries' log log') → IfOk result (λ after. IsDoneFrom start generation tables name t after lines lines' entries entries' log log')
+effect_taken (Err e) start generation tables name p t lines lines' entries entries' log log' up logged opened is there kept = tt
+effect_taken (Ok after) start generation tables name p t lines lines' entries entries' log log' up logged opened is there kept =
+    effect_kept start generation tables name p t after lines lines' entries entries' log log' up logged opened is there kept
+
+-- a line that commits an entry is told the outcome of its transaction at last
+pub told_outcome : (w : World) (number : ℕ) (level : Level) (meant : Meaning) (k : Kind) (d : Doing) → (turn_of w number level meant k d).added ≢ [] → HasOutcome (turn_of w number level meant k d).replies
+told_outcome w number level meant BeginText doing.No adds = absurd (adds refl)
+told_outcome w number level meant CommitText doing.No adds = absurd (adds refl)
+told_outcome w number level meant RollbackText doing.No adds = absurd (adds refl)
+told_outcome w number level meant (LevelText later) doing.No adds = absurd (adds refl)
+told_outcome w number level meant OtherText doing.No adds = record { front = reply.Begin w.now ∷ (answer_of w w.now [] meant).replies; outcome = outcome w w.now (answer_of w w.now [] meant).uses (answer_of w w.now [] meant).ops; is = refl }
+told_outcome w number level meant BeginText (doing.Open begin ops uses) adds = absurd (adds refl)
+told_outcome w number level meant CommitText (doing.Open begin ops uses) adds = record { front = []; outcome = outcome w begin uses ops; is = refl }
+told_outcome w number level meant RollbackText (doing.Open begin ops uses) adds = absurd (adds refl)
+told_outcome w number level meant (LevelText later) (doing.Open begin ops uses) adds = absurd (adds refl)
+told_outcome w number level meant OtherText (doing.Open begin ops uses) adds = absurd (adds refl)
+told_outcome w number level meant BeginText doing.Aborted adds = absurd (adds refl)
+told_outcome w number level meant CommitText doing.Aborted adds = absurd (adds refl)
+told_outcome w number level meant RollbackText doing.Aborted adds = absurd (adds refl)
+told_outcome w number level meant (LevelText later) doing.Aborted adds = absurd (adds refl)
+told_outcome w number level meant OtherText doing.Aborted adds = absurd (adds refl)
+
+-- what the entry of a plan needs to be appended, beside that it is the next one of the log
+module _ (start : Start) (generation : ℕ) (tables : List TableDef) (log : List Entry) (name : List ℕ) (p : LineEffect) (t : Turned) (is : IsEffect start generation tables log name p t) where
+  pub effect_commits : IfSome p.added IsCommit
+  effect_commits = go p.added t.added is.added
+    where
+      go : (added : Option Entry) (all : List (List RowOp)) → IsAdded start tables log added (named_so generation name t.number t.begin t.after.level) all → IfSome added IsCommit
+      go None all adds = tt
+      go (Some entry) [] adds = absurd adds
+      go (Some entry) (ops ∷ []) adds = adds.commit
+      go (Some entry) (ops ∷ more ∷ others) adds = absurd adds
+
+  pub effect_made : (accepted : ℕ) → accepted ≡ generation → IfSome p.added (λ e. generation_of e ≡ accepted)
+  effect_made accepted made = go p.added t.added is.added
+    where
+      its : (entry : Entry) → IsOfIts (named_so generation name t.number t.begin t.after.level) entry → generation_of entry ≡ accepted
+      its (EntrySetup at schema records) of_its = absurd of_its
+      its (EntryCommit at id begin level changes records) of_its = of_its.0 ∙ sym made
+
+      go : (added : Option Entry) (all : List (List RowOp)) → IsAdded start tables log added (named_so generation name t.number t.begin t.after.level) all → IfSome added (λ e. generation_of e ≡ accepted)
+      go None all adds = tt
+      go (Some entry) [] adds = absurd adds
+      go (Some entry) (ops ∷ []) adds = its entry adds.of_its
+      go (Some entry) (ops ∷ more ∷ others) adds = absurd adds
+
+  pub effect_tells : (t.added ≢ [] → HasOutcome t.replies) → TellsOutcome p.replies.items p.added
+  effect_tells tells = go p.added is.added
+    where
+      at_last : HasOutcome t.replies → HasOutcome p.replies.items
+      at_last told = record { front = told.front; outcome = told.outcome; is = is.replies ∙ told.is }
+
+      go : (added : Option Entry) → IsAdded start tables log added (named_so generation name t.number t.begin t.after.level) t.added → TellsOutcome p.replies.items added
+      go None adds = tt
+      go (Some entry) adds = at_last (tells (adds_some start tables log entry (named_so generation name t.number t.begin t.after.level) t.added adds))
 
 -- a session without an open transaction has its own
 shut_doing : (generation : ℕ) (name : List ℕ) (number : ℕ) (level : Level) (d : InTransaction) → IsShut d → IsOwnDoing generation name number level d
@@ -236,43 +407,32 @@ shut_doing generation name number level Aborted shut = tt
 pub shut_own : (generation : ℕ) (name : List ℕ) (s : SessionState) → IsShut s.doing → IsOwn generation name s
 shut_own generation name s shut = shut_doing generation name s.number s.level s.doing shut
 
--- the same of a log that stayed
-told_same : (before : List Entry) (generation : ℕ) (log log' : List Entry) (entries entries' : List EntryLine) → entries' ≡ entries → log' ≡ log → AreTold before generation entries log → AreTold before generation entries' log'
-told_same before generation log log' entries entries' es same is = record {
-  made = is.made;
-  behind = same ∙ is.behind;
-  told = es ∙ is.told;
-  in_it = is.in_it;
-}
+-- a line that was cut short, by the entries of the log
+cut_done : (start : Start) (generation : ℕ) (tables : List TableDef) (log : Logged) (name : List ℕ) (before after : SessionState) (text : List ℕ) (lines lines' : List Line) (entries entries' : List EntryLine) →
+    log.failed ≡ false → IsLogged start tables (length log.entries) log.entries → IsShut after.doing → cut_by before.number before.level (kind_of_text text) (state_in before).doing ≡ cut_in after →
+    lines' ≡ lines ++ lines_of name after.number (reply.NoMemory ∷ []) → entries' ≡ entries → IsTakenFrom start generation tables name before text after lines lines' entries entries' log log
+cut_done start generation tables log name before after text lines lines' entries entries' up logged shut its told es =
+    subst (λ (l : Logged). IsTakenFrom start generation tables name before text after lines lines' entries entries' l l) (sym (is_up log up)) (record {
+      taken = inr (record { number = after.number; after = state_in after }, its, record { lines_are = told; entries_are = es; taken_are = refl; rows_are = refl }, refl);
+      logged = logged;
+      told = told_same start.before generation log.entries log.entries entries entries' es refl;
+      own = shut_own generation name after shut;
+      held = λ had is. is;
+    })
 
 -- a line that was cut short
-pub cut_taken : {E : Type 0} (start : Start) (generation : ℕ) (tables : List TableDef) (log log' : List Entry) (name : List ℕ) (before : SessionState) (text : List ℕ) (k : Kind) (cut : Option SessionState) (result : Result SessionState E) (lines lines' : List Line) (entries entries' : List EntryLine) →
-    IsLogged start tables (length log) log → IfSome cut (λ after. IsShut after.doing) →
+pub cut_taken : {E : Type 0} (start : Start) (generation : ℕ) (tables : List TableDef) (log log' : Logged) (name : List ℕ) (before : SessionState) (text : List ℕ) (k : Kind) (cut : Option SessionState) (result : Result SessionState E) (lines lines' : List Line) (entries entries' : List EntryLine) →
+    log.failed ≡ false → IsLogged start tables (length log.entries) log.entries → IfSome cut (λ after. IsShut after.doing) →
     k ≡ kind_of_text text → IfSome cut (λ after. cut_by before.number before.level k (state_in before).doing ≡ cut_in after) → IfOk result (λ after. cut ≡ Some after) → IfOk result (λ after. lines' ≡ lines ++ lines_of name after.number (reply.NoMemory ∷ [])) →
-    entries' ≡ entries → log' ≡ log →
-    IfOk result (λ after. IsTaken (world_of tables (seen_in start log) (takes_in log) (length log)) name (state_in before) text (state_in after) lines lines' entries entries' (takes_in log') (seen_in start log') × IsLogged start tables (length log') log'
-    × (AreTold start.before generation entries log → AreTold start.before generation entries' log') × IsOwn generation name after)
-cut_taken start generation tables log log' name before text k cut (Err e) lines lines' entries entries' logged shut is its there told es same = tt
-cut_taken start generation tables log log' name before text k cut (Ok after) lines lines' entries entries' logged shut is its there told es same =
-    let mine : IfSome (Some after) (λ (x : SessionState). cut_by before.number before.level k (state_in before).doing ≡ cut_in x) = subst (λ (o : Option SessionState). IfSome o (λ (x : SessionState). cut_by before.number before.level k (state_in before).doing ≡ cut_in x)) there its in (
-      inr (
-        record { number = after.number; after = state_in after },
-        ap (λ (x : Kind). cut_by before.number before.level x (state_in before).doing) (sym is) ∙ mine,
-        record { lines_are = told; entries_are = es; taken_are = ap (λ (l : List Entry). takes_in l) same; rows_are = ap (λ (l : List Entry). seen_in start l) same },
-        refl,
-      ),
-      subst (λ (l : List Entry). IsLogged start tables (length l) l) (sym same) logged,
-      told_same start.before generation log log' entries entries' es same,
-      shut_own generation name after (subst (λ (o : Option SessionState). IfSome o (λ (x : SessionState). IsShut x.doing)) there shut),
-    )
+    entries' ≡ entries → log' ≡ log → IfOk result (λ after. IsTakenFrom start generation tables name before text after lines lines' entries entries' log log')
+cut_taken start generation tables log log' name before text k cut (Err e) lines lines' entries entries' up logged shut is its there told es same = tt
+cut_taken start generation tables log log' name before text k cut (Ok after) lines lines' entries entries' up logged shut is its there told es same =
+    subst (λ (l : Logged). IsTakenFrom start generation tables name before text after lines lines' entries entries' log l) (sym same)
+    (cut_done start generation tables log name before after text lines lines' entries entries' up logged
+    (subst (λ (o : Option SessionState). IfSome o (λ (x : SessionState). IsShut x.doing)) there shut)
+    (ap (λ (x : Kind). cut_by before.number before.level x (state_in before).doing) (sym is)
+    ∙ subst (λ (o : Option SessionState). IfSome o (λ (x : SessionState). cut_by before.number before.level k (state_in before).doing ≡ cut_in x)) there its) told es)
 
--- a line that was done, by its prepared text
-pub done_taken : (w : World) (name : List ℕ) (before after : SessionState) (text : List ℕ) (meant : Meaning) (k : Kind) (lines lines' : List Line) (entries entries' : List EntryLine) (taken' : List (List GenidItem)) (seen' : Seen) →
-    k ≡ kind_of_text text → meant ≡ meaning bound_in w.tables text →
-    IsTurned w name (turn_of w before.number before.level meant k (state_in before).doing) lines lines' entries entries' taken' seen' → state_in after ≡ (turn_of w before.number before.level meant k (state_in before).doing).after →
-    IsTaken w name (state_in before) text (state_in after) lines lines' entries entries' taken' seen'
-done_taken w name before after text meant k lines lines' entries entries' taken' seen' is means done there =
-    inl (subst (λ (m : Meaning). Done m (kind_of_text text)) means (subst (λ (x : Kind). Done meant x) is (done, there)))
-  where
-    Done : Meaning → Kind → Type 0
-    Done m x = IsTurned w name (turn_of w before.number before.level m x (state_in before).doing) lines lines' entries entries' taken' seen' × (state_in after ≡ (turn_of w before.number before.level m x (state_in before).doing).after)
+pub of_ok : {T E : Type 0} {P Q : T → Type 0} (r : Result T E) → ((x : T) → P x → Q x) → IfOk r P → IfOk r Q
+of_ok (Ok x) f is = f x is
+of_ok (Err e) f is = tt

@@ -298,21 +298,23 @@ module _ (script : Script) (start : Start) (entries : List EntryLine) (taken : L
         says = ap (λ (rs : List ReplyLine). lines ++ numbered (p.number + 1) (rs ++ own_outcome a ∷ [])) says;
       }
 
+  own_is : (c : Comes script start entries taken seen name p None doing.No text OtherText lines) → answer_at w (now_of start entries) [] text ≡ sql_language.answer (tables_of script) (rows_at (from_start script start) entries (now_of start entries)).tables [] text
+  own_is c = answer_is OtherText None doing.No c (now_of start entries) c.stored.opened (omega arith) []
+
+  -- its replies before its outcome
+  pub own_says : (c : Comes script start entries taken seen name p None doing.No text OtherText lines) →
+      own_front (answer_at w (now_of start entries) [] text) ≡ reply.Begin (now_of start entries) ∷ (alone_at (from_start script start) (view_of (from_start script start) entries) own_txn (now_of start entries)).replies
+  own_says c = ap (λ (x : Answered). reply.Begin (now_of start entries) ∷ x.replies) (own_is c) ∙ ap (λ rs. reply.Begin (now_of start entries) ∷ rs) (sym (append-nil (sql_language.answer (tables_of script) (rows_at (from_start script start) entries (now_of start entries)).tables [] text).replies))
+
   own : (c : Comes script start entries taken seen name p None doing.No text OtherText lines) → Goal (next_by p text OtherText None) (number_by p.number OtherText None) true (turn_by w p.number p.level text OtherText doing.No)
-  own c kept = own_by c (answer_at w (now_of start entries) [] text) (sql_is_answered.plain (tables_of script) (seen.at (now_of start entries)).tables [] text) says are uses_are
+  own c kept = own_by c (answer_at w (now_of start entries) [] text) (sql_is_answered.plain (tables_of script) (seen.at (now_of start entries)).tables [] text) (own_says c) are uses_are
       (decides script start entries taken seen seen' name own_txn (now_of start entries) (answer_at w (now_of start entries) [] text).uses (answer_at w (now_of start entries) [] text).ops commits kept)
     where
-      its : answer_at w (now_of start entries) [] text ≡ sql_language.answer (tables_of script) (rows_at (from_start script start) entries (now_of start entries)).tables [] text
-      its = answer_is OtherText None doing.No c (now_of start entries) c.stored.opened (omega arith) []
-
-      says : own_front (answer_at w (now_of start entries) [] text) ≡ reply.Begin (now_of start entries) ∷ (alone_at (from_start script start) (view_of (from_start script start) entries) own_txn (now_of start entries)).replies
-      says = ap (λ (x : Answered). reply.Begin (now_of start entries) ∷ x.replies) its ∙ ap (λ rs. reply.Begin (now_of start entries) ∷ rs) (sym (append-nil (sql_language.answer (tables_of script) (rows_at (from_start script start) entries (now_of start entries)).tables [] text).replies))
-
       are : (answer_at w (now_of start entries) [] text).ops ≡ (alone_at (from_start script start) (view_of (from_start script start) entries) own_txn (now_of start entries)).ops
-      are = ap (λ (x : Answered). x.ops) its
+      are = ap (λ (x : Answered). x.ops) (own_is c)
 
       uses_are : (answer_at w (now_of start entries) [] text).uses ≡ (alone_at (from_start script start) (view_of (from_start script start) entries) own_txn (now_of start entries)).uses
-      uses_are = ap (λ (x : Answered). x.uses) its ∙ sym (append-nil (sql_language.answer (tables_of script) (rows_at (from_start script start) entries (now_of start entries)).tables [] text).uses)
+      uses_are = ap (λ (x : Answered). x.uses) (own_is c) ∙ sym (append-nil (sql_language.answer (tables_of script) (rows_at (from_start script start) entries (now_of start entries)).tables [] text).uses)
 
       commits : Commits script start entries taken seen name own_txn (now_of start entries) (answer_at w (now_of start entries) [] text).uses (answer_at w (now_of start entries) [] text).ops
       commits = comes_to OtherText None doing.No c own_txn (now_of start entries) (answer_at w (now_of start entries) [] text).uses (answer_at w (now_of start entries) [] text).ops c.stored.opened (omega arith) (c.its own_txn refl refl) are uses_are
@@ -414,8 +416,8 @@ module _ (script : Script) (start : Start) (entries : List EntryLine) (taken : L
         more : List ReplyLine
         more = (sql_language.answer (tables_of script) (rows_at (from_start script start) entries c.doing.begin).tables (alone sql_language (tables_of script) (rows_at (from_start script start) entries c.doing.begin) texts).ops text).replies
 
-    was_cut : WasCutUnder lines p.number
-    was_cut = (
+    pub cut_before : WasCutUnder lines p.number
+    cut_before = (
       c.doing.cause,
       c.doing.is_cause,
       (
@@ -429,13 +431,13 @@ module _ (script : Script) (start : Start) (entries : List EntryLine) (taken : L
     skips : Goal (with_open p (Some (texts ++ text ∷ [])) p.number) p.number false (turned p.number [] (state p.number p.level doing.Aborted))
     skips kept = quiet k (Some texts) doing.Aborted c (with_open p (Some (texts ++ text ∷ [])) p.number) p.number p.number false [] (state p.number p.level doing.Aborted) kept
         (in_transaction script start entries entries (inl refl) name p c.before c.past (texts ++ text ∷ []) c.mine (lines ++ numbered p.number []) seen.next p.number doing.Aborted more_cut skipped_lines)
-        refl refl (inr (refl, was_cut))
+        refl refl (inr (refl, cut_before))
 
     skips_end : (end : End) → Goal (closed p texts end) p.number false (turned p.number [] (state p.number p.level doing.No))
     skips_end end kept = quiet k (Some texts) doing.Aborted c (closed p texts end) p.number p.number false [] (state p.number p.level doing.No) kept
         (idle_after script start entries entries (inl refl) name p c.before c.past (Does (transaction p.number texts p.level end)) c.mine (lines ++ numbered p.number []) seen.next p.number p.level
         (inr (record { begin = c.doing.begin; base = c.doing.base; within = c.doing.within; ran = c.doing.ran; is_ran = c.doing.is_ran; front = c.doing.front; rest = c.doing.rest; fits = c.doing.fits; cause = c.doing.cause; is_cause = c.doing.is_cause; may = may_later end c.doing.ran.ops c.doing.ran.ops c.doing.front c.doing.rest c.doing.rest c.doing.cause c.doing.may; says = c.doing.says })) skipped_lines)
-        refl refl (inr (refl, was_cut))
+        refl refl (inr (refl, cut_before))
 
   -- whatever the line is, and wherever the session is
   pub turns : (k : Kind) (pending : Option (List (List ℕ))) (what : Doing) → Comes script start entries taken seen name p pending what text k lines →

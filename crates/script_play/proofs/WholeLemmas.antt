@@ -31,7 +31,8 @@ use Rattle.script_play.specs.SoFar.{now_of, SoFar, Stored, Standing, IsEnded, Is
 use Rattle.script_play.specs.Doing.{SessionAt, Doing}
 use Rattle.script_play.specs.Doing as doing
 
-starts : (name : List ℕ) (sessions : List SessionLine) → state_of name sessions (map (λ _. at_start) sessions) ≡ at_start
+-- a session that has done nothing is at its start
+pub starts : (name : List ℕ) (sessions : List SessionLine) → state_of name sessions (map (λ _. at_start) sessions) ≡ at_start
 starts name [] = refl
 starts name (s ∷ ss) = pick (bytes_eq s.name name) (starts name ss)
   where
@@ -46,7 +47,7 @@ all_opening P is false = tt
 
 -- the run as it begins
 pub begins_so : (script : Script) (start : Start) (taken : List (List GenidItem)) (seen : Seen) → Stored script start (opening (from_start script start).origin) taken seen →
-    SoFar script start [] script.body [] (opening (from_start script start).origin) taken seen (map (λ _. at_start) script.sessions)
+    SoFar script start false [] script.body [] (opening (from_start script start).origin) taken seen (map (λ _. at_start) script.sessions)
 begins_so script start taken seen stored = record {
   body = refl;
   stored = stored;
@@ -59,7 +60,7 @@ begins_so script start taken seen stored = record {
   answered = all_opening (IsEntryTold (from_start script start) (view_of (from_start script start) at_first) []) tt ((from_start script start).origin.position == 0);
   ended = all_opening (IsEnded []) tt ((from_start script start).origin.position == 0);
   placed = tt;
-  unhurt = refl;
+  node = refl;
 }
   where
     at_first : List EntryLine
@@ -100,7 +101,7 @@ along_place P script start entries next name p (Some texts) doing.Aborted before
     along_append P p.over (Does (transaction p.number texts p.level Nowhere) ∷ []) before (numbered p.number mine) (along_map (IsTold (from_start script start) (view_of (from_start script start) entries) name) P over p.over before past)
     (along_one P (Does (transaction p.number texts p.level Nowhere)) mine (cut texts is))
 
-module _ (script : Script) (start : Start) (done : List BodyLine) (lines : List Line) (entries : List EntryLine) (taken : List (List GenidItem)) (seen : Seen) (states : List SessionAt) (was : SoFar script start done [] lines entries taken seen states) where
+module _ (script : Script) (start : Start) (down : Bool) (done : List BodyLine) (lines : List Line) (entries : List EntryLine) (taken : List (List GenidItem)) (seen : Seen) (states : List SessionAt) (was : SoFar script start down done [] lines entries taken seen states) where
   all_done : script.body ≡ done
   all_done = was.body ∙ append-nil done
 

@@ -1,5 +1,5 @@
 -- What the code says of a line that is still to be done, and of one that was.
-use Rattle.std.specs.Prelude.{◌≡◌, ℕ, ◌+◌, ◌++◌, ◌∷◌, [], List, Option, Some, None}
+use Rattle.std.specs.Prelude.{◌≡◌, ℕ, ◌+◌, ◌++◌, ◌∷◌, [], List, Option, Some, None, option_to_list}
 use Rattle.cdb_values.specs.Changes.{taken_by}
 use Rattle.cdb_values.specs.Rows.{apply_all}
 use Rattle.cdb_values.specs.declared.rows.Level.{Level}
@@ -20,6 +20,7 @@ use Rattle.script_play.specs.EntryLines.{line_of}
 use Rattle.script_play.specs.RunViews.{state_in, IsOwn}
 use Rattle.script_play.specs.Start.{Start, ground_of}
 use Rattle.script_play.specs.Step.{Turned, Cut}
+use Rattle.script_play.specs.declared.downs.DownEffect.{DownEffect}
 use Rattle.script_play.specs.declared.effects.LineEffect.{LineEffect}
 use Rattle.script_play.specs.declared.verdicts.Verdict.{Verdict}
 use Rattle.script_play.specs.declared.states.SessionState.{SessionState}
@@ -76,6 +77,12 @@ pub record IsEffect (start : Start) (generation : ℕ) (tables : List TableDef) 
   pub after : state_in p.after ≡ t.after
   pub own : IsOwn generation name p.after
   pub added : IsAdded start tables log p.added (named_so generation name t.number t.begin t.after.level) t.added
+
+-- what a line of a session does on a node that is down
+pub record IsEffectDown (p : DownEffect) (t : Turned) : Type 0 where
+  pub number : p.number ≡ t.number
+  pub replies : option_to_list p.reply ≡ t.replies
+  pub after : state_in p.after ≡ t.after
 
 -- a cut, by where the session is behind it
 abbrev pub cut_in : SessionState → Option Cut

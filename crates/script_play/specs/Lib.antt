@@ -10,3 +10,6 @@ pub mod Ready
 pub mod SoFar
 pub mod Played
 pub mod Step
+pub mod Down
+pub mod Falls
+pub mod SoFarDown

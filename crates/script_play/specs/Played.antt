@@ -1,30 +1,46 @@
 -- What a script that was played leaves, by where the run began.
-use Rattle.std.specs.Prelude.{◌≡◌, ℕ, ◌-◌, ◌<◌, ◌≤◌, [], List, Some, length, slice_get, unwrap_or}
+use Rattle.std.specs.Prelude.{◌≡◌, ℕ, ◌-◌, ◌<◌, ◌≤◌, [], List, Bool, true, false, Some, length, slice_get, unwrap_or}
 use Rattle.log_replay.specs.Answers.{schema_of}
-use Rattle.log_rows.specs.History.{Ground, rows_over_at, takes_in, IsFrom, StandsOver}
+use Rattle.log_rows.specs.History.{rows_over_at, takes_in, IsFrom, StandsOver}
+use Rattle.node_log.specs.Logged.{Logged}
 use Rattle.phys_log.specs.declared.entries.Entry.{Entry}
-use Rattle.report_laws.specs.History.{Basis, rows_at, taken_at}
+use Rattle.report_laws.specs.History.{rows_at, taken_at}
 use Rattle.report_laws.specs.Lawful.{Lawful}
 use Rattle.report_laws.specs.Nodes.{downs}
 use Rattle.report_laws.specs.Play.{InPlayOrder}
+use Rattle.report_text.specs.declared.reports.EntryLine.{EntryLine}
 use Rattle.report_text.specs.declared.reports.Report.{Report}
 use Rattle.script_form.specs.CanRun.{tables_of}
 use Rattle.script_form.specs.declared.scripts.Script.{Script}
 use Rattle.script_play.specs.Basis.{from_start}
+use Rattle.script_play.specs.Down.{history_of, IsHeld}
 use Rattle.script_play.specs.EntryLines.{AreTold}
 use Rattle.script_play.specs.Start.{Start, base, ground_of}
 
--- a report and a log, by what the report is judged by, and the ground of the rows
-pub record IsLeft (script : Script) (before : List Entry) (basis : Basis) (footing : Ground) (position generation : ℕ) (report : Report) (log : List Entry) : Type 0 where
-  pub lawful : Lawful basis report
-  pub in_order : InPlayOrder basis report
-  pub no_fault : downs report.lines ≡ 0
-  pub entries : AreTold before generation report.entries log
-  pub schema : schema_of log ≡ Some (tables_of script)
-  pub taken : (k : ℕ) → position < k → k ≤ length log → unwrap_or (slice_get (takes_in log) (k - 1)) [] ≡ taken_at basis report.entries k
-  pub rows : (k : ℕ) → IsFrom position k → k ≤ length log → rows_over_at footing log k ≡ rows_at basis report.entries k
-  pub stands : StandsOver footing (tables_of script) log
+-- how many down lines a report has, by whether the node is down
+abbrev pub downs_by : Bool → ℕ
+downs_by false = 0
+downs_by true = 1
 
--- the same by the start
-abbrev pub IsPlayed : Script → Start → ℕ → Report → List Entry → Type 0
-IsPlayed script start generation report log = IsLeft script start.before (from_start script start) (ground_of start) (base start) generation report log
+-- what a report tells of a history: that of a log from where the run began
+pub record IsTold (script : Script) (start : Start) (generation : ℕ) (report : Report) (history : List Entry) : Type 0 where
+  pub lawful : Lawful (from_start script start) report
+  pub in_order : InPlayOrder (from_start script start) report
+  pub entries : AreTold start.before generation report.entries history
+  pub schema : schema_of history ≡ Some (tables_of script)
+  pub taken : (k : ℕ) → base start < k → k ≤ length history → unwrap_or (slice_get (takes_in history) (k - 1)) [] ≡ taken_at (from_start script start) report.entries k
+  pub rows : (k : ℕ) → IsFrom (base start) k → k ≤ length history → rows_over_at (ground_of start) history k ≡ rows_at (from_start script start) report.entries k
+  pub stands : StandsOver (ground_of start) (tables_of script) history
+
+-- a report and the log of its node, which was opened so
+pub record IsPlayed (script : Script) (start : Start) (opened : Logged) (report : Report) (log : Logged) : Type 0 where
+  pub told : IsTold script start opened.accepted report (history_of log)
+  pub faults : downs report.lines ≡ downs_by log.failed
+  pub held : IsHeld opened.accepted opened.store.faults log
+
+-- the log of a run that was given up, and that was opened so: it is the one before the run with entries of the run, as a history
+-- tells them, and it is held as that of a run that is done
+pub record IsGivenUp (start : Start) (opened log : Logged) : Type 0 where
+  pub entries : List EntryLine
+  pub told : AreTold start.before opened.accepted entries (history_of log)
+  pub held : IsHeld opened.accepted opened.store.faults log

@@ -19,14 +19,17 @@ use Rattle.cdb_values.specs.declared.rows.Level.{Level}
 use Rattle.sql_answer.specs.Answers.{Meaning}
 use Rattle.sql_answer.specs.Language.{meaning, bound_in}
 use Rattle.script_play.specs.Start.{Start, ground_of}
+use Rattle.node_log.specs.Logged.{Logged}
+use Rattle.report_text.specs.declared.reports.Line.{Line}
+use Rattle.script_play.specs.Down.{history_of, IsHeld}
+use Rattle.script_play.specs.Falls.{IsDoneOn, IsTakenOn}
 use Rattle.script_play.specs.Doing.{Doing, SessionAt}
 use Rattle.script_play.specs.Doing as doing
 use Rattle.script_play.specs.EntryLines.{AreTold}
 use Rattle.script_play.specs.Ready.{IsReady, IsLogged}
 use Rattle.script_play.specs.Seen.{Seen}
 use Rattle.script_play.specs.SoFar.{IsBefore, now_of}
-use Rattle.script_play.specs.Step.{World, Turned, IsTaken, IsTurned, world_of}
-use Rattle.script_play.specs.declared.run.RunSoFar.{RunSoFar}
+use Rattle.script_play.specs.Step.{World, Turned, world_of}
 use Rattle.script_play.specs.declared.states.InTransaction.{InTransaction}
 use Rattle.script_play.specs.declared.states.InTransaction.TheVariants.{No, Open, Aborted}
 use Rattle.script_play.specs.declared.states.SessionState.{SessionState}
@@ -45,20 +48,20 @@ abbrev pub seen_in : Start → List Entry → Seen
 seen_in start log = record { at = rows_over_at (ground_of start) log; next = (rows_over (ground_of start) log).next }
 
 -- what the run is before a line
-abbrev pub world : Start → List TableDef → RunSoFar → World
-world start tables run = world_of tables (seen_in start run.log) (takes_in run.log) (length run.log)
+abbrev pub world : Start → List TableDef → List Entry → World
+world start tables log = world_of tables (seen_in start log) (takes_in log) (length log)
 
 -- the log is ready for a line
-abbrev pub IsReadyFor : Start → List TableDef → RunSoFar → Type 0
-IsReadyFor start tables run = IsReady start tables (length run.log) run.log
+abbrev pub IsReadyFor : Start → List TableDef → List Entry → Type 0
+IsReadyFor start tables log = IsReady start tables (length log) log
 
 -- what some text of UTF-8 means in the schema
 abbrev pub IsOfText : List TableDef → Meaning → Type 0
 IsOfText tables meant = (text : List ℕ) × (is_utf8 text ≡ true) × (meant ≡ meaning bound_in tables text)
 
 -- the history and the log are the same
-abbrev pub IsSameHistory : RunSoFar → RunSoFar → Type 0
-IsSameHistory old new = (new.entries.items ≡ old.entries.items) × (new.log ≡ old.log)
+abbrev pub IsSameHistory : List EntryLine → List EntryLine → Logged → Logged → Type 0
+IsSameHistory entries entries' log log' = (entries' ≡ entries) × (log' ≡ log)
 
 -- a log that has the setup of a schema alone, in a generation; its pages stand for tables without rows
 pub record IsOpenedLog (tables : List TableDef) (generation : ℕ) (log : List Entry) : Type 0 where
@@ -66,8 +69,13 @@ pub record IsOpenedLog (tables : List TableDef) (generation : ℕ) (log : List E
   pub is : log ≡ Setup generation tables records ∷ []
   pub stands : Stands (pages_of log) tables (no_rows tables)
 
--- the run at its opening: behind a log without entries the schema stands in the history and in the log, and behind any other
--- one nothing was added
+-- the log of a node at the opening of a run: where there was none before, it has the setup of the schema alone; any other
+-- one is as it was
+pub record IsOpenedBehind (tables : List TableDef) (generation : ℕ) (before log : List Entry) : Type 0 where
+  pub first : before ≡ [] → IsOpenedLog tables generation log
+  pub later : 1 ≤ length before → log ≡ before
+
+-- the run at its opening: where there was no entry before, the schema stands in the history
 pub record IsOpening (tables : List TableDef) (generation : ℕ) (before : List Entry) (entries : List EntryLine) (log : List Entry) : Type 0 where
   pub first : before ≡ [] → (entries ≡ EntrySetup 1 ∷ []) × IsOpenedLog tables generation log
   pub later : 1 ≤ length before → (entries ≡ []) × (log ≡ before)
@@ -92,27 +100,27 @@ abbrev pub AreOwn : ℕ → List SessionLine → List SessionState → Type 0
 AreOwn generation sessions states =
     (at : ℕ) (s : SessionLine) (x : SessionState) → slice_get sessions at ≡ Some s → slice_get states at ≡ Some x → IsOwn generation s.name x
 
--- the run before a line, with the lines `left` still to do
-abbrev pub IsBeforeLine : Script → Start → ℕ → List BodyLine → RunSoFar → List SessionState → Type 0
-IsBeforeLine script start generation left run states =
-    IsBefore script start left run.lines.items run.entries.items (takes_in run.log) (seen_in start run.log) (map state_in states)
-    × IsLogged start (tables_of script) (now_of start run.entries.items) run.log
-    × AreTold start.before generation run.entries.items run.log
-    × AreOwn generation script.sessions states
+-- the run before a line, with the lines `left` still to do: its log is that of the history, and one entry more where the node
+-- is down
+pub record IsBeforeLine (script : Script) (start : Start) (generation had : ℕ) (left : List BodyLine) (lines : List Line) (entries : List EntryLine) (log : Logged) (states : List SessionState) : Type 0 where
+  pub before : IsBefore script start log.failed left lines entries (takes_in (history_of log)) (seen_in start (history_of log)) (map state_in states)
+  pub logged : IsLogged start (tables_of script) (now_of start entries) (history_of log)
+  pub told : AreTold start.before generation entries (history_of log)
+  pub own : AreOwn generation script.sessions states
+  pub held : IsHeld generation had log
 
--- a line of a session did what it does, or was cut short; the log is in order behind it
-abbrev pub IsTakenFrom : Start → ℕ → List TableDef → List ℕ → SessionState → List ℕ → SessionState → RunSoFar → RunSoFar → Type 0
-IsTakenFrom start generation tables name before text after old new =
-    IsTaken (world start tables old) name (state_in before) text (state_in after) old.lines.items new.lines.items old.entries.items new.entries.items (takes_in new.log) (seen_in start new.log)
-    × IsLogged start tables (length new.log) new.log
-    × (AreTold start.before generation old.entries.items old.log → AreTold start.before generation new.entries.items new.log)
-    × IsOwn generation name after
+-- a line of a session did what it does where the node stood, or was cut short; the log is in order behind it
+pub record IsTakenFrom (start : Start) (generation : ℕ) (tables : List TableDef) (name : List ℕ) (before : SessionState) (text : List ℕ) (after : SessionState) (lines lines' : List Line) (entries entries' : List EntryLine) (log log' : Logged) : Type 0 where
+  pub taken : IsTakenOn log.failed log'.failed (world start tables (history_of log)) name (state_in before) text (state_in after) lines lines' entries entries' (takes_in (history_of log')) (seen_in start (history_of log'))
+  pub logged : IsLogged start tables (length (history_of log')) (history_of log')
+  pub told : AreTold start.before generation entries (history_of log) → AreTold start.before generation entries' (history_of log')
+  pub own : IsOwn generation name after
+  pub held : (had : ℕ) → IsHeld generation had log → IsHeld generation had log'
 
--- a line did what it does; the log is in order behind it
-abbrev pub IsDoneFrom : Start → ℕ → List TableDef → List ℕ → Turned → SessionState → RunSoFar → RunSoFar → Type 0
-IsDoneFrom start generation tables name turned after old new =
-    IsTurned (world start tables old) name turned old.lines.items new.lines.items old.entries.items new.entries.items (takes_in new.log) (seen_in start new.log)
-    × (state_in after ≡ turned.after)
-    × IsLogged start tables (length new.log) new.log
-    × (AreTold start.before generation old.entries.items old.log → AreTold start.before generation new.entries.items new.log)
-    × IsOwn generation name after
+-- a line on a node that was up did what it does, or the node went down at its entry; the log is in order behind it
+pub record IsDoneFrom (start : Start) (generation : ℕ) (tables : List TableDef) (name : List ℕ) (t : Turned) (after : SessionState) (lines lines' : List Line) (entries entries' : List EntryLine) (log log' : Logged) : Type 0 where
+  pub done : IsDoneOn log'.failed (world start tables (history_of log)) name t (state_in after) lines lines' entries entries' (takes_in (history_of log')) (seen_in start (history_of log'))
+  pub logged : IsLogged start tables (length (history_of log')) (history_of log')
+  pub told : AreTold start.before generation entries (history_of log) → AreTold start.before generation entries' (history_of log')
+  pub own : IsOwn generation name after
+  pub held : (had : ℕ) → IsHeld generation had log → IsHeld generation had log'

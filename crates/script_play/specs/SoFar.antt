@@ -1,6 +1,6 @@
 -- The run so far: what holds of the lines, the history, the rows and the sessions after each line of
 -- the script.
-use Rattle.std.specs.Prelude.{◌≡◌, ℕ, drop, ◌+◌, ◌-◌, ◌≤◌, ◌<◌, ◌++◌, ◌∷◌, [], List, length, Option, Some, None, if◌then◌else◌, slice_get, unwrap_or}
+use Rattle.std.specs.Prelude.{◌≡◌, ℕ, drop, ◌+◌, ◌-◌, ◌≤◌, ◌<◌, ◌++◌, ◌∷◌, [], List, Bool, true, false, length, Option, Some, None, if◌then◌else◌, slice_get, unwrap_or}
 use Rattle.std.specs.List.{AllByRecursion}
 use Rattle.std.specs.Str.{bytes_eq}
 use Rattle.cdb_values.specs.declared.rows.Level.TheVariants.{Snapshot}
@@ -24,7 +24,7 @@ use Rattle.script_play.specs.Basis.{from_start}
 use Rattle.session_language.specs.Each.{EachAfter}
 use Rattle.report_laws.specs.History.{rows_at, taken_at, IsEntryAfter, view_of}
 use Rattle.report_laws.specs.Lawful.{IsFreshLine, NameUpTo, base_line}
-use Rattle.report_laws.specs.Nodes.{downs}
+use Rattle.report_laws.specs.Nodes.{downs, are_few}
 use Rattle.report_laws.specs.Places.{HasItsPlace}
 use Rattle.report_laws.specs.Play.{InTurns, opening}
 use Rattle.report_laws.specs.Told.{Along, Numbered, IsCut, IsTold, IsEntryTold, told, numbered}
@@ -34,6 +34,7 @@ use Rattle.script_play.specs.Decisions.{HasName}
 use Rattle.script_play.specs.Ready.{AreKept, IsKeptOp}
 use Rattle.script_play.specs.Doing.{SessionAt, Doing}
 use Rattle.script_play.specs.Doing as doing
+use Rattle.script_play.specs.Down.{down_line}
 use Rattle.script_play.specs.Step.{state}
 
 -- where a session is that has done nothing
@@ -101,8 +102,30 @@ pub record Stored (script : Script) (start : Start) (entries : List EntryLine) (
   -- each version that an entry of the run took away is one of a table that has a name
   pub named : AllByRecursion (AllByRecursion (HasName (tables_of script))) (drop (base start) taken)
 
+-- a session behind the line that the node went down: where its transaction is open, it began before that line, and the
+-- session was told nothing since
+abbrev pub IsGone : Doing → List Numbered → Type 0
+IsGone doing.No since = Unit {0}
+IsGone (doing.Open begin ops uses) since = since ≡ []
+IsGone doing.Aborted since = Unit {0}
+
+-- the node went down: one line tells it, by a fault, so that no majority is up; each open transaction is to be lost
+pub record IsDown (script : Script) (lines : List Line) (states : List SessionAt) : Type 0 where
+  pub front : List Line
+  pub back : List Line
+  pub is : lines ≡ front ++ down_line ∷ back
+  pub unhurt : downs front ≡ 0
+  pub once : downs back ≡ 0
+  pub few : are_few script.nodes lines ≡ true
+  pub gone : (name : List ℕ) → IsGone (state_of name script.sessions states).doing (told name back)
+
+-- the lines, by whether the node is down
+abbrev pub IsAtNode : Bool → Script → List Line → List SessionAt → Type 0
+IsAtNode false script lines states = downs lines ≡ 0
+IsAtNode true script lines states = IsDown script lines states
+
 -- after the script's lines `done`, with the lines `left` still to do
-pub record SoFar (script : Script) (start : Start) (done left : List BodyLine) (lines : List Line) (entries : List EntryLine) (taken : List (List GenidItem)) (seen : Seen) (states : List SessionAt) : Type 0 where
+pub record SoFar (script : Script) (start : Start) (down : Bool) (done left : List BodyLine) (lines : List Line) (entries : List EntryLine) (taken : List (List GenidItem)) (seen : Seen) (states : List SessionAt) : Type 0 where
   pub body : script.body ≡ done ++ left
   pub stored : Stored script start entries taken seen
   pub standing : (name : List ℕ) → Standing script start entries seen.next name (place_after sql_language name done) (told name lines) (state_of name script.sessions states)
@@ -114,16 +137,15 @@ pub record SoFar (script : Script) (start : Start) (done left : List BodyLine) (
   pub answered : AllByRecursion (IsEntryTold (from_start script start) (view_of (from_start script start) entries) lines) entries
   pub ended : AllByRecursion (IsEnded done) entries
   pub placed : EachAfter (HasItsPlace script) [] lines
-  -- no node went down
-  pub unhurt : downs lines ≡ 0
+  pub node : IsAtNode down script lines states
 
 -- the run before a line, with the lines `left` still to do: every line of the script can be run
-pub record IsBefore (script : Script) (start : Start) (left : List BodyLine) (lines : List Line) (entries : List EntryLine) (taken : List (List GenidItem)) (seen : Seen) (states : List SessionAt) : Type 0 where
+pub record IsBefore (script : Script) (start : Start) (down : Bool) (left : List BodyLine) (lines : List Line) (entries : List EntryLine) (taken : List (List GenidItem)) (seen : Seen) (states : List SessionAt) : Type 0 where
   pub can_run : CanRun script
   pub said : AllByRecursion (λ l. IsSaid script.sessions l.act) left
   pub same : length states ≡ length script.sessions
   pub done : List BodyLine
-  pub so_far : SoFar script start done left lines entries taken seen states
+  pub so_far : SoFar script start down done left lines entries taken seen states
 
 -- the report of lines and of a history behind a base, up to its last position
 abbrev pub report_of : ℕ → ℕ → List Line → List EntryLine → Report

@@ -15,10 +15,10 @@ ghost use Rattle.script_play.specs.Ready.{IsAble, IsReadyToGo};
 ghost use Rattle.script_play.specs.Step.{World, answer_of, committed, cut_by, goes_on, own_line, state, turn_of, turned};
 
 use super::reads::answer_text;
-use super::run::RunSoFar;
 use super::states::{InTransaction, SessionState};
 use super::verdicts::decided;
 use cdb_values::{Level, Name, Schema, StatementError};
+use log_replay::PagedLog;
 use osql_session::OsqlSession;
 use phys_log::{CommitId, Entry};
 use report_text::ReplyLine;
@@ -42,20 +42,20 @@ pub(crate) fn effect_of(
     alloc: Global,
     schema: &Schema,
     generation: u64,
-    run: &RunSoFar,
+    log: &PagedLog,
     name: &Name,
     state: SessionState,
     kind: TextKind,
     prepared: &Prepared,
 ) -> Result<LineEffect, AllocError>
     ghost start: { Start }
-    requires ready { IsReadyFor start schema.now run.now }
-    requires ready_to_go { IsReadyToGo start schema.now (length run.now.log) run.now.log (doing_in state.doing) }
+    requires ready { IsReadyFor start schema.now log.now }
+    requires ready_to_go { IsReadyToGo start schema.now (length log.now) log.now (doing_in state.doing) }
     requires own { IsOwn generation name.now state }
     requires plan { (text_in prepared.now).plan ≡ plan_by schema.now (text_in prepared.now).meaning }
     requires of_text { IsOfText schema.now (text_in prepared.now).meaning }
-    ensures { IfOk result (λ p. IsEffect start generation schema.now run.now.log name.now p
-        (turn_of (world start schema.now run.now) state.number state.level (text_in prepared.now).meaning (kind_in kind) (doing_in state.doing))) }
+    ensures { IfOk result (λ p. IsEffect start generation schema.now log.now name.now p
+        (turn_of (world start schema.now log.now) state.number state.level (text_in prepared.now).meaning (kind_in kind) (doing_in state.doing))) }
 {
     let SessionState {
         number,
@@ -64,11 +64,11 @@ pub(crate) fn effect_of(
     } = state;
     match doing {
         InTransaction::No => outside(
-            alloc, schema, generation, run, name, number, level, kind, prepared,
+            alloc, schema, generation, log, name, number, level, kind, prepared,
         ),
         InTransaction::Open(session) => {
             inside(
-                alloc, schema, generation, run, number, level, session, kind, prepared,
+                alloc, schema, generation, log, number, level, session, kind, prepared,
             )
         }
         InTransaction::Aborted => Ok(skip(alloc, number, level, kind)),
@@ -135,7 +135,7 @@ fn outside(
     alloc: Global,
     schema: &Schema,
     generation: u64,
-    run: &RunSoFar,
+    log: &PagedLog,
     name: &Name,
     number: u64,
     level: Level,
@@ -143,19 +143,19 @@ fn outside(
     prepared: &Prepared,
 ) -> Result<LineEffect, AllocError>
     ghost start: { Start }
-    requires ready { IsReadyFor start schema.now run.now }
+    requires ready { IsReadyFor start schema.now log.now }
     requires plan { (text_in prepared.now).plan ≡ plan_by schema.now (text_in prepared.now).meaning }
     requires of_text { IsOfText schema.now (text_in prepared.now).meaning }
-    ensures { IfOk result (λ p. IsEffect start generation schema.now run.now.log name.now p
-        (turn_of (world start schema.now run.now) number level (text_in prepared.now).meaning (kind_in kind) doing.No)) }
+    ensures { IfOk result (λ p. IsEffect start generation schema.now log.now name.now p
+        (turn_of (world start schema.now log.now) number level (text_in prepared.now).meaning (kind_in kind) doing.No)) }
 {
     match kind {
-        TextKind::Begin => begin(alloc, generation, run, name, number, level),
+        TextKind::Begin => begin(alloc, generation, log, name, number, level),
         TextKind::Commit => refused(alloc, number, level),
         TextKind::Rollback => refused(alloc, number, level),
         TextKind::SetLevel(level) => set_level(alloc, number, level),
         TextKind::Other => own_transaction(
-            alloc, schema, generation, run, name, number, level, prepared,
+            alloc, schema, generation, log, name, number, level, prepared,
         ),
     }
 }
@@ -165,7 +165,7 @@ fn inside(
     alloc: Global,
     schema: &Schema,
     generation: u64,
-    run: &RunSoFar,
+    log: &PagedLog,
     number: u64,
     level: Level,
     session: OsqlSession,
@@ -173,18 +173,18 @@ fn inside(
     prepared: &Prepared,
 ) -> Result<LineEffect, AllocError>
     ghost start: { Start }
-    requires ready { IsReadyFor start schema.now run.now }
-    requires able { IsAble start schema.now (length run.now.log) run.now.log session.begin session.ops }
+    requires ready { IsReadyFor start schema.now log.now }
+    requires able { IsAble start schema.now (length log.now) log.now session.begin session.ops }
     requires plan { (text_in prepared.now).plan ≡ plan_by schema.now (text_in prepared.now).meaning }
-    ensures { (name : List ℕ) → IsOwnDoing generation name number level (InTransaction.Open session) → IfOk result (λ p. IsEffect start generation schema.now run.now.log name p
-        (turn_of (world start schema.now run.now) number level (text_in prepared.now).meaning (kind_in kind) (doing.Open session.begin session.ops session.genids))) }
+    ensures { (name : List ℕ) → IsOwnDoing generation name number level (InTransaction.Open session) → IfOk result (λ p. IsEffect start generation schema.now log.now name p
+        (turn_of (world start schema.now log.now) number level (text_in prepared.now).meaning (kind_in kind) (doing.Open session.begin session.ops session.genids))) }
 {
     match kind {
-        TextKind::Commit => commit(alloc, schema, generation, run, number, level, session),
+        TextKind::Commit => commit(alloc, schema, generation, log, number, level, session),
         TextKind::Rollback => rolled_back(alloc, number, level),
-        TextKind::Begin => go_on(alloc, schema, run, number, level, session, prepared),
-        TextKind::SetLevel(_) => go_on(alloc, schema, run, number, level, session, prepared),
-        TextKind::Other => go_on(alloc, schema, run, number, level, session, prepared),
+        TextKind::Begin => go_on(alloc, schema, log, number, level, session, prepared),
+        TextKind::SetLevel(_) => go_on(alloc, schema, log, number, level, session, prepared),
+        TextKind::Other => go_on(alloc, schema, log, number, level, session, prepared),
     }
 }
 
@@ -296,13 +296,13 @@ fn counted(number: u64) -> Result<u64, AllocError>
 fn opened(
     alloc: Global,
     generation: u64,
-    run: &RunSoFar,
+    log: &PagedLog,
     name: &Name,
     number: u64,
     level: Level,
 ) -> Result<OsqlSession, AllocError>
     ensures own { IfOk result (λ s. IsOwnDoing generation name.now number level (InTransaction.Open s)) }
-    ensures begin { IfOk result (λ s. s.begin ≡ length run.now.log) }
+    ensures begin { IfOk result (λ s. s.begin ≡ length log.now) }
     ensures ops { IfOk result (λ s. s.ops ≡ []) }
     ensures genids { IfOk result (λ s. s.genids ≡ []) }
 {
@@ -311,23 +311,23 @@ fn opened(
         session: name.clone()?,
         txn: number,
     };
-    Ok(OsqlSession::new(alloc, id, run.log.entries().len() as u64, level))
+    Ok(OsqlSession::new(alloc, id, log.entries().len() as u64, level))
 }
 
 /// A transaction begins at the last position.
 fn begin(
     alloc: Global,
     generation: u64,
-    run: &RunSoFar,
+    log: &PagedLog,
     name: &Name,
     number: u64,
     level: Level,
 ) -> Result<LineEffect, AllocError>
-    ensures { (start : Start) (tables : List TableDef) → IfOk result (λ p. IsEffect start generation tables run.now.log name.now p
-        (turned (number + 1) (ReplyLine.Begin (length run.now.log) ∷ []) (state (number + 1) level (doing.Open (length run.now.log) [] [])))) }
+    ensures { (start : Start) (tables : List TableDef) → IfOk result (λ p. IsEffect start generation tables log.now name.now p
+        (turned (number + 1) (ReplyLine.Begin (length log.now) ∷ []) (state (number + 1) level (doing.Open (length log.now) [] [])))) }
 {
     let number = counted(number)?;
-    let session = opened(alloc, generation, run, name, number, level)?;
+    let session = opened(alloc, generation, log, name, number, level)?;
     let reply = ReplyLine::Begin(session.begin());
     let after = SessionState {
         number,
@@ -341,21 +341,21 @@ fn begin(
 fn go_on(
     alloc: Global,
     schema: &Schema,
-    run: &RunSoFar,
+    log: &PagedLog,
     number: u64,
     level: Level,
     session: OsqlSession,
     prepared: &Prepared,
 ) -> Result<LineEffect, AllocError>
     ghost start: { Start }
-    requires ready { IsReadyFor start schema.now run.now }
-    requires able { IsAble start schema.now (length run.now.log) run.now.log session.begin session.ops }
+    requires ready { IsReadyFor start schema.now log.now }
+    requires able { IsAble start schema.now (length log.now) log.now session.begin session.ops }
     requires plan { (text_in prepared.now).plan ≡ plan_by schema.now (text_in prepared.now).meaning }
-    ensures { (generation : ℕ) (name : List ℕ) → IsOwnDoing generation name number level (InTransaction.Open session) → IfOk result (λ p. IsEffect start generation schema.now run.now.log name p
-        (goes_on number level session.begin session.genids (answer_of (world start schema.now run.now) session.begin session.ops (text_in prepared.now).meaning))) }
+    ensures { (generation : ℕ) (name : List ℕ) → IsOwnDoing generation name number level (InTransaction.Open session) → IfOk result (λ p. IsEffect start generation schema.now log.now name p
+        (goes_on number level session.begin session.genids (answer_of (world start schema.now log.now) session.begin session.ops (text_in prepared.now).meaning))) }
 {
     let mut session = session;
-    let replies = answer_text(alloc, schema, &run.log, &mut session, prepared)?;
+    let replies = answer_text(alloc, schema, log, &mut session, prepared)?;
     Ok(LineEffect {
         number,
         replies: replies.into_vec(),
@@ -373,18 +373,18 @@ fn commit(
     alloc: Global,
     schema: &Schema,
     generation: u64,
-    run: &RunSoFar,
+    log: &PagedLog,
     number: u64,
     level: Level,
     session: OsqlSession,
 ) -> Result<LineEffect, AllocError>
     ghost start: { Start }
-    requires ready { IsReadyFor start schema.now run.now }
-    requires able { IsAble start schema.now (length run.now.log) run.now.log session.begin session.ops }
-    ensures { (name : List ℕ) → IsOwnDoing generation name number level (InTransaction.Open session) → IfOk result (λ p. IsEffect start generation schema.now run.now.log name p
-        (committed (world start schema.now run.now) number level session.begin session.genids session.ops)) }
+    requires ready { IsReadyFor start schema.now log.now }
+    requires able { IsAble start schema.now (length log.now) log.now session.begin session.ops }
+    ensures { (name : List ℕ) → IsOwnDoing generation name number level (InTransaction.Open session) → IfOk result (λ p. IsEffect start generation schema.now log.now name p
+        (committed (world start schema.now log.now) number level session.begin session.genids session.ops)) }
 {
-    let verdict = decided(alloc, schema, generation, run, &session)?;
+    let verdict = decided(alloc, schema, generation, log, &session)?;
     let mut replies = Vec::new(alloc);
     replies.push(verdict.outcome)?;
     Ok(LineEffect {
@@ -400,23 +400,23 @@ fn own_transaction(
     alloc: Global,
     schema: &Schema,
     generation: u64,
-    run: &RunSoFar,
+    log: &PagedLog,
     name: &Name,
     number: u64,
     level: Level,
     prepared: &Prepared,
 ) -> Result<LineEffect, AllocError>
     ghost start: { Start }
-    requires ready { IsReadyFor start schema.now run.now }
+    requires ready { IsReadyFor start schema.now log.now }
     requires plan { (text_in prepared.now).plan ≡ plan_by schema.now (text_in prepared.now).meaning }
     requires of_text { IsOfText schema.now (text_in prepared.now).meaning }
-    ensures { IfOk result (λ p. IsEffect start generation schema.now run.now.log name.now p
-        (own_line (world start schema.now run.now) (number + 1) level (answer_of (world start schema.now run.now) (length run.now.log) [] (text_in prepared.now).meaning))) }
+    ensures { IfOk result (λ p. IsEffect start generation schema.now log.now name.now p
+        (own_line (world start schema.now log.now) (number + 1) level (answer_of (world start schema.now log.now) (length log.now) [] (text_in prepared.now).meaning))) }
 {
     let number = counted(number)?;
-    let mut session = opened(alloc, generation, run, name, number, level)?;
-    let told = answer_text(alloc, schema, &run.log, &mut session, prepared)?;
-    let verdict = decided(alloc, schema, generation, run, &session)?;
+    let mut session = opened(alloc, generation, log, name, number, level)?;
+    let told = answer_text(alloc, schema, log, &mut session, prepared)?;
+    let verdict = decided(alloc, schema, generation, log, &session)?;
     let replies = whole(alloc, session.begin(), told.into_vec(), verdict.outcome)?;
     Ok(LineEffect {
         number,

@@ -6,7 +6,17 @@
 //! |---|---|---|---|---|---|
 //! | in no transaction | opens one at the last position | `error state` | `error state` | `level ..` | is a transaction of its own |
 //! | in one | `error state` | is decided on | `rolledback` | `error state` | is answered |
-//! | behind one that want of memory ended | is skipped | ends it | ends it | is skipped | is skipped |
+//! | behind one that was cut short | is skipped | ends it | ends it | is skipped | is skipped |
+//!
+//! The log is kept in the node's store. Where the store fails at the entry of a commit, the node goes down, and stays down. The
+//! transaction at its commit is lost, and so is each other open one, at the next line of its session; and none begins:
+//!
+//! ```text
+//! a: begin                                     a 1 begin 1
+//! b: insert into t values(2, 20)               b 1 begin 1, changed 1, then the store fails: down 1 1 fault, b 1 lost 1 1
+//! a: commit                                    a 1 lost 1 1
+//! a: select * from t                           a 2 nomajority 0 1
+//! ```
 //!
 //! A statement reads its rows from the pages of the log at its transaction's begin position. A commit is decided by
 //! `block_processor`, and its entry appended to the log: the log's pages at each position stand for the rows there.
@@ -28,6 +38,8 @@
 //! |---|---|---|
 //! | where a session is | `states` | `specs/Doing.antt` |
 //! | what a line does | `effects`, `run` | `specs/Step.antt` |
+//! | what it does on a node that is down | `downs` | `specs/Down.antt` |
+//! | what it leaves, by whether the node is down | `lines` | `specs/Falls.antt` |
 //! | what a text is answered | `reads` | `Texts` of `sql_run` |
 //! | what is decided at a commit | `verdicts` | `specs/Decisions.antt` |
 //! | what a line is to do, and what is done of it | `effects`, `run` | `specs/Effects.antt` |
@@ -36,11 +48,13 @@
 //! | the rows at each position | | `specs/Seen.antt` |
 //! | what the log and the rows keep from line to line | | `specs/Ready.antt` |
 //! | the run so far | `play` | `specs/SoFar.antt` |
+//! | the same on a node that is down from the opening on | `play_down` | `specs/SoFarDown.antt` |
 //! | the lines of a history, by the entries of a log | `run` | `specs/EntryLines.antt` |
 //! | what a report is judged by | | `specs/Basis.antt` |
 //! | what a run leaves | `play` | `specs/Played.antt` |
 #![tactic(auto)]
 
+mod downs;
 mod effects;
 mod holding;
 mod lines;
@@ -50,4 +64,4 @@ mod run;
 mod states;
 mod verdicts;
 
-pub use playing::{Played, play};
+pub use playing::{Played, play, play_down};

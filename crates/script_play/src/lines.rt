@@ -1,5 +1,5 @@
 //! One line of a session, told and kept, or cut short by want of memory.
-ghost use Rattle.std.specs.Prelude.{◌≡◌, ◌++◌, ◌∷◌, [], List, Some, length, true, OnOk, OnErr, IfOk};
+ghost use Rattle.std.specs.Prelude.{◌≡◌, ◌++◌, ◌∷◌, [], List, Some, length, false, true, OnOk, OnErr, IfOk};
 ghost use Rattle.std.specs.Str.{is_utf8};
 ghost use Rattle.report_laws.specs.Told.{lines_of};
 ghost use Rattle.report_text.specs.declared.reports.Line.{Line};
@@ -8,15 +8,18 @@ ghost use Rattle.sql_answer.specs.Reading.{kind_of_text};
 ghost use Rattle.sql_run.specs.Texts.{plan_by};
 ghost use Rattle.sql_run.specs.Views.{kind_in, text_in};
 ghost use Rattle.script_play.specs.RunViews.{world, doing_in, IsReadyFor, IsSameHistory, IsTakenFrom, IsDoneFrom, IsOfText, IsOwn};
+ghost use Rattle.script_play.specs.Down.{history_of, IsHeldBy};
 ghost use Rattle.script_play.specs.Effects.{Grown};
 ghost use Rattle.script_play.specs.Ready.{IsReadyToGo};
 ghost use Rattle.script_play.specs.Start.{Start};
 ghost use Rattle.script_play.specs.Step.{turn_of};
 
+use super::downs::run_down;
 use super::effects::{cut_state, effect_of};
 use super::holding::{beside, let_go};
 use super::run::{RunSoFar, add_reply, apply_effect};
 use super::states::SessionState;
+use cdb_outside::LogStore;
 use cdb_values::{Name, Schema};
 use report_text::ReplyLine;
 use sql_run::{Prepared, TextKind, prepare};
@@ -28,23 +31,29 @@ const TEXT_LIMIT: usize = 1 << 32;
 /// Does a line of a session, and gives where the session is then. Where want of memory ends its
 /// transaction, only that is told. The error comes where that can't be told either, where a line
 /// outside a transaction can't be answered, or where the text can't be read.
-pub(crate) fn run_session_line(
+pub(crate) fn run_session_line<D: LogStore>(
     alloc: Global,
     schema: &Schema,
     generation: u64,
     name: &Name,
     state: SessionState,
     text: &[u8],
-    run: &mut RunSoFar,
+    run: &mut RunSoFar<D>,
 ) -> Result<SessionState, AllocError>
     ghost start: { Start }
-    requires ready { IsReadyFor start schema.now run.old }
-    requires ready_to_go { IsReadyToGo start schema.now (length run.old.log) run.old.log (doing_in state.doing) }
+    requires ready { IsReadyFor start schema.now (history_of run.old.log) }
+    requires ready_to_go { IsReadyToGo start schema.now (length (history_of run.old.log)) (history_of run.old.log) (doing_in state.doing) }
     requires own { IsOwn generation name.now state }
-    ensures { IfOk result (λ after. IsTakenFrom start generation schema.now name.now state text.now after run.old run.new) }
+    requires held { IsHeldBy run.old.log.failed generation run.old.log }
+    ensures taken { IfOk result (λ after. IsTakenFrom start generation schema.now name.now state text.now after run.old.lines.items run.new.lines.items run.old.entries.items run.new.entries.items run.old.log run.new.log) }
+    ensures err_same { OnErr result (IsSameHistory run.old.entries.items run.new.entries.items run.old.log run.new.log) }
 {
     let (state, prepared) = beside(state, read_text(alloc, schema, text))?;
     let kind = prepared.kind();
+    if run.log.has_failed() {
+        let_go(prepared);
+        return run_down(name, state, kind, &mut run.lines);
+    }
     let cut = cut_state(&state, kind);
     let had = run.lines.len();
     let done = run_whole(alloc, schema, generation, name, state, kind, &prepared, run);
@@ -61,7 +70,7 @@ pub(crate) fn run_session_line(
 /// A text read and bound. Texts of a script that is read are UTF-8 and far shorter than the limit, so that memory
 /// is all that can be wanting here.
 #[tactic(auto, using(crate::proofs::TextLemmas::is_text))]
-fn read_text(alloc: Global, schema: &Schema, text: &[u8]) -> Result<Prepared, AllocError>
+pub(crate) fn read_text(alloc: Global, schema: &Schema, text: &[u8]) -> Result<Prepared, AllocError>
     ensures kind { IfOk result (λ p. (text_in p).kind ≡ kind_of_text text.now) }
     ensures meaning { IfOk result (λ p. (text_in p).meaning ≡ meaning bound_in schema.now text.now) }
     ensures plan { IfOk result (λ p. (text_in p).plan ≡ plan_by schema.now (text_in p).meaning) }
@@ -76,8 +85,8 @@ fn read_text(alloc: Global, schema: &Schema, text: &[u8]) -> Result<Prepared, Al
     }
 }
 
-/// Does a line whole. After an error only lines were added.
-fn run_whole(
+/// Does a line whole, on a node that is up. After an error only lines were added.
+fn run_whole<D: LogStore>(
     alloc: Global,
     schema: &Schema,
     generation: u64,
@@ -85,32 +94,43 @@ fn run_whole(
     state: SessionState,
     kind: TextKind,
     prepared: &Prepared,
-    run: &mut RunSoFar,
+    run: &mut RunSoFar<D>,
 ) -> Result<SessionState, AllocError>
     ghost start: { Start }
-    requires ready { IsReadyFor start schema.now run.old }
-    requires ready_to_go { IsReadyToGo start schema.now (length run.old.log) run.old.log (doing_in state.doing) }
+    requires running { run.old.log.failed ≡ false }
+    requires made { run.old.log.accepted ≡ generation }
+    requires ready { IsReadyFor start schema.now run.old.log.entries }
+    requires ready_to_go { IsReadyToGo start schema.now (length run.old.log.entries) run.old.log.entries (doing_in state.doing) }
     requires own { IsOwn generation name.now state }
     requires plan { (text_in prepared.now).plan ≡ plan_by schema.now (text_in prepared.now).meaning }
     requires of_text { IsOfText schema.now (text_in prepared.now).meaning }
-    ensures ok { IfOk result (λ after. IsDoneFrom start generation schema.now name.now (turn_of (world start schema.now run.old) state.number state.level (text_in prepared.now).meaning (kind_in kind) (doing_in state.doing)) after run.old run.new) }
+    ensures ok { IfOk result (λ after. IsDoneFrom start generation schema.now name.now (turn_of (world start schema.now run.old.log.entries) state.number state.level (text_in prepared.now).meaning (kind_in kind) (doing_in state.doing)) after run.old.lines.items run.new.lines.items run.old.entries.items run.new.entries.items run.old.log run.new.log) }
     ensures err_lines { OnErr result (Grown run.old.lines.items run.new.lines.items) }
-    ensures err_same { OnErr result (IsSameHistory run.old run.new) }
+    ensures err_same { OnErr result (IsSameHistory run.old.entries.items run.new.entries.items run.old.log run.new.log) }
 {
-    let effect = effect_of(alloc, schema, generation, run, name, state, kind, prepared)?;
+    let effect = effect_of(
+        alloc,
+        schema,
+        generation,
+        run.log.log(),
+        name,
+        state,
+        kind,
+        prepared,
+    )?;
     apply_effect(alloc, name, effect, run)
 }
 
 /// Tells that want of memory cut a line short, in place of the lines that were added since.
-fn cut_short(
+fn cut_short<D: LogStore>(
     name: &Name,
     had: usize,
     cut: Option<SessionState>,
-    run: &mut RunSoFar,
+    run: &mut RunSoFar<D>,
 ) -> Result<SessionState, AllocError>
     ensures state { IfOk result (λ after. cut ≡ Some after) }
     ensures lines { IfOk result (λ after. (kept : List Line) → length kept ≡ had → Grown kept run.old.lines.items → run.new.lines.items ≡ kept ++ lines_of name.now after.number (ReplyLine.NoMemory ∷ [])) }
-    ensures same { IsSameHistory run.old run.new }
+    ensures same { IsSameHistory run.old.entries.items run.new.entries.items run.old.log run.new.log }
 {
     run.lines.truncate(had);
     let Some(after) = cut else {

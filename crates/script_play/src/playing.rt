@@ -1,107 +1,179 @@
 //! The lines of a script, done one after the other on one node.
-ghost use Rattle.std.specs.Prelude.{◌≡◌, ℕ, ◌-◌, ◌<◌, ◌≤◌, ◌++◌, ◌∷◌, [], List, Some, length, OnOk, IfOk, map, slice_get, unwrap_or};
+ghost use Rattle.std.specs.Prelude.{◌≡◌, ℕ, ◌-◌, ◌<◌, ◌≤◌, ◌++◌, ◌∷◌, [], List, Some, false, true, length, OnOk, OnErr, IfOk, IfErr, map, slice_get, unwrap_or};
+ghost use Rattle.cdb_values.specs.Rows.{Rows};
 ghost use Rattle.log_replay.specs.Answers.{schema_of as schema_told};
 ghost use Rattle.log_rows.specs.History.{rows_over_at, takes_in, IsFrom, StandsOver};
-ghost use Rattle.report_laws.specs.History.{Origin, rows_at, taken_at};
-ghost use Rattle.script_play.specs.EntryLines.{AreTold};
-ghost use Rattle.script_form.specs.CanRun.{CanRun, tables_of};
-ghost use Rattle.script_form.specs.declared.scripts.BodyLine.{BodyLine};
+ghost use Rattle.node_log.specs.Logged.{Leaves};
+ghost use Rattle.report_laws.specs.History.{rows_at, taken_at};
 ghost use Rattle.report_laws.specs.Lawful.{Lawful, base_line};
 ghost use Rattle.report_laws.specs.Nodes.{downs};
 ghost use Rattle.report_laws.specs.Play.{InPlayOrder};
-ghost use Rattle.script_play.specs.Basis.{from_origin};
-ghost use Rattle.script_play.specs.Played.{IsPlayed};
+ghost use Rattle.script_form.specs.CanRun.{CanRun, tables_of};
+ghost use Rattle.script_form.specs.declared.scripts.BodyLine.{BodyLine};
+ghost use Rattle.script_play.specs.Basis.{from_origin, from_start};
+ghost use Rattle.script_play.specs.Down.{history_of, with_entries, IsCaused};
+ghost use Rattle.script_play.specs.EntryLines.{AreTold};
+ghost use Rattle.script_play.specs.Played.{downs_by, IsGivenUp, IsPlayed};
 ghost use Rattle.script_play.specs.Ready.{CanBegin};
-ghost use Rattle.script_play.specs.RunViews.{state_in, IsBeforeLine, IsOpening, IsOpenedLog};
-ghost use Rattle.script_play.specs.Start.{Start, ground_at};
+ghost use Rattle.script_play.specs.RunViews.{state_in, IsBeforeLine, IsOpenedBehind, IsSameHistory};
+ghost use Rattle.script_play.specs.SoFarDown.{IsBeforeDown};
+ghost use Rattle.script_play.specs.declared.states.SessionState.{SessionState};
 ghost use Rattle.script_play.specs.SoFar.{at_start, report_of, session_at};
+ghost use Rattle.script_play.specs.Start.{Start, ground_of};
 ghost use Rattle.std.specs.Str.{bytes_eq};
 
-use super::lines::run_session_line;
-use super::run::RunSoFar;
+use super::downs::run_down;
+use super::holding::let_go;
+use super::lines::{read_text, run_session_line};
+use super::run::{RunSoFar, add_down, add_line};
 use super::states::{InTransaction, SessionState};
+use cdb_outside::LogStore;
 use cdb_values::{Level, List, Name, Schema, TableDef};
-use log_replay::PagedLog;
-use log_rows::setup_entry;
-use report_text::{EntryLine, Report};
+use node_log::NodeLog;
+use report_text::{EntryLine, Line, Report};
 use script_form::{Act, BodyLine, Script, SessionLine, TableLine};
 use std::alloc::{AllocError, Global};
 
 /// A script that was played.
 #[derive(Drop)]
-pub struct Played {
+pub struct Played<D: LogStore> {
     /// The report of the run.
     pub report: Report,
-    /// The log that its commits made.
-    pub log: PagedLog,
+    /// The log of the node, over its store. Where the store failed, the node is down, and the log has one entry more than
+    /// the history.
+    pub log: NodeLog<D>,
 }
 
-/// Plays a script that can run behind a log that stands already, in a generation: its lines are done one after the other.
+/// Plays a script that can run on a node that is up, whose log had that many entries when it was opened: the script's lines
+/// are done one after the other, in the generation in which the node stands.
 ///
-/// The run begins at the log's last position, where these rows are, for which the pages of the log stand. A log without
-/// entries begins with the run, and becomes that of the script's tables first. Any other log begins with the setup of the
-/// script's tables, and goes on with transactions; what its entries say that they change is not looked at.
+/// The run begins behind the log that was opened, at the rows for which its pages stand. A log without entries has got the
+/// setup of the script's tables since. Any other log begins with that setup, and goes on with transactions; what its entries
+/// say that they change is not looked at.
 ///
-/// The report is lawful and in the order of play, over the history from there, and no node goes down in it. The log is the
-/// given one with exactly the entries of that history, each with the session, number, begin and level that are printed; they are of that generation, in
-/// which their transactions began. Each takes away what it does in the history, and from the last position of the given log on
-/// the pages of the log stand for the rows of the history. The error is want of memory.
-pub fn play(
+/// The report is lawful and in the order of play, over the history from there. The node may go down in it, once, where its
+/// store fails: then it stays down. The log's entries are those before the run and exactly those of the history, each with the
+/// session, number, begin and level that are printed, of the node's generation, in which their transactions began; and one
+/// more, which no one was told of, where the node went down. Each entry of the history takes away what it does there, and
+/// from the last position of the opened log on the pages of the log stand for the rows of the history. As long as the node is
+/// up its store stands for the log; else what a stop leaves of it stands for the log of the history, or for one entry more.
+///
+/// The error is want of memory, with the log: it has the entries before the run and such as a history would tell, and is held
+/// as the log of a run that is done.
+pub fn play<D: LogStore + Drop>(
     alloc: Global,
     script: &Script,
-    log: PagedLog,
-    generation: u64,
-) -> Result<Played, AllocError>
-    ghost origin: { Origin }
-    requires can_run { CanRun script.now }
-    requires place { origin.position ≡ length log }
-    requires tables { origin.tables ≡ tables_of script.now }
-    requires behind { CanBegin (tables_of script.now) log origin.rows }
-    ensures lawful { IfOk result (λ p. Lawful (from_origin script.now origin) p.report) }
-    ensures in_order { IfOk result (λ p. InPlayOrder (from_origin script.now origin) p.report) }
-    ensures no_fault { IfOk result (λ p. downs p.report.lines ≡ 0) }
-    ensures entries { IfOk result (λ p. AreTold log generation p.report.entries p.log) }
-    ensures schema { IfOk result (λ p. schema_told p.log ≡ Some (tables_of script.now)) }
-    ensures taken { IfOk result (λ p. (k : ℕ) → origin.position < k → k ≤ length p.log
-        → unwrap_or (slice_get (takes_in p.log) (k - 1)) [] ≡ taken_at (from_origin script.now origin) p.report.entries k) }
-    ensures rows { IfOk result (λ p. (k : ℕ) → IsFrom origin.position k → k ≤ length p.log
-        → rows_over_at (ground_at origin) p.log k ≡ rows_at (from_origin script.now origin) p.report.entries k) }
-    ensures stands { IfOk result (λ p. StandsOver (ground_at origin) (tables_of script.now) p.log) }
-{
-    play_behind(alloc, script, log, generation)
-}
-
-/// Plays a script behind a log, by where that is.
-fn play_behind(
-    alloc: Global,
-    script: &Script,
-    log: PagedLog,
-    generation: u64,
-) -> Result<Played, AllocError>
+    log: NodeLog<D>,
+    base: u64,
+) -> Result<Played<D>, NodeLog<D>>
     ghost start: { Start }
     requires can_run { CanRun script.now }
-    requires before { start.before ≡ log }
+    requires running { log.failed ≡ false }
+    requires place { base ≡ length start.before }
+    requires opened { IsOpenedBehind (tables_of script.now) log.accepted start.before log.entries }
     requires behind { CanBegin (tables_of script.now) start.before start.rows }
-    ensures { IfOk result (λ p. IsPlayed script.now start generation p.report p.log) }
+    ensures lawful { IfOk result (λ p. Lawful (from_start script.now start) p.report) }
+    ensures in_order { IfOk result (λ p. InPlayOrder (from_start script.now start) p.report) }
+    ensures entries { IfOk result (λ p. AreTold start.before log.accepted p.report.entries (history_of p.log)) }
+    ensures schema { IfOk result (λ p. schema_told (history_of p.log) ≡ Some (tables_of script.now)) }
+    ensures taken { IfOk result (λ p. (k : ℕ) → base < k → k ≤ length (history_of p.log)
+        → unwrap_or (slice_get (takes_in (history_of p.log)) (k - 1)) [] ≡ taken_at (from_start script.now start) p.report.entries k) }
+    ensures rows { IfOk result (λ p. (k : ℕ) → IsFrom base k → k ≤ length (history_of p.log)
+        → rows_over_at (ground_of start) (history_of p.log) k ≡ rows_at (from_start script.now start) p.report.entries k) }
+    ensures stands { IfOk result (λ p. StandsOver (ground_of start) (tables_of script.now) (history_of p.log)) }
+    ensures faults { IfOk result (λ p. downs p.report.lines ≡ downs_by p.log.failed) }
+    ensures cause { IfOk result (λ p. IsCaused p.log.failed log.store.faults p.log.store.faults) }
+    ensures made { IfOk result (λ p. p.log.failed ≡ false → p.log.accepted ≡ log.accepted) }
+    ensures kept { IfOk result (λ p. p.log.failed ≡ true → Leaves p.log.store (with_entries p.log (history_of p.log) ∷ p.log ∷ [])) }
+    ensures given_up { IfErr result (λ l. IsGivenUp start log l) }
 {
-    let base = log.entries().len() as u64;
+    play_behind(alloc, script, log, base)
+}
+
+/// The same, in one clause for each answer.
+fn play_behind<D: LogStore + Drop>(
+    alloc: Global,
+    script: &Script,
+    log: NodeLog<D>,
+    base: u64,
+) -> Result<Played<D>, NodeLog<D>>
+    ghost start: { Start }
+    requires can_run { CanRun script.now }
+    requires running { log.failed ≡ false }
+    requires place { base ≡ length start.before }
+    requires opened { IsOpenedBehind (tables_of script.now) log.accepted start.before log.entries }
+    requires behind { CanBegin (tables_of script.now) start.before start.rows }
+    ensures played { IfOk result (λ p. IsPlayed script.now start log p.report p.log) }
+    ensures given_up { IfErr result (λ l. IsGivenUp start log l) }
+{
+    let mut so_far = opened(alloc, log);
+    match play_on(alloc, script, base, &mut so_far) {
+        Ok(()) => Ok(reported(alloc, base, so_far)),
+        Err(_) => Err(let_run_go(so_far)),
+    }
+}
+
+/// The log of a run that is given up.
+fn let_run_go<D: LogStore + Drop>(run: RunSoFar<D>) -> NodeLog<D>
+    ensures { result ≡ run.log }
+{
+    let RunSoFar { log, .. } = run;
+    log
+}
+
+/// Does the lines of a script in a run at its opening.
+fn play_on<D: LogStore>(
+    alloc: Global,
+    script: &Script,
+    base: u64,
+    run: &mut RunSoFar<D>,
+) -> Result<(), AllocError>
+    ghost start: { Start }
+    requires can_run { CanRun script.now }
+    requires running { run.old.log.failed ≡ false }
+    requires place { base ≡ length start.before }
+    requires opened { IsOpenedBehind (tables_of script.now) run.old.log.accepted start.before run.old.log.entries }
+    requires behind { CanBegin (tables_of script.now) start.before start.rows }
+    requires lines { run.old.lines.items ≡ [] }
+    requires entries { run.old.entries.items ≡ [] }
+    ensures done { OnOk result ((states : List SessionState) × IsBeforeLine script.now start run.old.log.accepted run.old.log.store.faults [] run.new.lines.items run.new.entries.items run.new.log states) }
+    ensures given_up { OnErr result (IsGivenUp start run.old.log run.new.log) }
+{
     let schema = schema_of(alloc, script.tables.as_slice())?;
-    let mut so_far = opened(alloc, &schema, log, generation)?;
+    let generation = run.log.accepted();
+    open_history(base, &mut run.entries)?;
     let mut states = starts(alloc, script.sessions.as_slice())?;
     let mut rest = script.body.as_slice();
     'lines: while let Some((line, after)) = rest.split_first() {
-        run_line(
-            alloc,
-            script,
-            &schema,
-            generation,
-            line,
-            &mut states,
-            &mut so_far,
-        )?;
+        run_line(alloc, script, &schema, generation, line, &mut states, run)?;
         rest = after;
     }
-    Ok(reported(alloc, base, so_far))
+    Ok(())
+}
+
+/// Opens a history: where it begins with the run, the setup of the tables stands in it.
+fn open_history(base: u64, entries: &mut Vec<EntryLine>) -> Result<(), AllocError>
+    requires none { entries.old.items ≡ [] }
+    ensures first { OnOk result (base ≡ 0 → entries.new.items ≡ EntryLine.Setup 1 ∷ []) }
+    ensures later { OnOk result (1 ≤ base → entries.new.items ≡ []) }
+{
+    if base == 0 {
+        return add_line(entries, EntryLine::Setup { position: 1 });
+    }
+    Ok(())
+}
+
+/// The run at its opening, behind a log.
+fn opened<D: LogStore>(alloc: Global, log: NodeLog<D>) -> RunSoFar<D>
+    ensures lines { result.lines.items ≡ [] }
+    ensures entries { result.entries.items ≡ [] }
+    ensures log { result.log ≡ log }
+{
+    RunSoFar {
+        lines: Vec::new(alloc),
+        entries: Vec::new(alloc),
+        log,
+    }
 }
 
 /// The tables of a script, in order.
@@ -126,64 +198,6 @@ fn add_copy(schema: &mut Schema, table: &TableDef) -> Result<(), AllocError>
         Ok(()) => Ok(()),
         Err(_) => Err(AllocError),
     }
-}
-
-/// The run at its opening, behind a log. Where that has no entry, the schema stands in the history and in the log, and the
-/// tables have no rows.
-#[tactic(auto, using(crate::proofs::StartLemmas::none_before))]
-fn opened(
-    alloc: Global,
-    schema: &Schema,
-    log: PagedLog,
-    generation: u64,
-) -> Result<RunSoFar, AllocError>
-    ensures lines { IfOk result (λ run. run.lines.items ≡ []) }
-    ensures opening { IfOk result (λ run. IsOpening schema.now generation log run.entries.items run.log) }
-{
-    if log.entries().is_empty() {
-        begun(alloc, schema, log, generation)
-    } else {
-        Ok(behind(alloc, log))
-    }
-}
-
-/// The run at its opening behind a log that has entries.
-fn behind(alloc: Global, log: PagedLog) -> RunSoFar
-    ensures lines { result.lines.items ≡ [] }
-    ensures entries { result.entries.items ≡ [] }
-    ensures log { result.log ≡ log }
-{
-    RunSoFar {
-        lines: Vec::new(alloc),
-        entries: Vec::new(alloc),
-        log,
-    }
-}
-
-/// The run at its opening with a log that has no entry: it begins with the schema.
-fn begun(
-    alloc: Global,
-    schema: &Schema,
-    log: PagedLog,
-    generation: u64,
-) -> Result<RunSoFar, AllocError>
-    requires none { log ≡ [] }
-    ensures lines { IfOk result (λ run. run.lines.items ≡ []) }
-    ensures entries { IfOk result (λ run. run.entries.items ≡ EntryLine.Setup 1 ∷ []) }
-    ensures log { IfOk result (λ run. IsOpenedLog schema.now generation run.log) }
-{
-    let mut log = log;
-    let mut entries = Vec::new(alloc);
-    entries.push(EntryLine::Setup { position: 1 })?;
-    let entry = setup_entry(alloc, schema, generation)?;
-    if log.append(alloc, entry).is_err() {
-        return Err(AllocError);
-    }
-    Ok(RunSoFar {
-        lines: Vec::new(alloc),
-        entries,
-        log,
-    })
 }
 
 /// The sessions at the opening: none has done anything.
@@ -211,20 +225,21 @@ fn at_rest() -> SessionState
 }
 
 /// Does a line of the script.
-fn run_line(
+fn run_line<D: LogStore>(
     alloc: Global,
     script: &Script,
     schema: &Schema,
     generation: u64,
     line: &BodyLine,
     states: &mut List<SessionState>,
-    run: &mut RunSoFar,
+    run: &mut RunSoFar<D>,
 ) -> Result<(), AllocError>
     ghost start: { Start }
     requires tables { schema.now ≡ tables_of script.now }
-    requires before { (left : List BodyLine) × IsBeforeLine script.now start generation (line.now ∷ left) run.old states.old }
-    ensures { OnOk result ((left : List BodyLine) → IsBeforeLine script.now start generation (line.now ∷ left) run.old states.old
-        → IsBeforeLine script.now start generation left run.new states.new) }
+    requires before { (left : List BodyLine) × (had : ℕ) × IsBeforeLine script.now start generation had (line.now ∷ left) run.old.lines.items run.old.entries.items run.old.log states.old }
+    ensures done { OnOk result ((left : List BodyLine) (had : ℕ) → IsBeforeLine script.now start generation had (line.now ∷ left) run.old.lines.items run.old.entries.items run.old.log states.old
+        → IsBeforeLine script.now start generation had left run.new.lines.items run.new.entries.items run.new.log states.new) }
+    ensures same { OnErr result (IsSameHistory run.old.entries.items run.new.entries.items run.old.log run.new.log) }
 {
     let Act::Say { session, text } = &line.act else {
         return Ok(());
@@ -269,25 +284,49 @@ fn is_same(a: &Name, b: &Name) -> bool
     a.as_bytes() == b.as_bytes()
 }
 
-/// What a run behind a base leaves.
-fn reported(alloc: Global, base: u64, run: RunSoFar) -> Played
-    ensures report { result.report ≡ report_of base (length run.log) run.lines.items run.entries.items }
+/// What a run behind a base leaves: its report up to the last position of the history, and the log.
+fn reported<D: LogStore>(alloc: Global, base: u64, run: RunSoFar<D>) -> Played<D>
+    requires some { run.log.failed ≡ true → 1 ≤ length run.log.entries }
+    ensures report { result.report ≡ report_of base (length (history_of run.log)) run.lines.items run.entries.items }
     ensures log { result.log ≡ run.log }
 {
-    let end = run.log.entries().len() as u64;
+    let end = last_told(&run.log);
     let RunSoFar {
         lines,
         entries,
         log,
     } = run;
-    let report = Report {
+    let report = report_with(alloc, base, lines, entries, end);
+    Played { report, log }
+}
+
+/// The last position of the history of a log: where the store failed, the log has one entry more.
+#[tactic(auto, using(crate::proofs::PlayLaws::told_up, crate::proofs::PlayLaws::told_down))]
+fn last_told<D: LogStore>(log: &NodeLog<D>) -> u64
+    requires some { log.now.failed ≡ true → 1 ≤ length log.now.entries }
+    ensures { result ≡ length (history_of log.now) }
+{
+    let count = log.log().entries().len() as u64;
+    if log.has_failed() { count - 1 } else { count }
+}
+
+/// The report of lines and of a history behind a base, up to its last position.
+fn report_with(
+    alloc: Global,
+    base: u64,
+    lines: Vec<Line>,
+    entries: Vec<EntryLine>,
+    end: u64,
+) -> Report
+    ensures { result ≡ report_of base end lines.items entries.items }
+{
+    Report {
         lines: List::from_vec(lines),
         base: base_told(base),
         entries: List::from_vec(entries),
         feeds: List::new(alloc),
         end,
-    };
-    Played { report, log }
+    }
 }
 
 /// The base as a report tells it: none where the history begins with the run.
@@ -295,4 +334,58 @@ fn base_told(base: u64) -> Option<u64>
     ensures { result ≡ base_line base }
 {
     if base == 0 { None } else { Some(base) }
+}
+
+/// Plays a script on a node that is down from the opening on: its store failed before it was up, once a log of that length
+/// was read, or none.
+///
+/// The report begins with the line that the node went down. Each line that begins a transaction is told that no majority is
+/// up, and the history has no entry. The error is want of memory.
+pub fn play_down(alloc: Global, script: &Script, base: u64) -> Result<Report, AllocError>
+    ghost rows: { Rows }
+    requires can_run { CanRun script.now }
+    ensures lawful { IfOk result (λ r. Lawful (from_origin script.now (record { position = base; tables = tables_of script.now; rows = rows })) r) }
+    ensures in_order { IfOk result (λ r. InPlayOrder (from_origin script.now (record { position = base; tables = tables_of script.now; rows = rows })) r) }
+    ensures down { IfOk result (λ r. downs r.lines ≡ 1) }
+    ensures none { IfOk result (λ r. r.entries ≡ []) }
+{
+    let schema = schema_of(alloc, script.tables.as_slice())?;
+    let mut lines = Vec::new(alloc);
+    add_down(&mut lines)?;
+    let mut states = starts(alloc, script.sessions.as_slice())?;
+    let mut rest = script.body.as_slice();
+    'lines: while let Some((line, after)) = rest.split_first() {
+        run_line_down(alloc, script, &schema, line, &mut states, &mut lines)?;
+        rest = after;
+    }
+    Ok(report_with(alloc, base, lines, Vec::new(alloc), base))
+}
+
+/// Does a line of the script on a node that is down.
+fn run_line_down(
+    alloc: Global,
+    script: &Script,
+    schema: &Schema,
+    line: &BodyLine,
+    states: &mut List<SessionState>,
+    lines: &mut Vec<Line>,
+) -> Result<(), AllocError>
+    requires tables { schema.now ≡ tables_of script.now }
+    requires before { (left : List BodyLine) × IsBeforeDown script.now (line.now ∷ left) lines.old.items (map state_in states.old) }
+    ensures { OnOk result ((left : List BodyLine) → IsBeforeDown script.now (line.now ∷ left) lines.old.items (map state_in states.old)
+        → IsBeforeDown script.now left lines.new.items (map state_in states.new)) }
+{
+    let Act::Say { session, text } = &line.act else {
+        return Ok(());
+    };
+    let Some(at) = find_session(script.sessions.as_slice(), session) else {
+        return Ok(());
+    };
+    let prepared = read_text(alloc, schema, text.as_bytes())?;
+    let kind = prepared.kind();
+    let_go(prepared);
+    let state = states.replace_at(at, at_rest());
+    let after = run_down(session, state, kind, lines)?;
+    let _at_rest = states.replace_at(at, after);
+    Ok(())
 }

@@ -1,27 +1,42 @@
 //! The run so far, and how what a line is to do is told and kept.
-ghost use Rattle.std.specs.Prelude.{◌≡◌, ◌+◌, ◌++◌, ◌∷◌, [], length, OnOk, OnErr, IfOk, IfSome, option_to_list};
-ghost use Rattle.report_laws.specs.Told.{lines_of};
+ghost use Rattle.std.specs.Prelude.{◌≡◌, ◌≤◌, ◌+◌, ◌++◌, ◌∷◌, [], List, length, false, OnOk, OnErr, IfOk, IfSome, ◌⊎◌};
+ghost use Rattle.log_rows.specs.History.{IsCommit};
 ghost use Rattle.phys_log.specs.Logs.{Fits};
-ghost use Rattle.script_play.specs.RunViews.{IsSameHistory};
-ghost use Rattle.script_play.specs.Effects.{Grown, lines_added};
+ghost use Rattle.report_laws.specs.Told.{lines_of};
+ghost use Rattle.report_text.specs.declared.reports.Line.{Line};
+ghost use Rattle.script_play.specs.Down.{down_line, IsEntered, IsFallenAt, IsKeptSo, TellsOutcome};
+ghost use Rattle.script_play.specs.Effects.{Grown};
 ghost use Rattle.script_play.specs.EntryLines.{line_of as line_of_entry};
+ghost use Rattle.script_play.specs.RunViews.{IsSameHistory};
+ghost use Rattle.store_log.specs.Held.{generation_of};
 
 use super::effects::LineEffect;
-use super::holding::beside;
+use super::holding::{beside, let_go};
 use super::states::SessionState;
+use cdb_outside::LogStore;
 use cdb_values::Name;
-use log_replay::PagedLog;
+use entry_spelling::has_spelling;
+use node_log::{KeepFault, NodeLog};
 use phys_log::Entry;
 use report_text::{EntryLine, Line, ReplyLine};
 use std::alloc::{AllocError, Global};
 
-/// The run so far: the lines and the history of its report, and the log, whose pages have the rows at each position from
-/// where the run began.
+/// The run so far: the lines and the history of its report, and the log of the node, whose pages have the rows at each
+/// position from where the run began. Where the store failed the node is down, and the log has one entry more than the
+/// history.
 #[derive(Drop)]
-pub(crate) struct RunSoFar {
+pub(crate) struct RunSoFar<D: LogStore> {
     pub lines: Vec<Line>,
     pub entries: Vec<EntryLine>,
-    pub log: PagedLog,
+    pub log: NodeLog<D>,
+}
+
+/// What came of an append.
+pub(crate) enum Appended {
+    /// The entry is kept in the store.
+    Kept,
+    /// The store failed: the node is down.
+    Down,
 }
 
 /// Adds a line of a session.
@@ -60,20 +75,23 @@ fn add_replies(
     Ok(())
 }
 
-/// Tells and keeps what a line is to do. After an error only lines were added.
-pub(crate) fn apply_effect(
+/// Tells and keeps what a line is to do. Where the store fails at its entry, the node goes down, and the transaction is lost
+/// by the line in place of its outcome. After an error only lines were added.
+pub(crate) fn apply_effect<D: LogStore>(
     alloc: Global,
     name: &Name,
     effect: LineEffect,
-    run: &mut RunSoFar,
+    run: &mut RunSoFar<D>,
 ) -> Result<SessionState, AllocError>
-    requires fits { IfSome effect.added (Fits run.old.log) }
+    requires running { run.old.log.failed ≡ false }
+    requires fits { IfSome effect.added (Fits run.old.log.entries) }
+    requires commit { IfSome effect.added IsCommit }
+    requires made { IfSome effect.added (λ e. generation_of e ≡ run.old.log.accepted) }
+    requires told { TellsOutcome effect.replies.items effect.added }
     ensures state { IfOk result (λ after. after ≡ effect.after) }
-    ensures lines { OnOk result (run.new.lines.items ≡ run.old.lines.items ++ lines_of name.now effect.number effect.replies.items) }
-    ensures entries { OnOk result (run.new.entries.items ≡ run.old.entries.items ++ lines_added (length run.old.log) effect.added) }
-    ensures log { OnOk result (run.new.log ≡ run.old.log ++ option_to_list effect.added) }
+    ensures done { OnOk result (IsKeptSo name.now effect.number effect.replies.items effect.added run.old.lines.items run.new.lines.items run.old.entries.items run.new.entries.items run.old.log run.new.log) }
     ensures err_lines { OnErr result (Grown run.old.lines.items run.new.lines.items) }
-    ensures err_same { OnErr result (IsSameHistory run.old run.new) }
+    ensures err_same { OnErr result (IsSameHistory run.old.entries.items run.new.entries.items run.old.log run.new.log) }
 {
     let LineEffect {
         number,
@@ -82,49 +100,122 @@ pub(crate) fn apply_effect(
         added,
     } = effect;
     add_replies(&mut run.lines, name, number, replies)?;
-    append_committed(alloc, added, run)?;
-    Ok(after)
-}
-
-/// Appends the entry that is committed, if one is. After an error nothing is changed.
-fn append_committed(
-    alloc: Global,
-    added: Option<Entry>,
-    run: &mut RunSoFar,
-) -> Result<(), AllocError>
-    requires fits { IfSome added (Fits run.old.log) }
-    ensures entries { OnOk result (run.new.entries.items ≡ run.old.entries.items ++ lines_added (length run.old.log) added) }
-    ensures log { OnOk result (run.new.log ≡ run.old.log ++ option_to_list added) }
-    ensures lines { run.new.lines.items ≡ run.old.lines.items }
-    ensures err_same { OnErr result (IsSameHistory run.old run.new) }
-{
     match added {
-        None => Ok(()),
-        Some(entry) => append_entry(alloc, entry, run),
+        None => Ok(after),
+        Some(entry) => {
+            append_committed(alloc, name, number, entry, run)?;
+            Ok(after)
+        }
     }
 }
 
-/// Appends an entry to the log, and its line to the history. After an error nothing is changed.
-fn append_entry(alloc: Global, entry: Entry, run: &mut RunSoFar) -> Result<(), AllocError>
-    requires fits { Fits run.old.log entry }
-    ensures entries { OnOk result (run.new.entries.items ≡ run.old.entries.items ++ line_of_entry (length run.old.log + 1) entry ∷ []) }
-    ensures log { OnOk result (run.new.log ≡ run.old.log ++ entry ∷ []) }
-    ensures lines { run.new.lines.items ≡ run.old.lines.items }
-    ensures err_same { OnErr result (IsSameHistory run.old run.new) }
+/// Appends the entry of a transaction whose outcome is the last line, that it is committed. Where the store fails, the node
+/// goes down, and that line becomes those that it went down and that the transaction is lost. The lines for both are made
+/// before the store is called, so that no memory is wanted then. After an error only lines were added.
+fn append_committed<D: LogStore>(
+    alloc: Global,
+    name: &Name,
+    number: u64,
+    entry: Entry,
+    run: &mut RunSoFar<D>,
+) -> Result<(), AllocError>
+    requires running { run.old.log.failed ≡ false }
+    requires fits { Fits run.old.log.entries entry }
+    requires commit { IsCommit entry }
+    requires made { generation_of entry ≡ run.old.log.accepted }
+    requires told { (front : List Line) × (outcome : Line) × (run.old.lines.items ≡ front ++ outcome ∷ []) }
+    ensures done { OnOk result (
+        ((run.new.lines.items ≡ run.old.lines.items) × IsEntered entry run.old.entries.items run.new.entries.items run.old.log run.new.log)
+        ⊎ (((front : List Line) (outcome : Line) → run.old.lines.items ≡ front ++ outcome ∷ [] → run.new.lines.items ≡ front ++ down_line ∷ lines_of name.now number (ReplyLine.Lost 1 1 ∷ []))
+        × IsFallenAt entry run.old.entries.items run.new.entries.items run.old.log run.new.log)) }
+    ensures err_lines { OnErr result (Grown run.old.lines.items run.new.lines.items) }
+    ensures err_same { OnErr result (IsSameHistory run.old.entries.items run.new.entries.items run.old.log run.new.log) }
 {
-    let position = run.log.entries().len() as u64 + 1;
-    let line = line_of(position, &entry);
-    let (entry, line) = beside(entry, line)?;
-    let (entry, ()) = beside(entry, add_line(&mut run.entries, line))?;
-    if run.log.append(alloc, entry).is_err() {
-        let _ = run.entries.pop();
-        return Err(AllocError);
+    let had = run.lines.len();
+    let told = add_fall(&mut run.lines, name, number);
+    let (entry, ()) = beside(entry, told)?;
+    match append_entry(alloc, entry, run)? {
+        Appended::Kept => {
+            run.lines.truncate(had);
+            Ok(())
+        }
+        Appended::Down => {
+            put_down(&mut run.lines);
+            Ok(())
+        }
     }
+}
+
+/// Puts the last line, that the node went down, in the place of the outcome of the transaction that is lost.
+fn put_down(lines: &mut Vec<Line>)
+    requires { 3 ≤ length lines.old.items }
+    ensures { (front : List Line) (outcome lost down : Line) → lines.old.items ≡ front ++ outcome ∷ lost ∷ down ∷ [] → lines.new.items ≡ front ++ down ∷ lost ∷ [] }
+{
+    let place = lines.len() - 3;
+    let_go(lines.swap_remove(place));
+}
+
+/// Adds the lines that a transaction is lost, and that the node went down, in this order.
+fn add_fall(lines: &mut Vec<Line>, name: &Name, number: u64) -> Result<(), AllocError>
+    ensures ok { OnOk result (lines.new.items ≡ lines.old.items ++ (lines_of name.now number (ReplyLine.Lost 1 1 ∷ []) ++ down_line ∷ [])) }
+    ensures err { OnErr result (Grown lines.old.items lines.new.items) }
+{
+    add_reply(lines, name, number, ReplyLine::Lost { node: 1, down: 1 })?;
+    add_down(lines)
+}
+
+/// Adds the line that the node went down by a fault of its store.
+pub(crate) fn add_down(lines: &mut Vec<Line>) -> Result<(), AllocError>
+    ensures ok { OnOk result (lines.new.items ≡ lines.old.items ++ down_line ∷ []) }
+    ensures err { OnErr result (lines.new.items ≡ lines.old.items) }
+{
+    lines.push(Line::Down {
+        count: 1,
+        node: 1,
+        fault: true,
+    })?;
     Ok(())
 }
 
+/// Appends an entry to the log, and its line to the history. Where the store fails the history is as it was. An entry that
+/// has no spelling is one that memory is wanting for. After an error nothing is changed.
+fn append_entry<D: LogStore>(
+    alloc: Global,
+    entry: Entry,
+    run: &mut RunSoFar<D>,
+) -> Result<Appended, AllocError>
+    requires running { run.old.log.failed ≡ false }
+    requires fits { Fits run.old.log.entries entry }
+    requires commit { IsCommit entry }
+    requires made { generation_of entry ≡ run.old.log.accepted }
+    ensures kept { IfOk result (λ a. a ≡ Appended.Kept → IsEntered entry run.old.entries.items run.new.entries.items run.old.log run.new.log) }
+    ensures fallen { IfOk result (λ a. a ≡ Appended.Down → IsFallenAt entry run.old.entries.items run.new.entries.items run.old.log run.new.log) }
+    ensures lines { run.new.lines.items ≡ run.old.lines.items }
+    ensures err_same { OnErr result (IsSameHistory run.old.entries.items run.new.entries.items run.old.log run.new.log) }
+{
+    let position = run.log.log().entries().len() as u64 + 1;
+    let line = line_of(position, &entry);
+    let (entry, line) = beside(entry, line)?;
+    let (entry, ()) = beside(entry, add_line(&mut run.entries, line))?;
+    if !has_spelling(&entry) {
+        let_go(run.entries.pop());
+        return Err(AllocError);
+    }
+    match run.log.append(alloc, entry) {
+        Ok(()) => Ok(Appended::Kept),
+        Err(KeepFault::StoreFault) => {
+            let_go(run.entries.pop());
+            Ok(Appended::Down)
+        }
+        Err(KeepFault::NoMemory) => {
+            let_go(run.entries.pop());
+            Err(AllocError)
+        }
+    }
+}
+
 /// Adds a line of the history.
-fn add_line(entries: &mut Vec<EntryLine>, line: EntryLine) -> Result<(), AllocError>
+pub(crate) fn add_line(entries: &mut Vec<EntryLine>, line: EntryLine) -> Result<(), AllocError>
     ensures ok { OnOk result (entries.new.items ≡ entries.old.items ++ line ∷ []) }
     ensures err { OnErr result (entries.new.items ≡ entries.old.items) }
 {

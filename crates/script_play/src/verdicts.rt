@@ -11,9 +11,9 @@ ghost use Rattle.script_play.specs.Start.{Start};
 ghost use Rattle.script_play.specs.Step.{outcome};
 ghost use Rattle.table_edits.specs.Broken.{named};
 
-use super::run::RunSoFar;
 use block_processor::decide;
 use cdb_values::{GenidItem, Item, Name, Schema};
+use log_replay::PagedLog;
 use osql_session::OsqlSession;
 use phys_log::{CommitRequest, Decision, Entry};
 use report_text::ReplyLine;
@@ -35,21 +35,21 @@ pub(crate) fn decided(
     alloc: Global,
     schema: &Schema,
     generation: u64,
-    run: &RunSoFar,
+    log: &PagedLog,
     session: &OsqlSession,
 ) -> Result<Verdict, AllocError>
     ghost start: { Start }
-    requires ready { IsReadyFor start schema.now run.now }
-    requires able { IsAble start schema.now (length run.now.log) run.now.log session.now.begin session.now.ops }
-    ensures { IfOk result (λ v. IsVerdict start schema.now run.now.log v
-        (outcome (world start schema.now run.now) session.now.begin session.now.genids session.now.ops) (named_by generation session.now) session.now.ops) }
+    requires ready { IsReadyFor start schema.now log.now }
+    requires able { IsAble start schema.now (length log.now) log.now session.now.begin session.now.ops }
+    ensures { IfOk result (λ v. IsVerdict start schema.now log.now v
+        (outcome (world start schema.now log.now) session.now.begin session.now.genids session.now.ops) (named_by generation session.now) session.now.ops) }
 {
     match session.request(alloc)? {
         None => Ok(Verdict {
             outcome: ReplyLine::Committed(session.begin()),
             added: None,
         }),
-        Some(request) => judged(alloc, schema, generation, run, session, &request),
+        Some(request) => judged(alloc, schema, generation, log, session, &request),
     }
 }
 
@@ -58,23 +58,23 @@ fn judged(
     alloc: Global,
     schema: &Schema,
     generation: u64,
-    run: &RunSoFar,
+    log: &PagedLog,
     session: &OsqlSession,
     request: &CommitRequest,
 ) -> Result<Verdict, AllocError>
     ghost start: { Start }
-    requires ready { IsReadyFor start schema.now run.now }
-    requires able { IsAble start schema.now (length run.now.log) run.now.log session.now.begin session.now.ops }
+    requires ready { IsReadyFor start schema.now log.now }
+    requires able { IsAble start schema.now (length log.now) log.now session.now.begin session.now.ops }
     requires asked { request_of session.now ≡ Some request.now }
-    ensures { IfOk result (λ v. IsVerdict start schema.now run.now.log v
-        (outcome (world start schema.now run.now) session.now.begin session.now.genids session.now.ops) (named_by generation session.now) session.now.ops) }
+    ensures { IfOk result (λ v. IsVerdict start schema.now log.now v
+        (outcome (world start schema.now log.now) session.now.begin session.now.genids session.now.ops) (named_by generation session.now) session.now.ops) }
 {
-    let now = run.log.entries().len() as u64;
+    let now = log.entries().len() as u64;
     if LAST_POSITION <= now {
         return Err(AllocError);
     }
     the_first_broken_key_has_its_name();
-    match decide(alloc, request, &run.log, generation)? {
+    match decide(alloc, request, log, generation)? {
         Decision::Repeat(_) => Err(AllocError),
         Decision::Conflict {
             position,

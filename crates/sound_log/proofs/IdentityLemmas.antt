@@ -54,7 +54,7 @@ put old new key id added is keys was = go (list_any (is_same key) old) refl
         )
 
 -- what is among two lists, one behind the other
-among_either : {A : Type 0} (x : A) (xs ys : List A) → IsAmong x (xs ++ ys) → IsAmong x xs ⊎ IsAmong x ys
+pub among_either : {A : Type 0} (x : A) (xs ys : List A) → IsAmong x (xs ++ ys) → IsAmong x xs ⊎ IsAmong x ys
 among_either x [] ys h = inr h
 among_either x (y ∷ xs) ys (inl e) = inl (inl e)
 among_either x (y ∷ xs) ys (inr h) = go (among_either x xs ys h)

@@ -1,3 +1,5 @@
 pub mod IdentityLemmas
 pub mod SoundLemmas
 pub mod GrowthLemmas
+pub mod BytesLemmas
+pub mod GoOnLemmas

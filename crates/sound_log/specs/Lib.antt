@@ -1,3 +1,5 @@
 pub mod Identities
+pub mod Columns
 pub mod Sound
 pub mod Begun
+pub mod Bytes

@@ -18,24 +18,33 @@
 //! entry 3 is (1, a, 1) too                                  an identity comes twice
 //! entry 3 is a setup                                        a setup stands behind the first entry
 //! entry 1 is missing                                        the first entry is no setup
+//! t has no column                                           no script makes such a table
 //! entry 3 has no record of the key's tree                   the pages stand for no state
 //! ```
 //!
-//! The tests go from the cheapest to the dearest: each entry is looked at once, then the identities are put into a set,
-//! and at last the trees are walked. What the entries say that they change is not looked at: a log is sound by its
-//! pages.
+//! The tests go from the cheapest to the dearest: each table and each entry is looked at once, then the identities are put
+//! into a set, and at last the trees are walked. What the entries say that they change is not looked at: a log is sound by
+//! its pages.
+//!
+//! The rows that are read then are of bytes, as their types say. No definition of pages says it, so `is_sound` tells it.
 //!
 //! | Notion | Code | Definition |
 //! |---|---|---|
 //! | identities, and that they are apart | `identities` | `ids_in`, `AreApart` of `specs/Identities.antt` |
+//! | tables with columns | `columns` | `HasColumns` of `specs/Columns.antt` |
 //! | the entries behind the first | `sound` | `is_begun_by` of `specs/Begun.antt` |
 //! | pages that stand for a good state | `state_of` of `table_state` | `HasState` there |
+//! | rows of bytes | `bytes` | `AreOfBytes` of `specs/Bytes.antt` |
 //! | a sound log | `is_sound` | `IsSound` of `specs/Sound.antt` |
 #![tactic(auto)]
 
+mod bytes;
+mod columns;
 mod identities;
 mod laws;
 mod sound;
 
-pub use laws::{sound_logs_grow, sound_logs_stay_sound, standing_logs_have_their_state};
+pub use laws::{
+    sound_logs_go_on, sound_logs_grow, sound_logs_stay_sound, standing_logs_have_their_state,
+};
 pub use sound::is_sound;

@@ -1,7 +1,9 @@
 //! The log with one fault each.
 
-use super::written::{append, commit, id_of, is_sound_at, row_record, schema, set_up, with_row};
-use cdb_values::List;
+use super::written::{
+    append, commit, id_of, is_sound_at, row_record, schema, schema_of, set_up, set_up_of, with_row,
+};
+use cdb_values::{List, Name, TableDef};
 use log_replay::PagedLog;
 use phys_log::Entry;
 use std::alloc::Global;
@@ -63,6 +65,27 @@ fn one_setup_comes_first(rt: HostRuntime) -> Result<(), Fail> {
         "a second setup"
     );
     assert!(rt; !is_sound_at(alloc, 1, without_setup(alloc)?)?, "no setup");
+    Ok(())
+}
+
+/// The log of the setup of a table without columns.
+fn without_columns(alloc: Global) -> Result<PagedLog, Fail> {
+    let bare = TableDef {
+        name: Name::copied(alloc, b"t")?,
+        columns: List::new(alloc),
+        keys: List::new(alloc),
+    };
+    set_up_of(alloc, &schema_of(alloc, bare)?)
+}
+
+/// A setup of a table without columns, whose pages are in order.
+#[test]
+fn tables_have_columns(rt: HostRuntime) -> Result<(), Fail> {
+    let alloc = rt.alloc();
+    assert!(rt;
+        !is_sound_at(alloc, 1, without_columns(alloc)?)?,
+        "a table without columns"
+    );
     Ok(())
 }
 

@@ -51,21 +51,30 @@ fn table(alloc: Global) -> Result<TableDef, AllocError> {
     })
 }
 
-/// The schema of the one table.
-pub(crate) fn schema(alloc: Global) -> Result<Schema, Fail> {
+/// The schema of one table.
+pub(crate) fn schema_of(alloc: Global, table: TableDef) -> Result<Schema, Fail> {
     let mut schema = Schema::new(alloc);
-    match schema.add(table(alloc)?) {
+    match schema.add(table) {
         Ok(()) => Ok(schema),
         Err(_) => Err("the table is not added".into()),
     }
 }
 
+/// The schema of the table.
+pub(crate) fn schema(alloc: Global) -> Result<Schema, Fail> {
+    schema_of(alloc, table(alloc)?)
+}
+
+/// The log of the setup of a schema.
+pub(crate) fn set_up_of(alloc: Global, schema: &Schema) -> Result<PagedLog, Fail> {
+    let mut log = PagedLog::new(alloc);
+    append(alloc, &mut log, setup_entry(alloc, schema, 1)?)?;
+    Ok(log)
+}
+
 /// The log of the setup alone. Its records have the LSNs 1 (page 1), 2 (page 2), 3 and 4 (page 0).
 pub(crate) fn set_up(alloc: Global) -> Result<PagedLog, Fail> {
-    let mut log = PagedLog::new(alloc);
-    let schema = schema(alloc)?;
-    append(alloc, &mut log, setup_entry(alloc, &schema, 1)?)?;
-    Ok(log)
+    set_up_of(alloc, &schema(alloc)?)
 }
 
 /// Appends an entry that fits.

@@ -8,6 +8,6 @@ use Rattle.script_play.proofs.effects.effect_of.Goals as goal
 
 pub returns-in-Aborted : goal.returns-in-Aborted
 returns-in-Aborted g c =
-    subst (λ (d : InTransaction). IsEffect g.start c.args.generation c.args.schema.now c.args.run.now.log c.args.name.now c.skip.result
-    (turn_of (world g.start c.args.schema.now c.args.run.now) c.args.state.number c.args.state.level (text_in c.args.prepared.now).meaning (kind_in c.args.kind) (doing_in d))) (sym c.in-Aborted.is)
-    (c.skip.ensures g.start c.args.generation c.args.schema.now c.args.run.now.log c.args.name.now (world g.start c.args.schema.now c.args.run.now) (text_in c.args.prepared.now).meaning)
+    subst (λ (d : InTransaction). IsEffect g.start c.args.generation c.args.schema.now c.args.log.now c.args.name.now c.skip.result
+    (turn_of (world g.start c.args.schema.now c.args.log.now) c.args.state.number c.args.state.level (text_in c.args.prepared.now).meaning (kind_in c.args.kind) (doing_in d))) (sym c.in-Aborted.is)
+    (c.skip.ensures g.start c.args.generation c.args.schema.now c.args.log.now c.args.name.now (world g.start c.args.schema.now c.args.log.now) (text_in c.args.prepared.now).meaning)

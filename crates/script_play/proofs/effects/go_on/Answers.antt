@@ -6,5 +6,5 @@ use Rattle.script_play.proofs.effects.go_on.Goals as goal
 pub answer_text-requires : goal.answer_text-requires
 answer_text-requires g c = (
   c.requires.1.0.within,
-  (stands_there g.start c.args.schema.now (length c.args.run.now.log) c.args.session.begin c.args.run.now.log c.requires.0.logged c.requires.1.0.first c.requires.1.0.within, c.requires.1.1),
+  (stands_there g.start c.args.schema.now (length c.args.log.now) c.args.session.begin c.args.log.now c.requires.0.logged c.requires.1.0.first c.requires.1.0.within, c.requires.1.1),
 )

@@ -19,43 +19,43 @@ use Rattle.script_play.proofs.effects.own_transaction.Goals as goal
 pub answer_text-requires : goal.answer_text-requires
 answer_text-requires g c = (
   (let at = c.in_ok-session.ensures.begin in omega (arith, at)),
-  (stands_now g.start c.args.schema.now (length c.args.run.now.log) c.in_ok-session.session.begin c.args.run.now.log c.requires.0 c.in_ok-session.ensures.begin, c.requires.1.0),
+  (stands_now g.start c.args.schema.now (length c.args.log.now) c.in_ok-session.session.begin c.args.log.now c.requires.0 c.in_ok-session.ensures.begin, c.requires.1.0),
 )
 
 pub decided-requires : goal.decided-requires
 decided-requires g c = (
   c.requires.0,
-  subst (λ (b : ℕ). IsAble g.start c.args.schema.now (length c.args.run.now.log) c.args.run.now.log b c.answer_text.new.session.ops) (sym c.answer_text.ensures.begin)
-      (own_able g.start c.args.schema.now (length c.args.run.now.log) c.in_ok-session.session.begin c.args.run.now.log (text_in c.args.prepared.now).meaning c.answer_text.new.session.ops c.in_ok-session.session.ops
+  subst (λ (b : ℕ). IsAble g.start c.args.schema.now (length c.args.log.now) c.args.log.now b c.answer_text.new.session.ops) (sym c.answer_text.ensures.begin)
+      (own_able g.start c.args.schema.now (length c.args.log.now) c.in_ok-session.session.begin c.args.log.now (text_in c.args.prepared.now).meaning c.answer_text.new.session.ops c.in_ok-session.session.ops
       c.requires.0 c.requires.1.1 c.in_ok-session.ensures.begin c.in_ok-session.ensures.ops c.in_ok-told.ensures.ops),
 )
 
 pub returns : goal.returns
 returns g c = record {
   number = c.in_ok-number.ensures;
-  replies = own_told (world g.start c.args.schema.now c.args.run.now) (text_in c.args.prepared.now).meaning c.in_ok-session.session.begin c.in_ok-session.session.ops c.answer_text.new.session.ops c.answer_text.new.session.genids
+  replies = own_told (world g.start c.args.schema.now c.args.log.now) (text_in c.args.prepared.now).meaning c.in_ok-session.session.begin c.in_ok-session.session.ops c.answer_text.new.session.ops c.answer_text.new.session.genids
       c.in_ok-told.told c.in_ok-replies.replies.items c.in_ok-verdict.verdict.outcome c.in_ok-session.ensures.begin c.in_ok-session.ensures.ops c.in_ok-told.ensures.replies c.in_ok-told.ensures.ops used
-      (c.in_ok-verdict.ensures.told ∙ ap (λ (b : ℕ). outcome (world g.start c.args.schema.now c.args.run.now) b c.answer_text.new.session.genids c.answer_text.new.session.ops) c.answer_text.ensures.begin)
+      (c.in_ok-verdict.ensures.told ∙ ap (λ (b : ℕ). outcome (world g.start c.args.schema.now c.args.log.now) b c.answer_text.new.session.genids c.answer_text.new.session.ops) c.answer_text.ensures.begin)
       (c.in_ok-replies.ensures ∙ ap (λ (b : ℕ). told_from b c.into_vec.result.items) (c.begin.ensures ∙ c.answer_text.ensures.begin) ∙ ap (λ (rs : List ReplyLine). told_from c.in_ok-session.session.begin rs) c.into_vec.ensures);
   own = c.idle.ensures.own c.args.generation c.args.name.now;
   after = c.idle.ensures.is ∙ ap (λ (n : ℕ). state n c.args.level doing.No) c.in_ok-number.ensures;
-  added = subst (λ (all : List (List RowOp)). IsAdded g.start c.args.schema.now c.args.run.now.log c.in_ok-verdict.verdict.added its all)
-      (own_added (world g.start c.args.schema.now c.args.run.now) (text_in c.args.prepared.now).meaning c.in_ok-session.session.begin c.in_ok-session.session.ops c.answer_text.new.session.ops c.answer_text.new.session.genids
+  added = subst (λ (all : List (List RowOp)). IsAdded g.start c.args.schema.now c.args.log.now c.in_ok-verdict.verdict.added its all)
+      (own_added (world g.start c.args.schema.now c.args.log.now) (text_in c.args.prepared.now).meaning c.in_ok-session.session.begin c.in_ok-session.session.ops c.answer_text.new.session.ops c.answer_text.new.session.genids
       c.in_ok-session.ensures.begin c.in_ok-session.ensures.ops c.in_ok-told.ensures.ops used)
-      (subst (λ (b : ℕ). IsAdded g.start c.args.schema.now c.args.run.now.log c.in_ok-verdict.verdict.added its
-      (added_by (outcome (world g.start c.args.schema.now c.args.run.now) b c.answer_text.new.session.genids c.answer_text.new.session.ops) c.answer_text.new.session.ops)) c.answer_text.ensures.begin
-      (subst (λ (n : Named). IsAdded g.start c.args.schema.now c.args.run.now.log c.in_ok-verdict.verdict.added n (added_by (outcome (world g.start c.args.schema.now c.args.run.now) c.answer_text.new.session.begin c.answer_text.new.session.genids c.answer_text.new.session.ops) c.answer_text.new.session.ops))
+      (subst (λ (b : ℕ). IsAdded g.start c.args.schema.now c.args.log.now c.in_ok-verdict.verdict.added its
+      (added_by (outcome (world g.start c.args.schema.now c.args.log.now) b c.answer_text.new.session.genids c.answer_text.new.session.ops) c.answer_text.new.session.ops)) c.answer_text.ensures.begin
+      (subst (λ (n : Named). IsAdded g.start c.args.schema.now c.args.log.now c.in_ok-verdict.verdict.added n (added_by (outcome (world g.start c.args.schema.now c.args.log.now) c.answer_text.new.session.begin c.answer_text.new.session.genids c.answer_text.new.session.ops) c.answer_text.new.session.ops))
       named_is c.in_ok-verdict.ensures.added));
 }
   where
     told_from : ℕ → List ReplyLine → List ReplyLine
     told_from b replies = reply.Begin b ∷ (replies ++ c.in_ok-verdict.verdict.outcome ∷ [])
 
-    used : c.answer_text.new.session.genids ≡ (answer_of (world g.start c.args.schema.now c.args.run.now) c.in_ok-session.session.begin c.in_ok-session.session.ops (text_in c.args.prepared.now).meaning).uses
-    used = c.in_ok-told.ensures.genids ∙ ap (λ (items : List GenidItem). items ++ (answer_of (world g.start c.args.schema.now c.args.run.now) c.in_ok-session.session.begin c.in_ok-session.session.ops (text_in c.args.prepared.now).meaning).uses) c.in_ok-session.ensures.genids
+    used : c.answer_text.new.session.genids ≡ (answer_of (world g.start c.args.schema.now c.args.log.now) c.in_ok-session.session.begin c.in_ok-session.session.ops (text_in c.args.prepared.now).meaning).uses
+    used = c.in_ok-told.ensures.genids ∙ ap (λ (items : List GenidItem). items ++ (answer_of (world g.start c.args.schema.now c.args.log.now) c.in_ok-session.session.begin c.in_ok-session.session.ops (text_in c.args.prepared.now).meaning).uses) c.in_ok-session.ensures.genids
 
     its : Named
-    its = named_so c.args.generation c.args.name.now (c.args.number + 1) (length c.args.run.now.log) c.args.level
+    its = named_so c.args.generation c.args.name.now (c.args.number + 1) (length c.args.log.now) c.args.level
 
     its_named : ℕ → List ℕ → ℕ → ℕ → Level → Named
     its_named began session number begin level = record { generation = c.args.generation; began = began; session = session; number = number; begin = begin; level = level }
@@ -65,4 +65,4 @@ returns g c = record {
         ap (λ (i : CommitId). its_named i.began i.session i.txn c.answer_text.new.session.begin c.answer_text.new.session.level) (c.answer_text.ensures.id ∙ c.in_ok-session.ensures.own.0)
         ∙ ap (λ (n : ℕ). named_so c.args.generation c.args.name.now n c.answer_text.new.session.begin c.answer_text.new.session.level) c.in_ok-number.ensures
         ∙ ap (λ (b : ℕ). named_so c.args.generation c.args.name.now (c.args.number + 1) b c.answer_text.new.session.level) (c.answer_text.ensures.begin ∙ c.in_ok-session.ensures.begin)
-        ∙ ap (λ (l : Level). named_so c.args.generation c.args.name.now (c.args.number + 1) (length c.args.run.now.log) l) (c.answer_text.ensures.level ∙ c.in_ok-session.ensures.own.1)
+        ∙ ap (λ (l : Level). named_so c.args.generation c.args.name.now (c.args.number + 1) (length c.args.log.now) l) (c.answer_text.ensures.level ∙ c.in_ok-session.ensures.own.1)

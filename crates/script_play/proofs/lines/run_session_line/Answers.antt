@@ -1,18 +1,25 @@
-use Rattle.std.proofs.Common.{arith, ◌≡◌, ◌∙◌, subst, IfOk}
+use Rattle.std.proofs.Common.{◌≡◌, ◌∙◌, length, false, arith, subst, sym, Bool, IfOk}
+use Rattle.script_play.specs.Down.{history_by}
+use Rattle.script_play.specs.Ready.{IsLogged}
 use Rattle.script_play.specs.RunViews.{IsTakenFrom}
 use Rattle.script_play.specs.declared.states.SessionState.{SessionState}
-use Rattle.script_play.proofs.PlayLaws.{if_ok}
-use Rattle.script_play.proofs.TakeLemmas.{cut_taken}
+use Rattle.script_play.proofs.TakeLemmas.{cut_taken, of_ok}
 use Rattle.sql_answer.specs.Reading.{kind_of_text}
 use Rattle.sql_run.specs.Views.{kind_in, text_in}
 use Rattle.script_play.proofs.lines.run_session_line.Goals as goal
 
-pub returns-in-Err : goal.returns-in-Err
-returns-in-Err g c =
-    subst (λ (s : SessionState). IfOk c.cut_short.result (λ after. IsTakenFrom g.start c.args.generation c.args.schema.now c.args.name.now s c.args.text.now after c.args.run.now c.cut_short.new.run)) c.in_ok-state.ensures.0 (
+pub returns-in-Err-clause-taken : goal.returns-in-Err-clause-taken
+returns-in-Err-clause-taken g c =
+    subst (λ (s : SessionState). IfOk c.cut_short.result (λ after. IsTakenFrom g.start c.args.generation c.args.schema.now c.args.name.now s c.args.text.now after c.args.run.now.lines.items c.cut_short.new.run.lines.items
+    c.args.run.now.entries.items c.cut_short.new.run.entries.items c.args.run.now.log c.cut_short.new.run.log)) c.in_ok-state.ensures.0 (
     cut_taken g.start c.args.generation c.args.schema.now c.args.run.now.log c.cut_short.new.run.log c.args.name.now c.in_ok-state.state c.args.text.now (kind_in c.kind-kind.result) c.cut_state-cut.result c.cut_short.result
-    c.args.run.now.lines.items c.cut_short.new.run.lines.items c.args.run.now.entries.items c.cut_short.new.run.entries.items c.requires.0.logged c.cut_state-cut.ensures.shut
+    c.args.run.now.lines.items c.cut_short.new.run.lines.items c.args.run.now.entries.items c.cut_short.new.run.entries.items up
+    (subst (λ (b : Bool). IsLogged g.start c.args.schema.now (length (history_by b c.args.run.now.log.entries)) (history_by b c.args.run.now.log.entries)) up c.requires.1.0.logged)
+    c.cut_state-cut.ensures.shut
     (c.kind-kind.ensures ∙ subst (λ r. IfOk r (λ p. (text_in p).kind ≡ kind_of_text c.args.text.now)) c.in_ok-state.ensures.1 c.read_text.ensures.kind)
     c.cut_state-cut.ensures.cut c.cut_short.ensures.state
-    (if_ok c.cut_short.result (λ after told. told c.args.run.now.lines.items (let a = c.len-had.ensures in let b = c.args.run.now.lines.ok in omega (arith, a, b)) c.in-Err.ensures.err_lines) c.cut_short.ensures.lines)
+    (of_ok c.cut_short.result (λ after told. told c.args.run.now.lines.items (let a = c.len-had.ensures in let b = c.args.run.now.lines.ok in omega (arith, a, b)) c.in-Err.ensures.err_lines) c.cut_short.ensures.lines)
     (c.cut_short.ensures.same.0 ∙ c.in-Err.ensures.err_same.0) (c.cut_short.ensures.same.1 ∙ c.in-Err.ensures.err_same.1))
+  where
+    up : c.args.run.now.log.failed ≡ false
+    up = sym c.has_failed.ensures ∙ c.if-has_failed.false

@@ -1,18 +1,45 @@
+use Rattle.std.proofs.Common.{List, length, subst, sym}
+use Rattle.phys_log.specs.declared.entries.Entry.{Entry}
 use Rattle.sql_run.specs.Views.{kind_in, text_in}
-use Rattle.script_play.specs.RunViews.{doing_in, world}
+use Rattle.script_play.specs.Effects.{IsEffect}
+use Rattle.script_play.specs.Ready.{IsReadyToGo}
+use Rattle.script_play.specs.RunViews.{doing_in, world, IsReadyFor}
 use Rattle.script_play.specs.Step.{turn_of}
-use Rattle.script_play.proofs.TakeLemmas.{effect_fits, effect_taken}
+use Rattle.script_play.proofs.TakeLemmas.{effect_commits, effect_fits, effect_made, effect_taken, effect_tells, told_outcome}
 use Rattle.script_play.proofs.lines.run_whole.Goals as goal
+
+pub effect_of-requires : goal.effect_of-requires
+effect_of-requires g c = (
+  subst (λ (es : List Entry). IsReadyFor g.start c.args.schema.now es) (sym c.log.ensures.entries) c.requires.1.1.1.0,
+  (subst (λ (es : List Entry). IsReadyToGo g.start c.args.schema.now (length es) es (doing_in c.args.state.doing)) (sym c.log.ensures.entries) c.requires.1.1.1.1.0, c.requires.1.1.1.1.1),
+)
 
 pub apply_effect-requires : goal.apply_effect-requires
 apply_effect-requires g c = record {
-  fits = effect_fits g.start c.args.generation c.args.schema.now c.args.run.now.log c.args.name.now c.in_ok-effect.effect
-      (turn_of (world g.start c.args.schema.now c.args.run.now) c.args.state.number c.args.state.level (text_in c.args.prepared.now).meaning (kind_in c.args.kind) (doing_in c.args.state.doing)) c.in_ok-effect.ensures;
+  running = c.requires.1.0;
+  fits = effect_fits g.start c.args.generation c.args.schema.now c.args.run.now.log.entries c.args.name.now c.in_ok-effect.effect
+      (turn_of (world g.start c.args.schema.now c.args.run.now.log.entries) c.args.state.number c.args.state.level (text_in c.args.prepared.now).meaning (kind_in c.args.kind) (doing_in c.args.state.doing)) its;
+  commit = effect_commits g.start c.args.generation c.args.schema.now c.args.run.now.log.entries c.args.name.now c.in_ok-effect.effect
+      (turn_of (world g.start c.args.schema.now c.args.run.now.log.entries) c.args.state.number c.args.state.level (text_in c.args.prepared.now).meaning (kind_in c.args.kind) (doing_in c.args.state.doing)) its;
+  made = effect_made g.start c.args.generation c.args.schema.now c.args.run.now.log.entries c.args.name.now c.in_ok-effect.effect
+      (turn_of (world g.start c.args.schema.now c.args.run.now.log.entries) c.args.state.number c.args.state.level (text_in c.args.prepared.now).meaning (kind_in c.args.kind) (doing_in c.args.state.doing)) its
+      c.args.run.now.log.accepted c.requires.1.1.0;
+  told = effect_tells g.start c.args.generation c.args.schema.now c.args.run.now.log.entries c.args.name.now c.in_ok-effect.effect
+      (turn_of (world g.start c.args.schema.now c.args.run.now.log.entries) c.args.state.number c.args.state.level (text_in c.args.prepared.now).meaning (kind_in c.args.kind) (doing_in c.args.state.doing)) its
+      (told_outcome (world g.start c.args.schema.now c.args.run.now.log.entries) c.args.state.number c.args.state.level (text_in c.args.prepared.now).meaning (kind_in c.args.kind) (doing_in c.args.state.doing));
 }
+  where
+    its : IsEffect g.start c.args.generation c.args.schema.now c.args.run.now.log.entries c.args.name.now c.in_ok-effect.effect
+        (turn_of (world g.start c.args.schema.now c.args.run.now.log.entries) c.args.state.number c.args.state.level (text_in c.args.prepared.now).meaning (kind_in c.args.kind) (doing_in c.args.state.doing))
+    its = subst (λ (es : List Entry). IsEffect g.start c.args.generation c.args.schema.now es c.args.name.now c.in_ok-effect.effect
+        (turn_of (world g.start c.args.schema.now es) c.args.state.number c.args.state.level (text_in c.args.prepared.now).meaning (kind_in c.args.kind) (doing_in c.args.state.doing))) c.log.ensures.entries c.in_ok-effect.ensures
 
 pub returns-clause-ok : goal.returns-clause-ok
 returns-clause-ok g c =
-    effect_taken c.apply_effect.result g.start c.args.generation c.args.schema.now c.args.run.now.log c.apply_effect.new.run.log c.args.name.now c.in_ok-effect.effect
-    (turn_of (world g.start c.args.schema.now c.args.run.now) c.args.state.number c.args.state.level (text_in c.args.prepared.now).meaning (kind_in c.args.kind) (doing_in c.args.state.doing))
-    c.args.run.now.lines.items c.apply_effect.new.run.lines.items c.args.run.now.entries.items c.apply_effect.new.run.entries.items c.requires.0.logged c.requires.0.opened c.in_ok-effect.ensures
-    c.apply_effect.ensures.state c.apply_effect.ensures.lines c.apply_effect.ensures.entries c.apply_effect.ensures.log
+    effect_taken c.apply_effect.result g.start c.args.generation c.args.schema.now c.args.name.now c.in_ok-effect.effect
+    (turn_of (world g.start c.args.schema.now c.args.run.now.log.entries) c.args.state.number c.args.state.level (text_in c.args.prepared.now).meaning (kind_in c.args.kind) (doing_in c.args.state.doing))
+    c.args.run.now.lines.items c.apply_effect.new.run.lines.items c.args.run.now.entries.items c.apply_effect.new.run.entries.items c.args.run.now.log c.apply_effect.new.run.log
+    c.requires.1.0 c.requires.1.1.1.0.logged c.requires.1.1.1.0.opened
+    (subst (λ (es : List Entry). IsEffect g.start c.args.generation c.args.schema.now es c.args.name.now c.in_ok-effect.effect
+    (turn_of (world g.start c.args.schema.now es) c.args.state.number c.args.state.level (text_in c.args.prepared.now).meaning (kind_in c.args.kind) (doing_in c.args.state.doing))) c.log.ensures.entries c.in_ok-effect.ensures)
+    c.apply_effect.ensures.state c.apply_effect.ensures.done

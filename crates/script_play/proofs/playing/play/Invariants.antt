@@ -1,5 +1,5 @@
--- where the run begins
+-- the same start
 use Rattle.script_play.proofs.playing.play.Given as goal
 
 abbrev pub ghost-play_behind : goal.ghost-play_behind
-ghost-play_behind g a = record { before = a.log; rows = g.origin.rows }
+ghost-play_behind g a = g.start

@@ -1,15 +1,5 @@
-use Rattle.std.proofs.Common.{◌≡◌, length}
-use Rattle.script_form.specs.CanRun.{tables_of}
-use Rattle.script_play.specs.RunViews.{IsBeforeLine}
+-- the same start
 use Rattle.script_play.proofs.playing.play_behind.Given as goal
 
--- the same start
-abbrev pub ghost-run_line : goal.ghost-run_line
-ghost-run_line g a = g.start
-
-abbrev pub invariant-lines : goal.invariant-lines
-invariant-lines g l =
-    IsBeforeLine l.script g.start l.generation l.rest l.so_far l.states × (l.schema-inside.tables ≡ tables_of l.script)
-
-abbrev pub decreases-lines : goal.decreases-lines
-decreases-lines g l = length l.rest
+abbrev pub ghost-play_on : goal.ghost-play_on
+ghost-play_on g a = g.start

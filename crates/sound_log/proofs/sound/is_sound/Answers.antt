@@ -1,27 +1,46 @@
-use Rattle.std.proofs.Common.{sym, ap, ◌∙◌}
+use Rattle.std.proofs.Common.{◌≡◌, true, List, Some, sym, ap, ◌∙◌, subst}
 use Rattle.std.specs.Bool.{Decides}
 use Rattle.std.specs.Option.{option_copied}
 use Rattle.cdb_values.specs.Rows.{Rows}
+use Rattle.cdb_values.specs.declared.tables.TableDef.{TableDef}
 use Rattle.phys_log.specs.Logs.{pages_of}
+use Rattle.log_replay.specs.Answers.{schema_of}
 use Rattle.table_state.specs.States.{HasState}
 use Rattle.std.proofs.lemmas.Bool.{false≢true}
 use Rattle.std.proofs.lemmas.Result.{IfOk-weaker}
+use Rattle.sound_log.specs.Bytes.{StandForBytes}
 use Rattle.sound_log.specs.Identities.{ids_in, AreApart}
-use Rattle.sound_log.proofs.SoundLemmas.{not_begun, state_decides}
+use Rattle.sound_log.proofs.SoundLemmas.{tables_are, no_columns, not_begun, state_decides}
 use Rattle.sound_log.proofs.sound.is_sound.Goals as goal
 
-pub returns-then-not-are_begun_by : goal.returns-then-not-are_begun_by
-returns-then-not-are_begun_by c = (
+pub returns-then-not-have_columns-clause-sound : goal.returns-then-not-have_columns-clause-sound
+returns-then-not-have_columns-clause-sound c = (
+  λ e. absurd (false≢true e),
+  λ h. absurd (no_columns c.args.accepted c.args.log.now c.in-Some.others.now c.in-Some.field-0-0.now c.in-Some-schema.schema.now
+      (sym c.entries.ensures ∙ c.in-Some.ensures.cases.0) (sym c.schema.ensures ∙ ap option_copied c.in-Some-schema.is)
+      (sym c.have_columns.ensures ∙ c.if-not-have_columns.true) h),
+)
+
+pub returns-then-not-are_begun_by-clause-sound : goal.returns-then-not-are_begun_by-clause-sound
+returns-then-not-are_begun_by-clause-sound c = (
   λ e. absurd (false≢true e),
   λ h. absurd (not_begun c.args.accepted c.args.log.now c.in-Some.others.now c.in-Some.field-0-0.now (sym c.entries.ensures ∙ c.in-Some.ensures.cases.0)
       (sym c.are_begun_by.ensures ∙ c.if-not-are_begun_by.true) h),
 )
 
-pub returns : goal.returns
-returns c =
+pub returns-clause-sound : goal.returns-clause-sound
+returns-clause-sound c =
     let apart : AreApart (ids_in c.in-Some.others.now) = c.in_ok-apart.ensures.0 c.if-not-apart.false in
     IfOk-weaker c.has_state.result (λ has. Decides has ((rows : Rows) × HasState (pages_of c.args.log.now) c.in-Some-schema.schema.now rows)) _
     (λ has state. state_decides c.args.accepted c.args.log.now c.in-Some.others.now c.in-Some.field-0-0.now c.in-Some-schema.schema.now has
     (sym c.entries.ensures ∙ c.in-Some.ensures.cases.0) (sym c.schema.ensures ∙ ap option_copied c.in-Some-schema.is)
-    (sym c.are_begun_by.ensures ∙ c.if-not-are_begun_by.false) apart state)
-    c.has_state.ensures
+    (sym c.have_columns.ensures ∙ c.if-not-have_columns.false) (sym c.are_begun_by.ensures ∙ c.if-not-are_begun_by.false) apart state)
+    c.has_state.ensures.state
+
+pub returns-clause-bytes : goal.returns-clause-bytes
+returns-clause-bytes c =
+    let schema : schema_of c.args.log.now ≡ Some c.in-Some-schema.schema.now = sym c.schema.ensures ∙ ap option_copied c.in-Some-schema.is in
+    IfOk-weaker c.has_state.result (λ has. has ≡ true → StandForBytes (pages_of c.args.log.now) c.in-Some-schema.schema.now) _
+    (λ has told is. subst (λ (tables : List TableDef). StandForBytes (pages_of c.args.log.now) tables)
+    (sym (tables_are c.args.log.now c.in-Some-schema.schema.now schema)) (told is))
+    c.has_state.ensures.bytes

@@ -1,0 +1,152 @@
+-- A run can begin behind a log that was taken up: its rows fit their tables, have genids below the next one, and are rows
+-- that can be told.
+use Rattle.std.proofs.Common.{◌≡◌, ◌≢◌, ◌≤◌, inl, inr, ℕ, List, [], ◌∷◌, length, refl, sym, ap, ◌∙◌, subst, arith}
+use Rattle.std.proofs.lemmas.Str.{is_utf8-from_IsUtf8}
+use Rattle.std.specs.List.{AllByRecursion}
+use Rattle.cdb_values.specs.Good.{AllFit, FitsColumns, FitsTable}
+use Rattle.cdb_values.specs.Rows.{Rows, no_rows}
+use Rattle.cdb_values.specs.declared.rows.Version.{Version}
+use Rattle.cdb_values.specs.declared.tables.ColumnDef.{ColumnDef}
+use Rattle.cdb_values.specs.declared.tables.TableDef.{TableDef}
+use Rattle.cdb_values.specs.declared.values.Value.{Value}
+use Rattle.cdb_values.specs.declared.values.Value.TheVariants.{Null, Int, Text, Blob}
+use Rattle.key_code.specs.Codes.{IsRowValue, IsText}
+use Rattle.log_rows.specs.History.{tables_of}
+use Rattle.node_opening.specs.Up.{GoesOn}
+use Rattle.phys_log.specs.Logs.{pages_of}
+use Rattle.phys_log.specs.declared.entries.Entry.{Entry}
+use Rattle.script_play.specs.Ready.{CanBegin}
+use Rattle.script_play.specs.RunViews.{IsOpenedBehind, IsOpenedLog}
+use Rattle.session_language.specs.Spelled.{IsToldValue, IsToldRow, HaveRows}
+use Rattle.sound_log.specs.Bytes.{IsOfBytes, RowIsOfBytes, RowsAreOfBytes, AreOfBytes}
+use Rattle.sound_log.specs.Columns.{HasColumns}
+use Rattle.sound_log.specs.Sound.{IsSoundHistory, IsSound}
+use Rattle.sql_run.specs.Sound.{AreSound, IsSoundVersion}
+use Rattle.table_state.specs.States.{HasState}
+use Rattle.table_store.specs.States.{Rise, AreVersions}
+use Rattle.table_store.specs.Stored.{Stands}
+
+-- versions that fit their table, and whose genids rise below the next one
+sound_versions : (table : TableDef) (next : ℕ) (versions : List Version) → AllByRecursion (λ v. FitsTable table v.row) versions
+    → Rise versions next → AllByRecursion (IsSoundVersion table next) versions
+sound_versions table next [] fit rise = tt
+sound_versions table next (v ∷ vs) fit rise = ((fit.0, rise.0), sound_versions table next vs fit.1 rise.2)
+
+sound_rows : (tables : List TableDef) (next : ℕ) (versions : List (List Version)) → AllFit tables versions
+    → AllByRecursion (AreVersions next) versions → AreSound tables next versions
+sound_rows [] next [] fit are = tt
+sound_rows [] next (vs ∷ others) fit are = absurd fit
+sound_rows (table ∷ tables) next [] fit are = absurd fit
+sound_rows (table ∷ tables) next (vs ∷ others) fit are =
+    (sound_versions table next vs fit.0 are.0.rise, sound_rows tables next others fit.1 are.1)
+
+-- a value that is read from a row of bytes can be told
+told_value : (value : Value) → IsText value → IsOfBytes value → IsToldValue value
+told_value Null text bytes = tt
+told_value (Int n) text bytes = tt
+told_value (Text words) text bytes = is_utf8-from_IsUtf8 words text
+told_value (Blob blob) text bytes = bytes
+
+told_values : (values : List Value) → AllByRecursion IsRowValue values → AllByRecursion IsOfBytes values → AllByRecursion IsToldValue values
+told_values [] coded bytes = tt
+told_values (v ∷ vs) coded bytes = (told_value v coded.0.text bytes.0, told_values vs coded.1 bytes.1)
+
+-- a row of a table with columns
+told_row : (columns : List ColumnDef) (row : List Value) → columns ≢ [] → FitsColumns columns row → AllByRecursion IsRowValue row
+    → AllByRecursion IsOfBytes row → IsToldRow row
+told_row [] row some fits coded bytes = absurd (some refl)
+told_row (column ∷ columns) [] some fits coded bytes = absurd fits
+told_row (column ∷ columns) (v ∷ vs) some fits coded bytes = (told_value v coded.0.text bytes.0, told_values vs coded.1 bytes.1)
+
+told_versions : (table : TableDef) (versions : List Version) → HasColumns table → AllByRecursion (λ v. FitsTable table v.row) versions
+    → AllByRecursion (λ v. AllByRecursion IsRowValue v.row) versions → AllByRecursion RowIsOfBytes versions
+    → AllByRecursion (λ v. IsToldRow v.row) versions
+told_versions table [] some fit coded bytes = tt
+told_versions table (v ∷ vs) some fit coded bytes =
+    (told_row table.columns v.row some fit.0.columns coded.0 bytes.0, told_versions table vs some fit.1 coded.1 bytes.1)
+
+told_rows : (tables : List TableDef) (next : ℕ) (versions : List (List Version)) → AllByRecursion HasColumns tables → AllFit tables versions
+    → AllByRecursion (AreVersions next) versions → RowsAreOfBytes versions → HaveRows versions
+told_rows [] next [] some fit are bytes = tt
+told_rows [] next (vs ∷ others) some fit are bytes = absurd fit
+told_rows (table ∷ tables) next [] some fit are bytes = absurd fit
+told_rows (table ∷ tables) next (vs ∷ others) some fit are bytes =
+    (told_versions table vs some.0 fit.0 are.0.coded bytes.0, told_rows tables next others some.1 fit.1 are.1 bytes.1)
+
+-- a run can begin behind a sound log, at the rows for which its pages stand
+pub can_begin : (accepted : ℕ) (e : Entry) (es : List Entry) (sound : IsSoundHistory accepted (e ∷ es)) → AreOfBytes (e ∷ es)
+    → CanBegin (tables_of (e ∷ es)) (e ∷ es) sound.rows
+can_begin accepted e es sound bytes = record {
+  schema = sound.setup;
+  commits = sound.commits;
+  stands = state.stands;
+  kept = (
+    sound_rows (tables_of (e ∷ es)) sound.rows.next sound.rows.tables state.good.rows_fit state.stands.state.versions,
+    told_rows (tables_of (e ∷ es)) sound.rows.next sound.rows.tables sound.columns state.good.rows_fit state.stands.state.versions
+        (bytes sound.rows state),
+  );
+}
+  where
+    state : HasState (pages_of (e ∷ es)) (tables_of (e ∷ es)) sound.rows
+    state = sound.state
+
+-- where a run begins: at rows for which the pages of the log stand, at none where it has no entry
+pub record Begins (tables : List TableDef) (before : List Entry) : Type 0 where
+  pub rows : Rows
+  pub can : CanBegin tables before rows
+  pub none : before ≡ [] → rows ≡ no_rows []
+  pub state : 1 ≤ length before → HasState (pages_of before) tables rows
+
+begins_first : (tables : List TableDef) → Begins tables []
+begins_first tables = record { rows = no_rows []; can = refl; none = λ e. refl; state = λ some. absurd (no some) }
+  where
+    no : 1 ≤ 0 → ⊥
+    no l = omega arith
+
+begins_behind : (accepted : ℕ) (e : Entry) (es : List Entry) → IsSoundHistory accepted (e ∷ es) → AreOfBytes (e ∷ es)
+    → Begins (tables_of (e ∷ es)) (e ∷ es)
+begins_behind accepted e es sound bytes = record {
+  rows = sound.rows;
+  can = can_begin accepted e es sound bytes;
+  none = λ is. absurd (other is);
+  state = λ some. sound.state;
+}
+  where
+    other : e ∷ es ≡ [] → ⊥
+    other is = cc
+
+-- a run begins behind each log that is sound, over its tables, or over any where it has no entry
+pub begins : (accepted : ℕ) (before : List Entry) (tables : List TableDef) → IsSound accepted before → AreOfBytes before
+    → (1 ≤ length before → tables ≡ tables_of before) → Begins tables before
+begins accepted [] tables sound bytes same = begins_first tables
+begins accepted (e ∷ es) tables (inl none) bytes same = absurd (other none)
+  where
+    other : e ∷ es ≡ [] → ⊥
+    other is = cc
+begins accepted (e ∷ es) tables (inr sound) bytes same =
+    subst (λ (t : List TableDef). Begins t (e ∷ es)) (sym (same some)) (begins_behind accepted e es sound bytes)
+  where
+    some : 1 ≤ length (e ∷ es)
+    some = omega arith
+
+-- a log that was taken up, as a run wants it
+pub opened_behind : (given tables : List TableDef) (generation : ℕ) (before log : List Entry) → (before ≡ [] → given ≡ tables)
+    → GoesOn generation given before log → IsOpenedBehind tables generation before log
+opened_behind given tables generation [] log same (entry, begin, is) = record {
+  first = λ none. subst (λ (t : List TableDef). IsOpenedLog t generation log) (same refl) (record {
+    records = begin.setup.0;
+    is = is ∙ ap (λ (e : Entry). e ∷ []) begin.setup.1;
+    stands = subst (λ (l : List Entry). Stands (pages_of l) given (no_rows given)) (sym is) begin.pages;
+  });
+  later = λ some. absurd (no some);
+}
+  where
+    no : 1 ≤ 0 → ⊥
+    no l = omega arith
+opened_behind given tables generation (e ∷ es) log same goes = record {
+  first = λ none. absurd (other none);
+  later = λ some. goes;
+}
+  where
+    other : e ∷ es ≡ [] → ⊥
+    other is = cc

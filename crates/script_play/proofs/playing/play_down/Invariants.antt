@@ -1,0 +1,12 @@
+use Rattle.std.proofs.Common.{◌≡◌, length, map}
+use Rattle.script_form.specs.CanRun.{tables_of}
+use Rattle.script_play.specs.RunViews.{state_in}
+use Rattle.script_play.specs.SoFarDown.{IsBeforeDown}
+use Rattle.script_play.proofs.playing.play_down.Given as goal
+
+abbrev pub invariant-lines : goal.invariant-lines
+invariant-lines g l =
+    IsBeforeDown l.script l.rest l.lines.items (map state_in l.states) × (l.schema-inside.tables ≡ tables_of l.script)
+
+abbrev pub decreases-lines : goal.decreases-lines
+decreases-lines g l = length l.rest

@@ -1,0 +1,17 @@
+use Rattle.std.proofs.Common.{◌≡◌, length}
+use Rattle.script_form.specs.CanRun.{tables_of}
+use Rattle.script_play.specs.RunViews.{IsBeforeLine}
+use Rattle.script_play.proofs.playing.play_on.Given as goal
+
+-- the same start
+abbrev pub ghost-run_line : goal.ghost-run_line
+ghost-run_line g a = g.start
+
+abbrev pub invariant-lines : goal.invariant-lines
+invariant-lines g l =
+    IsBeforeLine l.script g.start l.generation l.fn.run.log.store.faults l.rest l.run.lines.items l.run.entries.items l.run.log l.states
+    × (l.generation ≡ l.fn.run.log.accepted)
+    × (l.schema-inside.tables ≡ tables_of l.script)
+
+abbrev pub decreases-lines : goal.decreases-lines
+decreases-lines g l = length l.rest

@@ -1,0 +1,14 @@
+use Rattle.std.proofs.Common.{◌≡◌, ◌∙◌, ◌++◌, ◌∷◌, [], OnOk, Err, ap, subst}
+use Rattle.script_play.proofs.AppendLemmas.{fallen_at, popped}
+use Rattle.script_play.proofs.run.append_entry.Goals as goal
+
+pub returns-in-Err-StoreFault-clause-fallen : goal.returns-in-Err-StoreFault-clause-fallen
+returns-in-Err-StoreFault-clause-fallen g c = λ _.
+    fallen_at c.args.entry c.in_ok-entry-2.entry c.args.run.now.entries.items c.pop-in-Err-StoreFault.new.self.items c.args.run.now.log c.append.new.self
+    (c.in_ok-entry-2.ensures.0 ∙ c.in_ok-entry.ensures.0)
+    (popped c.args.run.now.entries.items c.add_line.new.entries.items c.pop-in-Err-StoreFault.new.self.items c.in_ok-entry.line c.add_line.new.entries.len told c.add_line.new.entries.ok.0 c.pop-in-Err-StoreFault.ensures.rest)
+    (c.in-Err-StoreFault.ensures.failed (ap Err c.in-Err-StoreFault.field-0-is)) (c.in-Err-StoreFault.ensures.rose (ap Err c.in-Err-StoreFault.field-0-is))
+    (c.in-Err-StoreFault.ensures.left (ap Err c.in-Err-StoreFault.field-0-is))
+  where
+    told : c.add_line.new.entries.items ≡ c.args.run.now.entries.items ++ c.in_ok-entry.line ∷ []
+    told = subst (λ r. OnOk r (c.add_line.new.entries.items ≡ c.args.run.now.entries.items ++ c.in_ok-entry.line ∷ [])) c.in_ok-entry-2.ensures.1 c.add_line.ensures.ok

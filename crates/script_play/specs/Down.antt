@@ -1,0 +1,119 @@
+-- A node that goes down in a run: by a fault of its store, where the entry of a commit is to be kept.
+--
+-- The line of the report that it went down is the one that can stand in a run on one node: the first, of node 1, by a fault.
+-- The transaction at its commit is lost by it, and has no entry in the history; what it was told before its outcome stays.
+-- The log of the node has that entry, and no one was told of it.
+--
+-- From there on nothing is read and nothing is appended. A transaction that is open since is lost at the next line of its
+-- session, whatever that line is, and none begins, since no majority is up.
+use Rattle.std.specs.Prelude.{◌≡◌, ℕ, ◌+◌, ◌-◌, ◌≤◌, ◌++◌, ◌∷◌, [], List, Bool, true, false, Option, Some, None, length, take, ◌⊎◌}
+use Rattle.cdb_outside.specs.Faults.{Rose}
+use Rattle.cdb_values.specs.declared.rows.Level.{Level}
+use Rattle.cdb_values.specs.declared.rows.StatementError.TheVariants.{State}
+use Rattle.node_log.specs.Logged.{Logged, Leaves, with_entry}
+use Rattle.phys_log.specs.declared.entries.Entry.{Entry}
+use Rattle.report_laws.specs.Told.{lines_of}
+use Rattle.report_text.specs.declared.reports.EntryLine.{EntryLine}
+use Rattle.report_text.specs.declared.reports.Line.{Line}
+use Rattle.report_text.specs.declared.reports.Line.TheVariants as line
+use Rattle.report_text.specs.declared.reports.ReplyLine.{ReplyLine}
+use Rattle.report_text.specs.declared.reports.ReplyLine.TheVariants as reply
+use Rattle.session_language.specs.Language.{Kind, BeginText, CommitText, RollbackText, LevelText, OtherText}
+use Rattle.script_play.specs.Doing.{SessionAt, Doing}
+use Rattle.script_play.specs.Doing as doing
+use Rattle.script_play.specs.EntryLines.{line_of}
+use Rattle.script_play.specs.Step.{Turned, state, turned}
+
+-- the line that the node went down
+abbrev pub down_line : Line
+down_line = line.Down 1 1 true
+
+-- what a session is doing behind a line of a transaction that was cut short: its `commit` and `rollback` end it
+abbrev pub behind_cut : Kind → Doing
+behind_cut BeginText = doing.Aborted
+behind_cut CommitText = doing.No
+behind_cut RollbackText = doing.No
+behind_cut (LevelText later) = doing.Aborted
+behind_cut OtherText = doing.Aborted
+
+-- what a line does on a node that is down: that its transaction is lost comes first, then that no majority is up, and any
+-- other line is answered as on a node that is up
+abbrev pub turn_down : ℕ → Level → Kind → Doing → Turned
+turn_down number level k (doing.Open begin ops uses) = turned number (reply.Lost 1 1 ∷ []) (state number level (behind_cut k))
+turn_down number level k doing.Aborted = turned number [] (state number level (behind_cut k))
+turn_down number level BeginText doing.No = turned (number + 1) (reply.NoMajority 0 1 ∷ []) (state (number + 1) level doing.Aborted)
+turn_down number level OtherText doing.No = turned (number + 1) (reply.NoMajority 0 1 ∷ []) (state (number + 1) level doing.No)
+turn_down number level CommitText doing.No = turned 0 (reply.Error State ∷ []) (state number level doing.No)
+turn_down number level RollbackText doing.No = turned 0 (reply.Error State ∷ []) (state number level doing.No)
+turn_down number level (LevelText later) doing.No = turned 0 (reply.Level later ∷ []) (state number later doing.No)
+
+-- a line of a session was told so, and the session is there behind it
+pub record IsToldDown (name : List ℕ) (t : Turned) (after : SessionAt) (lines lines' : List Line) : Type 0 where
+  pub lines_are : lines' ≡ lines ++ lines_of name t.number t.replies
+  pub after_is : after ≡ t.after
+
+-- what is told by a line at whose entry the node goes down: what comes before its outcome, that the node went down, and that
+-- the transaction is lost
+abbrev pub fallen_lines : List ℕ → ℕ → List ReplyLine → List Line
+fallen_lines name number front = lines_of name number front ++ down_line ∷ lines_of name number (reply.Lost 1 1 ∷ [])
+
+-- the history that was told of a log: where the store failed, the last entry is not in it
+abbrev pub history_by : Bool → List Entry → List Entry
+history_by false es = es
+history_by true es = take (length es - 1) es
+
+abbrev pub history_of : Logged → List Entry
+history_of l = history_by l.failed l.entries
+
+-- the same log with other entries
+abbrev pub with_entries : Logged → List Entry → Logged
+with_entries l es = record l { entries = es }
+
+-- an entry was appended and kept, and stands in the history
+pub record IsEntered (entry : Entry) (entries entries' : List EntryLine) (log log' : Logged) : Type 0 where
+  pub entries_are : entries' ≡ entries ++ line_of (length log.entries + 1) entry ∷ []
+  pub log_is : log' ≡ record (with_entry log entry) { store = log'.store }
+  pub later : log.store.faults ≤ log'.store.faults
+
+-- an entry was appended, but the store failed at it: it stands in the log alone, and what a stop leaves of the store stands
+-- for the log without it, or with it
+pub record IsFallenAt (entry : Entry) (entries entries' : List EntryLine) (log log' : Logged) : Type 0 where
+  pub entries_are : entries' ≡ entries
+  pub log_is : log' ≡ record (with_entry log entry) { store = log'.store; failed = true }
+  pub rose : Rose log.store.faults log'.store.faults
+  pub left : Leaves log'.store (log ∷ with_entry log entry ∷ [])
+
+-- the replies to a line that commits an entry: their last is its outcome
+pub record HasOutcome (replies : List ReplyLine) : Type 0 where
+  pub front : List ReplyLine
+  pub outcome : ReplyLine
+  pub is : replies ≡ front ++ outcome ∷ []
+
+-- where an entry is to be appended, the replies have an outcome
+abbrev pub TellsOutcome : List ReplyLine → Option Entry → Type 0
+TellsOutcome replies None = Unit {0}
+TellsOutcome replies (Some entry) = HasOutcome replies
+
+-- what is told and kept of a line that appends no entry, and of one that does: its replies, and the entry; or, where the
+-- store fails at it, the lines above
+abbrev pub IsKeptSo : List ℕ → ℕ → List ReplyLine → Option Entry → List Line → List Line → List EntryLine → List EntryLine → Logged → Logged → Type 0
+IsKeptSo name number replies None lines lines' entries entries' log log' = (lines' ≡ lines ++ lines_of name number replies) × (entries' ≡ entries) × (log' ≡ log)
+IsKeptSo name number replies (Some entry) lines lines' entries entries' log log' =
+    ((lines' ≡ lines ++ lines_of name number replies) × IsEntered entry entries entries' log log')
+    ⊎ ((told : HasOutcome replies) × (lines' ≡ lines ++ fallen_lines name number told.front) × IsFallenAt entry entries entries' log log')
+
+-- how the log of a node is held: as long as the node is up, in a generation, and its store stands for it as its type says;
+-- where it is down, what a stop leaves of the store stands for the history, or for the log, which has one entry more
+abbrev pub IsHeldBy : Bool → ℕ → Logged → Type 0
+IsHeldBy false generation log = log.accepted ≡ generation
+IsHeldBy true generation log = (1 ≤ length log.entries) × Leaves log.store (with_entries log (history_of log) ∷ log ∷ [])
+
+-- the node went down at most once, and only where the count of its store rose
+abbrev pub IsCaused : Bool → ℕ → ℕ → Type 0
+IsCaused false before now = before ≤ now
+IsCaused true before now = Rose before now
+
+-- the same of a log whose store had so many faults before the run
+pub record IsHeld (generation had : ℕ) (log : Logged) : Type 0 where
+  pub held : IsHeldBy log.failed generation log
+  pub caused : IsCaused log.failed had log.store.faults
