@@ -3,54 +3,13 @@
 use super::drawn::turn_of;
 use super::runs::{has_status, has_written, is_so};
 use super::slow::Expected;
-use cdb_outside::{MemSink, MemSource, MemStore};
-use script_main::{Outside, Status, run};
+use super::stored::{ran, ran_over};
+use cdb_outside::MemStore;
+use script_main::Status;
 use std::alloc::{AllocError, Global};
 use std::process::Abort;
 use std::test::Fail;
 use test_cases::next_number;
-
-/// What a run answers and writes, and what it leaves in its store.
-#[derive(Drop)]
-struct Left {
-    status: Status,
-    text: Vec<u8>,
-    store: Vec<u8>,
-}
-
-/// A run over a script and a store.
-fn played_over(alloc: Global, script: &[u8], store: MemStore) -> Result<Left, AllocError>
-    requires settled { store.waiting ≡ [] }
-{
-    let words = vec![in alloc; String::from_str(alloc, "play")?]?;
-    let mut outside: Outside<MemSource, MemSink, MemStore> = Outside {
-        source: MemSource::new(Vec::from_slice(alloc, script)?, Vec::new(alloc)),
-        sink: MemSink::new(alloc, Vec::new(alloc)),
-        stores: vec![in alloc; store]?,
-        consumers: Vec::new(alloc),
-    };
-    let status = run(alloc, words.as_slice(), &mut outside);
-    Ok(Left {
-        status,
-        text: Vec::from_slice(alloc, outside.sink.taken())?,
-        store: stored(alloc, outside.stores.as_slice())?,
-    })
-}
-
-/// The synced bytes of the first of these stores.
-fn stored(alloc: Global, stores: &[MemStore]) -> Result<Vec<u8>, AllocError> {
-    match stores.first() {
-        Some(store) => Vec::from_slice(alloc, store.synced()),
-        None => Ok(Vec::new(alloc)),
-    }
-}
-
-/// A store that has these bytes, and never fails.
-fn store_of(alloc: Global, bytes: Vec<u8>) -> MemStore
-    ensures settled { result.waiting ≡ [] }
-{
-    MemStore::new(bytes, Vec::new(alloc), None, 0)
-}
 
 /// How many lines a drawn script has.
 const LINES: u64 = 200;
@@ -75,28 +34,28 @@ fn is_expected<R: Abort>(
     rt: &R,
     alloc: Global,
     expected: &Expected,
-    store: Vec<u8>,
+    store: &[u8],
 ) -> Result<Vec<u8>, AllocError> {
     let want = expected.report(alloc)?;
-    let left = played_over(alloc, expected.script.as_bytes(), store_of(alloc, store))?;
-    has_status(rt, left.status, Status::Done);
+    let run = ran(alloc, expected.script.as_bytes(), store)?;
+    has_status(rt, run.status, Status::Done);
     has_written(
         rt,
-        left.text.as_slice(),
+        run.text.as_slice(),
         want.as_bytes(),
         expected.script.as_str(),
     );
-    Ok(left.store)
+    Ok(run.bytes)
 }
 
 /// A script that is cut into two runs over one store.
 fn is_cut_at<R: Abort>(rt: &R, alloc: Global, seed: u64, cut: u64) -> Result<(), AllocError> {
     let mut expected = Expected::new(alloc)?;
     let x = take_lines(alloc, &mut expected, seed, cut)?;
-    let store = is_expected(rt, alloc, &expected, Vec::new(alloc))?;
+    let store = is_expected(rt, alloc, &expected, &[])?;
     expected.resume(alloc)?;
     let _ = take_lines(alloc, &mut expected, x, LINES.saturating_sub(cut))?;
-    let _ = is_expected(rt, alloc, &expected, store)?;
+    let _ = is_expected(rt, alloc, &expected, store.as_slice())?;
     Ok(())
 }
 
@@ -157,12 +116,12 @@ fn text_of(alloc: Global, bytes: &[u8]) -> Result<String, AllocError> {
 }
 
 /// Whether a run over what a stop left finds each row that was told, and one more at most.
-fn finds_all(alloc: Global, store: Vec<u8>, told: u64) -> Result<bool, AllocError> {
+fn finds_all(alloc: Global, store: &[u8], told: u64) -> Result<bool, AllocError> {
     let script = format!(in alloc;
         "{HEAD}a: select count(*) from t\na: insert into t values(1000, 1)\n"
     )?;
-    let left = played_over(alloc, script.as_bytes(), store_of(alloc, store))?;
-    let text = text_of(alloc, left.text.as_slice())?;
+    let run = ran(alloc, script.as_bytes(), store)?;
+    let text = text_of(alloc, run.text.as_slice())?;
     let more = told.saturating_add(1);
     let same = counted(alloc, more, told)?;
     let one_more = counted(alloc, more.saturating_add(1), more)?;
@@ -180,11 +139,11 @@ fn is_stopped_well<R: Abort>(
     keeps: u64,
 ) -> Result<bool, AllocError> {
     let store = MemStore::new(Vec::new(alloc), Vec::new(alloc), Some(stop), keeps);
-    let left = played_over(alloc, script.as_bytes(), store)?;
-    has_status(rt, left.status, Status::Done);
-    let text = text_of(alloc, left.text.as_slice())?;
+    let run = ran_over(alloc, script.as_bytes(), store)?;
+    has_status(rt, run.status, Status::Done);
+    let text = text_of(alloc, run.text.as_slice())?;
     let told = commits_of(text.as_str());
-    let found = finds_all(alloc, left.store, told)?;
+    let found = finds_all(alloc, run.bytes.as_slice(), told)?;
     is_so(rt, found, "all that was told is found");
     Ok(text.as_str().contains("down 1 1 fault"))
 }
