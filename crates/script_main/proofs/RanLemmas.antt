@@ -124,10 +124,14 @@ left_down : (old log : Logged) (new : Stored) (count : ℕ) → owner_of log ≡
     → IsLeftBy count old.cluster old.store new old.accepted (history_by true log.entries)
 left_down old log new count owns node stood one rose left some leaves =
     let last = last_of log.entries some in
-    inr (one, rose_later old.store.faults log.store.faults new.faults rose left.later, record {
-      entry = last.0;
-      stands = ∥∥₁_map (leaves new.synced left.joined) (or_more old log new.synced last.0 owns node stood last.1);
-    })
+    inr (
+      one,
+      rose_later old.store.faults log.store.faults new.faults rose left.later,
+      record {
+        entry = last.0;
+        stands = ∥∥₁_map (leaves new.synced left.joined) (or_more old log new.synced last.0 owns node stood last.1);
+      },
+    )
 
 -- where the node is down, its log has an entry
 abbrev pub HasFallen : Logged → Type 0

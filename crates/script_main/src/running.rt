@@ -1,5 +1,5 @@
 //! The top call.
-ghost use Rattle.std.specs.Prelude.{◌≡◌, [], map, vec_len, true, IfOk, IfErr, IfSome, OnErr};
+ghost use Rattle.std.specs.Prelude.{◌≡◌, [], map, vec_len, true, IfOk, IfErr, IfSome};
 ghost use Rattle.std.specs.Io.KnownBytes.{IsAtEnd};
 ghost use Rattle.std.specs.List.{AllByRecursion};
 ghost use Rattle.cdb_outside.specs.Faults.{Rose};
@@ -82,8 +82,7 @@ fn answer_bytes<D: LogStore + Drop>(
 ) -> Result<Answer, Status>
     requires settled { AllByRecursion (λ d. D.pending d ≡ []) stores.old.items }
     ensures answers { IfOk result (λ a. IsText true (script_of (vec_len stores.old) consumers bytes.now) (map (kept_by D.synced D.pending D.faults) stores.old.items) (map (kept_by D.synced D.pending D.faults) stores.new.items) a.status a.text) }
-    ensures stops { IfErr result (λ stop. stop ≡ Status.NoMemory) }
-    ensures left { OnErr result (AreLeft (script_of (vec_len stores.old) consumers bytes.now) (map (kept_by D.synced D.pending D.faults) stores.old.items) (map (kept_by D.synced D.pending D.faults) stores.new.items)) }
+    ensures stops { IfErr result (λ stop. (stop ≡ Status.NoMemory) × AreLeft (script_of (vec_len stores.old) consumers bytes.now) (map (kept_by D.synced D.pending D.faults) stores.old.items) (map (kept_by D.synced D.pending D.faults) stores.new.items)) }
     ensures unchanged { IfOk result (λ a. LeavesStores a.status → stores.new.items ≡ stores.old.items) }
     ensures others { IsFirstAlone stores.old.items stores.new.items }
     ensures settled { AllByRecursion (λ d. D.pending d ≡ []) stores.new.items }
