@@ -20,15 +20,18 @@ use Rattle.report_laws.specs.History.{rows_at, taken_at, Basis}
 use Rattle.report_laws.specs.Lawful.{Lawful}
 use Rattle.report_laws.specs.Nodes.{downs}
 use Rattle.report_laws.specs.Play.{InPlayOrder}
+use Rattle.report_text.specs.declared.reports.EntryLine.{EntryLine}
 use Rattle.report_text.specs.declared.reports.Report.{Report}
 use Rattle.script_form.specs.CanRun.{tables_of, CanRun}
 use Rattle.script_form.specs.Named.{IsNamed}
 use Rattle.script_form.specs.declared.scripts.Script.{Script}
 use Rattle.script_play.specs.Basis.{from_start}
-use Rattle.script_play.specs.Down.{history_of, history_by, owner_of, with_entries, IsCaused, Owner}
+use Rattle.script_play.specs.Down.{history_of, history_by, owner_of, with_entries, IsCaused, IsHeld, IsHeldBy, Owner}
 use Rattle.script_play.specs.EntryLines.{AreTold}
 use Rattle.script_play.specs.Played.{downs_by, IsTold}
+use Rattle.script_play.specs.Played.{IsGivenUp as IsGivenUpIn}
 use Rattle.script_play.specs.Start.{Start, base, ground_of}
+use Rattle.script_play.proofs.PlayLaws.{given_first}
 use Rattle.store_log.specs.declared.standings.Standing.TheVariants.{Log}
 use Rattle.store_log.specs.Held.{StandsFor}
 use Rattle.store_log.specs.Keeps.{Stored}
@@ -39,8 +42,8 @@ use Rattle.script_main.proofs.KnownLemmas.{only_state}
 use Rattle.script_main.proofs.ReportedLemmas.{one_such, spelled_over, told_in_grammar}
 use Rattle.script_main.specs.Known.{IsKnown}
 use Rattle.script_main.specs.Run.{IsTextOver}
-use Rattle.script_main.specs.Runs.{IsDownFirst, IsDownText, IsLeftBy, IsOne, IsRun, Keeps, KeepsOrMore}
-use Rattle.script_main.specs.Steps.{log_before, IsBegunAt, IsDifferText, IsLeftOf, IsNotUpText, IsOpened, IsPlaceIn, IsPlayedText, IsReportText, IsRunText}
+use Rattle.script_main.specs.Runs.{IsCutOff, IsDownFirst, IsDownText, IsGivenUp, IsLeftBy, IsOne, IsRun, Keeps, KeepsOrMore}
+use Rattle.script_main.specs.Steps.{log_before, IsBegunAt, IsDifferText, IsLeftFrom, IsLeftOf, IsNotUpText, IsOpened, IsPlaceIn, IsPlayedText, IsReportText, IsRunText}
 use Rattle.script_main.specs.Stores.{cluster_of, start_at, with_tables, HasRows, IsAlike}
 use Rattle.script_main.specs.declared.statuses.Status.{Status}
 use Rattle.script_main.specs.declared.statuses.Status.TheVariants as status
@@ -63,7 +66,7 @@ last_behind : (e : Entry) (es : List Entry) → (l : Entry) × (e ∷ es ≡ tak
 last_behind e [] = (e, refl)
 last_behind e (f ∷ es) = let b = last_behind f es in (b.0, ap (λ (rest : List Entry). e ∷ rest) b.1)
 
-last_of : (es : List Entry) → 1 ≤ length (take (length es - 1) es) → (e : Entry) × (es ≡ take (length es - 1) es ++ e ∷ [])
+last_of : (es : List Entry) → 1 ≤ length es → (e : Entry) × (es ≡ take (length es - 1) es ++ e ∷ [])
 last_of [] some = absurd (omega arith)
 last_of (e ∷ es) some =
     let b = last_behind e es in
@@ -73,6 +76,10 @@ last_of (e ∷ es) some =
 some_of : (es : List Entry) (tables : List TableDef) → schema_of es ≡ Some tables → 1 ≤ length es
 some_of [] tables is = absurd cc
 some_of (e ∷ es) tables is = omega arith
+
+some_more : (es : List Entry) → 1 ≤ length (take (length es - 1) es) → 1 ≤ length es
+some_more [] some = some
+some_more (e ∷ es) some = omega arith
 
 -- what is left behind a run
 
@@ -112,34 +119,68 @@ left_up : (old log : Logged) (new : Stored) (count : ℕ) → owner_of log ≡ o
 left_up old log new count same node stood none stands =
     inl (none, ∥∥₁_map stands (λ (s : Stand new.synced log). keeps_of old log new.synced log.entries same node stood s))
 
-left_down : (old log : Logged) (new : Stored) (count : ℕ) (tables : List TableDef) → owner_of log ≡ owner_of old → old.node ≡ 1 → old.promised ≡ old.accepted → count ≡ 1 → Rose old.store.faults log.store.faults
-    → IsLeftOf log new → schema_of (history_by true log.entries) ≡ Some tables → Leaves log.store (with_entries log (history_by true log.entries) ∷ log ∷ [])
+left_down : (old log : Logged) (new : Stored) (count : ℕ) → owner_of log ≡ owner_of old → old.node ≡ 1 → old.promised ≡ old.accepted → count ≡ 1 → Rose old.store.faults log.store.faults
+    → IsLeftOf log new → 1 ≤ length log.entries → Leaves log.store (with_entries log (history_by true log.entries) ∷ log ∷ [])
     → IsLeftBy count old.cluster old.store new old.accepted (history_by true log.entries)
-left_down old log new count tables same node stood one rose left schema leaves =
-    let last = last_of log.entries (some_of (history_by true log.entries) tables schema) in
+left_down old log new count owns node stood one rose left some leaves =
+    let last = last_of log.entries some in
     inr (
       one,
       rose_later old.store.faults log.store.faults new.faults rose left.later,
       record {
         entry = last.0;
-        stands = ∥∥₁_map (leaves new.synced left.joined) (or_more old log new.synced last.0 same node stood last.1);
+        stands = ∥∥₁_map (leaves new.synced left.joined) (or_more old log new.synced last.0 owns node stood last.1);
       },
     )
 
+-- where the node is down, its log has an entry
+abbrev pub HasFallen : Logged → Type 0
+HasFallen log = log.failed ≡ true → (1 ≤ length log.entries) × Leaves log.store (with_entries log (history_of log) ∷ log ∷ [])
+
 -- what a run leaves of its store, by whether its node is down
-pub left_by : (failed : Bool) (old log : Logged) (new : Stored) (count : ℕ) (tables : List TableDef) → log.failed ≡ failed → owner_of log ≡ owner_of old → old.node ≡ 1 → old.promised ≡ old.accepted
-    → count ≡ downs_by log.failed → IsCaused log.failed old.store.faults log.store.faults → IsLeftOf log new → schema_of (history_of log) ≡ Some tables
-    → (log.failed ≡ true → Leaves log.store (with_entries log (history_of log) ∷ log ∷ []))
+left_by : (failed : Bool) (old log : Logged) (new : Stored) (count : ℕ) → log.failed ≡ failed → owner_of log ≡ owner_of old → old.node ≡ 1 → old.promised ≡ old.accepted
+    → count ≡ downs_by log.failed → IsCaused log.failed old.store.faults log.store.faults → IsLeftOf log new → HasFallen log
     → IsLeftBy count old.cluster old.store new old.accepted (history_of log)
-left_by false old log new count tables is same node stood counted caused left schema leaves =
+left_by false old log new count is owns node stood counted caused left fallen =
     subst (λ (b : Bool). IsLeftBy count old.cluster old.store new old.accepted (history_by b log.entries)) (sym is)
-    (left_up old log new count same node stood (counted ∙ ap downs_by is) (left.stands is))
-left_by true old log new count tables is same node stood counted caused left schema leaves =
+    (left_up old log new count owns node stood (counted ∙ ap downs_by is) (left.stands is))
+left_by true old log new count is owns node stood counted caused left fallen =
     subst (λ (b : Bool). IsLeftBy count old.cluster old.store new old.accepted (history_by b log.entries)) (sym is)
-    (left_down old log new count tables same node stood (counted ∙ ap downs_by is)
-    (subst (λ (b : Bool). IsCaused b old.store.faults log.store.faults) is caused) left
-    (subst (λ (b : Bool). schema_of (history_by b log.entries) ≡ Some tables) is schema)
-    (subst (λ (b : Bool). Leaves log.store (with_entries log (history_by b log.entries) ∷ log ∷ [])) is (leaves is)))
+    (left_down old log new count owns node stood (counted ∙ ap downs_by is)
+    (subst (λ (b : Bool). IsCaused b old.store.faults log.store.faults) is caused) left (fallen is).0
+    (subst (λ (b : Bool). Leaves log.store (with_entries log (history_by b log.entries) ∷ log ∷ [])) is (fallen is).1))
+
+-- the log of a run that is told has a schema, and so an entry
+pub has_fallen : (log : Logged) (tables : List TableDef) → schema_of (history_of log) ≡ Some tables
+    → (log.failed ≡ true → Leaves log.store (with_entries log (history_of log) ∷ log ∷ [])) → HasFallen log
+has_fallen log tables schema leaves down =
+    (some_more log.entries (some_of (history_by true log.entries) tables (subst (λ (b : Bool). schema_of (history_by b log.entries) ≡ Some tables) down schema)), leaves down)
+
+-- and so has that of one that is given up
+given_fallen : (generation had : ℕ) (log : Logged) → IsHeld generation had log → HasFallen log
+given_fallen generation had log held down = subst (λ (b : Bool). IsHeldBy b generation log) down held.held
+
+left_from : (before : List Entry) (old log : Logged) (new : Stored) (entries : List EntryLine) → owner_of log ≡ owner_of old → old.node ≡ 1 → old.promised ≡ old.accepted →
+    AreTold before old.accepted entries (history_of log) → IsCaused log.failed old.store.faults log.store.faults → HasFallen log → IsLeftOf log new → IsLeftFrom before old new
+left_from before old log new entries owns node stood told caused fallen left = record {
+  entries = entries;
+  history = history_of log;
+  told = told;
+  count = downs_by log.failed;
+  left = left_by log.failed old log new (downs_by log.failed) refl owns node stood refl caused left fallen;
+}
+
+-- of a run that is told
+pub told_left : (script : Script) (start : Start) (old log : Logged) (report : Report) (new : Stored) → owner_of log ≡ owner_of old → old.node ≡ 1 → old.promised ≡ old.accepted →
+    AreTold start.before old.accepted report.entries (history_of log) → schema_of (history_of log) ≡ Some (tables_of script) → IsCaused log.failed old.store.faults log.store.faults →
+    (log.failed ≡ true → Leaves log.store (with_entries log (history_of log) ∷ log ∷ [])) → IsLeftOf log new → IsLeftFrom start.before old new
+told_left script start old log report new owns node stood told schema caused leaves left =
+    left_from start.before old log new report.entries owns node stood told caused (has_fallen log (tables_of script) schema leaves) left
+
+-- and of one that is given up
+pub given_left : (start : Start) (old log : Logged) (new : Stored) → owner_of log ≡ owner_of old → old.node ≡ 1 → old.promised ≡ old.accepted → IsGivenUpIn start old log → IsLeftOf log new → IsLeftFrom start.before old new
+given_left start old log new owns node stood given left =
+    left_from start.before old log new given.entries owns node stood given.told given.held.caused (given_fallen old.accepted old.store.faults log given.held) left
 
 -- what is told of a run
 pub played_text : (script : Script) (start : Start) (opened log : Logged) (report : Report) (new : Stored) (s : Status) (text : List ℕ) (b : ℕ) → b ≡ base start →
@@ -165,7 +206,7 @@ played_text script start opened log report new s text b at same node stood lawfu
     stands = stands;
   };
   is_text = is_text;
-  left = left_by log.failed opened log new (downs report.lines) (tables_of script) refl same node stood counted caused left schema leaves;
+  left = left_by log.failed opened log new (downs report.lines) refl same node stood counted caused left (has_fallen log (tables_of script) schema leaves);
 }
 
 -- a run over a store
@@ -260,3 +301,39 @@ left_as script w cluster given old new is same left =
 -- the text of a run is one of a script over its store
 pub run_text : (script : Script) (old new : Stored) (s : Status) (text : List ℕ) → IsRunText script old new s text → IsTextOver script old new s text
 run_text script old new s text r = subst (λ (t : Status). IsTextOver script old new t text) (sym r.status_is) (inl r.run)
+
+-- what is left of a store, whatever is answered
+
+pub same_cut : (script : Script) (old new : Stored) → new ≡ old → IsCutOff script old new
+same_cut script old new same = subst (λ (s : Stored). IsCutOff script old s) (sym same) (inl (λ s stands. stands))
+
+pub left_cut : (script : Script) (w : WhyNotUp) (old new : Stored) → IsLeft w 1 (cluster_of script) old.synced new.synced (tables_of script) → IsCutOff script old new
+left_cut script (why.StoreFault size) old new (inl alike) = inl alike
+left_cut script (why.StoreFault size) old new (inr partway) = inr (inl partway)
+left_cut script (why.Refused at) old new alike = inl alike
+left_cut script why.Unsound old new alike = inl alike
+left_cut script (why.Differs place) old new alike = inl alike
+left_cut script why.NoMemory old new (inl alike) = inl alike
+left_cut script why.NoMemory old new (inr partway) = inr (inl partway)
+
+pub run_cut : (script : Script) (old new : Stored) (base : ℕ) (log : Logged) → IsOpened script old base log → IsLeftFrom (log_before base log) log new → IsCutOff script old new
+run_cut script old new base log o l = inr (inr (record {
+  promised = o.taken.old_promise;
+  accepted = o.taken.old_accepted;
+  before = log_before base log;
+  stood = subst (λ (es : List Entry). StandsForGood 1 (cluster_of script) old.synced (tables_of script) o.taken.old_promise o.taken.old_accepted es) (sym (before_is script old base log o)) o.taken.stood;
+  entries = l.entries;
+  history = l.history;
+  told = subst (λ (g : ℕ). AreTold (log_before base log) g l.entries l.history) o.taken.accepted l.told;
+  count = l.count;
+  left = left_older l.count (cluster_of script) old log.store new (o.taken.old_promise + 1) l.history o.later
+      (subst (λ (g : ℕ). IsLeftBy l.count (cluster_of script) log.store new g l.history) o.taken.accepted
+      (subst (λ (c : ℕ). IsLeftBy l.count c log.store new log.accepted l.history) o.cluster l.left));
+}))
+
+-- a run is given up before it begins
+pub opened_left : (script : Script) (old : Stored) (base : ℕ) (log : Logged) (new : Stored) → IsOpened script old base log → IsLeftOf log new → IsLeftFrom (log_before base log) log new
+opened_left script old base log new o left =
+    let b = begun_at script old base log o in
+    let start = start_at (log_before base log) (begins_at script old base log o).rows in
+    given_left start log log new refl o.node b.same (given_first (tables_of (with_tables script (log_before base log))) start log o.running b.opened) left

@@ -10,7 +10,7 @@ use Rattle.script_read.specs.declared.drafts.Draft.{Draft}
 use Rattle.byte_words.specs.Lines.{lines_of, but_last}
 use Rattle.script_form.specs.declared.scripts.Script.{Script}
 use Rattle.store_log.specs.Keeps.{Stored}
-use Rattle.script_main.specs.Run.{IsText, IsTextOver, IsRefusalText, IsScriptText, IsUsageText, IsWritten, Finishes, LeavesStores, Writes, AnswersSource, IsStop}
+use Rattle.script_main.specs.Run.{AreCutOff, AreLeft, IsText, IsTextOver, IsRefusalText, IsScriptText, IsUsageText, IsWritten, Finishes, LeavesStores, Writes, AnswersSource, IsStop, StopsAt}
 use Rattle.script_main.specs.Texts.{usage_text}
 use Rattle.script_main.specs.declared.statuses.Status.{Status}
 use Rattle.script_main.specs.declared.statuses.Status.TheVariants as status
@@ -166,20 +166,20 @@ answer_says play count consumers stores stores' input left old new before now wa
     (subst (λ (p : Bool). IsText p answers.script stores stores' wanted text) (sym is) answers.is_text) fin
 
 -- nothing is written by a run that stopped
-pub stop_says : (play : Bool) (count consumers : ℕ) (stores stores' : List Stored) (input taken : Option (List ℕ)) (result : Status) → play ≡ true → IsStop result stores stores' → Writes play count consumers stores stores' input taken taken result
-stop_says play count consumers stores stores' input taken result is stop = record {
-  script = script_for count consumers input;
-  is_script = script_for_is count consumers input;
+pub stop_says : (play : Bool) (count consumers : ℕ) (stores stores' : List Stored) (input taken : Option (List ℕ)) (result : Status) → play ≡ true → StopsAt count consumers stores stores' input result → Writes play count consumers stores stores' input taken taken result
+stop_says play count consumers stores stores' input taken result is stops = record {
+  script = stops.script;
+  is_script = stops.is_script;
   text = [];
   taken = nothing taken;
-  is_written = go result stop;
+  is_written = go result stops.stop;
 }
   where
     nothing : (t : Option (List ℕ)) → Appends t t []
     nothing None = tt
     nothing (Some xs) = sym (append-nil xs)
 
-    go : (s : Status) → IsStop s stores stores' → IsWritten play (script_for count consumers input) stores stores' s []
+    go : (s : Status) → IsStop s stops.script stores stores' → IsWritten play stops.script stores stores' s []
     go status.Done t = absurd t
     go status.Usage t = absurd t
     go (status.Refused line why) t = absurd t
@@ -187,7 +187,27 @@ stop_says play count consumers stores stores' input taken result is stop = recor
     go status.WriteFault t = absurd t
     go (status.StoreRefused node at) t = absurd t
     go (status.Unsound node) t = absurd t
-    go status.NoMemory t = (is, refl)
+    go status.NoMemory t = (is, refl, t)
+
+-- stores that are as they were are left so, whatever the script is
+pub left_same : (script : Result Script Refusal) (stores : List Stored) → AreLeft script stores stores
+left_same (Ok script) stores = inl refl
+left_same (Err refused) stores = refl
+
+pub left_cut_off : (script : Result Script Refusal) (read : Script) (stores stores' : List Stored) → script ≡ Ok read → AreCutOff read stores stores' → AreLeft script stores stores'
+left_cut_off script read stores stores' is cut = subst (λ (r : Result Script Refusal). AreLeft r stores stores') (sym is) (inr cut)
+
+-- a run stops before it has read the source
+pub stops_unread : (count consumers : ℕ) (stores : List Stored) (input : Option (List ℕ)) (s : Status) → (s ≡ status.ReadFault) ⊎ (s ≡ status.NoMemory) → StopsAt count consumers stores stores input s
+stops_unread count consumers stores input s why = record {
+  script = script_for count consumers input;
+  stop = go why;
+  is_script = script_for_is count consumers input;
+}
+  where
+    go : (s ≡ status.ReadFault) ⊎ (s ≡ status.NoMemory) → IsStop s (script_for count consumers input) stores stores
+    go (inl fault) = subst (λ (t : Status). IsStop t (script_for count consumers input) stores stores) (sym fault) refl
+    go (inr none) = subst (λ (t : Status). IsStop t (script_for count consumers input) stores stores) (sym none) (left_same (script_for count consumers input) stores)
 
 -- a script that passes the limit is not read
 never_read : (draft : Draft) (lines : List (List ℕ)) (script : Script) → past_limit draft lines ≡ Ok script → ⊥
@@ -205,6 +225,18 @@ read_is_short stores consumers bytes script is = go (nat_lt most_bytes (length b
     go true long e = absurd (never_read (no_draft stores consumers) (but_last (lines_of (take (most_bytes + 1) bytes))) script e)
     go false short e = ltb-false most_bytes (length bytes) short
 
+-- the script of the bytes that were read is that of what the source had
+same_script : (count consumers : ℕ) (v : List ℕ) (o n : Option (List ℕ)) →
+    ((bytes rest : List ℕ) → most_bytes < length bytes → script_of count consumers (bytes ++ rest) ≡ script_of count consumers bytes) →
+    Consumes o n v → (length v ≤ most_bytes → IsAtEnd n) → IfSome o (λ input. script_of count consumers v ≡ script_of count consumers input)
+same_script count consumers v None n later c w = tt
+same_script count consumers v (Some input) None later c w = absurd c
+same_script count consumers v (Some input) (Some rest) later c w = pick (nat_lt most_bytes (length v)) refl
+  where
+    pick : (b : Bool) → nat_lt most_bytes (length v) ≡ b → script_of count consumers v ≡ script_of count consumers input
+    pick true long = sym (later v rest (ltb-true most_bytes (length v) long)) ∙ ap (λ bytes. script_of count consumers bytes) (sym c)
+    pick false short = ap (λ bytes. script_of count consumers bytes) (sym (append-nil v) ∙ ap (λ r. v ++ r) (sym (w (ltb-false most_bytes (length v) short))) ∙ sym c)
+
 -- the answer to the bytes that were read is the answer to what the source had
 pub source_answered : (count consumers : ℕ) (stores stores' : List Stored) (old new : Option (List ℕ)) (v : List ℕ) (s : Status) (text : List ℕ) →
     ((bytes rest : List ℕ) → most_bytes < length bytes → script_of count consumers (bytes ++ rest) ≡ script_of count consumers bytes) →
@@ -212,17 +244,18 @@ pub source_answered : (count consumers : ℕ) (stores stores' : List Stored) (ol
 source_answered count consumers stores stores' old new v s text later consumes whole is = record {
   script = script_of count consumers v;
   is_text = is;
-  is_script = same old new consumes whole;
+  is_script = same_script count consumers v old new later consumes whole;
   at_end = λ done.
       let read = done_read (script_of count consumers v) stores stores' text (subst (λ (t : Status). IsText true (script_of count consumers v) stores stores' t text) done is) in
       whole (read_is_short count consumers v read.0 read.1);
 }
-  where
-    same : (o n : Option (List ℕ)) → Consumes o n v → (length v ≤ most_bytes → IsAtEnd n) → IfSome o (λ input. script_of count consumers v ≡ script_of count consumers input)
-    same None n c w = tt
-    same (Some input) None c w = absurd c
-    same (Some input) (Some rest) c w = pick (nat_lt most_bytes (length v)) refl
-      where
-        pick : (b : Bool) → nat_lt most_bytes (length v) ≡ b → script_of count consumers v ≡ script_of count consumers input
-        pick true long = sym (later v rest (ltb-true most_bytes (length v) long)) ∙ ap (λ bytes. script_of count consumers bytes) (sym c)
-        pick false short = ap (λ bytes. script_of count consumers bytes) (sym (append-nil v) ∙ ap (λ r. v ++ r) (sym (w (ltb-false most_bytes (length v) short))) ∙ sym c)
+
+-- and so is a run that stops behind them
+pub source_stops : (count consumers : ℕ) (stores stores' : List Stored) (old new : Option (List ℕ)) (v : List ℕ) (s : Status) →
+    ((bytes rest : List ℕ) → most_bytes < length bytes → script_of count consumers (bytes ++ rest) ≡ script_of count consumers bytes) →
+    Consumes old new v → (length v ≤ most_bytes → IsAtEnd new) → s ≡ status.NoMemory → AreLeft (script_of count consumers v) stores stores' → StopsAt count consumers stores stores' old s
+source_stops count consumers stores stores' old new v s later consumes whole none left = record {
+  script = script_of count consumers v;
+  stop = subst (λ (t : Status). IsStop t (script_of count consumers v) stores stores') (sym none) left;
+  is_script = same_script count consumers v old new later consumes whole;
+}

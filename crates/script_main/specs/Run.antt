@@ -7,7 +7,7 @@ use Rattle.script_read.specs.Answers.{Refusal, refusal}
 use Rattle.script_read.specs.ScriptText.{script_of}
 use Rattle.script_form.specs.declared.scripts.Script.{Script}
 use Rattle.store_log.specs.Keeps.{Stored}
-use Rattle.script_main.specs.Runs.{IsRun, IsDownFirst}
+use Rattle.script_main.specs.Runs.{IsCutOff, IsRun, IsDownFirst}
 use Rattle.script_main.specs.Stores.{IsAlike, IsBadAt, IsOtherAt, IsUnsound, FirstRose, HasId}
 use Rattle.script_main.specs.Texts.{refused_text, store_text, unsound_text, usage_text}
 use Rattle.script_main.specs.declared.statuses.Status.{Status}
@@ -62,6 +62,16 @@ abbrev pub IsText : Bool → Result Script Refusal → List Stored → List Stor
 IsText false script old new s text = IsUsageText s text × (new ≡ old)
 IsText true script old new s text = IsScriptText script old new s text
 
+-- what is left of the stores where memory ran out: those of a script that was read, over the first
+abbrev pub AreCutOff : Script → List Stored → List Stored → Type 0
+AreCutOff script [] new = ⊥
+AreCutOff script (o ∷ os) [] = ⊥
+AreCutOff script (o ∷ os) (n ∷ ns) = IsCutOff script o n × (ns ≡ os)
+
+abbrev pub AreLeft : Result Script Refusal → List Stored → List Stored → Type 0
+AreLeft (Err refused) old new = new ≡ old
+AreLeft (Ok script) old new = (new ≡ old) ⊎ AreCutOff script old new
+
 -- what was written at a status: its text; a front of a text where a write failed; and nothing where a
 -- read failed or memory ran out
 abbrev pub IsWritten : Bool → Result Script Refusal → List Stored → List Stored → Status → List ℕ → Type 0
@@ -73,7 +83,7 @@ IsWritten play script old new status.WriteFault text =
     (other : Status) × (whole : List ℕ) × IsText play script old new other whole × IsFront text whole
 IsWritten play script old new (status.StoreRefused node at) text = IsText play script old new (status.StoreRefused node at) text
 IsWritten play script old new (status.Unsound node) text = IsText play script old new (status.Unsound node) text
-IsWritten play script old new status.NoMemory text = (play ≡ true) × (text ≡ [])
+IsWritten play script old new status.NoMemory text = (play ≡ true) × (text ≡ []) × AreLeft script old new
 
 -- What a run writes: there is a script or a refusal, that of the bytes of the source where it tells
 -- them, and a text that belongs to it, to the stores and to the status; the sink took it, where it tells what it takes.
@@ -152,15 +162,21 @@ Finishes wanted result text old new before now =
     ((result ≡ wanted) × Appends old new text) ⊎ ((result ≡ status.WriteFault) × AppendsFront old new text × Rose before now)
 
 -- a run that stopped before it had anything to write: a read failed, and the stores are as they were; or memory ran out
-abbrev pub IsStop : Status → List Stored → List Stored → Type 0
-IsStop status.Done old new = ⊥
-IsStop status.Usage old new = ⊥
-IsStop (status.Refused line why) old new = ⊥
-IsStop status.ReadFault old new = new ≡ old
-IsStop status.WriteFault old new = ⊥
-IsStop (status.StoreRefused node at) old new = ⊥
-IsStop (status.Unsound node) old new = ⊥
-IsStop status.NoMemory old new = Unit {0}
+abbrev pub IsStop : Status → Result Script Refusal → List Stored → List Stored → Type 0
+IsStop status.Done script old new = ⊥
+IsStop status.Usage script old new = ⊥
+IsStop (status.Refused line why) script old new = ⊥
+IsStop status.ReadFault script old new = new ≡ old
+IsStop status.WriteFault script old new = ⊥
+IsStop (status.StoreRefused node at) script old new = ⊥
+IsStop (status.Unsound node) script old new = ⊥
+IsStop status.NoMemory script old new = AreLeft script old new
+
+-- the same by what the source has, where it tells it
+pub record StopsAt (stores consumers : ℕ) (before after : List Stored) (old : Option (List ℕ)) (s : Status) : Type 0 where
+  pub script : Result Script Refusal
+  pub stop : IsStop s script before after
+  pub is_script : IfSome old (λ input. script ≡ script_of stores consumers input)
 
 -- the answer to the bytes that were read from a source: of the bytes that it had, where it tells them
 pub record AnswersSource (stores consumers : ℕ) (before after : List Stored) (old new : Option (List ℕ)) (s : Status) (text : List ℕ) : Type 0 where

@@ -8,7 +8,7 @@ use Rattle.cdb_values.specs.Rows.{Rows}
 use Rattle.cdb_values.specs.declared.tables.TableDef.{TableDef}
 use Rattle.node_opening.specs.declared.up.WhyNotUp.TheVariants as why
 use Rattle.node_opening.specs.Goods.{StandsForGood}
-use Rattle.node_opening.specs.Left.{IsLeft}
+use Rattle.node_opening.specs.Left.{IsLeft, StopsPartway}
 use Rattle.node_opening.specs.Why.{HasRisen, IsFault}
 use Rattle.phys_log.specs.declared.entries.Entry.{Entry}
 use Rattle.report_laws.specs.History.{Basis}
@@ -19,15 +19,17 @@ use Rattle.report_laws.specs.Play.{InPlayOrder}
 use Rattle.report_laws.specs.Spelled.{IsNamedTable}
 use Rattle.report_text.specs.Grammar.{IsReport}
 use Rattle.report_text.specs.Text.{report_text}
+use Rattle.report_text.specs.declared.reports.EntryLine.{EntryLine}
 use Rattle.report_text.specs.declared.reports.Report.{Report}
 use Rattle.script_form.specs.CanRun.{tables_of}
 use Rattle.script_form.specs.declared.scripts.Script.{Script}
 use Rattle.script_play.specs.Basis.{from_nothing, from_start}
+use Rattle.script_play.specs.EntryLines.{AreTold}
 use Rattle.script_play.specs.Played.{IsTold}
 use Rattle.store_log.specs.declared.standings.Standing.TheVariants.{Log}
 use Rattle.store_log.specs.Held.{StandsFor}
 use Rattle.store_log.specs.Keeps.{Stored}
-use Rattle.script_main.specs.Stores.{cluster_of, start_at, with_tables, HasRows}
+use Rattle.script_main.specs.Stores.{cluster_of, start_at, with_tables, HasRows, IsAlike}
 
 -- where no transaction is cut short and no node goes down, there is no other such report
 abbrev pub IsOne : Basis → Report → Type 0
@@ -86,3 +88,24 @@ pub record IsDownFirst (script : Script) (old new : Stored) (text : List ℕ) : 
   pub size : ℕ
   pub fault : IsFault 1 (cluster_of script) old.synced (tables_of script) size old.faults new.faults
   pub left : IsLeft (why.StoreFault size) 1 (cluster_of script) old.synced new.synced (tables_of script)
+
+-- what is left of the store where the run was given up behind its opening, for want of memory: the log for which it stood, with
+-- entries of the run
+pub record IsGivenUp (script : Script) (old new : Stored) : Type 0 where
+  pub promised : ℕ
+  pub accepted : ℕ
+  pub before : List Entry
+  pub stood : StandsForGood 1 (cluster_of script) old.synced (tables_of script) promised accepted before
+  pub entries : List EntryLine
+  pub history : List Entry
+  pub told : AreTold before (promised + 1) entries history
+  pub count : ℕ
+  pub left : IsLeftBy count (cluster_of script) old new (promised + 1) history
+
+-- what is left of the store whatever is answered: what it stood for; that with some of what the opening appends; or what a run
+-- behind the opening leaves
+abbrev pub IsCutOff : Script → Stored → Stored → Type 0
+IsCutOff script old new =
+    IsAlike script old new
+    ⊎ (StopsPartway 1 (cluster_of script) old.synced new.synced (tables_of script)
+    ⊎ IsGivenUp script old new)

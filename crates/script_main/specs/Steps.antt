@@ -11,10 +11,12 @@ use Rattle.phys_log.specs.declared.entries.Entry.{Entry}
 use Rattle.report_laws.specs.Nodes.{downs}
 use Rattle.report_text.specs.Text.{report_text}
 use Rattle.report_text.specs.Types.{FitsTypes}
+use Rattle.report_text.specs.declared.reports.EntryLine.{EntryLine}
 use Rattle.report_text.specs.declared.reports.Report.{Report}
 use Rattle.script_form.specs.CanRun.{tables_of}
 use Rattle.script_form.specs.declared.scripts.Script.{Script}
 use Rattle.script_form.specs.declared.scripts.TableLine.{TableLine}
+use Rattle.script_play.specs.EntryLines.{AreTold}
 use Rattle.script_play.specs.Played.{IsTold}
 use Rattle.script_play.specs.Ready.{CanBegin}
 use Rattle.script_play.specs.RunViews.{IsOpenedBehind}
@@ -90,6 +92,14 @@ pub record IsPlayedText (script : Script) (start : Start) (log : Logged) (new : 
   pub told : IsTold script start log.accepted report history
   pub is_text : IsReportText report s text
   pub left : IsLeftBy (downs report.lines) log.cluster log.store new log.accepted history
+
+-- what is left of the store of a run behind a log, whatever is told of it
+pub record IsLeftFrom (before : List Entry) (log : Logged) (new : Stored) : Type 0 where
+  pub entries : List EntryLine
+  pub history : List Entry
+  pub told : AreTold before log.accepted entries history
+  pub count : ℕ
+  pub left : IsLeftBy count log.cluster log.store new log.accepted history
 
 -- the text of a run over a store
 pub record IsRunText (script : Script) (old new : Stored) (s : Status) (text : List ℕ) : Type 0 where

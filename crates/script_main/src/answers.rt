@@ -1,9 +1,9 @@
 //! What a script's bytes are answered: a status and the text that belongs to it.
-ghost use Rattle.std.specs.Prelude.{◌≡◌, ◌<◌, [], map, length, vec_len, IfOk};
+ghost use Rattle.std.specs.Prelude.{◌≡◌, ◌<◌, [], map, length, vec_len, IfOk, OnErr};
 ghost use Rattle.std.specs.List.{AllByRecursion};
 ghost use Rattle.script_read.specs.Answers.{refusal};
 ghost use Rattle.script_read.specs.ScriptText.{script_of};
-ghost use Rattle.script_main.specs.Run.{IsRefusalText, IsScriptText, LeavesStores};
+ghost use Rattle.script_main.specs.Run.{AreLeft, IsRefusalText, IsScriptText, LeavesStores};
 ghost use Rattle.script_main.specs.Steps.{IsDifferText, IsReportText};
 ghost use Rattle.script_main.specs.Stores.{kept_by, IsFirstAlone};
 ghost use Rattle.script_main.specs.Texts.{store_text, unsound_text};
@@ -36,6 +36,7 @@ pub(crate) fn answer_script<D: LogStore + Drop>(
     requires settled { AllByRecursion (λ d. D.pending d ≡ []) stores.old.items }
     ensures text { IfOk result (λ a. IsScriptText (script_of (vec_len stores.old) consumers bytes.now) (map (kept_by D.synced D.pending D.faults) stores.old.items) (map (kept_by D.synced D.pending D.faults) stores.new.items) a.status a.text) }
     ensures unchanged { IfOk result (λ a. LeavesStores a.status → stores.new.items ≡ stores.old.items) }
+    ensures left { OnErr result (AreLeft (script_of (vec_len stores.old) consumers bytes.now) (map (kept_by D.synced D.pending D.faults) stores.old.items) (map (kept_by D.synced D.pending D.faults) stores.new.items)) }
     ensures others { IsFirstAlone stores.old.items stores.new.items }
     ensures settled { AllByRecursion (λ d. D.pending d ≡ []) stores.new.items }
 {

@@ -12,8 +12,8 @@ ghost use Rattle.script_form.specs.declared.scripts.Script.{Script};
 ghost use Rattle.script_play.specs.Start.{Start};
 ghost use Rattle.store_log.specs.Keeps.{Stored};
 ghost use Rattle.script_main.specs.Run.{IsTextOver};
-ghost use Rattle.script_main.specs.Runs.{IsDownText};
-ghost use Rattle.script_main.specs.Steps.{log_before, IsBegunAt, IsLeftOf, IsNotUpText, IsOpened, IsPlaceIn, IsPlayedText, IsReportText, IsRunText};
+ghost use Rattle.script_main.specs.Runs.{IsCutOff, IsDownText};
+ghost use Rattle.script_main.specs.Steps.{log_before, IsBegunAt, IsLeftFrom, IsLeftOf, IsNotUpText, IsOpened, IsPlaceIn, IsPlayedText, IsReportText, IsRunText};
 ghost use Rattle.script_main.specs.Stores.{cluster_of, kept_by, start_at, unsaid, HasId};
 
 use super::answers::{Answer, differs, let_go, reported, store_refused, unsound};
@@ -48,6 +48,7 @@ pub(crate) fn play_over<D: LogStore + Drop>(alloc: Global, script: &Script, stor
     requires settled { D.pending store ≡ [] }
     ensures text { IfOk result.answer (λ a. IsTextOver script.now (kept_by D.synced D.pending D.faults store) (kept_by D.synced D.pending D.faults result.store) a.status a.text) }
     ensures id { IfOk result.answer (λ _. HasId script.now) }
+    ensures left { IsCutOff script.now (kept_by D.synced D.pending D.faults store) (kept_by D.synced D.pending D.faults result.store) }
     ensures settled { D.pending result.store ≡ [] }
 {
     let Ok(schema) = schema_of(alloc, script.tables.as_slice()) else {
@@ -75,6 +76,7 @@ fn open_and_play<D: LogStore + Drop>(
     requires cluster { cluster ≡ cluster_of script.now }
     requires schema { schema.now ≡ tables_of script.now }
     ensures text { IfOk result.answer (λ a. IsTextOver script.now (kept_by D.synced D.pending D.faults store) (kept_by D.synced D.pending D.faults result.store) a.status a.text) }
+    ensures left { IsCutOff script.now (kept_by D.synced D.pending D.faults store) (kept_by D.synced D.pending D.faults result.store) }
     ensures settled { D.pending result.store ≡ [] }
 {
     match open_node(alloc, store, NODE, cluster, schema) {
@@ -184,6 +186,7 @@ fn play_up<D: LogStore + Drop>(alloc: Global, script: &Script, up: UpNode<D>) ->
     requires opened { (old : Stored) × IsOpened script.now old up.base up.log }
     ensures text { IfOk result.answer (λ a. (old : Stored) → IsOpened script.now old up.base up.log
         → IsRunText script.now old (kept_by D.synced D.pending D.faults result.store) a.status a.text) }
+    ensures left { IsLeftFrom (log_before up.base up.log) up.log (kept_by D.synced D.pending D.faults result.store) }
     ensures settled { D.pending result.store ≡ [] }
 {
     let begun = begin(up);
@@ -215,6 +218,7 @@ fn play_own<D: LogStore + Drop>(alloc: Global, script: &Script, begun: Begun<D>)
     requires own { (begun.base ≡ 0) ⊎ (script.now.tables ≢ []) }
     ensures text { IfOk result.answer (λ a. (old : Stored) → IsOpened script.now old begun.base begun.log
         → IsRunText script.now old (kept_by D.synced D.pending D.faults result.store) a.status a.text) }
+    ensures left { IsLeftFrom (log_before begun.base begun.log) begun.log (kept_by D.synced D.pending D.faults result.store) }
     ensures settled { D.pending result.store ≡ [] }
 {
     play_begun(alloc, script, begun)
@@ -229,6 +233,7 @@ fn play_logged<D: LogStore + Drop>(alloc: Global, script: &Script, begun: Begun<
     requires none { script.now.tables ≡ [] }
     ensures text { IfOk result.answer (λ a. (old : Stored) → IsOpened script.now old begun.base begun.log
         → IsRunText script.now old (kept_by D.synced D.pending D.faults result.store) a.status a.text) }
+    ensures left { IsLeftFrom (log_before begun.base begun.log) begun.log (kept_by D.synced D.pending D.faults result.store) }
     ensures settled { D.pending result.store ≡ [] }
 {
     match with_tables(alloc, script, begun.log.log()) {
@@ -297,6 +302,7 @@ fn play_begun<D: LogStore + Drop>(alloc: Global, script: &Script, begun: Begun<D
     requires begun { (rows : Rows) × IsBegunAt script.now begun.base (log_before begun.base begun.log) begun.log rows }
     ensures text { IfOk result.answer (λ a. (rows : Rows) → IsBegunAt script.now begun.base (log_before begun.base begun.log) begun.log rows
         → IsPlayedText script.now (start_at (log_before begun.base begun.log) rows) begun.log (kept_by D.synced D.pending D.faults result.store) a.status a.text) }
+    ensures left { IsLeftFrom (log_before begun.base begun.log) begun.log (kept_by D.synced D.pending D.faults result.store) }
     ensures settled { D.pending result.store ≡ [] }
 {
     pages_stand_for_one_state();
@@ -310,6 +316,7 @@ fn play_from<D: LogStore + Drop>(alloc: Global, script: &Script, begun: Begun<D>
     requires before { start.before ≡ log_before begun.base begun.log }
     requires begun { IsBegunAt script.now begun.base (log_before begun.base begun.log) begun.log start.rows }
     ensures text { IfOk result.answer (λ a. IsPlayedText script.now start begun.log (kept_by D.synced D.pending D.faults result.store) a.status a.text) }
+    ensures left { IsLeftFrom start.before begun.log (kept_by D.synced D.pending D.faults result.store) }
     ensures settled { D.pending result.store ≡ [] }
 {
     let Begun { log, base } = begun;

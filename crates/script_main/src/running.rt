@@ -4,7 +4,7 @@ ghost use Rattle.std.specs.Io.KnownBytes.{IsAtEnd};
 ghost use Rattle.std.specs.List.{AllByRecursion};
 ghost use Rattle.cdb_outside.specs.Faults.{Rose};
 ghost use Rattle.script_read.specs.ScriptText.{script_of};
-ghost use Rattle.script_main.specs.Run.{AnswersSource, Finishes, IsStop, IsText, LeavesStores, TellsRefusal, TellsStoreRefused, TellsUnsound, TellsUsage, Writes};
+ghost use Rattle.script_main.specs.Run.{AnswersSource, AreLeft, Finishes, IsText, LeavesStores, StopsAt, TellsRefusal, TellsStoreRefused, TellsUnsound, TellsUsage, Writes};
 ghost use Rattle.script_main.specs.Stores.{kept_by, IsFirstAlone};
 ghost use Rattle.script_main.specs.Words.{is_play};
 
@@ -58,7 +58,7 @@ fn answer_source<S: Source, D: LogStore + Drop>(
 ) -> Result<Answer, Status>
     requires settled { AllByRecursion (λ d. D.pending d ≡ []) stores.old.items }
     ensures answers { IfOk result (λ a. AnswersSource (vec_len stores.old) consumers (map (kept_by D.synced D.pending D.faults) stores.old.items) (map (kept_by D.synced D.pending D.faults) stores.new.items) (S.left source.old) (S.left source.new) a.status a.text) }
-    ensures stops { IfErr result (λ stop. IsStop stop (map (kept_by D.synced D.pending D.faults) stores.old.items) (map (kept_by D.synced D.pending D.faults) stores.new.items)) }
+    ensures stops { IfErr result (λ stop. StopsAt (vec_len stores.old) consumers (map (kept_by D.synced D.pending D.faults) stores.old.items) (map (kept_by D.synced D.pending D.faults) stores.new.items) (S.left source.old) stop) }
     ensures unchanged { IfOk result (λ a. LeavesStores a.status → stores.new.items ≡ stores.old.items) }
     ensures stopped { IfErr result (λ stop. LeavesStores stop → stores.new.items ≡ stores.old.items) }
     ensures others { IsFirstAlone stores.old.items stores.new.items }
@@ -82,7 +82,7 @@ fn answer_bytes<D: LogStore + Drop>(
 ) -> Result<Answer, Status>
     requires settled { AllByRecursion (λ d. D.pending d ≡ []) stores.old.items }
     ensures answers { IfOk result (λ a. IsText true (script_of (vec_len stores.old) consumers bytes.now) (map (kept_by D.synced D.pending D.faults) stores.old.items) (map (kept_by D.synced D.pending D.faults) stores.new.items) a.status a.text) }
-    ensures stops { IfErr result (λ stop. stop ≡ Status.NoMemory) }
+    ensures stops { IfErr result (λ stop. (stop ≡ Status.NoMemory) × AreLeft (script_of (vec_len stores.old) consumers bytes.now) (map (kept_by D.synced D.pending D.faults) stores.old.items) (map (kept_by D.synced D.pending D.faults) stores.new.items)) }
     ensures unchanged { IfOk result (λ a. LeavesStores a.status → stores.new.items ≡ stores.old.items) }
     ensures others { IsFirstAlone stores.old.items stores.new.items }
     ensures settled { AllByRecursion (λ d. D.pending d ≡ []) stores.new.items }

@@ -3,7 +3,7 @@ ghost use Rattle.std.specs.Prelude.{◌≡◌, ◌<◌, ◌≤◌, ◌∷◌, []
 ghost use Rattle.std.specs.List.{AllByRecursion};
 ghost use Rattle.script_form.specs.CanRun.{CanRun};
 ghost use Rattle.script_form.specs.Named.{IsNamed};
-ghost use Rattle.script_main.specs.Run.{IsScriptText};
+ghost use Rattle.script_main.specs.Run.{AreCutOff, IsScriptText};
 ghost use Rattle.script_main.specs.Stores.{kept_by, IsFirstAlone};
 
 use super::answers::Answer;
@@ -23,6 +23,7 @@ pub(crate) fn play_first<D: LogStore + Drop>(
     requires some { 1 ≤ vec_len stores.old }
     requires settled { AllByRecursion (λ d. D.pending d ≡ []) stores.old.items }
     ensures text { IfOk result (λ a. IsScriptText (Ok script.now) (map (kept_by D.synced D.pending D.faults) stores.old.items) (map (kept_by D.synced D.pending D.faults) stores.new.items) a.status a.text) }
+    ensures left { AreCutOff script.now (map (kept_by D.synced D.pending D.faults) stores.old.items) (map (kept_by D.synced D.pending D.faults) stores.new.items) }
     ensures others { IsFirstAlone stores.old.items stores.new.items }
     ensures settled { AllByRecursion (λ d. D.pending d ≡ []) stores.new.items }
 {

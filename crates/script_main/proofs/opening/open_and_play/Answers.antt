@@ -2,8 +2,9 @@ use Rattle.std.proofs.Common.{sym, subst, List}
 use Rattle.std.proofs.lemmas.Result.{IfOk-weaker}
 use Rattle.script_form.specs.CanRun.{tables_of}
 use Rattle.script_main.proofs.BegunLemmas.{opened_as}
-use Rattle.script_main.proofs.RanLemmas.{left_as, not_up_text, place_in, run_text, why_of}
+use Rattle.script_main.proofs.RanLemmas.{left_as, left_cut, not_up_text, place_in, run_cut, run_text, why_of}
 use Rattle.script_main.specs.Run.{IsTextOver}
+use Rattle.script_main.specs.Runs.{IsCutOff}
 use Rattle.script_main.specs.Steps.{IsNotUpText, IsOpened, IsRunText}
 use Rattle.script_main.specs.Stores.{cluster_of, kept_by}
 use Rattle.store_log.specs.Keeps.{Stored}
@@ -54,3 +55,21 @@ returns-in-Err-clause-text g c =
     (why_of script down.why c.args.cluster c.args.schema.now old.synced old.faults new.faults c.requires.cluster c.requires.schema told.why)
     (left_as script down.why c.args.cluster c.args.schema.now old.synced new.synced c.requires.cluster c.requires.schema told.left) is))
     c.refuse.ensures.answer
+
+pub returns-in-Ok-clause-left : goal.returns-in-Ok-clause-left
+returns-in-Ok-clause-left g c =
+    let script = c.args.script.now in
+    let up = c.in-Ok.up in
+    let old = kept_by g.D.LogStore.synced g.D.LogStore.pending g.D.LogStore.faults c.args.store in
+    let told = c.in-Ok.ensures in
+    run_cut script old (kept_by g.D.LogStore.synced g.D.LogStore.pending g.D.LogStore.faults c.play_up.result.store) up.base up.log
+    (opened_as script old up.base c.args.cluster c.args.schema.now up.log c.requires.cluster c.requires.schema told.up told.node told.cluster told.running told.later) c.play_up.ensures.left
+
+pub returns-in-Err-clause-left : goal.returns-in-Err-clause-left
+returns-in-Err-clause-left g c =
+    let script = c.args.script.now in
+    let down = c.in-Err.down in
+    let old = kept_by g.D.LogStore.synced g.D.LogStore.pending g.D.LogStore.faults c.args.store in
+    let new = kept_by g.D.LogStore.synced g.D.LogStore.pending g.D.LogStore.faults down.store in
+    subst (λ store. IsCutOff script old (kept_by g.D.LogStore.synced g.D.LogStore.pending g.D.LogStore.faults store)) (sym c.refuse.ensures.store)
+    (left_cut script down.why old new (left_as script down.why c.args.cluster c.args.schema.now old.synced new.synced c.requires.cluster c.requires.schema c.in-Err.ensures.left))

@@ -1,5 +1,5 @@
 use Rattle.std.proofs.Common.{sym, map, subst, vec_len, List, ℕ}
-use Rattle.script_main.specs.Run.{AnswersSource, Finishes}
+use Rattle.script_main.specs.Run.{AnswersSource, Finishes, StopsAt}
 use Rattle.script_main.specs.Stores.{kept_by}
 use Rattle.script_main.specs.Words.{is_play}
 use Rattle.script_main.proofs.TellsLemmas.{tells_refusal, tells_store_refused, tells_unsound, tells_usage}
@@ -72,7 +72,7 @@ returns-in-Ok-clause-says g c =
     answer_says play count consumers stores (map (kept_by g.D.LogStore.synced g.D.LogStore.pending g.D.LogStore.faults) c.answer_source.new.stores.items) left (g.S.Source.left c.answer_source.new.source) taken taken' before now a.status c.finish-in-Ok.result a.text
     (sym c.if-not-is_command.ensures)
     (subst (λ (n : ℕ). AnswersSource count n stores (map (kept_by g.D.LogStore.synced g.D.LogStore.pending g.D.LogStore.faults) c.answer_source.new.stores.items) left
-        (g.S.Source.left c.answer_source.new.source) a.status a.text) c.len-consumers.ensures c.in-Ok.ensures.answers)
+    (g.S.Source.left c.answer_source.new.source) a.status a.text) c.len-consumers.ensures c.in-Ok.ensures.answers)
     (subst (λ (text : List ℕ). Finishes a.status c.finish-in-Ok.result text taken taken' before now) c.as_bytes.ensures c.finish-in-Ok.ensures)
 
 pub returns-in-Ok-clause-usage : goal.returns-in-Ok-clause-usage
@@ -123,7 +123,8 @@ returns-in-Err-clause-says g c =
     let stores = map (kept_by g.D.LogStore.synced g.D.LogStore.pending g.D.LogStore.faults) c.args.outside.now.stores.items in
     let left = g.S.Source.left c.args.outside.now.source in
     let taken = g.K.Sink.taken c.args.outside.now.sink in
-    stop_says play count consumers stores (map (kept_by g.D.LogStore.synced g.D.LogStore.pending g.D.LogStore.faults) c.answer_source.new.stores.items) left taken c.in-Err.stop (sym c.if-not-is_command.ensures) c.in-Err.ensures.stops
+    stop_says play count consumers stores (map (kept_by g.D.LogStore.synced g.D.LogStore.pending g.D.LogStore.faults) c.answer_source.new.stores.items) left taken c.in-Err.stop (sym c.if-not-is_command.ensures)
+    (subst (λ (n : ℕ). StopsAt count n stores (map (kept_by g.D.LogStore.synced g.D.LogStore.pending g.D.LogStore.faults) c.answer_source.new.stores.items) left c.in-Err.stop) c.len-consumers.ensures c.in-Err.ensures.stops)
 
 pub returns-in-Err-clause-usage : goal.returns-in-Err-clause-usage
 returns-in-Err-clause-usage g c =
