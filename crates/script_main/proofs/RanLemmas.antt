@@ -1,10 +1,8 @@
 -- What a run leaves, and what is told of it, from what its steps tell.
-use Rattle.std.proofs.Common.{◌⊎◌, ◌≡◌, ◌≢◌, ℕ, ◌+◌, ◌-◌, ◌<◌, ◌≤◌, List, [], ◌∷◌, ◌++◌, length, take, drop, map, Bool, true, false, Option, Some, None, slice_get, unwrap_or, refl, sym, subst, ap, ◌∙◌, inl, inr, arith}
+use Rattle.std.proofs.Common.{◌⊎◌, ◌≡◌, ℕ, ◌+◌, ◌-◌, ◌<◌, ◌≤◌, List, [], ◌∷◌, ◌++◌, length, take, Bool, true, false, Some, slice_get, unwrap_or, refl, sym, subst, ap, ◌∙◌, inl, inr, arith}
 use Rattle.std.proofs.Math.Logic.{∥∥₁_map}
-use Rattle.std.specs.List.{AllByRecursion}
 use Rattle.cdb_outside.specs.Faults.{Rose}
-use Rattle.cdb_outside.specs.Stores.{JoinsFront}
-use Rattle.cdb_values.specs.Rows.{Rows, no_rows}
+use Rattle.cdb_values.specs.Rows.{Rows}
 use Rattle.cdb_values.specs.declared.tables.TableDef.{TableDef}
 use Rattle.log_replay.specs.Answers.{schema_of}
 use Rattle.log_rows.specs.History.{rows_over_at, takes_in, IsFrom, StandsOver}
@@ -16,7 +14,7 @@ use Rattle.node_opening.specs.Left.{IsLeft}
 use Rattle.node_opening.specs.Why.{HasRisen, IsWhy}
 use Rattle.page_store.specs.Image.{Image}
 use Rattle.phys_log.specs.declared.entries.Entry.{Entry}
-use Rattle.report_laws.specs.History.{rows_at, taken_at, Basis}
+use Rattle.report_laws.specs.History.{rows_at, taken_at}
 use Rattle.report_laws.specs.Lawful.{Lawful}
 use Rattle.report_laws.specs.Nodes.{downs}
 use Rattle.report_laws.specs.Play.{InPlayOrder}
@@ -37,17 +35,15 @@ use Rattle.store_log.specs.Held.{StandsFor}
 use Rattle.store_log.specs.Keeps.{Stored}
 use Rattle.script_main.proofs.AgainLemmas.{sound_behind, KeepTheirKeys}
 use Rattle.script_main.proofs.BegunLemmas.{before_is, begins_at, begun_at}
-use Rattle.script_main.proofs.BeginLemmas.{Begins}
 use Rattle.table_store.specs.Stored.{Stands}
 use Rattle.script_main.proofs.KnownLemmas.{only_state}
 use Rattle.script_main.proofs.ReportedLemmas.{one_such, spelled_over, told_in_grammar}
 use Rattle.script_main.specs.Known.{IsKnown}
 use Rattle.script_main.specs.Run.{IsTextOver}
-use Rattle.script_main.specs.Runs.{IsCutOff, IsDownFirst, IsDownText, IsGivenUp, IsLeftBy, IsOne, IsRun, Keeps, KeepsOrMore}
-use Rattle.script_main.specs.Steps.{log_before, IsBegunAt, IsDifferText, IsLeftFrom, IsLeftOf, IsNotUpText, IsOpened, IsPlaceIn, IsPlayedText, IsReportText, IsRunText}
-use Rattle.script_main.specs.Stores.{cluster_of, start_at, with_tables, HasRows, IsAlike}
+use Rattle.script_main.specs.Runs.{IsCutOff, IsLeftBy, IsRun, Keeps}
+use Rattle.script_main.specs.Steps.{log_before, IsBegunAt, IsLeftFrom, IsLeftOf, IsNotUpText, IsOpened, IsPlaceIn, IsPlayedText, IsReportText, IsRunText}
+use Rattle.script_main.specs.Stores.{cluster_of, start_at, with_tables}
 use Rattle.script_main.specs.declared.statuses.Status.{Status}
-use Rattle.script_main.specs.declared.statuses.Status.TheVariants as status
 
 -- counts of faults
 

@@ -5,7 +5,6 @@
 use Rattle.std.specs.Prelude.{◌≡◌, ◌≢◌, ◌⊎◌, ℕ, ◌+◌, ◌<◌, ◌^◌, List, [], ◌∷◌, ◌++◌}
 use Rattle.std.specs.List.{AllByRecursion}
 use Rattle.cdb_values.specs.Rows.{Rows}
-use Rattle.cdb_values.specs.declared.tables.TableDef.{TableDef}
 use Rattle.node_opening.specs.declared.up.WhyNotUp.TheVariants as why
 use Rattle.node_opening.specs.Goods.{StandsForGood}
 use Rattle.node_opening.specs.Left.{IsLeft, StopsPartway}

@@ -1,4 +1,3 @@
-use Rattle.std.proofs.Common.{subst, sym}
 use Rattle.std.proofs.lemmas.Result.{IfOk-weaker}
 use Rattle.cdb_values.specs.Rows.{Rows}
 use Rattle.store_log.specs.Keeps.{Stored}
