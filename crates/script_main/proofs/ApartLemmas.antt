@@ -1,6 +1,6 @@
 -- What the bytes of a store stand for is one thing: so one cause alone can refuse a script over it, and no run comes of a
 -- store that is refused.
-use Rattle.std.proofs.Common.{◌⊎◌, ◌≡◌, ℕ, zero, suc, ◌+◌, ◌<◌, ◌≤◌, ◌^◌, List, [], ◌∷◌, length, take, map, slice_get, refl, sym, subst, ap, ◌∙◌, inl, inr, Some, arith}
+use Rattle.std.proofs.Common.{◌⊎◌, ◌≡◌, ℕ, zero, suc, ◌<◌, ◌≤◌, ◌^◌, List, [], ◌∷◌, length, take, slice_get, refl, sym, subst, ap, ◌∙◌, inl, inr, arith}
 use Rattle.cdb_values.specs.declared.tables.TableDef.{TableDef}
 use Rattle.log_rows.specs.History.{tables_of}
 use Rattle.node_opening.specs.Goods.{HasTables, StandsForGood}
@@ -9,7 +9,6 @@ use Rattle.node_opening.specs.Why.{IsOther, WasOther, WasUnsound}
 use Rattle.phys_log.specs.declared.entries.Entry.{Entry}
 use Rattle.sound_log.specs.Sound.{IsSound}
 use Rattle.store_log.proofs.HeldLaws.{one_standing}
-use Rattle.store_log.specs.declared.standings.Standing.{Standing}
 use Rattle.store_log.specs.declared.standings.Standing.TheVariants.{Log, Bad, Foreign}
 use Rattle.store_log.specs.Held.{StandsFor}
 

@@ -1,10 +1,9 @@
 -- A node that is up can begin a run behind the log that its store stood for.
-use Rattle.std.proofs.Common.{◌⊎◌, ◌≡◌, ◌≢◌, ℕ, zero, suc, ◌+◌, ◌≤◌, List, [], ◌∷◌, length, take, map, unwrap_or, false, refl, sym, subst, ap, ◌∙◌, inl, inr, arith}
+use Rattle.std.proofs.Common.{◌⊎◌, ◌≡◌, ◌≢◌, ℕ, zero, suc, ◌+◌, ◌≤◌, List, [], ◌∷◌, length, take, map, false, refl, sym, subst, ap, ◌∙◌, inl, inr, arith}
 use Rattle.std.proofs.Math.Seq.{take-length}
 use Rattle.std.specs.List.{AllByRecursion}
-use Rattle.cdb_values.specs.Rows.{Rows, no_rows}
+use Rattle.cdb_values.specs.Rows.{Rows}
 use Rattle.cdb_values.specs.declared.tables.TableDef.{TableDef}
-use Rattle.log_replay.specs.Answers.{schema_of}
 use Rattle.log_rows.specs.History as history
 use Rattle.node_log.specs.Logged.{Logged, AreSpelled}
 use Rattle.node_opening.specs.Goods.{HasTables}
@@ -13,7 +12,6 @@ use Rattle.phys_log.specs.Logs.{pages_of}
 use Rattle.phys_log.specs.declared.entries.Entry.{Entry}
 use Rattle.script_form.specs.CanRun.{tables_of, CanRun}
 use Rattle.script_form.specs.declared.scripts.Script.{Script}
-use Rattle.script_form.specs.declared.scripts.TableLine.{TableLine}
 use Rattle.script_play.specs.RunViews.{IsOpenedBehind}
 use Rattle.sound_log.specs.Columns.{HasColumns}
 use Rattle.sound_log.specs.Sound.{IsSound}
@@ -21,7 +19,6 @@ use Rattle.store_log.specs.Keeps.{Stored}
 use Rattle.table_state.specs.States.{HasState}
 use Rattle.script_main.proofs.BeginLemmas.{begins, opened_behind, Begins}
 use Rattle.script_main.proofs.ScriptLemmas.{can_run_unsaid, log_tables, log_taken, own_tables, tables_with}
-use Rattle.script_main.specs.Known.{HasOneState, IsKnown}
 use Rattle.script_main.specs.Steps.{log_before, IsBegunAt, IsOpened}
 use Rattle.script_main.specs.Stores.{cluster_of, unsaid, with_tables, HasRows}
 

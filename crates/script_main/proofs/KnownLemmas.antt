@@ -1,5 +1,5 @@
 -- At which rows a run begins: the pages of its log stand for one state, so these are known as soon as there are such rows.
-use Rattle.std.proofs.Common.{◌≡◌, ℕ, List, [], ◌∷◌, refl, sym, ap, ◌∙◌}
+use Rattle.std.proofs.Common.{◌≡◌, ℕ, List, [], ◌∷◌, sym, ap, ◌∙◌}
 use mathlib.Core.HLevel.{Σ_prop_path}
 use mathlib.Core.HProp.{IsProp-prop}
 use mathlib.Core.Logic.{∥∥₁_elim, ∥∥₁_prop}

@@ -5,6 +5,7 @@ pub mod TellsLemmas
 pub mod WrittenLemmas
 pub mod BeginLemmas
 pub mod AfterLemmas
+pub mod AgainLemmas
 pub mod KnownLemmas
 pub mod BegunLemmas
 pub mod RanLemmas

@@ -1,10 +1,8 @@
 -- What a run leaves, and what is told of it, from what its steps tell.
-use Rattle.std.proofs.Common.{◌⊎◌, ◌≡◌, ◌≢◌, ℕ, ◌+◌, ◌-◌, ◌<◌, ◌≤◌, List, [], ◌∷◌, ◌++◌, length, take, drop, map, Bool, true, false, Option, Some, None, slice_get, unwrap_or, refl, sym, subst, ap, ◌∙◌, inl, inr, arith}
+use Rattle.std.proofs.Common.{◌⊎◌, ◌≡◌, ℕ, ◌+◌, ◌-◌, ◌<◌, ◌≤◌, List, [], ◌∷◌, ◌++◌, length, take, Bool, true, false, Some, slice_get, unwrap_or, refl, sym, subst, ap, ◌∙◌, inl, inr, arith}
 use Rattle.std.proofs.Math.Logic.{∥∥₁_map}
-use Rattle.std.specs.List.{AllByRecursion}
 use Rattle.cdb_outside.specs.Faults.{Rose}
-use Rattle.cdb_outside.specs.Stores.{JoinsFront}
-use Rattle.cdb_values.specs.Rows.{Rows, no_rows}
+use Rattle.cdb_values.specs.Rows.{Rows}
 use Rattle.cdb_values.specs.declared.tables.TableDef.{TableDef}
 use Rattle.log_replay.specs.Answers.{schema_of}
 use Rattle.log_rows.specs.History.{rows_over_at, takes_in, IsFrom, StandsOver}
@@ -16,7 +14,7 @@ use Rattle.node_opening.specs.Left.{IsLeft}
 use Rattle.node_opening.specs.Why.{HasRisen, IsWhy}
 use Rattle.page_store.specs.Image.{Image}
 use Rattle.phys_log.specs.declared.entries.Entry.{Entry}
-use Rattle.report_laws.specs.History.{rows_at, taken_at, Basis}
+use Rattle.report_laws.specs.History.{rows_at, taken_at}
 use Rattle.report_laws.specs.Lawful.{Lawful}
 use Rattle.report_laws.specs.Nodes.{downs}
 use Rattle.report_laws.specs.Play.{InPlayOrder}
@@ -35,18 +33,17 @@ use Rattle.script_play.proofs.PlayLaws.{given_first}
 use Rattle.store_log.specs.declared.standings.Standing.TheVariants.{Log}
 use Rattle.store_log.specs.Held.{StandsFor}
 use Rattle.store_log.specs.Keeps.{Stored}
+use Rattle.script_main.proofs.AgainLemmas.{sound_behind, KeepTheirKeys}
 use Rattle.script_main.proofs.BegunLemmas.{before_is, begins_at, begun_at}
-use Rattle.script_main.proofs.BeginLemmas.{Begins}
 use Rattle.table_store.specs.Stored.{Stands}
 use Rattle.script_main.proofs.KnownLemmas.{only_state}
 use Rattle.script_main.proofs.ReportedLemmas.{one_such, spelled_over, told_in_grammar}
 use Rattle.script_main.specs.Known.{IsKnown}
 use Rattle.script_main.specs.Run.{IsTextOver}
-use Rattle.script_main.specs.Runs.{IsCutOff, IsDownFirst, IsDownText, IsGivenUp, IsLeftBy, IsOne, IsRun, Keeps, KeepsOrMore}
-use Rattle.script_main.specs.Steps.{log_before, IsBegunAt, IsDifferText, IsLeftFrom, IsLeftOf, IsNotUpText, IsOpened, IsPlaceIn, IsPlayedText, IsReportText, IsRunText}
-use Rattle.script_main.specs.Stores.{cluster_of, start_at, with_tables, HasRows, IsAlike}
+use Rattle.script_main.specs.Runs.{IsCutOff, IsLeftBy, IsRun, Keeps}
+use Rattle.script_main.specs.Steps.{log_before, IsBegunAt, IsLeftFrom, IsLeftOf, IsNotUpText, IsOpened, IsPlaceIn, IsPlayedText, IsReportText, IsRunText}
+use Rattle.script_main.specs.Stores.{cluster_of, start_at, with_tables}
 use Rattle.script_main.specs.declared.statuses.Status.{Status}
-use Rattle.script_main.specs.declared.statuses.Status.TheVariants as status
 
 -- counts of faults
 
@@ -215,10 +212,10 @@ left_older : (count cluster : ℕ) (old mid new : Stored) (generation : ℕ) (hi
 left_older count cluster old mid new generation history l (inl up) = inl up
 left_older count cluster old mid new generation history l (inr down) = inr (down.0, risen_from old.faults mid.faults new.faults l down.1, down.2)
 
-pub is_run : (script : Script) (old new : Stored) (base : ℕ) (log : Logged) (before : List Entry) (s : Status) (text : List ℕ) → CanRun (with_tables script before) → IsNamed script →
+pub is_run : KeepTheirKeys → (script : Script) (old new : Stored) (base : ℕ) (log : Logged) (before : List Entry) (s : Status) (text : List ℕ) → CanRun (with_tables script before) → IsNamed script →
     (o : IsOpened script old base log) → before ≡ o.taken.old_entries → (rows : Rows) → IsBegunAt (with_tables script before) base before log rows →
     IsPlayedText (with_tables script before) (start_at before rows) log new s text → IsRun script old new text
-is_run script old new base log before s text can names o same rows begun played =
+is_run law script old new base log before s text can names o same rows begun played =
     let whole = with_tables script before in
     let basis = from_start whole (start_at before rows) in
     let p = played.told in
@@ -238,6 +235,9 @@ is_run script old new base log before s text can names o same rows begun played 
       left = left_older (downs played.report.lines) (cluster_of script) old log.store new (o.taken.old_promise + 1) played.history o.later
           (subst (λ (g : ℕ). IsLeftBy (downs played.report.lines) (cluster_of script) log.store new g played.history) o.taken.accepted
           (subst (λ (c : ℕ). IsLeftBy (downs played.report.lines) c log.store new log.accepted played.history) o.cluster played.left));
+      sound = λ next few. sound_behind script (cluster_of script) old.synced o.taken.old_promise o.taken.old_accepted before rows played.report played.history law can
+          (subst (λ (es : List Entry). StandsForGood 1 (cluster_of script) old.synced (tables_of script) o.taken.old_promise o.taken.old_accepted es) (sym same) o.taken.stood) begun.has_rows
+          (subst (λ (g : ℕ). IsTold whole (start_at before rows) g played.report played.history) o.taken.accepted p) next few;
     }
 
 -- the same of a script that is the one with the tables of the log
@@ -246,15 +246,15 @@ pub whole_begins : (script whole : Script) (old : Stored) (base : ℕ) (log : Lo
 whole_begins script whole old base log is o =
     ((begins_at script old base log o).rows, subst (λ (w : Script). IsBegunAt w base (log_before base log) log (begins_at script old base log o).rows) (sym is) (begun_at script old base log o))
 
-pub whole_runs : (script whole : Script) (old new : Stored) (base : ℕ) (log : Logged) (s : Status) (text : List ℕ) → whole ≡ with_tables script (log_before base log) → CanRun whole → IsNamed script →
+pub whole_runs : KeepTheirKeys → (script whole : Script) (old new : Stored) (base : ℕ) (log : Logged) (s : Status) (text : List ℕ) → whole ≡ with_tables script (log_before base log) → CanRun whole → IsNamed script →
     IsOpened script old base log →
     ((rows : Rows) → IsBegunAt whole base (log_before base log) log rows → IsPlayedText whole (start_at (log_before base log) rows) log new s text) → IsRunText script old new s text
-whole_runs script whole old new base log s text is can names o played =
+whole_runs law script whole old new base log s text is can names o played =
     let b = whole_begins script whole old base log is o in
     let p = played b.0 b.1 in
     record {
       status_is = p.is_text.status_is;
-      run = is_run script old new base log (log_before base log) s text (subst CanRun is can) names o (before_is script old base log o) b.0
+      run = is_run law script old new base log (log_before base log) s text (subst CanRun is can) names o (before_is script old base log o) b.0
           (subst (λ (w : Script). IsBegunAt w base (log_before base log) log b.0) is b.1)
           (subst (λ (w : Script). IsPlayedText w (start_at (log_before base log) b.0) log new s text) is p);
     }

@@ -1,15 +1,13 @@
 -- A script with the tables of a log: it is the same script where it has tables of its own, and can run where these are lawful and
 -- have columns.
-use Rattle.std.proofs.Common.{◌⊎◌, ◌≡◌, ◌≢◌, ℕ, ◌+◌, ◌≤◌, List, [], ◌∷◌, ◌++◌, length, map, Bool, true, false, ◌&&◌, Option, Some, None, unwrap_or, refl, sym, subst, ap, ◌∙◌, inl, inr, arith, is_some, not}
+use Rattle.std.proofs.Common.{◌≡◌, ◌≢◌, ◌≤◌, List, [], ◌∷◌, ◌++◌, length, map, Bool, true, false, ◌&&◌, Option, Some, None, refl, sym, subst, ap, inl, inr, arith}
 use Rattle.std.proofs.Math.Logic.{∥∥₁_elim}
 use Rattle.std.specs.Coded.{Coded-set, coded_bool}
 use Rattle.std.specs.List.{AllByRecursion}
 use Rattle.cdb_values.specs.Tables.{add_fault}
 use Rattle.cdb_values.specs.declared.schemas.AddFault.{AddFault}
 use Rattle.cdb_values.specs.declared.tables.TableDef.{TableDef}
-use Rattle.frame_code.specs.Spelled.{Grow, IsSpelled}
-use Rattle.frame_code.specs.declared.frames.Frame.TheVariants as frame
-use Rattle.log_replay.specs.Answers.{schema_of}
+use Rattle.frame_code.specs.Spelled.{Grow}
 use Rattle.log_rows.specs.History as history
 use Rattle.node_log.specs.Logged.{AreSpelled}
 use Rattle.node_opening.specs.Tables.{AreMatched}

@@ -1,5 +1,5 @@
 -- What was written tells whether the words were a command, whether the script was refused, and how its store was.
-use Rattle.std.proofs.Common.{◌⊎◌, ◌≡◌, ℕ, ◌<◌, ◌^◌, List, [], ◌∷◌, map, slice_get, refl, sym, subst, ap, Option, Some, None, ◌∙◌, Bool, true, false, inl, inr, Result, Ok, Err, IfSome}
+use Rattle.std.proofs.Common.{◌⊎◌, ◌≡◌, ℕ, List, [], ◌∷◌, slice_get, refl, sym, subst, ap, Option, Some, None, ◌∙◌, Bool, true, false, inl, inr, Result, Ok, Err, IfSome}
 use Rattle.node_opening.specs.Why.{HasRisen}
 use Rattle.script_read.specs.Answers.{Refusal, refusal}
 use Rattle.script_read.specs.ScriptText.{script_of}
@@ -9,8 +9,7 @@ use Rattle.script_form.specs.declared.scripts.TableLine.{TableLine}
 use Rattle.store_log.specs.Keeps.{Stored}
 use Rattle.script_main.proofs.ApartLemmas.{good_not_other, good_not_unsound, log_not_refused, one_offset, other_not_unsound, same_place}
 use Rattle.script_main.specs.Run.{IsAnyFault, IsFault, IsFaultBy, IsRefusalText, IsRefusedAt, IsStoreBadAt, IsStoreUnsound, IsText, IsTextOver, IsUsageText, IsWritten, TellsRefusal, TellsStoreRefused, TellsUnsound, TellsUsage, Writes}
-use Rattle.script_main.specs.Runs.{IsRun, IsDownFirst}
-use Rattle.script_main.specs.Stores.{cluster_of, FirstRose, HasId, IsBadAt, IsOtherAt, IsUnsound}
+use Rattle.script_main.specs.Stores.{cluster_of, HasId, IsBadAt, IsOtherAt, IsUnsound}
 use Rattle.script_main.specs.declared.statuses.Status.{Status}
 use Rattle.script_main.specs.declared.statuses.Status.TheVariants as status
 

@@ -2,14 +2,16 @@
 --
 -- The run begins behind the log for which the store stands, at the rows for which that log's pages stand, in the generation
 -- above the promised one. Where the store fails at the opening, the node is down from there on, and nothing is read.
-use Rattle.std.specs.Prelude.{◌≡◌, ◌≢◌, ◌⊎◌, ℕ, ◌+◌, List, [], ◌∷◌, ◌++◌}
+use Rattle.std.specs.Prelude.{◌≡◌, ◌≢◌, ◌⊎◌, ℕ, ◌+◌, ◌<◌, ◌^◌, List, [], ◌∷◌, ◌++◌}
 use Rattle.std.specs.List.{AllByRecursion}
 use Rattle.cdb_values.specs.Rows.{Rows}
-use Rattle.cdb_values.specs.declared.tables.TableDef.{TableDef}
 use Rattle.node_opening.specs.declared.up.WhyNotUp.TheVariants as why
 use Rattle.node_opening.specs.Goods.{StandsForGood}
 use Rattle.node_opening.specs.Left.{IsLeft, StopsPartway}
 use Rattle.node_opening.specs.Why.{HasRisen, IsFault}
+use Rattle.log_rows.specs.History.{rows_over}
+use Rattle.page_workspace.specs.Spare.{count_of}
+use Rattle.phys_log.specs.Logs.{pages_of}
 use Rattle.phys_log.specs.declared.entries.Entry.{Entry}
 use Rattle.report_laws.specs.History.{Basis}
 use Rattle.report_laws.specs.Lawful.{Lawful}
@@ -26,6 +28,8 @@ use Rattle.script_form.specs.declared.scripts.Script.{Script}
 use Rattle.script_play.specs.Basis.{from_nothing, from_start}
 use Rattle.script_play.specs.EntryLines.{AreTold}
 use Rattle.script_play.specs.Played.{IsTold}
+use Rattle.script_play.specs.Start.{ground_of}
+use Rattle.sound_log.specs.Sound.{IsSound}
 use Rattle.store_log.specs.declared.standings.Standing.TheVariants.{Log}
 use Rattle.store_log.specs.Held.{StandsFor}
 use Rattle.store_log.specs.Keeps.{Stored}
@@ -56,7 +60,7 @@ IsLeftBy count cluster old new generation history =
     ⊎ ((count ≡ 1) × HasRisen old.faults new.faults × KeepsOrMore cluster new.synced generation history)
 
 -- the text of a report of a run behind the log for which the store stood, which is sound and has the script's tables; and what
--- is left of the store
+-- is left of the store. The history is sound again, as long as the next genid and the number of pages are below 2^62.
 pub record IsRun (script : Script) (old new : Stored) (text : List ℕ) : Type 0 where
   pub promised : ℕ
   pub accepted : ℕ
@@ -71,6 +75,7 @@ pub record IsRun (script : Script) (old new : Stored) (text : List ℕ) : Type 0
   pub is_report : AreCalled script (with_tables script before) → IsReport report
   pub is_text : text ≡ report_text report
   pub left : IsLeftBy (downs report.lines) (cluster_of script) old new (promised + 1) history
+  pub sound : (rows_over (ground_of (start_at before rows)) history).next < 2 ^ 62 → count_of (pages_of history) < 2 ^ 62 → IsSound (promised + 1) history
 
 -- the text of a report that tells of no entry, and that the node went down
 pub record IsDownText (script : Script) (text : List ℕ) : Type 0 where

@@ -1,5 +1,5 @@
 -- The words of a command: `play`, or `play --stores DIR`.
-use Rattle.std.specs.Prelude.{ℕ, ◌==◌, [], ◌∷◌, List, Bool, true, false, not, ◌&&◌, String, codes, Option, Some, None, is_some, if◌then◌else◌}
+use Rattle.std.specs.Prelude.{ℕ, ◌==◌, [], ◌∷◌, List, Bool, false, not, ◌&&◌, String, codes, Option, Some, None, if◌then◌else◌}
 use Rattle.std.specs.Global.{Global}
 use Rattle.std.specs.Str.{bytes_eq}
 use Rattle.std.specs.String.{string_bytes}

@@ -29,7 +29,7 @@ use report_text::{Report, print};
 use script_form::{Script, TableLine};
 use script_play::{Played, play, play_down};
 use std::alloc::{AllocError, Global};
-use table_store::pages_stand_for_one_state;
+use table_store::{pages_stand_for_one_state, pages_that_stand_keep_their_keys};
 
 /// The number of the one node.
 const NODE: u8 = 1;
@@ -221,6 +221,7 @@ fn play_own<D: LogStore + Drop>(alloc: Global, script: &Script, begun: Begun<D>)
     ensures left { IsLeftFrom (log_before begun.base begun.log) begun.log (kept_by D.synced D.pending D.faults result.store) }
     ensures settled { D.pending result.store ≡ [] }
 {
+    pages_that_stand_keep_their_keys();
     play_begun(alloc, script, begun)
 }
 
@@ -236,6 +237,7 @@ fn play_logged<D: LogStore + Drop>(alloc: Global, script: &Script, begun: Begun<
     ensures left { IsLeftFrom (log_before begun.base begun.log) begun.log (kept_by D.synced D.pending D.faults result.store) }
     ensures settled { D.pending result.store ≡ [] }
 {
+    pages_that_stand_keep_their_keys();
     match with_tables(alloc, script, begun.log.log()) {
         Ok(whole) => {
             let ended = play_begun(alloc, &whole, begun);

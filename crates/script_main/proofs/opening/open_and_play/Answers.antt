@@ -1,12 +1,11 @@
-use Rattle.std.proofs.Common.{sym, subst, List}
+use Rattle.std.proofs.Common.{sym, subst}
 use Rattle.std.proofs.lemmas.Result.{IfOk-weaker}
-use Rattle.script_form.specs.CanRun.{tables_of}
 use Rattle.script_main.proofs.BegunLemmas.{opened_as}
 use Rattle.script_main.proofs.RanLemmas.{left_as, left_cut, not_up_text, place_in, run_cut, run_text, why_of}
 use Rattle.script_main.specs.Run.{IsTextOver}
 use Rattle.script_main.specs.Runs.{IsCutOff}
 use Rattle.script_main.specs.Steps.{IsNotUpText, IsOpened, IsRunText}
-use Rattle.script_main.specs.Stores.{cluster_of, kept_by}
+use Rattle.script_main.specs.Stores.{kept_by}
 use Rattle.store_log.specs.Keeps.{Stored}
 use Rattle.script_main.proofs.opening.open_and_play.Goals as goal
 

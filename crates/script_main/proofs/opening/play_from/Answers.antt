@@ -2,7 +2,7 @@ use Rattle.std.proofs.Common.{sym, subst, ap, ◌∙◌, length, List}
 use Rattle.std.proofs.lemmas.Result.{IfOk-weaker}
 use Rattle.phys_log.specs.declared.entries.Entry.{Entry}
 use Rattle.script_main.proofs.RanLemmas.{given_left, played_text, told_left}
-use Rattle.script_main.specs.Steps.{IsLeftFrom, IsLeftOf, IsPlayedText, IsReportText}
+use Rattle.script_main.specs.Steps.{IsLeftFrom, IsPlayedText, IsReportText}
 use Rattle.script_main.specs.Stores.{kept_by}
 use Rattle.script_main.proofs.opening.play_from.Goals as goal
 

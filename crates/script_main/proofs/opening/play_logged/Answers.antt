@@ -40,7 +40,7 @@ returns-in-Ok-clause-text g c =
     IfOk-weaker c.play_begun-ended.result.answer
     (λ a. (rows : Rows) → IsBegunAt c.in-Ok.whole b.base before b.log rows → IsPlayedText c.in-Ok.whole (start_at before rows) b.log new a.status a.text)
     (λ a. (old : Stored) → IsOpened script old b.base b.log → IsRunText script old new a.status a.text)
-    (λ a told old opened. whole_runs script c.in-Ok.whole old new b.base b.log a.status a.text
+    (λ a told old opened. whole_runs c.pages_that_stand_keep_their_keys.ensures.good script c.in-Ok.whole old new b.base b.log a.status a.text
     (takes_as script c.in-Ok.whole o.0 b.base b.log o.1 c.requires.some c.requires.none is)
     (takes_tables script c.in-Ok.whole o.0 b.base b.log c.requires.runs o.1 (c.log.ensures.spelled o.1.running) c.requires.some is) c.requires.names opened told)
     c.play_begun-ended.ensures.text

@@ -1,4 +1,3 @@
-use Rattle.std.proofs.Common.{subst, sym}
 use Rattle.std.proofs.lemmas.Result.{IfOk-weaker}
 use Rattle.cdb_values.specs.Rows.{Rows}
 use Rattle.store_log.specs.Keeps.{Stored}
@@ -21,6 +20,6 @@ returns-clause-text g c =
     IfOk-weaker c.play_begun.result.answer
     (λ a. (rows : Rows) → IsBegunAt c.args.script.now b.base before b.log rows → IsPlayedText c.args.script.now (start_at before rows) b.log new a.status a.text)
     (λ a. (old : Stored) → IsOpened c.args.script.now old b.base b.log → IsRunText c.args.script.now old new a.status a.text)
-    (λ a told old o. whole_runs c.args.script.now c.args.script.now old new b.base b.log a.status a.text (keeps_tables c.args.script.now b.base b.log c.requires.own)
+    (λ a told old o. whole_runs c.pages_that_stand_keep_their_keys.ensures.good c.args.script.now c.args.script.now old new b.base b.log a.status a.text (keeps_tables c.args.script.now b.base b.log c.requires.own)
     c.requires.runs c.requires.names o told)
     c.play_begun.ensures.text
