@@ -1,7 +1,7 @@
 //! Runs over stores that have bytes already, or fail.
-ghost use Rattle.std.specs.Prelude.{◌≡◌, [], IfOk};
+ghost use Rattle.std.specs.Prelude.{◌≡◌, []};
 
-use super::runs::{has_status, has_written, is_so};
+use super::runs::{alone, has_status, has_written, is_so};
 use cdb_outside::{MemSink, MemSource, MemStore};
 use script_main::{Outside, Status, run};
 use std::alloc::{AllocError, Global};
@@ -24,7 +24,7 @@ fn ran_over(alloc: Global, script: &[u8], store: MemStore) -> Result<Outcome, Al
     let mut outside: Outside<MemSource, MemSink, MemStore> = Outside {
         source: MemSource::new(Vec::from_slice(alloc, script)?, Vec::new(alloc)),
         sink: MemSink::new(alloc, Vec::new(alloc)),
-        stores: vec![in alloc; store]?,
+        stores: alone(alloc, store)?,
         consumers: Vec::new(alloc),
     };
     let status = run(alloc, words.as_slice(), &mut outside);
