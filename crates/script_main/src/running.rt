@@ -18,8 +18,9 @@ use std::alloc::Global;
 /// The line that is written where the words are no command.
 const USAGE: &[u8] = b"usage: cdb play|run|fill N [--stores DIR]\n";
 
-/// Runs a command over the outside world. The one command is `play`: the script that the source
-/// holds is played, and its report written to the sink. The stores and consumers stay as they are.
+/// Runs a command over the outside world. The one command is `play`: the script that the source holds is played over the first of
+/// the stores, and its report written to the sink. At every return the stores stand in their places, and nothing is pending in
+/// them; those behind the first are as they were, and so are the consumers.
 pub fn run<S: Source, K: Sink, D: LogStore + Send + Drop>(
     alloc: Global,
     words: &[String],

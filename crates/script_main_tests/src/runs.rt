@@ -1,4 +1,6 @@
 //! The whole run over the objects in memory: the worked runs, refusals by their lines, and faults.
+ghost use Rattle.std.specs.Prelude.{◌≡◌, [], IfOk};
+ghost use Rattle.std.specs.List.{AllByRecursion};
 
 use cdb_outside::{MemSink, MemSource, MemStore, Sink, Source};
 use report_read::read_report;
@@ -21,6 +23,16 @@ fn words(alloc: Global, words: &[&str]) -> Result<Vec<String>, AllocError> {
     Ok(owned)
 }
 
+/// This store alone.
+pub(crate) fn alone(alloc: Global, store: MemStore) -> Result<Vec<MemStore>, AllocError>
+    requires { store.waiting ≡ [] }
+    ensures { IfOk result (λ stores. AllByRecursion (λ s. s.waiting ≡ []) stores.items) }
+{
+    let mut stores = Vec::new(alloc);
+    stores.push(store)?;
+    Ok(stores)
+}
+
 /// The status of a run over a source and a sink, with one empty store and no consumer.
 fn status_of<S: Source + Drop, K: Sink + Drop>(
     alloc: Global,
@@ -33,7 +45,7 @@ fn status_of<S: Source + Drop, K: Sink + Drop>(
     let mut outside: Outside<S, K, MemStore> = Outside {
         source,
         sink,
-        stores: vec![in alloc; store]?,
+        stores: alone(alloc, store)?,
         consumers: Vec::new(alloc),
     };
     let status = run(alloc, said.as_slice(), &mut outside);

@@ -1,7 +1,7 @@
 //! Runs over stores that have bytes already, or fail.
-ghost use Rattle.std.specs.Prelude.{◌≡◌, [], IfOk};
+ghost use Rattle.std.specs.Prelude.{◌≡◌, []};
 
-use super::runs::{has_status, has_written, is_so};
+use super::runs::{alone, has_status, has_written, is_so};
 use cdb_outside::{MemSink, MemSource, MemStore};
 use script_main::{Outside, Status, run};
 use std::alloc::{AllocError, Global};
@@ -24,7 +24,7 @@ pub(crate) fn ran_over(alloc: Global, script: &[u8], store: MemStore) -> Result<
     let mut outside: Outside<MemSource, MemSink, MemStore> = Outside {
         source: MemSource::new(Vec::from_slice(alloc, script)?, Vec::new(alloc)),
         sink: MemSink::new(alloc, Vec::new(alloc)),
-        stores: vec![in alloc; store]?,
+        stores: alone(alloc, store)?,
         consumers: Vec::new(alloc),
     };
     let status = run(alloc, words.as_slice(), &mut outside);
@@ -162,30 +162,86 @@ static LOST: &[u8] =
 /// What is told where the store fails at the opening.
 static DOWN: &[u8] = b"down 1 1 fault\na 1 nomajority 0 1\na 2 nomajority 0 1\nend 0\n";
 
-/// What is told by a run over a store whose call of this number fails, and whose halt keeps nothing.
-fn failed(alloc: Global, call: u64) -> Result<Outcome, AllocError> {
+/// What is told by a run over an empty store whose call of this number fails, and whose halt keeps so many bytes.
+fn failed(alloc: Global, script: &[u8], call: u64, keeps: u64) -> Result<Outcome, AllocError> {
     let fails = vec![in alloc; call]?;
     ran_over(
         alloc,
-        INSERT,
-        MemStore::new(Vec::new(alloc), fails, None, 0),
+        script,
+        MemStore::new(Vec::new(alloc), fails, None, keeps),
     )
 }
 
-/// A call of the store fails at the opening, and another at the entry of the insert.
+/// How many of the first sixteen calls there are at whose fault this is told.
+fn count_told(alloc: Global, script: &[u8], text: &[u8]) -> Result<u64, AllocError> {
+    let mut count = 0u64;
+    for call in 1..=16u64 {
+        let run = failed(alloc, script, call, 0)?;
+        if run.status == Status::Done && run.text.as_slice() == text {
+            count += 1;
+        }
+    }
+    Ok(count)
+}
+
+/// What is told where no call fails.
+static WHOLE: &[u8] =
+    b"a 1 begin 1\na 1 changed 1\na 1 committed 2\na 2 begin 2\na 2 row 1|10\na 2 done 1\na 2 committed 2\nentry 1 schema\nentry 2 a 1 1 snapshot\nend 2\n";
+
+/// Each call of the store fails in turn: at the opening, at the entry of the insert, or not at all.
 #[test]
 fn a_store_fails(rt: HostRuntime) -> Result<(), Fail> {
     let alloc = rt.alloc();
-    let opening = failed(alloc, 1)?;
-    tells(&rt, &opening, Status::Done, DOWN, "a fault at the opening");
-    let mut lost = 0u64;
+    let down = count_told(alloc, INSERT, DOWN)?;
+    let lost = count_told(alloc, INSERT, LOST)?;
+    let whole = count_told(alloc, INSERT, WHOLE)?;
+    is_so(&rt, 0 < down, "a store fails at the opening");
+    is_so(&rt, 0 < lost, "a store fails at an entry");
+    is_so(&rt, down + lost + whole == 16, "nothing else is told");
+    Ok(())
+}
+
+/// Transactions of a and c begin before b's commit fails: each is lost at the next line of its session, and none begins then.
+static OPEN: &[u8] =
+    b"nodes 1\nsession a 1\nsession b 1\nsession c 1\ncreate table t(id integer primary key, v integer)\na: begin\na: insert into t values(1, 10)\nc: begin\nb: insert into t values(2, 20)\nc: select * from t\nc: insert into t values(3, 30)\nc: commit\nc: begin\nc: select * from t\nc: rollback\na: commit\na: select * from t\nb: commit\nb: set transaction snapshot\n";
+
+static OPEN_LOST: &[u8] =
+    b"a 1 begin 1\na 1 changed 1\nc 1 begin 1\nb 1 begin 1\nb 1 changed 1\ndown 1 1 fault\nb 1 lost 1 1\nc 1 lost 1 1\nc 2 nomajority 0 1\na 1 lost 1 1\na 2 nomajority 0 1\nb 0 error state\nb 0 level snapshot\nentry 1 schema\nend 1\n";
+
+#[test]
+fn open_transactions_are_lost(rt: HostRuntime) -> Result<(), Fail> {
+    let lost = count_told(rt.alloc(), OPEN, OPEN_LOST)?;
+    is_so(&rt, 0 < lost, "open transactions are lost");
+    Ok(())
+}
+
+/// What is told of the insert again over what is left of a store that failed at its entry: where the entry is not kept, and
+/// where it is.
+static AGAIN: &[u8] =
+    b"a 1 begin 1\na 1 changed 1\na 1 committed 2\na 2 begin 2\na 2 row 1|10\na 2 done 1\na 2 committed 2\nbase 1\nentry 2 a 1 1 snapshot\nend 2\n";
+
+static DOUBLE: &[u8] =
+    b"a 1 begin 2\na 1 changed 1\na 1 duplicate 2 t pk\na 2 begin 2\na 2 row 1|10\na 2 done 1\na 2 committed 2\nbase 2\nend 2\n";
+
+/// How many of the first sixteen calls there are at whose fault the insert is lost, and this is told of it again.
+fn count_again(alloc: Global, keeps: u64, text: &[u8]) -> Result<u64, AllocError> {
+    let mut count = 0u64;
     for call in 1..=16u64 {
-        let run = failed(alloc, call)?;
-        has_status(&rt, run.status, Status::Done);
-        if run.text.as_slice() == LOST {
-            lost += 1;
+        let first = failed(alloc, INSERT, call, keeps)?;
+        let second = ran(alloc, INSERT, first.bytes.as_slice())?;
+        if first.text.as_slice() == LOST && second.text.as_slice() == text {
+            count += 1;
         }
     }
-    is_so(&rt, 0 < lost, "an entry is lost");
+    Ok(count)
+}
+
+#[test]
+fn what_is_left_goes_on(rt: HostRuntime) -> Result<(), Fail> {
+    let alloc = rt.alloc();
+    let again = count_again(alloc, 0, AGAIN)?;
+    is_so(&rt, 0 < again, "an entry is not kept");
+    let double = count_again(alloc, 1 << 20, DOUBLE)?;
+    is_so(&rt, 0 < double, "an entry is kept that nobody was told of");
     Ok(())
 }

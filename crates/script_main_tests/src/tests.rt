@@ -1,7 +1,7 @@
 //! Drawn scripts have the reports that the slow computation gives.
 
 use super::drawn::turn_of;
-use super::runs::{has_status, has_written, is_so};
+use super::runs::{alone, has_status, has_written, is_so};
 use super::slow::Expected;
 use cdb_outside::{MemSink, MemSource, MemStore};
 use script_main::{Outside, Status, run};
@@ -16,7 +16,7 @@ fn played(alloc: Global, script: &[u8]) -> Result<(Status, Vec<u8>), AllocError>
     let mut outside: Outside<MemSource, MemSink, MemStore> = Outside {
         source: MemSource::new(Vec::from_slice(alloc, script)?, Vec::new(alloc)),
         sink: MemSink::new(alloc, Vec::new(alloc)),
-        stores: vec![in alloc; store]?,
+        stores: alone(alloc, store)?,
         consumers: Vec::new(alloc),
     };
     let status = run(alloc, words.as_slice(), &mut outside);
