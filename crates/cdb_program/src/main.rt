@@ -1,8 +1,11 @@
 //! The command `cdb`: its words, standard input and standard output, and the status of the run.
 #![tactic(auto)]
 
-use cdb_outside::{MemStore, ReadSource, WriteSink};
-use script_main::{Outside, Status, exit_status, run};
+ghost use Rattle.std.specs.Prelude.{◌≡◌, [], IfOk};
+ghost use Rattle.std.specs.List.{AllByRecursion};
+
+use cdb_outside::{FileStore, LogStore, MemStore, ReadSource, WriteSink};
+use script_main::{Outside, Status, exit_status, run, store_folder};
 use std::alloc::AllocError;
 use std::process::ExitCode;
 use std::{env, io};
@@ -18,17 +21,31 @@ fn main(rt: HostRuntime) -> ExitCode {
     ExitCode::from(exit_status(status))
 }
 
-/// Runs the command over the words, standard input and standard output.
+/// Runs the command over the stores that its words tell.
 fn played(rt: &HostRuntime) -> Result<Status, AllocError> {
-    let alloc = rt.alloc();
     let words = words(rt)?;
+    match store_folder(words.as_slice()) {
+        Some(folder) => run_over(rt, words.as_slice(), file_stores(rt, folder)?),
+        None => run_over(rt, words.as_slice(), empty_stores(rt)?),
+    }
+}
+
+/// Runs the command over the words, standard input, standard output and these stores.
+fn run_over<D: LogStore + Send + Drop>(
+    rt: &HostRuntime,
+    words: &[String],
+    stores: Vec<D>,
+) -> Result<Status, AllocError>
+    requires settled { AllByRecursion (λ d. D.pending d ≡ []) stores.items }
+{
+    let alloc = rt.alloc();
     let mut outside = Outside {
         source: ReadSource::new(rt.stdin()),
         sink: WriteSink::new(rt.stdout()),
-        stores: empty_stores(rt)?,
+        stores,
         consumers: Vec::new(alloc),
     };
-    Ok(run(alloc, words.as_slice(), &mut outside))
+    Ok(run(alloc, words, &mut outside))
 }
 
 /// The words behind the command's name. Where one of them is no text there are none, since either is a
@@ -50,11 +67,29 @@ fn words(rt: &HostRuntime) -> Result<Vec<String>, AllocError> {
 }
 
 /// A store in memory for each node.
-fn empty_stores(rt: &HostRuntime) -> Result<Vec<MemStore>, AllocError> {
+fn empty_stores(rt: &HostRuntime) -> Result<Vec<MemStore>, AllocError>
+    ensures { IfOk result (λ stores. AllByRecursion (λ s. s.waiting ≡ []) stores.items) }
+{
     let alloc = rt.alloc();
     let mut stores = Vec::new(alloc);
-    for _ in 0..NODES {
+    'nodes: for _ in 0..NODES {
         stores.push(MemStore::new(Vec::new(alloc), Vec::new(alloc), None, 0))?;
+    }
+    Ok(stores)
+}
+
+/// A store in a file of this folder for each node.
+fn file_stores<'a>(
+    rt: &'a HostRuntime,
+    folder: &str,
+) -> Result<Vec<FileStore<'a, HostRuntime>>, AllocError>
+    ensures { IfOk result (λ stores. AllByRecursion (λ s. s.waiting ≡ []) stores.items) }
+{
+    let alloc = rt.alloc();
+    let mut stores = Vec::new(alloc);
+    'nodes: for node in 1..=NODES {
+        let path = format!(in alloc; "{folder}/node{node}.log")?;
+        stores.push(FileStore::new(rt, path))?;
     }
     Ok(stores)
 }

@@ -1,2 +1,11 @@
+pub mod ApartLemmas
+pub mod ScriptLemmas
 pub mod ReportedLemmas
+pub mod TellsLemmas
 pub mod WrittenLemmas
+pub mod BeginLemmas
+pub mod AfterLemmas
+pub mod AgainLemmas
+pub mod KnownLemmas
+pub mod BegunLemmas
+pub mod RanLemmas

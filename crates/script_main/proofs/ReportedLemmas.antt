@@ -1,7 +1,8 @@
--- The text of a report that is lawful and in the order of play, and in which no node goes down, is what is written; and the report is of the
--- grammar, since the names of the script are names and the numbers of what was printed fit their types.
-use Rattle.std.proofs.Common.{◌≡◌, ◌≢◌, ℕ, List, [], ◌∷◌, map, refl}
+-- The report of a run is of the grammar, since the names of the script are names and the numbers of what was printed fit their types;
+-- and there is no other such report.
+use Rattle.std.proofs.Common.{◌≡◌, ◌≢◌, ℕ, List, [], ◌∷◌, map, refl, sym, subst, inl, inr}
 use Rattle.std.specs.List.{AllByRecursion}
+use Rattle.cdb_values.specs.Rows.{Rows}
 use Rattle.cdb_values.specs.declared.tables.ColumnDef.{ColumnDef}
 use Rattle.cdb_values.specs.declared.tables.KeyDef.{KeyDef}
 use Rattle.cdb_values.specs.declared.tables.TableDef.{TableDef}
@@ -15,22 +16,29 @@ use Rattle.script_form.specs.declared.scripts.Act.TheVariants as act
 use Rattle.script_form.specs.declared.scripts.BodyLine.{BodyLine}
 use Rattle.script_form.specs.declared.scripts.Script.{Script}
 use Rattle.script_form.specs.declared.scripts.TableLine.{TableLine}
+use Rattle.phys_log.specs.declared.entries.Entry.{Entry}
+use Rattle.report_laws.specs.History.{Basis}
 use Rattle.report_laws.specs.Lawful.{Lawful}
 use Rattle.report_laws.specs.Nodes.{downs}
 use Rattle.report_laws.specs.Play.{InPlayOrder}
 use Rattle.report_laws.specs.Spelled.{IsNamedTable, SaysAsNamed, IsSpelled}
 use Rattle.report_laws.proofs.OneLaws.{one_report}
 use Rattle.report_laws.proofs.SpelledLaws.{of_the_grammar}
-use Rattle.report_text.specs.Grammar.{IsName, IsKey}
+use Rattle.report_text.specs.Grammar.{IsName, IsKey, IsReport}
 use Rattle.report_text.specs.Text.{report_text}
 use Rattle.report_text.specs.Types.{FitsTypes}
 use Rattle.report_text.specs.declared.reports.Report.{Report}
-use Rattle.script_play.specs.Basis.{from_nothing}
+use Rattle.script_play.specs.Basis.{from_nothing, from_start}
+use Rattle.script_play.specs.Ready.{CanBegin}
+use Rattle.script_play.specs.Start.{Start}
 use Rattle.session_language.specs.Answers.{Answers}
-use Rattle.session_language.specs.Spelled.{KeepsRows}
+use Rattle.session_language.specs.Language.{Language}
+use Rattle.session_language.specs.Spelled.{HaveRows, KeepsRows}
 use Rattle.sql_answer.proofs.LanguageLemmas.{sql_answers}
 use Rattle.sql_answer.specs.Language.{bound_in, sql_language}
-use Rattle.script_main.specs.Run.{IsReported}
+use Rattle.script_main.proofs.ScriptLemmas.{own_tables}
+use Rattle.script_main.specs.Runs.{AreCalled, IsDownText, IsOne}
+use Rattle.script_main.specs.Stores.{start_at, with_tables}
 
 sql_is_answered : Answers sql_language
 sql_is_answered = sql_answers bound_in
@@ -74,16 +82,62 @@ have_columns (t ∷ ts) all = (some t.table.columns all.0, have_columns ts all.1
     some [] there = absurd (there refl)
     some (column ∷ columns) there = tt
 
-pub spelled : (s : Script) → CanRun s → script.IsNamed s → IsSpelled (from_nothing s)
-spelled s can is = record { language = sql_keeps (tables_of s) (have_columns s.tables can.columns); rows = tt; tables = tables_named s.tables is.tables; body = body_named s.sessions s.body is.body can.said }
+-- what a report over these tables is asked, so that it is one of the grammar
+spelled_by : (s whole : Script) (basis : Basis) → CanRun whole → script.IsNamed s → whole.sessions ≡ s.sessions → whole.body ≡ s.body → basis.language ≡ sql_language →
+    basis.script ≡ whole → basis.origin.tables ≡ tables_of whole → HaveRows basis.origin.rows.tables → AllByRecursion IsNamedTable (tables_of whole) → IsSpelled basis
+spelled_by s whole basis can is sessions bodies language says same have named = record {
+  language = subst (λ (l : Language). KeepsRows l basis.origin.tables) (sym language)
+      (subst (λ (ts : List TableDef). KeepsRows sql_language ts) (sym same) (sql_keeps (tables_of whole) (have_columns whole.tables can.columns)));
+  rows = have;
+  tables = subst (λ (ts : List TableDef). AllByRecursion IsNamedTable ts) (sym same) named;
+  body = subst (λ (w : Script). AllByRecursion (λ (l : BodyLine). SaysAsNamed l.act) w.body) (sym says)
+      (body_named whole.sessions whole.body (subst (λ (b : List BodyLine). AllByRecursion (λ (l : BodyLine). script.SaysNamed l.act) b) (sym bodies) is.body) can.said);
+}
 
-pub reported : (s : Script) (report : Report) (text : List ℕ) → CanRun s → script.IsNamed s → Lawful (from_nothing s) report → InPlayOrder (from_nothing s) report → downs report.lines ≡ 0 → FitsTypes report → text ≡ report_text report → IsReported s text
-reported s report text can names lawful in_order no_fault fits is = record {
+-- the script of a run, and of one behind a log
+
+pub spelled : (s : Script) → CanRun s → script.IsNamed s → IsSpelled (from_nothing s)
+spelled s can is = spelled_by s s (from_nothing s) can is refl refl refl refl refl tt (tables_named s.tables is.tables)
+
+same_sessions : (s : Script) (before : List Entry) → (with_tables s before).sessions ≡ s.sessions
+same_sessions s [] = refl
+same_sessions s (e ∷ es) = refl
+
+same_body : (s : Script) (before : List Entry) → (with_tables s before).body ≡ s.body
+same_body s [] = refl
+same_body s (e ∷ es) = refl
+
+named_with : (s : Script) (before : List Entry) → script.IsNamed s → AreCalled s (with_tables s before) → AllByRecursion IsNamedTable (tables_of (with_tables s before))
+named_with s before is (inl some) = subst (λ (w : Script). AllByRecursion IsNamedTable (tables_of w)) (sym (own_tables s before some)) (tables_named s.tables is.tables)
+named_with s before is (inr named) = named
+
+have_rows : (tables : List TableDef) (before : List Entry) (rows : Rows) → CanBegin tables before rows → HaveRows rows.tables
+have_rows tables [] rows begins = subst (λ (r : Rows). HaveRows r.tables) (sym begins) tt
+have_rows tables (e ∷ es) rows begins = begins.kept.1
+
+pub spelled_over : (s : Script) (before : List Entry) (rows : Rows) → CanRun (with_tables s before) → script.IsNamed s → CanBegin (tables_of (with_tables s before)) before rows →
+    AreCalled s (with_tables s before) → IsSpelled (from_start (with_tables s before) (start_at before rows))
+spelled_over s before rows can is begins called =
+    spelled_by s (with_tables s before) (from_start (with_tables s before) (start_at before rows)) can is (same_sessions s before) (same_body s before) refl refl refl
+    (have_rows (tables_of (with_tables s before)) before rows begins) (named_with s before is called)
+
+pub told_in_grammar : (basis : Basis) (report : Report) → IsSpelled basis → Lawful basis report → InPlayOrder basis report → FitsTypes report → IsReport report
+told_in_grammar basis report spelled lawful in_order fits = of_the_grammar basis report spelled lawful in_order fits
+
+-- there is no other such report
+pub one_such : (s : Script) (start : Start) (report : Report) → Lawful (from_start s start) report → InPlayOrder (from_start s start) report → IsOne (from_start s start) report
+one_such s start report lawful in_order other uncut lawful' in_order' uncut' =
+    one_report (from_start s start) report other sql_is_answered lawful in_order uncut lawful' in_order' uncut'
+
+-- the text of a report of a node that was down from the opening on
+pub down_text : (s : Script) (report : Report) (text : List ℕ) → CanRun s → script.IsNamed s → Lawful (from_nothing s) report → InPlayOrder (from_nothing s) report →
+    downs report.lines ≡ 1 → report.entries ≡ [] → FitsTypes report → text ≡ report_text report → IsDownText s text
+down_text s report text can names lawful in_order down none fits is = record {
   report = report;
   lawful = lawful;
   in_order = in_order;
-  no_fault = no_fault;
-  one = λ other uncut lawful' in_order' uncut'. one_report (from_nothing s) report other sql_is_answered lawful in_order uncut lawful' in_order' uncut';
+  down = down;
+  none = none;
   is_report = of_the_grammar (from_nothing s) report (spelled s can names) lawful in_order fits;
   is_text = is;
 }

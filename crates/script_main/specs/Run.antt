@@ -1,81 +1,98 @@
--- What a run writes, by the words of the command and the bytes of the source.
-use Rattle.std.specs.Prelude.{◌≡◌, ℕ, ◌++◌, ◌∷◌, [], List, Bool, true, false, String, codes, Result, Ok, Err, IfSome, Option, ◌⊎◌}
-use Rattle.std.specs.Global.{Global}
-use Rattle.std.specs.Fmt.{decimal}
+-- What a run writes, by the words of the command, the bytes of the source and the first of the stores.
+use Rattle.std.specs.Prelude.{◌≡◌, ℕ, List, [], ◌∷◌, Bool, true, false, Result, Ok, Err, IfSome, Option, ◌⊎◌}
 use Rattle.std.specs.Io.KnownBytes.{Appends, IsAtEnd}
-use Rattle.std.specs.Str.{bytes_eq}
-use Rattle.std.specs.String.{string_bytes}
 use Rattle.cdb_outside.specs.Parts.{IsFront, AppendsFront}
 use Rattle.cdb_outside.specs.Faults.{Rose}
 use Rattle.script_read.specs.Answers.{Refusal, refusal}
 use Rattle.script_read.specs.ScriptText.{script_of}
 use Rattle.script_form.specs.declared.scripts.Script.{Script}
-use Rattle.report_laws.specs.Lawful.{Lawful}
-use Rattle.report_laws.specs.Nodes.{downs}
-use Rattle.report_laws.specs.One.{IsUncut}
-use Rattle.report_laws.specs.Play.{InPlayOrder}
-use Rattle.report_text.specs.Grammar.{IsReport}
-use Rattle.report_text.specs.Text.{report_text}
-use Rattle.script_play.specs.Basis.{from_nothing}
-use Rattle.report_text.specs.declared.reports.Report.{Report}
+use Rattle.store_log.specs.Keeps.{Stored}
+use Rattle.script_main.specs.Runs.{IsCutOff, IsRun, IsDownFirst}
+use Rattle.script_main.specs.Stores.{IsAlike, IsBadAt, IsOtherAt, IsUnsound, FirstRose, HasId}
+use Rattle.script_main.specs.Texts.{refused_text, store_text, unsound_text, usage_text}
 use Rattle.script_main.specs.declared.statuses.Status.{Status}
 use Rattle.script_main.specs.declared.statuses.Status.TheVariants as status
 
--- whether the words are the one word `play`
-abbrev pub is_play : List (String Global) → Bool
-is_play [] = false
-is_play (word ∷ []) = bytes_eq (string_bytes word) (codes "play")
-is_play (_ ∷ _ ∷ _) = false
+-- the text that belongs to a status of a script that was read, by what the store of its node had before and has now; the
+-- other statuses have none
+abbrev pub IsTextOver : Script → Stored → Stored → Status → List ℕ → Type 0
+IsTextOver script old new status.Done text = IsRun script old new text ⊎ IsDownFirst script old new text
+IsTextOver script old new status.Usage text = ⊥
+IsTextOver script old new (status.Refused line why) text =
+    IsOtherAt script old line × (why ≡ 9) × IsAlike script old new × (text ≡ refused_text line why)
+IsTextOver script old new status.ReadFault text = ⊥
+IsTextOver script old new status.WriteFault text = ⊥
+IsTextOver script old new (status.StoreRefused node at) text =
+    (node ≡ 1) × IsBadAt script old at × IsAlike script old new × (text ≡ store_text node at)
+IsTextOver script old new (status.Unsound node) text =
+    (node ≡ 1) × IsUnsound script old × IsAlike script old new × (text ≡ unsound_text node)
+IsTextOver script old new status.NoMemory text = ⊥
 
-abbrev pub usage_text : List ℕ
-usage_text = codes "usage: cdb play|run|fill N [--stores DIR]" ++ (10 ∷ [])
+-- the same of a script that was refused
+abbrev pub IsRefusalText : Refusal → Status → List ℕ → Type 0
+IsRefusalText refused status.Done text = ⊥
+IsRefusalText refused status.Usage text = ⊥
+IsRefusalText refused (status.Refused line why) text = (refused ≡ refusal line why) × (text ≡ refused_text line why)
+IsRefusalText refused status.ReadFault text = ⊥
+IsRefusalText refused status.WriteFault text = ⊥
+IsRefusalText refused (status.StoreRefused node at) text = ⊥
+IsRefusalText refused (status.Unsound node) text = ⊥
+IsRefusalText refused status.NoMemory text = ⊥
 
-abbrev pub refused_text : ℕ → ℕ → List ℕ
-refused_text line why = codes "refused " ++ (decimal line ++ (32 ∷ (decimal why ++ (10 ∷ []))))
+-- the same of words that are no command
+abbrev pub IsUsageText : Status → List ℕ → Type 0
+IsUsageText status.Done text = ⊥
+IsUsageText status.Usage text = text ≡ usage_text
+IsUsageText (status.Refused line why) text = ⊥
+IsUsageText status.ReadFault text = ⊥
+IsUsageText status.WriteFault text = ⊥
+IsUsageText (status.StoreRefused node at) text = ⊥
+IsUsageText (status.Unsound node) text = ⊥
+IsUsageText status.NoMemory text = ⊥
 
--- the text of a report of the grammar that is lawful over the script, the language of SQL and a history that
--- begins with the run, whose lines stand in the order of play, and in which no node goes down; where no
--- transaction is cut short, there is no other such report
-pub record IsReported (script : Script) (text : List ℕ) : Type 0 where
-  pub report : Report
-  pub lawful : Lawful (from_nothing script) report
-  pub in_order : InPlayOrder (from_nothing script) report
-  pub no_fault : downs report.lines ≡ 0
-  pub one : (other : Report) → IsUncut report → Lawful (from_nothing script) other → InPlayOrder (from_nothing script) other → IsUncut other → report ≡ other
-  pub is_report : IsReport report
-  pub is_text : text ≡ report_text report
+-- the text of a script or a refusal, by the stores: a script is run over the first of them
+abbrev pub IsScriptText : Result Script Refusal → List Stored → List Stored → Status → List ℕ → Type 0
+IsScriptText (Err refused) old new s text = IsRefusalText refused s text × (new ≡ old)
+IsScriptText (Ok script) [] new s text = ⊥
+IsScriptText (Ok script) (o ∷ os) [] s text = ⊥
+IsScriptText (Ok script) (o ∷ os) (n ∷ ns) s text = IsTextOver script o n s text × HasId script × (ns ≡ os)
 
--- the text that belongs to a status; the other statuses have none
-abbrev pub IsText : Bool → Result Script Refusal → Status → List ℕ → Type 0
-IsText play script status.Done text = (play ≡ true) × (read : Script) × (script ≡ Ok read) × IsReported read text
-IsText play script status.Usage text = (play ≡ false) × (text ≡ usage_text)
-IsText play script (status.Refused line why) text = (play ≡ true) × (script ≡ Err (refusal line why)) × (text ≡ refused_text line why)
-IsText play script status.ReadFault text = ⊥
-IsText play script status.WriteFault text = ⊥
-IsText play script (status.StoreRefused node at) text = ⊥
-IsText play script (status.Unsound node) text = ⊥
-IsText play script status.NoMemory text = ⊥
+-- the text that belongs to a status, by whether the words are a command
+abbrev pub IsText : Bool → Result Script Refusal → List Stored → List Stored → Status → List ℕ → Type 0
+IsText false script old new s text = IsUsageText s text × (new ≡ old)
+IsText true script old new s text = IsScriptText script old new s text
+
+-- what is left of the stores where memory ran out: those of a script that was read, over the first
+abbrev pub AreCutOff : Script → List Stored → List Stored → Type 0
+AreCutOff script [] new = ⊥
+AreCutOff script (o ∷ os) [] = ⊥
+AreCutOff script (o ∷ os) (n ∷ ns) = IsCutOff script o n × (ns ≡ os)
+
+abbrev pub AreLeft : Result Script Refusal → List Stored → List Stored → Type 0
+AreLeft (Err refused) old new = new ≡ old
+AreLeft (Ok script) old new = (new ≡ old) ⊎ AreCutOff script old new
 
 -- what was written at a status: its text; a front of a text where a write failed; and nothing where a
 -- read failed or memory ran out
-abbrev pub IsWritten : Bool → Result Script Refusal → Status → List ℕ → Type 0
-IsWritten play script status.Done text = IsText play script status.Done text
-IsWritten play script status.Usage text = IsText play script status.Usage text
-IsWritten play script (status.Refused line why) text = IsText play script (status.Refused line why) text
-IsWritten play script status.ReadFault text = (play ≡ true) × (text ≡ [])
-IsWritten play script status.WriteFault text = (other : Status) × (whole : List ℕ) × IsText play script other whole × IsFront text whole
-IsWritten play script (status.StoreRefused node at) text = ⊥
-IsWritten play script (status.Unsound node) text = ⊥
-IsWritten play script status.NoMemory text = (play ≡ true) × (text ≡ [])
+abbrev pub IsWritten : Bool → Result Script Refusal → List Stored → List Stored → Status → List ℕ → Type 0
+IsWritten play script old new status.Done text = IsText play script old new status.Done text
+IsWritten play script old new status.Usage text = IsText play script old new status.Usage text
+IsWritten play script old new (status.Refused line why) text = IsText play script old new (status.Refused line why) text
+IsWritten play script old new status.ReadFault text = (play ≡ true) × (text ≡ []) × (new ≡ old)
+IsWritten play script old new status.WriteFault text =
+    (other : Status) × (whole : List ℕ) × IsText play script old new other whole × IsFront text whole
+IsWritten play script old new (status.StoreRefused node at) text = IsText play script old new (status.StoreRefused node at) text
+IsWritten play script old new (status.Unsound node) text = IsText play script old new (status.Unsound node) text
+IsWritten play script old new status.NoMemory text = (play ≡ true) × (text ≡ []) × AreLeft script old new
 
 -- What a run writes: there is a script or a refusal, that of the bytes of the source where it tells
--- them, and a text that belongs to it and to the status; the sink took it, where it tells what it takes.
-pub record Writes (play : Bool) (stores consumers : ℕ) (input old new : Option (List ℕ)) (result : Status) : Type 0 where
+-- them, and a text that belongs to it, to the stores and to the status; the sink took it, where it tells what it takes.
+pub record Writes (play : Bool) (stores consumers : ℕ) (before after : List Stored) (input old new : Option (List ℕ)) (result : Status) : Type 0 where
   pub script : Result Script Refusal
   pub is_script : IfSome input (λ bytes. script ≡ script_of stores consumers bytes)
   pub text : List ℕ
   pub taken : Appends old new text
-  pub is_written : IsWritten play script result text
+  pub is_written : IsWritten play script before after result text
 
 -- the status `Usage` comes exactly where the words are no command, unless a write fails
 pub record TellsUsage (play : Bool) (result : Status) : Type 0 where
@@ -86,41 +103,84 @@ pub record TellsUsage (play : Bool) (result : Status) : Type 0 where
 abbrev pub IsFault : Status → Type 0
 IsFault result = (result ≡ status.ReadFault) ⊎ ((result ≡ status.WriteFault) ⊎ (result ≡ status.NoMemory))
 
--- a refusal comes exactly where the bytes of the source are that refusal, unless there is a fault
-pub record TellsRefusal (play : Bool) (script : Result Script Refusal) (result : Status) : Type 0 where
-  pub only : (line why : ℕ) → result ≡ status.Refused line why → script ≡ Err (refusal line why)
-  pub always : (line why : ℕ) → play ≡ true → script ≡ Err (refusal line why) → (result ≡ status.Refused line why) ⊎ IsFault result
+-- the same, or a fault of the first store
+abbrev pub IsAnyFault : List Stored → List Stored → Status → Type 0
+IsAnyFault old new result = IsFault result ⊎ FirstRose old new
+
+-- what may come in the place of a refusal: a fault of the source or the sink, or want of memory; and a fault of the store
+-- where the script was read
+abbrev pub IsFaultBy : Result Script Refusal → List Stored → List Stored → Status → Type 0
+IsFaultBy (Err refused) old new result = IsFault result
+IsFaultBy (Ok script) old new result = IsAnyFault old new result
+
+-- a script is refused: by its lines, or by the tables of the first store's log, for reason 9
+abbrev pub IsRefusedAt : Result Script Refusal → List Stored → ℕ → ℕ → Type 0
+IsRefusedAt (Err refused) stores line why = refused ≡ refusal line why
+IsRefusedAt (Ok script) [] line why = ⊥
+IsRefusedAt (Ok script) (store ∷ others) line why = IsOtherAt script store line × (why ≡ 9)
+
+-- the first store is bad there, or not sound, and the script was read
+abbrev pub IsStoreBadAt : Result Script Refusal → List Stored → ℕ → Type 0
+IsStoreBadAt (Err refused) stores at = ⊥
+IsStoreBadAt (Ok script) [] at = ⊥
+IsStoreBadAt (Ok script) (store ∷ others) at = IsBadAt script store at
+
+abbrev pub IsStoreUnsound : Result Script Refusal → List Stored → Type 0
+IsStoreUnsound (Err refused) stores = ⊥
+IsStoreUnsound (Ok script) [] = ⊥
+IsStoreUnsound (Ok script) (store ∷ others) = IsUnsound script store
+
+-- a refusal comes exactly where the script is refused so, unless there is a fault
+pub record TellsRefusal (play : Bool) (script : Result Script Refusal) (old new : List Stored) (result : Status) : Type 0 where
+  pub only : (line why : ℕ) → result ≡ status.Refused line why → IsRefusedAt script old line why
+  pub always : (line why : ℕ) → play ≡ true → IsRefusedAt script old line why → (result ≡ status.Refused line why) ⊎ IsFaultBy script old new result
+
+-- a store is refused exactly where it is bad so, and it is that of node 1, unless there is a fault
+pub record TellsStoreRefused (play : Bool) (script : Result Script Refusal) (old new : List Stored) (result : Status) : Type 0 where
+  pub only : (node at : ℕ) → result ≡ status.StoreRefused node at → (node ≡ 1) × IsStoreBadAt script old at
+  pub always : (at : ℕ) → play ≡ true → IsStoreBadAt script old at → (result ≡ status.StoreRefused 1 at) ⊎ IsAnyFault old new result
+
+-- a log is told as not sound exactly where it is not, and it is that of node 1, unless there is a fault
+pub record TellsUnsound (play : Bool) (script : Result Script Refusal) (old new : List Stored) (result : Status) : Type 0 where
+  pub only : (node : ℕ) → result ≡ status.Unsound node → (node ≡ 1) × IsStoreUnsound script old
+  pub always : play ≡ true → IsStoreUnsound script old → (result ≡ status.Unsound 1) ⊎ IsAnyFault old new result
+
+-- a run that leaves the stores as they were, bit for bit: no store was called
+abbrev pub LeavesStores : Status → Type 0
+LeavesStores status.Done = ⊥
+LeavesStores status.Usage = Unit {0}
+LeavesStores (status.Refused line why) = why ≡ 9 → ⊥
+LeavesStores status.ReadFault = Unit {0}
+LeavesStores status.WriteFault = ⊥
+LeavesStores (status.StoreRefused node at) = ⊥
+LeavesStores (status.Unsound node) = ⊥
+LeavesStores status.NoMemory = ⊥
 
 -- a text was written and the status stands, or a write failed after a front of the text
 abbrev pub Finishes : Status → Status → List ℕ → Option (List ℕ) → Option (List ℕ) → ℕ → ℕ → Type 0
 Finishes wanted result text old new before now =
     ((result ≡ wanted) × Appends old new text) ⊎ ((result ≡ status.WriteFault) × AppendsFront old new text × Rose before now)
 
--- a run asks no store yet, so the statuses that speak of one do not come
-abbrev pub AsksNoStore : Status → Type 0
-AsksNoStore status.Done = Unit {0}
-AsksNoStore status.Usage = Unit {0}
-AsksNoStore (status.Refused line why) = Unit {0}
-AsksNoStore status.ReadFault = Unit {0}
-AsksNoStore status.WriteFault = Unit {0}
-AsksNoStore (status.StoreRefused node at) = ⊥
-AsksNoStore (status.Unsound node) = ⊥
-AsksNoStore status.NoMemory = Unit {0}
+-- a run that stopped before it had anything to write: a read failed, and the stores are as they were; or memory ran out
+abbrev pub IsStop : Status → Result Script Refusal → List Stored → List Stored → Type 0
+IsStop status.Done script old new = ⊥
+IsStop status.Usage script old new = ⊥
+IsStop (status.Refused line why) script old new = ⊥
+IsStop status.ReadFault script old new = new ≡ old
+IsStop status.WriteFault script old new = ⊥
+IsStop (status.StoreRefused node at) script old new = ⊥
+IsStop (status.Unsound node) script old new = ⊥
+IsStop status.NoMemory script old new = AreLeft script old new
 
--- a run that stopped before it had anything to write: a read failed, or memory ran out
-abbrev pub IsStop : Status → Type 0
-IsStop status.Done = ⊥
-IsStop status.Usage = ⊥
-IsStop (status.Refused line why) = ⊥
-IsStop status.ReadFault = Unit {0}
-IsStop status.WriteFault = ⊥
-IsStop (status.StoreRefused node at) = ⊥
-IsStop (status.Unsound node) = ⊥
-IsStop status.NoMemory = Unit {0}
+-- the same by what the source has, where it tells it
+pub record StopsAt (stores consumers : ℕ) (before after : List Stored) (old : Option (List ℕ)) (s : Status) : Type 0 where
+  pub script : Result Script Refusal
+  pub stop : IsStop s script before after
+  pub is_script : IfSome old (λ input. script ≡ script_of stores consumers input)
 
 -- the answer to the bytes that were read from a source: of the bytes that it had, where it tells them
-pub record AnswersSource (stores consumers : ℕ) (old new : Option (List ℕ)) (s : Status) (text : List ℕ) : Type 0 where
+pub record AnswersSource (stores consumers : ℕ) (before after : List Stored) (old new : Option (List ℕ)) (s : Status) (text : List ℕ) : Type 0 where
   pub script : Result Script Refusal
-  pub is_text : IsText true script s text
+  pub is_text : IsText true script before after s text
   pub is_script : IfSome old (λ input. script ≡ script_of stores consumers input)
   pub at_end : s ≡ status.Done → IsAtEnd new

@@ -1,26 +1,23 @@
 //! What a script's bytes are answered: a status and the text that belongs to it.
-ghost use Rattle.std.specs.Prelude.{◌≡◌, true, IfOk};
-ghost use Rattle.report_laws.specs.Lawful.{Lawful};
-ghost use Rattle.report_laws.specs.Nodes.{downs};
-ghost use Rattle.report_laws.specs.Play.{InPlayOrder};
-ghost use Rattle.script_play.specs.Basis.{from_nothing};
+ghost use Rattle.std.specs.Prelude.{◌≡◌, ◌<◌, [], map, length, vec_len, IfOk, OnErr};
+ghost use Rattle.std.specs.List.{AllByRecursion};
 ghost use Rattle.script_read.specs.Answers.{refusal};
-ghost use Rattle.script_form.specs.CanRun.{CanRun};
-ghost use Rattle.script_form.specs.Named.{IsNamed};
 ghost use Rattle.script_read.specs.ScriptText.{script_of};
-ghost use Rattle.script_main.specs.Run.{IsText};
+ghost use Rattle.script_main.specs.Run.{AreLeft, IsRefusalText, IsScriptText, LeavesStores};
+ghost use Rattle.script_main.specs.Steps.{IsDifferText, IsReportText};
+ghost use Rattle.script_main.specs.Stores.{kept_by, IsFirstAlone};
+ghost use Rattle.script_main.specs.Texts.{store_text, unsound_text};
 
 use super::statuses::Status;
+use super::stores::play_first;
+use cdb_outside::LogStore;
 use cdb_values::Bytes;
-use log_replay::PagedLog;
 use report_text::{Report, print};
-use script_form::Script;
-use script_play::play;
-use script_read::{ScriptStop, read_script, scripts_can_run, scripts_have_names};
+use script_form::{Script, TableLine};
+use script_read::{
+    ScriptStop, read_script, scripts_can_run, scripts_have_names, scripts_have_stores,
+};
 use std::alloc::{AllocError, Global};
-
-/// The generation in which a run goes on that begins its log.
-const GENERATION: u64 = 1;
 
 /// A status, and the text that is to be written.
 #[derive(Drop)]
@@ -29,20 +26,27 @@ pub(crate) struct Answer {
     pub text: Bytes,
 }
 
-/// The answer to a script's bytes, for a run with that many stores and consumers.
-pub(crate) fn answer_script(
+/// The answer to a script's bytes, for a run over these stores and with that many consumers.
+pub(crate) fn answer_script<D: LogStore + Drop>(
     alloc: Global,
     bytes: &[u8],
-    stores: u64,
+    stores: &mut Vec<D>,
     consumers: u64,
 ) -> Result<Answer, AllocError>
-    ensures { IfOk result (λ a. IsText true (script_of stores consumers bytes.now) a.status a.text) }
+    requires settled { AllByRecursion (λ d. D.pending d ≡ []) stores.old.items }
+    ensures text { IfOk result (λ a. IsScriptText (script_of (vec_len stores.old) consumers bytes.now) (map (kept_by D.synced D.pending D.faults) stores.old.items) (map (kept_by D.synced D.pending D.faults) stores.new.items) a.status a.text) }
+    ensures unchanged { IfOk result (λ a. LeavesStores a.status → stores.new.items ≡ stores.old.items) }
+    ensures left { OnErr result (AreLeft (script_of (vec_len stores.old) consumers bytes.now) (map (kept_by D.synced D.pending D.faults) stores.old.items) (map (kept_by D.synced D.pending D.faults) stores.new.items)) }
+    ensures others { IsFirstAlone stores.old.items stores.new.items }
+    ensures settled { AllByRecursion (λ d. D.pending d ≡ []) stores.new.items }
 {
-    match read_script(alloc, bytes, stores, consumers) {
+    let count = stores.len() as u64;
+    match read_script(alloc, bytes, count, consumers) {
         Ok(script) => {
             scripts_can_run();
             scripts_have_names();
-            let answer = played(alloc, &script);
+            scripts_have_stores();
+            let answer = play_first(alloc, &script, stores);
             let_go(script);
             answer
         }
@@ -52,29 +56,11 @@ pub(crate) fn answer_script(
 }
 
 /// A value's end, so that the steps of its destructor are no part of the function that had it.
-fn let_go<T: Drop>(_value: T) {}
-
-/// The answer to a script that was read. Its run begins with a log without entries.
-fn played(alloc: Global, script: &Script) -> Result<Answer, AllocError>
-    requires runs { CanRun script.now }
-    requires names { IsNamed script.now }
-    ensures { IfOk result (λ a. IsText true (Ok script.now) a.status a.text) }
-{
-    let played = play(alloc, script, PagedLog::new(alloc), GENERATION)?;
-    let answer = told(alloc, script, &played.report);
-    let_go(played);
-    answer
-}
+pub(crate) fn let_go<T: Drop>(_value: T) {}
 
 /// The answer to a script by the report of its play.
-#[tactic(auto, using(crate::proofs::ReportedLemmas::reported))]
-fn told(alloc: Global, script: &Script, report: &Report) -> Result<Answer, AllocError>
-    requires runs { CanRun script.now }
-    requires names { IsNamed script.now }
-    requires lawful { Lawful (from_nothing script.now) report.now }
-    requires in_order { InPlayOrder (from_nothing script.now) report.now }
-    requires no_fault { downs report.now.lines ≡ 0 }
-    ensures { IfOk result (λ a. IsText true (Ok script.now) a.status a.text) }
+pub(crate) fn reported(alloc: Global, report: &Report) -> Result<Answer, AllocError>
+    ensures { IfOk result (λ a. IsReportText report.now a.status a.text) }
 {
     let text = print(alloc, report)?;
     Ok(Answer {
@@ -83,9 +69,23 @@ fn told(alloc: Global, script: &Script, report: &Report) -> Result<Answer, Alloc
     })
 }
 
+/// The answer to a script one of whose tables differs from that of the log at its place.
+pub(crate) fn differs(alloc: Global, tables: &[TableLine], place: u64) -> Result<Answer, AllocError>
+    requires within { place < length tables.now }
+    ensures { IfOk result (λ a. IsDifferText tables.now place a.status a.text) }
+{
+    match tables.get(place as usize) {
+        Some(table) => refused(alloc, table.line, OTHER_TABLES),
+        None => unreachable!(),
+    }
+}
+
+/// The reason against a table that differs from that of the store's log.
+const OTHER_TABLES: u8 = 9;
+
 /// The answer to a script that was refused.
 fn refused(alloc: Global, line: u64, why: u8) -> Result<Answer, AllocError>
-    ensures { IfOk result (λ a. IsText true (Err (refusal line why)) a.status a.text) }
+    ensures { IfOk result (λ a. IsRefusalText (refusal line why) a.status a.text) }
 {
     let mut text = Vec::new(alloc);
     let at = line.to_string(alloc)?;
@@ -97,6 +97,41 @@ fn refused(alloc: Global, line: u64, why: u8) -> Result<Answer, AllocError>
     text.extend_from_slice(b"\n")?;
     Ok(Answer {
         status: Status::Refused { line, why },
+        text: Bytes::from_vec(text),
+    })
+}
+
+/// The answer to a store with a bad frame at an offset, or with another's header, at 0.
+pub(crate) fn store_refused(alloc: Global, node: u8, at: u64) -> Result<Answer, AllocError>
+    ensures status { IfOk result (λ a. a.status ≡ Status.StoreRefused node at) }
+    ensures text { IfOk result (λ a. a.text ≡ store_text node at) }
+{
+    let mut text = Vec::new(alloc);
+    let number = node.to_string(alloc)?;
+    let offset = at.to_string(alloc)?;
+    text.extend_from_slice(b"store ")?;
+    text.extend_from_slice(number.as_bytes())?;
+    text.extend_from_slice(b" ")?;
+    text.extend_from_slice(offset.as_bytes())?;
+    text.extend_from_slice(b"\n")?;
+    Ok(Answer {
+        status: Status::StoreRefused { node, at },
+        text: Bytes::from_vec(text),
+    })
+}
+
+/// The answer to a store whose log is not sound.
+pub(crate) fn unsound(alloc: Global, node: u8) -> Result<Answer, AllocError>
+    ensures status { IfOk result (λ a. a.status ≡ Status.Unsound node) }
+    ensures text { IfOk result (λ a. a.text ≡ unsound_text node) }
+{
+    let mut text = Vec::new(alloc);
+    let number = node.to_string(alloc)?;
+    text.extend_from_slice(b"unsound ")?;
+    text.extend_from_slice(number.as_bytes())?;
+    text.extend_from_slice(b"\n")?;
+    Ok(Answer {
+        status: Status::Unsound { node },
         text: Bytes::from_vec(text),
     })
 }

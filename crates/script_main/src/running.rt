@@ -1,11 +1,15 @@
 //! The top call.
-ghost use Rattle.std.specs.Prelude.{◌≡◌, vec_len, true, IfOk, IfErr, IfSome};
+ghost use Rattle.std.specs.Prelude.{◌≡◌, [], map, vec_len, true, IfOk, IfErr, IfSome};
 ghost use Rattle.std.specs.Io.KnownBytes.{IsAtEnd};
+ghost use Rattle.std.specs.List.{AllByRecursion};
 ghost use Rattle.cdb_outside.specs.Faults.{Rose};
 ghost use Rattle.script_read.specs.ScriptText.{script_of};
-ghost use Rattle.script_main.specs.Run.{is_play, AnswersSource, AsksNoStore, Finishes, IsStop, IsText, TellsRefusal, TellsUsage, Writes};
+ghost use Rattle.script_main.specs.Run.{AnswersSource, AreLeft, Finishes, IsText, LeavesStores, StopsAt, TellsRefusal, TellsStoreRefused, TellsUnsound, TellsUsage, Writes};
+ghost use Rattle.script_main.specs.Stores.{kept_by, IsFirstAlone};
+ghost use Rattle.script_main.specs.Words.{is_play};
 
 use super::answers::{Answer, answer_script};
+use super::commands::is_command;
 use super::statuses::{Outside, Status};
 use cdb_outside::{LogStore, ReadStop, Sink, Source, read_up_to, write_whole};
 use script_read::{MOST_BYTES, later_bytes_do_not_matter};
@@ -16,41 +20,49 @@ const USAGE: &[u8] = b"usage: cdb play|run|fill N [--stores DIR]\n";
 
 /// Runs a command over the outside world. The one command is `play`: the script that the source
 /// holds is played, and its report written to the sink. The stores and consumers stay as they are.
-pub fn run<S: Source, K: Sink, D: LogStore + Send>(
+pub fn run<S: Source, K: Sink, D: LogStore + Send + Drop>(
     alloc: Global,
     words: &[String],
     outside: &mut Outside<S, K, D>,
 ) -> Status
-    ensures says { Writes (is_play words.now) (vec_len outside.old.stores) (vec_len outside.old.consumers) (S.left outside.old.source) (K.taken outside.old.sink) (K.taken outside.new.sink) result }
+    requires settled { AllByRecursion (λ d. D.pending d ≡ []) outside.old.stores.items }
+    ensures says { Writes (is_play words.now) (vec_len outside.old.stores) (vec_len outside.old.consumers) (map (kept_by D.synced D.pending D.faults) outside.old.stores.items) (map (kept_by D.synced D.pending D.faults) outside.new.stores.items) (S.left outside.old.source) (K.taken outside.old.sink) (K.taken outside.new.sink) result }
     ensures usage { TellsUsage (is_play words.now) result }
-    ensures refusal { IfSome (S.left outside.old.source) (λ bytes. TellsRefusal (is_play words.now) (script_of (vec_len outside.old.stores) (vec_len outside.old.consumers) bytes) result) }
+    ensures refusal { IfSome (S.left outside.old.source) (λ bytes. TellsRefusal (is_play words.now) (script_of (vec_len outside.old.stores) (vec_len outside.old.consumers) bytes) (map (kept_by D.synced D.pending D.faults) outside.old.stores.items) (map (kept_by D.synced D.pending D.faults) outside.new.stores.items) result) }
+    ensures store_refused { IfSome (S.left outside.old.source) (λ bytes. TellsStoreRefused (is_play words.now) (script_of (vec_len outside.old.stores) (vec_len outside.old.consumers) bytes) (map (kept_by D.synced D.pending D.faults) outside.old.stores.items) (map (kept_by D.synced D.pending D.faults) outside.new.stores.items) result) }
+    ensures unsound { IfSome (S.left outside.old.source) (λ bytes. TellsUnsound (is_play words.now) (script_of (vec_len outside.old.stores) (vec_len outside.old.consumers) bytes) (map (kept_by D.synced D.pending D.faults) outside.old.stores.items) (map (kept_by D.synced D.pending D.faults) outside.new.stores.items) result) }
     ensures read { result ≡ Status.ReadFault → Rose (S.faults outside.old.source) (S.faults outside.new.source) }
     ensures write { result ≡ Status.WriteFault → Rose (K.faults outside.old.sink) (K.faults outside.new.sink) }
     ensures whole { result ≡ Status.Done → IsAtEnd (S.left outside.new.source) }
-    ensures no_store { AsksNoStore result }
-    ensures stores { outside.new.stores.items ≡ outside.old.stores.items }
+    ensures unchanged { LeavesStores result → outside.new.stores.items ≡ outside.old.stores.items }
+    ensures others { IsFirstAlone outside.old.stores.items outside.new.stores.items }
+    ensures settled { AllByRecursion (λ d. D.pending d ≡ []) outside.new.stores.items }
     ensures consumers { outside.new.consumers.items ≡ outside.old.consumers.items }
 {
-    if !is_play_alone(words) {
+    if !is_command(words) {
         return finish(&mut outside.sink, USAGE, Status::Usage);
     }
-    let stores = outside.stores.len() as u64;
     let consumers = outside.consumers.len() as u64;
-    match answer_source(alloc, &mut outside.source, stores, consumers) {
+    match answer_source(alloc, &mut outside.source, &mut outside.stores, consumers) {
         Ok(answer) => finish(&mut outside.sink, answer.text.as_bytes(), answer.status),
         Err(stop) => stop,
     }
 }
 
 /// The answer to the script that a source holds, or the status of a run that has nothing to write.
-fn answer_source<S: Source>(
+fn answer_source<S: Source, D: LogStore + Drop>(
     alloc: Global,
     source: &mut S,
-    stores: u64,
+    stores: &mut Vec<D>,
     consumers: u64,
 ) -> Result<Answer, Status>
-    ensures answers { IfOk result (λ a. AnswersSource stores consumers (S.left source.old) (S.left source.new) a.status a.text) }
-    ensures stops { IfErr result IsStop }
+    requires settled { AllByRecursion (λ d. D.pending d ≡ []) stores.old.items }
+    ensures answers { IfOk result (λ a. AnswersSource (vec_len stores.old) consumers (map (kept_by D.synced D.pending D.faults) stores.old.items) (map (kept_by D.synced D.pending D.faults) stores.new.items) (S.left source.old) (S.left source.new) a.status a.text) }
+    ensures stops { IfErr result (λ stop. StopsAt (vec_len stores.old) consumers (map (kept_by D.synced D.pending D.faults) stores.old.items) (map (kept_by D.synced D.pending D.faults) stores.new.items) (S.left source.old) stop) }
+    ensures unchanged { IfOk result (λ a. LeavesStores a.status → stores.new.items ≡ stores.old.items) }
+    ensures stopped { IfErr result (λ stop. LeavesStores stop → stores.new.items ≡ stores.old.items) }
+    ensures others { IsFirstAlone stores.old.items stores.new.items }
+    ensures settled { AllByRecursion (λ d. D.pending d ≡ []) stores.new.items }
     ensures fault { result ≡ Err Status.ReadFault → Rose (S.faults source.old) (S.faults source.new) }
 {
     later_bytes_do_not_matter();
@@ -62,23 +74,22 @@ fn answer_source<S: Source>(
 }
 
 /// The answer to a script's bytes.
-fn answer_bytes(alloc: Global, bytes: &[u8], stores: u64, consumers: u64) -> Result<Answer, Status>
-    ensures answers { IfOk result (λ a. IsText true (script_of stores consumers bytes.now) a.status a.text) }
-    ensures stops { IfErr result (λ stop. stop ≡ Status.NoMemory) }
+fn answer_bytes<D: LogStore + Drop>(
+    alloc: Global,
+    bytes: &[u8],
+    stores: &mut Vec<D>,
+    consumers: u64,
+) -> Result<Answer, Status>
+    requires settled { AllByRecursion (λ d. D.pending d ≡ []) stores.old.items }
+    ensures answers { IfOk result (λ a. IsText true (script_of (vec_len stores.old) consumers bytes.now) (map (kept_by D.synced D.pending D.faults) stores.old.items) (map (kept_by D.synced D.pending D.faults) stores.new.items) a.status a.text) }
+    ensures stops { IfErr result (λ stop. (stop ≡ Status.NoMemory) × AreLeft (script_of (vec_len stores.old) consumers bytes.now) (map (kept_by D.synced D.pending D.faults) stores.old.items) (map (kept_by D.synced D.pending D.faults) stores.new.items)) }
+    ensures unchanged { IfOk result (λ a. LeavesStores a.status → stores.new.items ≡ stores.old.items) }
+    ensures others { IsFirstAlone stores.old.items stores.new.items }
+    ensures settled { AllByRecursion (λ d. D.pending d ≡ []) stores.new.items }
 {
     match answer_script(alloc, bytes, stores, consumers) {
         Ok(answer) => Ok(answer),
         Err(_) => Err(Status::NoMemory),
-    }
-}
-
-/// Whether the words are the one word `play`.
-fn is_play_alone(words: &[String]) -> bool
-    ensures { result ≡ is_play words.now }
-{
-    match words {
-        [word] => word.as_bytes() == b"play".as_slice(),
-        _ => false,
     }
 }
 

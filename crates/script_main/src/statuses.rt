@@ -29,9 +29,9 @@ pub enum Status {
     ReadFault,
     /// A write to the sink failed; a front of the text was written.
     WriteFault,
-    /// The store of a node has a bad frame at an offset. It does not come yet.
+    /// The store of a node has a bad frame at an offset.
     StoreRefused { node: u8, at: u64 },
-    /// The store of a node is no state of a run. It does not come yet.
+    /// The store of a node is no state of a run.
     Unsound { node: u8 },
     /// Want of memory; nothing was written.
     NoMemory,

@@ -4,8 +4,12 @@
 #[cfg(test)]
 mod drawn;
 #[cfg(test)]
+mod resumed;
+#[cfg(test)]
 mod runs;
 #[cfg(test)]
 mod slow;
+#[cfg(test)]
+mod stored;
 #[cfg(test)]
 mod tests;

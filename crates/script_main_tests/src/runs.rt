@@ -575,6 +575,11 @@ fn words_that_are_no_command_get_the_usage_line(rt: HostRuntime) -> Result<(), F
         gets_usage(rt.alloc(), &["play", "play"])?,
         "the words get the usage line",
     );
+    is_so(
+        &rt,
+        gets_usage(rt.alloc(), &["play", "--stores", "-d"])?,
+        "the words get the usage line",
+    );
     Ok(())
 }
 

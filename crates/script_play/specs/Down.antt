@@ -69,6 +69,16 @@ history_of l = history_by l.failed l.entries
 abbrev pub with_entries : Logged → List Entry → Logged
 with_entries l es = record l { entries = es }
 
+-- whose log it is, and in which generations: a run changes none of these
+pub record Owner : Type 0 where
+  pub node : ℕ
+  pub cluster : ℕ
+  pub promised : ℕ
+  pub accepted : ℕ
+
+abbrev pub owner_of : Logged → Owner
+owner_of l = record { node = l.node; cluster = l.cluster; promised = l.promised; accepted = l.accepted }
+
 -- an entry was appended and kept, and stands in the history
 pub record IsEntered (entry : Entry) (entries entries' : List EntryLine) (log log' : Logged) : Type 0 where
   pub entries_are : entries' ≡ entries ++ line_of (length log.entries + 1) entry ∷ []

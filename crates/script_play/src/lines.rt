@@ -8,7 +8,7 @@ ghost use Rattle.sql_answer.specs.Reading.{kind_of_text};
 ghost use Rattle.sql_run.specs.Texts.{plan_by};
 ghost use Rattle.sql_run.specs.Views.{kind_in, text_in};
 ghost use Rattle.script_play.specs.RunViews.{world, doing_in, IsReadyFor, IsSameHistory, IsTakenFrom, IsDoneFrom, IsOfText, IsOwn};
-ghost use Rattle.script_play.specs.Down.{history_of, IsHeldBy};
+ghost use Rattle.script_play.specs.Down.{history_of, owner_of, IsHeldBy};
 ghost use Rattle.script_play.specs.Effects.{Grown};
 ghost use Rattle.script_play.specs.Ready.{IsReadyToGo};
 ghost use Rattle.script_play.specs.Start.{Start};
@@ -30,7 +30,7 @@ const TEXT_LIMIT: usize = 1 << 32;
 
 /// Does a line of a session, and gives where the session is then. Where want of memory ends its
 /// transaction, only that is told. The error comes where that can't be told either, where a line
-/// outside a transaction can't be answered, or where the text can't be read.
+/// outside a transaction can't be answered, or where the text can't be read; only lines were added then.
 pub(crate) fn run_session_line<D: LogStore>(
     alloc: Global,
     schema: &Schema,
@@ -47,6 +47,7 @@ pub(crate) fn run_session_line<D: LogStore>(
     requires held { IsHeldBy run.old.log.failed generation run.old.log }
     ensures taken { IfOk result (λ after. IsTakenFrom start generation schema.now name.now state text.now after run.old.lines.items run.new.lines.items run.old.entries.items run.new.entries.items run.old.log run.new.log) }
     ensures err_same { OnErr result (IsSameHistory run.old.entries.items run.new.entries.items run.old.log run.new.log) }
+    ensures owner { owner_of run.new.log ≡ owner_of run.old.log }
 {
     let (state, prepared) = beside(state, read_text(alloc, schema, text))?;
     let kind = prepared.kind();
@@ -107,6 +108,7 @@ fn run_whole<D: LogStore>(
     ensures ok { IfOk result (λ after. IsDoneFrom start generation schema.now name.now (turn_of (world start schema.now run.old.log.entries) state.number state.level (text_in prepared.now).meaning (kind_in kind) (doing_in state.doing)) after run.old.lines.items run.new.lines.items run.old.entries.items run.new.entries.items run.old.log run.new.log) }
     ensures err_lines { OnErr result (Grown run.old.lines.items run.new.lines.items) }
     ensures err_same { OnErr result (IsSameHistory run.old.entries.items run.new.entries.items run.old.log run.new.log) }
+    ensures owner { owner_of run.new.log ≡ owner_of run.old.log }
 {
     let effect = effect_of(
         alloc,

@@ -1,5 +1,5 @@
 //! The lines of a script, done one after the other on one node.
-ghost use Rattle.std.specs.Prelude.{◌≡◌, ℕ, ◌-◌, ◌<◌, ◌≤◌, ◌++◌, ◌∷◌, [], List, Some, false, true, length, OnOk, OnErr, IfOk, IfErr, map, slice_get, unwrap_or};
+ghost use Rattle.std.specs.Prelude.{◌≡◌, ℕ, ◌-◌, ◌<◌, ◌≤◌, ◌++◌, ◌∷◌, [], List, Some, false, true, length, OnOk, OnErr, IfOk, IfErr, MatchResult, map, slice_get, unwrap_or};
 ghost use Rattle.cdb_values.specs.Rows.{Rows};
 ghost use Rattle.log_replay.specs.Answers.{schema_of as schema_told};
 ghost use Rattle.log_rows.specs.History.{rows_over_at, takes_in, IsFrom, StandsOver};
@@ -11,7 +11,7 @@ ghost use Rattle.report_laws.specs.Play.{InPlayOrder};
 ghost use Rattle.script_form.specs.CanRun.{CanRun, tables_of};
 ghost use Rattle.script_form.specs.declared.scripts.BodyLine.{BodyLine};
 ghost use Rattle.script_play.specs.Basis.{from_origin, from_start};
-ghost use Rattle.script_play.specs.Down.{history_of, with_entries, IsCaused};
+ghost use Rattle.script_play.specs.Down.{history_of, owner_of, with_entries, IsCaused};
 ghost use Rattle.script_play.specs.EntryLines.{AreTold};
 ghost use Rattle.script_play.specs.Played.{downs_by, IsGivenUp, IsPlayed};
 ghost use Rattle.script_play.specs.Ready.{CanBegin};
@@ -86,6 +86,7 @@ pub fn play<D: LogStore + Drop>(
     ensures made { IfOk result (λ p. p.log.failed ≡ false → p.log.accepted ≡ log.accepted) }
     ensures kept { IfOk result (λ p. p.log.failed ≡ true → Leaves p.log.store (with_entries p.log (history_of p.log) ∷ p.log ∷ [])) }
     ensures given_up { IfErr result (λ l. IsGivenUp start log l) }
+    ensures owner { MatchResult result (λ p. owner_of p.log ≡ owner_of log) (λ l. owner_of l ≡ owner_of log) }
 {
     play_behind(alloc, script, log, base)
 }
@@ -105,6 +106,7 @@ fn play_behind<D: LogStore + Drop>(
     requires behind { CanBegin (tables_of script.now) start.before start.rows }
     ensures played { IfOk result (λ p. IsPlayed script.now start log p.report p.log) }
     ensures given_up { IfErr result (λ l. IsGivenUp start log l) }
+    ensures owner { MatchResult result (λ p. owner_of p.log ≡ owner_of log) (λ l. owner_of l ≡ owner_of log) }
 {
     let mut so_far = opened(alloc, log);
     match play_on(alloc, script, base, &mut so_far) {
@@ -138,6 +140,7 @@ fn play_on<D: LogStore>(
     requires entries { run.old.entries.items ≡ [] }
     ensures done { OnOk result ((states : List SessionState) × IsBeforeLine script.now start run.old.log.accepted run.old.log.store.faults [] run.new.lines.items run.new.entries.items run.new.log states) }
     ensures given_up { OnErr result (IsGivenUp start run.old.log run.new.log) }
+    ensures owner { owner_of run.new.log ≡ owner_of run.old.log }
 {
     let schema = schema_of(alloc, script.tables.as_slice())?;
     let generation = run.log.accepted();
@@ -240,6 +243,7 @@ fn run_line<D: LogStore>(
     ensures done { OnOk result ((left : List BodyLine) (had : ℕ) → IsBeforeLine script.now start generation had (line.now ∷ left) run.old.lines.items run.old.entries.items run.old.log states.old
         → IsBeforeLine script.now start generation had left run.new.lines.items run.new.entries.items run.new.log states.new) }
     ensures same { OnErr result (IsSameHistory run.old.entries.items run.new.entries.items run.old.log run.new.log) }
+    ensures owner { owner_of run.new.log ≡ owner_of run.old.log }
 {
     let Act::Say { session, text } = &line.act else {
         return Ok(());

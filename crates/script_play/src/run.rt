@@ -4,7 +4,7 @@ ghost use Rattle.log_rows.specs.History.{IsCommit};
 ghost use Rattle.phys_log.specs.Logs.{Fits};
 ghost use Rattle.report_laws.specs.Told.{lines_of};
 ghost use Rattle.report_text.specs.declared.reports.Line.{Line};
-ghost use Rattle.script_play.specs.Down.{down_line, IsEntered, IsFallenAt, IsKeptSo, TellsOutcome};
+ghost use Rattle.script_play.specs.Down.{down_line, owner_of, IsEntered, IsFallenAt, IsKeptSo, TellsOutcome};
 ghost use Rattle.script_play.specs.Effects.{Grown};
 ghost use Rattle.script_play.specs.EntryLines.{line_of as line_of_entry};
 ghost use Rattle.script_play.specs.RunViews.{IsSameHistory};
@@ -92,6 +92,7 @@ pub(crate) fn apply_effect<D: LogStore>(
     ensures done { OnOk result (IsKeptSo name.now effect.number effect.replies.items effect.added run.old.lines.items run.new.lines.items run.old.entries.items run.new.entries.items run.old.log run.new.log) }
     ensures err_lines { OnErr result (Grown run.old.lines.items run.new.lines.items) }
     ensures err_same { OnErr result (IsSameHistory run.old.entries.items run.new.entries.items run.old.log run.new.log) }
+    ensures owner { owner_of run.new.log ≡ owner_of run.old.log }
 {
     let LineEffect {
         number,
@@ -130,6 +131,7 @@ fn append_committed<D: LogStore>(
         × IsFallenAt entry run.old.entries.items run.new.entries.items run.old.log run.new.log)) }
     ensures err_lines { OnErr result (Grown run.old.lines.items run.new.lines.items) }
     ensures err_same { OnErr result (IsSameHistory run.old.entries.items run.new.entries.items run.old.log run.new.log) }
+    ensures owner { owner_of run.new.log ≡ owner_of run.old.log }
 {
     let had = run.lines.len();
     let told = add_fall(&mut run.lines, name, number);
@@ -192,6 +194,7 @@ fn append_entry<D: LogStore>(
     ensures fallen { IfOk result (λ a. a ≡ Appended.Down → IsFallenAt entry run.old.entries.items run.new.entries.items run.old.log run.new.log) }
     ensures lines { run.new.lines.items ≡ run.old.lines.items }
     ensures err_same { OnErr result (IsSameHistory run.old.entries.items run.new.entries.items run.old.log run.new.log) }
+    ensures owner { owner_of run.new.log ≡ owner_of run.old.log }
 {
     let position = run.log.log().entries().len() as u64 + 1;
     let line = line_of(position, &entry);

@@ -1,6 +1,7 @@
 -- Every script that is read is lawful, can run and has names that are names: each line that is read keeps what holds
 -- of those before it.
-use Rattle.std.proofs.Common.{◌≡◌, ◌≢◌, ℕ, ◌+◌, ◌<◌, ◌≤◌, List, [], ◌∷◌, ◌++◌, length, map, Bool, true, false, not, ◌&&◌, ◌||◌, ◌==◌, Option, Some, None, Result, Ok, Err, refl, sym, ◌∙◌, ap, subst, arith, if◌then◌else◌, nat_lt, nat_le, ◌⊎◌, inl, inr, append_assoc, length-append}
+use Rattle.std.proofs.Common.{◌≡◌, ◌≢◌, ℕ, zero, suc, ◌+◌, ◌<◌, ◌≤◌, List, [], ◌∷◌, ◌++◌, length, map, Bool, true, false, not, ◌&&◌, ◌||◌, ◌==◌, Option, Some, None, Result, Ok, Err, refl, sym, ◌∙◌, ap, subst, arith, if◌then◌else◌, nat_lt, nat_le, ◌⊎◌, inl, inr, append_assoc, length-append}
+use Rattle.std.proofs.lemmas.Bool.{ltb-false}
 use Rattle.std.specs.List.{AllByRecursion}
 use Rattle.std.specs.Str.{is_utf8}
 use Rattle.cdb_values.specs.Tables.{add_fault, place_of}
@@ -568,3 +569,68 @@ going_is_named draft line g = record {
 
 pub scripts_named : (stores consumers : ℕ) (bytes : List ℕ) (script : Script) → script_of stores consumers bytes ≡ Ok script → IsNamed script
 scripts_named stores consumers bytes script e = let d = done stores consumers bytes script e in subst IsNamed d.same (going_is_named d.draft d.line d.going)
+
+-- where there are no stores, no line says a number of nodes, and no other line may come before that
+
+-- nothing was read, and there is no store
+record IsPoor (draft : Draft) : Type 0 where
+  part : draft.part ≡ 0
+  stores : draft.stores ≡ 0
+
+none_fit : (nodes stores : ℕ) → stores ≡ 0 → ((nodes == 0) || nat_lt 7 nodes) ≡ false → nat_lt stores nodes ≡ false → ⊥
+none_fit zero stores none some fits = cc
+none_fit (suc n) stores none some fits = let e : suc n ≤ 0 = subst (λ s. suc n ≤ s) none (ltb-false stores (suc n) fits) in omega arith
+
+poor_nodes : (draft : Draft) (line : ℕ) (nodes : Option ℕ) (next : Draft) → IsPoor draft → and_then (nodes_said draft line nodes) (if_built draft line) ≡ Ok next → ⊥
+poor_nodes draft line None next p e = cc
+poor_nodes draft line (Some nodes) next p e =
+    let a = and_ok (nodes_said draft line (Some nodes)) (if_built draft line) next e in
+    let b = else_ok ((nodes == 0) || nat_lt 7 nodes) _ _ a.0 a.1.0 in
+    let c = else_ok (nat_lt draft.stores nodes) _ _ a.0 b.1 in
+    none_fit nodes draft.stores p.stores b.0 c.0
+
+poor_told : (draft : Draft) (line : ℕ) (rest : List ℕ) (keyword : Keyword) (next : Draft) → IsPoor draft → may_come draft.part (keyword_part keyword) ≡ true → and_then (told draft line rest keyword) (if_built draft line) ≡ Ok next → ⊥
+poor_told draft line rest keywords.Nodes next p m e = poor_nodes draft line (only_number rest) next p e
+poor_told draft line rest keywords.Cluster next p m e = not_first 2 refl draft.part p.part m
+poor_told draft line rest keywords.Workers next p m e = not_first 3 refl draft.part p.part m
+poor_told draft line rest keywords.Session next p m e = not_first 4 refl draft.part p.part m
+poor_told draft line rest keywords.Watch next p m e = not_first 6 refl draft.part p.part m
+poor_told draft line rest keywords.Stop next p m e = not_first 7 refl draft.part p.part m
+poor_told draft line rest keywords.Start next p m e = not_first 7 refl draft.part p.part m
+poor_told draft line rest keywords.Arm next p m e = not_first 7 refl draft.part p.part m
+poor_told draft line rest keywords.Barrier next p m e = not_first 7 refl draft.part p.part m
+poor_told draft line rest keywords.Feed next p m e = not_first 7 refl draft.part p.part m
+
+poor_placed : (draft : Draft) (line : ℕ) (text : List ℕ) (kind : LineKind) (next : Draft) → IsPoor draft → may_come draft.part (part_of kind) ≡ true → read_placed draft line text kind ≡ Ok next → ⊥
+poor_placed draft line text (lines.Told keyword) next p m e = poor_told draft line (after_piece text) keyword next p m e
+poor_placed draft line text lines.Create next p m e = not_first 5 refl draft.part p.part m
+poor_placed draft line text lines.Say next p m e = not_first 7 refl draft.part p.part m
+
+poor_kind : (draft : Draft) (line : ℕ) (text : List ℕ) (kind : Option LineKind) (next : Draft) → IsPoor draft → read_kind draft line text kind ≡ Ok next → ⊥
+poor_kind draft line text None next p e = cc
+poor_kind draft line text (Some kind) next p e = let k = then_ok (may_come draft.part (part_of kind)) _ _ next e in poor_placed draft line text kind next p k.0 k.1
+
+poor_line : (draft : Draft) (line : ℕ) (bytes : List ℕ) (next : Draft) → IsPoor draft → read_line draft line bytes ≡ Ok next → IsPoor next
+unfolding read_line
+poor_line draft line bytes next p e = skipped (is_skipped (text_of bytes)) (else_ok (nat_lt most_line_bytes (length bytes)) _ _ next (then_ok (is_utf8 bytes) _ _ next e).1).1
+  where
+    skipped : (b : Bool) → (if b then Ok draft else read_kind draft line (text_of bytes) (kind_of (text_of bytes))) ≡ Ok next → IsPoor next
+    skipped true e = subst IsPoor (same_ok draft next e) p
+    skipped false e = absurd (poor_kind draft line (text_of bytes) (kind_of (text_of bytes)) next p e)
+
+poor_lines : (texts : List (List ℕ)) (draft : Draft) (line : ℕ) (last : Draft × ℕ) → IsPoor draft → read_lines draft line texts ≡ Ok last → IsPoor last.0
+unfolding read_lines
+poor_lines [] draft line last p e = subst (λ (x : Draft × ℕ). IsPoor x.0) (same_ok (draft, line) last e) p
+poor_lines (bytes ∷ texts) draft line last p e =
+    let a = and_ok (read_line draft line bytes) (λ next. read_lines next (line + 1) texts) last e in
+    poor_lines texts a.0 (line + 1) last (poor_line draft line bytes a.0 p a.1.0) a.1.1
+
+pub scripts_stored : (stores consumers : ℕ) (bytes : List ℕ) (script : Script) → script_of stores consumers bytes ≡ Ok script → 1 ≤ stores
+scripts_stored zero consumers bytes script e =
+    let a = and_ok (read_lines (no_draft 0 consumers) 1 (lines_of bytes)) (λ last. finished last.0 last.1) script (within_is_whole most_bytes (no_draft 0 consumers) bytes script e) in
+    let p : IsPoor a.0.0 = poor_lines (lines_of bytes) (no_draft 0 consumers) 1 a.0 (record { part = refl; stores = refl }) a.1.0 in
+    let k = else_ok (a.0.0.part == 0) _ _ script a.1.1 in
+    let z : (a.0.0.part == 0) ≡ true = subst (λ n. (n == 0) ≡ true) (sym p.part) refl in
+    let d : true ≡ false = sym z ∙ k.0 in
+    absurd cc
+scripts_stored (suc n) consumers bytes script e = omega arith

@@ -1,6 +1,6 @@
 //! Facts of all scripts, each the contract of a function that does nothing.
 
-ghost use Rattle.std.specs.Prelude.{◌≡◌, ◌<◌, ◌++◌, ℕ, List, length};
+ghost use Rattle.std.specs.Prelude.{◌≡◌, ◌<◌, ◌≤◌, ◌++◌, ℕ, List, length};
 ghost use Rattle.script_form.specs.CanRun.{CanRun};
 ghost use Rattle.script_form.specs.Named.{IsNamed};
 ghost use Rattle.script_read.specs.Lawful.{IsLawful};
@@ -22,6 +22,11 @@ pub fn scripts_can_run()
 /// Of a script that is read, the names of sessions, tables and keys are names, and no key is named `all`.
 pub fn scripts_have_names()
     ensures { (stores consumers : ℕ) (bytes : List ℕ) (script : Script) → script_of stores consumers bytes ≡ Ok script → IsNamed script }
+{}
+
+/// A script that is read has a store for its node.
+pub fn scripts_have_stores()
+    ensures { (stores consumers : ℕ) (bytes : List ℕ) (script : Script) → script_of stores consumers bytes ≡ Ok script → 1 ≤ stores }
 {}
 
 /// The bytes behind the first one past the limit do not matter.

@@ -62,6 +62,7 @@ mod scripts;
 
 pub use laws::{
     later_bytes_do_not_matter, scripts_are_lawful, scripts_can_run, scripts_have_names,
+    scripts_have_stores,
 };
 pub use reading::{MOST_BYTES, read_script};
 pub use script_form::{Act, BodyLine, Moment, Script, SessionLine, TableLine};

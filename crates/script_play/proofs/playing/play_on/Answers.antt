@@ -1,4 +1,4 @@
-use Rattle.std.proofs.Common.{◌∙◌, ℕ, [], List, ap, map, subst, sym}
+use Rattle.std.proofs.Common.{◌∙◌, ℕ, [], List, ap, map, refl, subst, sym}
 use Rattle.script_form.specs.CanRun.{tables_of}
 use Rattle.script_form.specs.declared.scripts.BodyLine.{BodyLine}
 use Rattle.script_play.specs.RunViews.{IsBeforeLine}
@@ -18,6 +18,7 @@ lines-init g c =
           c.requires.1.1.1.1.1.0 starts)),
       c.accepted-generation.ensures.accepted,
       c.schema.view_is ∙ are,
+      refl,
     )
 
 pub lines-preserved : goal.lines-preserved
@@ -26,6 +27,7 @@ lines-preserved g c = (
       (subst (λ (bs : List BodyLine). IsBeforeLine c.args.script.now g.start c.accepted-generation.result c.args.run.now.log.store.faults bs c.lines.run.lines.items c.lines.run.entries.items c.lines.run.log c.lines.states) c.in-Some.ensures.cases.0 c.lines.invariant.0),
   c.lines.invariant.1,
   c.lines.invariant.2,
+  c.in_ok-run_line.ensures.owner ∙ c.lines.invariant.3,
 )
 
 pub returns-clause-done : goal.returns-clause-done

@@ -1,5 +1,6 @@
 use Rattle.std.proofs.Common.{◌≡◌, length}
 use Rattle.script_form.specs.CanRun.{tables_of}
+use Rattle.script_play.specs.Down.{owner_of}
 use Rattle.script_play.specs.RunViews.{IsBeforeLine}
 use Rattle.script_play.proofs.playing.play_on.Given as goal
 
@@ -12,6 +13,7 @@ invariant-lines g l =
     IsBeforeLine l.script g.start l.generation l.fn.run.log.store.faults l.rest l.run.lines.items l.run.entries.items l.run.log l.states
     × (l.generation ≡ l.fn.run.log.accepted)
     × (l.schema-inside.tables ≡ tables_of l.script)
+    × (owner_of l.run.log ≡ owner_of l.fn.run.log)
 
 abbrev pub decreases-lines : goal.decreases-lines
 decreases-lines g l = length l.rest

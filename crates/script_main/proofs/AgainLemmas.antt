@@ -1,0 +1,78 @@
+-- The history of a run over a store is sound again, in the run's generation.
+use Rattle.std.proofs.Common.{◌≡◌, ◌≢◌, ℕ, ◌+◌, ◌<◌, ◌≤◌, ◌^◌, List, [], ◌∷◌, length, map, Option, Some, None, sym, subst, inl, inr, arith}
+use Rattle.std.specs.List.{AllByRecursion}
+use Rattle.cdb_values.specs.Good.{AllFit, IsGood}
+use Rattle.cdb_values.specs.Rows.{Rows}
+use Rattle.cdb_values.specs.declared.tables.TableDef.{TableDef}
+use Rattle.frame_code.specs.declared.frames.Frame.{Frame}
+use Rattle.frame_code.specs.declared.frames.Frame.TheVariants as frame
+use Rattle.log_rows.specs.History as history
+use Rattle.node_opening.specs.Goods.{HasTables, StandsForGood}
+use Rattle.page_store.specs.Image.{Image}
+use Rattle.page_workspace.specs.Spare.{count_of}
+use Rattle.phys_log.specs.Logs.{pages_of}
+use Rattle.phys_log.specs.declared.entries.Entry.{Entry}
+use Rattle.report_text.specs.declared.reports.Report.{Report}
+use Rattle.script_form.specs.CanRun.{tables_of, CanRun}
+use Rattle.script_form.specs.declared.scripts.Script.{Script}
+use Rattle.script_form.specs.declared.scripts.TableLine.{TableLine}
+use Rattle.script_play.specs.Played.{IsTold}
+use Rattle.script_play.specs.Start.{ground_of}
+use Rattle.sound_log.specs.Columns.{HasColumns}
+use Rattle.sound_log.specs.Sound.{IsSound}
+use Rattle.store_log.specs.declared.standings.Standing.TheVariants.{Log}
+use Rattle.store_log.specs.Held.{Held, after, after_all, AllMay, May, StandsFor, at_first, with_entry}
+use Rattle.table_state.specs.States.{HasState}
+use Rattle.table_store.specs.Stored.{Stands}
+use Rattle.script_main.proofs.AfterLemmas.{sound_again}
+use Rattle.script_main.proofs.ScriptLemmas.{tables_with}
+use Rattle.script_main.specs.Stores.{start_at, with_tables, HasRows}
+
+-- no generation is accepted above the promised one
+
+entry_within : (p a : ℕ) (es : List Entry) (e : Entry) (o : Option (List Entry)) → a ≤ p → (with_entry p a es e o).accepted ≤ (with_entry p a es e o).promised
+entry_within p a es e None l = l
+entry_within p a es e (Some adopted) l = l
+
+frame_within : (h : Held) (f : Frame) → May h f → h.accepted ≤ h.promised → (after h f).accepted ≤ (after h f).promised
+frame_within h (frame.Header version node cluster) may l = l
+frame_within h (frame.Promise generation) may l = omega arith
+frame_within h (frame.Accept generation) may l = let e : generation ≡ h.promised = may.0 in omega arith
+frame_within h (frame.Entry e) may l = entry_within h.promised h.accepted h.entries e h.adopting l
+frame_within h (frame.Cut n) may l = l
+
+frames_within : (h : Held) (fs : List Frame) → AllMay h fs → h.accepted ≤ h.promised → (after_all h fs).accepted ≤ (after_all h fs).promised
+frames_within h [] may l = l
+frames_within h (f ∷ fs) may l = frames_within (after h f) fs may.1 (frame_within h f may.0 l)
+
+accepted_within : (c : ℕ) (bytes : List ℕ) (p a : ℕ) (es : List Entry) → StandsFor 1 c bytes (Log p a es) → a ≤ p
+accepted_within c bytes p a es (inl begun) = let e : a ≡ 0 = begun.2 in omega arith
+accepted_within c bytes p a es (inr s) =
+    let l : (after_all at_first s.frames).accepted ≤ (after_all at_first s.frames).promised = frames_within at_first s.frames s.held.rules (omega arith) in
+    let x : (after_all at_first s.frames).promised ≡ p = s.promised in
+    let y : (after_all at_first s.frames).accepted ≡ a = s.accepted in
+    omega arith
+
+-- tables of lines with columns
+all_columns : (lines : List TableLine) → AllByRecursion (λ (t : TableLine). t.table.columns ≢ []) lines → AllByRecursion HasColumns (map (λ (t : TableLine). t.table) lines)
+all_columns [] all = tt
+all_columns (l ∷ ls) all = (all.0, all_columns ls all.1)
+
+-- the state of a log with entries, of the script's tables
+state_of : (script : Script) (before : List Entry) (rows : Rows) → HasTables (tables_of script) before → HasRows before rows → 1 ≤ length before → HasState (pages_of before) (tables_of (with_tables script before)) rows
+state_of script [] rows tables has some = absurd (omega arith)
+state_of script (e ∷ es) rows tables has some = subst (λ (ts : List TableDef). HasState (pages_of (e ∷ es)) ts rows) (sym (tables_with script (e ∷ es) tables some)) has
+
+-- the law that pages which stand for rows keep their keys
+abbrev pub KeepTheirKeys : Type 0
+KeepTheirKeys = (pages : ℕ → Image) (tables : List TableDef) (rows : Rows) → Stands pages tables rows → AllFit tables rows.tables → IsGood tables rows.tables
+
+pub sound_behind : (script : Script) (c : ℕ) (bytes : List ℕ) (p a : ℕ) (before : List Entry) (rows : Rows) (report : Report) (made : List Entry) → KeepTheirKeys → CanRun (with_tables script before) →
+    StandsForGood 1 c bytes (tables_of script) p a before → HasRows before rows → IsTold (with_tables script before) (start_at before rows) (p + 1) report made →
+    (history.rows_over (ground_of (start_at before rows)) made).next < 2 ^ 62 → count_of (pages_of made) < 2 ^ 62 → IsSound (p + 1) made
+sound_behind script c bytes p a before rows report made law can stood has told next few =
+    let whole = with_tables script before in
+    let start = start_at before rows in
+    let l : a ≤ p = accepted_within c bytes p a before stood.stands in
+    sound_again whole start (p + 1) report made told (state_of script before rows stood.good.tables has) a (omega arith) stood.good.sound (all_columns whole.tables can.columns)
+    (λ stands fit. law (pages_of made) (tables_of whole) (history.rows_over (ground_of start) made) stands fit) next few

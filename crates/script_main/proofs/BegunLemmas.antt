@@ -1,0 +1,135 @@
+-- A node that is up can begin a run behind the log that its store stood for.
+use Rattle.std.proofs.Common.{◌⊎◌, ◌≡◌, ◌≢◌, ℕ, zero, suc, ◌+◌, ◌≤◌, List, [], ◌∷◌, length, take, map, false, refl, sym, subst, ap, ◌∙◌, inl, inr, arith}
+use Rattle.std.proofs.Math.Seq.{take-length}
+use Rattle.std.specs.List.{AllByRecursion}
+use Rattle.cdb_values.specs.Rows.{Rows}
+use Rattle.cdb_values.specs.declared.tables.TableDef.{TableDef}
+use Rattle.log_rows.specs.History as history
+use Rattle.node_log.specs.Logged.{Logged, AreSpelled}
+use Rattle.node_opening.specs.Goods.{HasTables}
+use Rattle.node_opening.specs.Up.{GoesOn, IsTakenUp}
+use Rattle.phys_log.specs.Logs.{pages_of}
+use Rattle.phys_log.specs.declared.entries.Entry.{Entry}
+use Rattle.script_form.specs.CanRun.{tables_of, CanRun}
+use Rattle.script_form.specs.declared.scripts.Script.{Script}
+use Rattle.script_play.specs.RunViews.{IsOpenedBehind}
+use Rattle.sound_log.specs.Columns.{HasColumns}
+use Rattle.sound_log.specs.Sound.{IsSound}
+use Rattle.store_log.specs.Keeps.{Stored}
+use Rattle.table_state.specs.States.{HasState}
+use Rattle.script_main.proofs.BeginLemmas.{begins, opened_behind, Begins}
+use Rattle.script_main.proofs.ScriptLemmas.{can_run_unsaid, log_tables, log_taken, own_tables, tables_with}
+use Rattle.script_main.specs.Steps.{log_before, IsBegunAt, IsOpened}
+use Rattle.script_main.specs.Stores.{cluster_of, unsaid, with_tables, HasRows}
+
+-- a node that was opened over a store
+pub opened_as : (script : Script) (old : Stored) (base cluster : ℕ) (given : List TableDef) (log : Logged) → cluster ≡ cluster_of script → given ≡ tables_of script →
+    IsTakenUp 1 cluster old.synced given base log → log.node ≡ 1 → log.cluster ≡ cluster → log.failed ≡ false → old.faults ≤ log.store.faults → IsOpened script old base log
+opened_as script old base cluster given log is same taken node named running later = record {
+  taken = subst (λ (c : ℕ). IsTakenUp 1 c old.synced (tables_of script) base log) is (subst (λ (ts : List TableDef). IsTakenUp 1 cluster old.synced ts base log) same taken);
+  node = node;
+  cluster = named ∙ is;
+  running = running;
+  later = later;
+}
+
+-- what a node that goes on with a log had before
+goes_behind : (generation : ℕ) (given : List TableDef) (before log : List Entry) (base : ℕ) → base ≡ length before → GoesOn generation given before log → take base log ≡ before
+goes_behind generation given [] log base had goes = ap (λ n. take n log) had
+goes_behind generation given (e ∷ es) log base had goes = ap (λ n. take n log) had ∙ ap (λ (l : List Entry). take (length (e ∷ es)) l) goes ∙ take-length (e ∷ es)
+
+pub before_is : (script : Script) (old : Stored) (base : ℕ) (log : Logged) (o : IsOpened script old base log) → log_before base log ≡ o.taken.old_entries
+before_is script old base log o = goes_behind (o.taken.old_promise + 1) (tables_of script) o.taken.old_entries log.entries base o.taken.had o.taken.entries
+
+-- its rows
+pub begins_at : (script : Script) (old : Stored) (base : ℕ) (log : Logged) (o : IsOpened script old base log) →
+    Begins (tables_of (with_tables script o.taken.old_entries)) o.taken.old_entries
+begins_at script old base log o =
+    let t = o.taken in
+    begins t.old_accepted t.old_entries (tables_of (with_tables script t.old_entries)) t.stood.good.sound t.stood.good.bytes
+    (tables_with script t.old_entries t.stood.good.tables)
+
+pub has_rows : (script : Script) (before : List Entry) → HasTables (tables_of script) before → (b : Begins (tables_of (with_tables script before)) before) → HasRows before b.rows
+has_rows script [] has b = b.none refl
+has_rows script (e ∷ es) has b =
+    subst (λ (ts : List TableDef). HasState (pages_of (e ∷ es)) ts b.rows) (tables_with script (e ∷ es) has (omega arith)) (b.state (omega arith))
+
+-- a run begins there
+pub begun_at : (script : Script) (old : Stored) (base : ℕ) (log : Logged) (o : IsOpened script old base log) →
+    IsBegunAt (with_tables script (log_before base log)) base (log_before base log) log (begins_at script old base log o).rows
+begun_at script old base log o =
+    subst (λ (before : List Entry). IsBegunAt (with_tables script before) base before log rows) (sym (before_is script old base log o)) (record {
+      node = o.node;
+      running = o.running;
+      same = o.taken.promised ∙ sym o.taken.accepted;
+      place = o.taken.had;
+      opened = subst (λ (g : ℕ). IsOpenedBehind tables g before log.entries) (sym o.taken.accepted)
+          (opened_behind (tables_of script) tables (o.taken.old_promise + 1) before log.entries given o.taken.entries);
+      has_rows = has_rows script before o.taken.stood.good.tables b;
+      behind = b.can;
+    })
+  where
+    before : List Entry
+    before = o.taken.old_entries
+
+    tables : List TableDef
+    tables = tables_of (with_tables script before)
+
+    b : Begins tables before
+    b = begins_at script old base log o
+
+    rows : Rows
+    rows = b.rows
+
+    given : before ≡ [] → tables_of script ≡ tables
+    given none = ap (λ (es : List Entry). tables_of (with_tables script es)) (sym none)
+
+-- the tables of the log that was taken up have columns
+
+columns_of : (accepted : ℕ) (before : List Entry) → IsSound accepted before → AllByRecursion HasColumns (history.tables_of before)
+columns_of accepted before (inl none) = subst (λ (es : List Entry). AllByRecursion HasColumns (history.tables_of es)) (sym none) tt
+columns_of accepted before (inr sound) = sound.columns
+
+pub opened_columns : (script : Script) (old : Stored) (base : ℕ) (log : Logged) → IsOpened script old base log → AllByRecursion HasColumns (history.tables_of (log_before base log))
+opened_columns script old base log o =
+    subst (λ (es : List Entry). AllByRecursion HasColumns (history.tables_of es)) (sym (before_is script old base log o))
+    (columns_of o.taken.old_accepted o.taken.old_entries o.taken.stood.good.sound)
+
+-- where there was a log, it is the one that the node has
+
+some_behind : (generation : ℕ) (given : List TableDef) (before log : List Entry) (base : ℕ) → base ≡ length before → base ≢ 0 → GoesOn generation given before log → log ≡ before
+some_behind generation given [] log base had some goes = absurd (some had)
+some_behind generation given (e ∷ es) log base had some goes = goes
+
+pub log_is : (script : Script) (old : Stored) (base : ℕ) (log : Logged) (o : IsOpened script old base log) → base ≢ 0 → log.entries ≡ log_before base log
+log_is script old base log o some =
+    some_behind (o.taken.old_promise + 1) (tables_of script) o.taken.old_entries log.entries base o.taken.had some o.taken.entries
+    ∙ sym (before_is script old base log o)
+
+pub some_before : (script : Script) (old : Stored) (base : ℕ) (log : Logged) (o : IsOpened script old base log) → base ≢ 0 → 1 ≤ length (log_before base log)
+some_before script old base log o some =
+    let h : base ≡ length (log_before base log) = o.taken.had ∙ ap (λ (es : List Entry). length es) (sym (before_is script old base log o)) in
+    one_or (length (log_before base log)) (λ none. some (h ∙ none))
+  where
+    one_or : (n : ℕ) → (n ≡ 0 → ⊥) → 1 ≤ n
+    one_or zero not = absurd (not refl)
+    one_or (suc n) not = omega arith
+
+-- a script that takes the tables of the log can run
+pub takes_tables : (script whole : Script) (old : Stored) (base : ℕ) (log : Logged) → CanRun script → IsOpened script old base log → ∥ AreSpelled log.entries ∥₁ →
+    base ≢ 0 → whole ≡ record script { tables = map unsaid (history.tables_of log.entries) } → CanRun whole
+takes_tables script whole old base log can o spelled some is =
+    subst CanRun (sym is) (can_run_unsaid script (history.tables_of log.entries) can (log_taken log.entries spelled)
+    (subst (λ (es : List Entry). AllByRecursion HasColumns (history.tables_of es)) (sym (log_is script old base log o some)) (opened_columns script old base log o)))
+
+-- and it is the script with those tables
+pub takes_as : (script whole : Script) (old : Stored) (base : ℕ) (log : Logged) → IsOpened script old base log →
+    base ≢ 0 → script.tables ≡ [] → whole ≡ record script { tables = map unsaid (history.tables_of log.entries) } → whole ≡ with_tables script (log_before base log)
+takes_as script whole old base log o some none is =
+    is ∙ ap (λ (es : List Entry). record script { tables = map unsaid (history.tables_of es) }) (log_is script old base log o some)
+    ∙ log_tables script (log_before base log) none (some_before script old base log o some)
+
+-- a script with tables, or behind no log, is the script with those tables
+pub keeps_tables : (script : Script) (base : ℕ) (log : Logged) → (base ≡ 0) ⊎ (script.tables ≢ []) → script ≡ with_tables script (log_before base log)
+keeps_tables script base log (inl none) = ap (λ (es : List Entry). with_tables script es) (sym (ap (λ n. take n log.entries) none))
+keeps_tables script base log (inr some) = sym (own_tables script (log_before base log) some)

@@ -1,0 +1,339 @@
+-- What a run leaves, and what is told of it, from what its steps tell.
+use Rattle.std.proofs.Common.{◌⊎◌, ◌≡◌, ℕ, ◌+◌, ◌-◌, ◌<◌, ◌≤◌, List, [], ◌∷◌, ◌++◌, length, take, Bool, true, false, Some, slice_get, unwrap_or, refl, sym, subst, ap, ◌∙◌, inl, inr, arith}
+use Rattle.std.proofs.Math.Logic.{∥∥₁_map}
+use Rattle.cdb_outside.specs.Faults.{Rose}
+use Rattle.cdb_values.specs.Rows.{Rows}
+use Rattle.cdb_values.specs.declared.tables.TableDef.{TableDef}
+use Rattle.log_replay.specs.Answers.{schema_of}
+use Rattle.log_rows.specs.History.{rows_over_at, takes_in, IsFrom, StandsOver}
+use Rattle.node_log.specs.Logged.{Logged, Leaves, Stand, StandForOne}
+use Rattle.node_opening.specs.declared.up.WhyNotUp.{WhyNotUp}
+use Rattle.node_opening.specs.declared.up.WhyNotUp.TheVariants as why
+use Rattle.node_opening.specs.Goods.{StandsForGood}
+use Rattle.node_opening.specs.Left.{IsLeft}
+use Rattle.node_opening.specs.Why.{HasRisen, IsWhy}
+use Rattle.page_store.specs.Image.{Image}
+use Rattle.phys_log.specs.declared.entries.Entry.{Entry}
+use Rattle.report_laws.specs.History.{rows_at, taken_at}
+use Rattle.report_laws.specs.Lawful.{Lawful}
+use Rattle.report_laws.specs.Nodes.{downs}
+use Rattle.report_laws.specs.Play.{InPlayOrder}
+use Rattle.report_text.specs.declared.reports.EntryLine.{EntryLine}
+use Rattle.report_text.specs.declared.reports.Report.{Report}
+use Rattle.script_form.specs.CanRun.{tables_of, CanRun}
+use Rattle.script_form.specs.Named.{IsNamed}
+use Rattle.script_form.specs.declared.scripts.Script.{Script}
+use Rattle.script_play.specs.Basis.{from_start}
+use Rattle.script_play.specs.Down.{history_of, history_by, owner_of, with_entries, IsCaused, IsHeld, IsHeldBy, Owner}
+use Rattle.script_play.specs.EntryLines.{AreTold}
+use Rattle.script_play.specs.Played.{downs_by, IsTold}
+use Rattle.script_play.specs.Played.{IsGivenUp as IsGivenUpIn}
+use Rattle.script_play.specs.Start.{Start, base, ground_of}
+use Rattle.script_play.proofs.PlayLaws.{given_first}
+use Rattle.store_log.specs.declared.standings.Standing.TheVariants.{Log}
+use Rattle.store_log.specs.Held.{StandsFor}
+use Rattle.store_log.specs.Keeps.{Stored}
+use Rattle.script_main.proofs.AgainLemmas.{sound_behind, KeepTheirKeys}
+use Rattle.script_main.proofs.BegunLemmas.{before_is, begins_at, begun_at}
+use Rattle.table_store.specs.Stored.{Stands}
+use Rattle.script_main.proofs.KnownLemmas.{only_state}
+use Rattle.script_main.proofs.ReportedLemmas.{one_such, spelled_over, told_in_grammar}
+use Rattle.script_main.specs.Known.{IsKnown}
+use Rattle.script_main.specs.Run.{IsTextOver}
+use Rattle.script_main.specs.Runs.{IsCutOff, IsLeftBy, IsRun, Keeps}
+use Rattle.script_main.specs.Steps.{log_before, IsBegunAt, IsLeftFrom, IsLeftOf, IsNotUpText, IsOpened, IsPlaceIn, IsPlayedText, IsReportText, IsRunText}
+use Rattle.script_main.specs.Stores.{cluster_of, start_at, with_tables}
+use Rattle.script_main.specs.declared.statuses.Status.{Status}
+
+-- counts of faults
+
+rose_later : (a b c : ℕ) → Rose a b → b ≤ c → HasRisen a c
+rose_later a b c rose later = record { told = b; rose = rose; later = later }
+
+rose_from : (a b c : ℕ) → a ≤ b → Rose b c → Rose a c
+rose_from a b c l (inl r) = inl (omega arith)
+rose_from a b c l (inr r) = inr r
+
+risen_from : (a b c : ℕ) → a ≤ b → HasRisen b c → HasRisen a c
+risen_from a b c l r = record { told = r.told; rose = rose_from a b r.told l r.rose; later = r.later }
+
+-- a log that has a schema has entries, and where the last of them is dropped it is one more
+
+last_behind : (e : Entry) (es : List Entry) → (l : Entry) × (e ∷ es ≡ take (length es) (e ∷ es) ++ l ∷ [])
+last_behind e [] = (e, refl)
+last_behind e (f ∷ es) = let b = last_behind f es in (b.0, ap (λ (rest : List Entry). e ∷ rest) b.1)
+
+last_of : (es : List Entry) → 1 ≤ length es → (e : Entry) × (es ≡ take (length es - 1) es ++ e ∷ [])
+last_of [] some = absurd (omega arith)
+last_of (e ∷ es) some =
+    let b = last_behind e es in
+    let same : length es ≡ length (e ∷ es) - 1 = omega arith in
+    (b.0, subst (λ n. e ∷ es ≡ take n (e ∷ es) ++ b.0 ∷ []) same b.1)
+
+some_of : (es : List Entry) (tables : List TableDef) → schema_of es ≡ Some tables → 1 ≤ length es
+some_of [] tables is = absurd cc
+some_of (e ∷ es) tables is = omega arith
+
+some_more : (es : List Entry) → 1 ≤ length (take (length es - 1) es) → 1 ≤ length es
+some_more [] some = some
+some_more (e ∷ es) some = omega arith
+
+-- what is left behind a run
+
+-- a log of the same node, in the same generations
+record IsSameNode (before after : Logged) : Type 0 where
+  node : after.node ≡ before.node
+  cluster : after.cluster ≡ before.cluster
+  promised : after.promised ≡ before.promised
+  accepted : after.accepted ≡ before.accepted
+
+owns_as : (after before : Logged) → owner_of after ≡ owner_of before → IsSameNode before after
+owns_as after before same = record {
+  node = ap (λ (o : Owner). o.node) same;
+  cluster = ap (λ (o : Owner). o.cluster) same;
+  promised = ap (λ (o : Owner). o.promised) same;
+  accepted = ap (λ (o : Owner). o.accepted) same;
+}
+
+-- the log of a node in the generation in which it stood
+keeps_of : (old log : Logged) (bytes : List ℕ) (es : List Entry) → owner_of log ≡ owner_of old → old.node ≡ 1 → old.promised ≡ old.accepted → Stand bytes (with_entries log es) → Keeps old.cluster bytes old.accepted es
+keeps_of old log bytes es owns node stood stands =
+    let same = owns_as log old owns in
+    subst (λ (n : ℕ). StandsFor n old.cluster bytes (Log old.accepted old.accepted es)) (same.node ∙ node)
+    (subst (λ (c : ℕ). StandsFor log.node c bytes (Log old.accepted old.accepted es)) same.cluster
+    (subst (λ (p : ℕ). StandsFor log.node log.cluster bytes (Log p old.accepted es)) (same.promised ∙ stood)
+    (subst (λ (a : ℕ). StandsFor log.node log.cluster bytes (Log log.promised a es)) same.accepted stands)))
+
+or_more : (old log : Logged) (bytes : List ℕ) (e : Entry) → owner_of log ≡ owner_of old → old.node ≡ 1 → old.promised ≡ old.accepted → log.entries ≡ history_by true log.entries ++ e ∷ []
+    → StandForOne bytes (with_entries log (history_by true log.entries) ∷ log ∷ []) → Keeps old.cluster bytes old.accepted (history_by true log.entries) ⊎ Keeps old.cluster bytes old.accepted (history_by true log.entries ++ e ∷ [])
+or_more old log bytes e same node stood last (inl s) = inl (keeps_of old log bytes (history_by true log.entries) same node stood s)
+or_more old log bytes e same node stood last (inr (inl s)) =
+    inr (subst (λ (es : List Entry). Keeps old.cluster bytes old.accepted es) last (keeps_of old log bytes log.entries same node stood s))
+or_more old log bytes e same node stood last (inr (inr none)) = absurd none
+
+left_up : (old log : Logged) (new : Stored) (count : ℕ) → owner_of log ≡ owner_of old → old.node ≡ 1 → old.promised ≡ old.accepted → count ≡ 0 → ∥ Stand new.synced log ∥₁
+    → IsLeftBy count old.cluster old.store new old.accepted log.entries
+left_up old log new count same node stood none stands =
+    inl (none, ∥∥₁_map stands (λ (s : Stand new.synced log). keeps_of old log new.synced log.entries same node stood s))
+
+left_down : (old log : Logged) (new : Stored) (count : ℕ) → owner_of log ≡ owner_of old → old.node ≡ 1 → old.promised ≡ old.accepted → count ≡ 1 → Rose old.store.faults log.store.faults
+    → IsLeftOf log new → 1 ≤ length log.entries → Leaves log.store (with_entries log (history_by true log.entries) ∷ log ∷ [])
+    → IsLeftBy count old.cluster old.store new old.accepted (history_by true log.entries)
+left_down old log new count owns node stood one rose left some leaves =
+    let last = last_of log.entries some in
+    inr (
+      one,
+      rose_later old.store.faults log.store.faults new.faults rose left.later,
+      record {
+        entry = last.0;
+        stands = ∥∥₁_map (leaves new.synced left.joined) (or_more old log new.synced last.0 owns node stood last.1);
+      },
+    )
+
+-- where the node is down, its log has an entry
+abbrev pub HasFallen : Logged → Type 0
+HasFallen log = log.failed ≡ true → (1 ≤ length log.entries) × Leaves log.store (with_entries log (history_of log) ∷ log ∷ [])
+
+-- what a run leaves of its store, by whether its node is down
+left_by : (failed : Bool) (old log : Logged) (new : Stored) (count : ℕ) → log.failed ≡ failed → owner_of log ≡ owner_of old → old.node ≡ 1 → old.promised ≡ old.accepted
+    → count ≡ downs_by log.failed → IsCaused log.failed old.store.faults log.store.faults → IsLeftOf log new → HasFallen log
+    → IsLeftBy count old.cluster old.store new old.accepted (history_of log)
+left_by false old log new count is owns node stood counted caused left fallen =
+    subst (λ (b : Bool). IsLeftBy count old.cluster old.store new old.accepted (history_by b log.entries)) (sym is)
+    (left_up old log new count owns node stood (counted ∙ ap downs_by is) (left.stands is))
+left_by true old log new count is owns node stood counted caused left fallen =
+    subst (λ (b : Bool). IsLeftBy count old.cluster old.store new old.accepted (history_by b log.entries)) (sym is)
+    (left_down old log new count owns node stood (counted ∙ ap downs_by is)
+    (subst (λ (b : Bool). IsCaused b old.store.faults log.store.faults) is caused) left (fallen is).0
+    (subst (λ (b : Bool). Leaves log.store (with_entries log (history_by b log.entries) ∷ log ∷ [])) is (fallen is).1))
+
+-- the log of a run that is told has a schema, and so an entry
+pub has_fallen : (log : Logged) (tables : List TableDef) → schema_of (history_of log) ≡ Some tables
+    → (log.failed ≡ true → Leaves log.store (with_entries log (history_of log) ∷ log ∷ [])) → HasFallen log
+has_fallen log tables schema leaves down =
+    (some_more log.entries (some_of (history_by true log.entries) tables (subst (λ (b : Bool). schema_of (history_by b log.entries) ≡ Some tables) down schema)), leaves down)
+
+-- and so has that of one that is given up
+given_fallen : (generation had : ℕ) (log : Logged) → IsHeld generation had log → HasFallen log
+given_fallen generation had log held down = subst (λ (b : Bool). IsHeldBy b generation log) down held.held
+
+left_from : (before : List Entry) (old log : Logged) (new : Stored) (entries : List EntryLine) → owner_of log ≡ owner_of old → old.node ≡ 1 → old.promised ≡ old.accepted →
+    AreTold before old.accepted entries (history_of log) → IsCaused log.failed old.store.faults log.store.faults → HasFallen log → IsLeftOf log new → IsLeftFrom before old new
+left_from before old log new entries owns node stood told caused fallen left = record {
+  entries = entries;
+  history = history_of log;
+  told = told;
+  count = downs_by log.failed;
+  left = left_by log.failed old log new (downs_by log.failed) refl owns node stood refl caused left fallen;
+}
+
+-- of a run that is told
+pub told_left : (script : Script) (start : Start) (old log : Logged) (report : Report) (new : Stored) → owner_of log ≡ owner_of old → old.node ≡ 1 → old.promised ≡ old.accepted →
+    AreTold start.before old.accepted report.entries (history_of log) → schema_of (history_of log) ≡ Some (tables_of script) → IsCaused log.failed old.store.faults log.store.faults →
+    (log.failed ≡ true → Leaves log.store (with_entries log (history_of log) ∷ log ∷ [])) → IsLeftOf log new → IsLeftFrom start.before old new
+told_left script start old log report new owns node stood told schema caused leaves left =
+    left_from start.before old log new report.entries owns node stood told caused (has_fallen log (tables_of script) schema leaves) left
+
+-- and of one that is given up
+pub given_left : (start : Start) (old log : Logged) (new : Stored) → owner_of log ≡ owner_of old → old.node ≡ 1 → old.promised ≡ old.accepted → IsGivenUpIn start old log → IsLeftOf log new → IsLeftFrom start.before old new
+given_left start old log new owns node stood given left =
+    left_from start.before old log new given.entries owns node stood given.told given.held.caused (given_fallen old.accepted old.store.faults log given.held) left
+
+-- what is told of a run
+pub played_text : (script : Script) (start : Start) (opened log : Logged) (report : Report) (new : Stored) (s : Status) (text : List ℕ) (b : ℕ) → b ≡ base start →
+    owner_of log ≡ owner_of opened → opened.node ≡ 1 → opened.promised ≡ opened.accepted →
+    Lawful (from_start script start) report → InPlayOrder (from_start script start) report → AreTold start.before opened.accepted report.entries (history_of log) →
+    schema_of (history_of log) ≡ Some (tables_of script) →
+    ((k : ℕ) → b < k → k ≤ length (history_of log) → unwrap_or (slice_get (takes_in (history_of log)) (k - 1)) [] ≡ taken_at (from_start script start) report.entries k) →
+    ((k : ℕ) → IsFrom b k → k ≤ length (history_of log) → rows_over_at (ground_of start) (history_of log) k ≡ rows_at (from_start script start) report.entries k) →
+    StandsOver (ground_of start) (tables_of script) (history_of log) →
+    downs report.lines ≡ downs_by log.failed → IsCaused log.failed opened.store.faults log.store.faults →
+    (log.failed ≡ true → Leaves log.store (with_entries log (history_of log) ∷ log ∷ [])) →
+    IsLeftOf log new → IsReportText report s text → IsPlayedText script start opened new s text
+played_text script start opened log report new s text b at same node stood lawful in_order entries schema taken rows stands counted caused leaves left is_text = record {
+  report = report;
+  history = history_of log;
+  told = record {
+    lawful = lawful;
+    in_order = in_order;
+    entries = entries;
+    schema = schema;
+    taken = λ k first within. taken k (let e = at in omega (arith, e, first)) within;
+    rows = λ k from within. rows k (from.0, let e = at in let f = from.1 in omega (arith, e, f)) within;
+    stands = stands;
+  };
+  is_text = is_text;
+  left = left_by log.failed opened log new (downs report.lines) refl same node stood counted caused left (has_fallen log (tables_of script) schema leaves);
+}
+
+-- a run over a store
+
+left_older : (count cluster : ℕ) (old mid new : Stored) (generation : ℕ) (history : List Entry) → old.faults ≤ mid.faults → IsLeftBy count cluster mid new generation history → IsLeftBy count cluster old new generation history
+left_older count cluster old mid new generation history l (inl up) = inl up
+left_older count cluster old mid new generation history l (inr down) = inr (down.0, risen_from old.faults mid.faults new.faults l down.1, down.2)
+
+pub is_run : KeepTheirKeys → (script : Script) (old new : Stored) (base : ℕ) (log : Logged) (before : List Entry) (s : Status) (text : List ℕ) → CanRun (with_tables script before) → IsNamed script →
+    (o : IsOpened script old base log) → before ≡ o.taken.old_entries → (rows : Rows) → IsBegunAt (with_tables script before) base before log rows →
+    IsPlayedText (with_tables script before) (start_at before rows) log new s text → IsRun script old new text
+is_run law script old new base log before s text can names o same rows begun played =
+    let whole = with_tables script before in
+    let basis = from_start whole (start_at before rows) in
+    let p = played.told in
+    record {
+      promised = o.taken.old_promise;
+      accepted = o.taken.old_accepted;
+      before = before;
+      stood = subst (λ (es : List Entry). StandsForGood 1 (cluster_of script) old.synced (tables_of script) o.taken.old_promise o.taken.old_accepted es) (sym same) o.taken.stood;
+      rows = rows;
+      has_rows = begun.has_rows;
+      report = played.report;
+      history = played.history;
+      told = subst (λ (g : ℕ). IsTold whole (start_at before rows) g played.report played.history) o.taken.accepted p;
+      one = one_such whole (start_at before rows) played.report p.lawful p.in_order;
+      is_report = λ called. told_in_grammar basis played.report (spelled_over script before rows can names begun.behind called) p.lawful p.in_order played.is_text.fits;
+      is_text = played.is_text.is_text;
+      left = left_older (downs played.report.lines) (cluster_of script) old log.store new (o.taken.old_promise + 1) played.history o.later
+          (subst (λ (g : ℕ). IsLeftBy (downs played.report.lines) (cluster_of script) log.store new g played.history) o.taken.accepted
+          (subst (λ (c : ℕ). IsLeftBy (downs played.report.lines) c log.store new log.accepted played.history) o.cluster played.left));
+      sound = λ next few. sound_behind script (cluster_of script) old.synced o.taken.old_promise o.taken.old_accepted before rows played.report played.history law can
+          (subst (λ (es : List Entry). StandsForGood 1 (cluster_of script) old.synced (tables_of script) o.taken.old_promise o.taken.old_accepted es) (sym same) o.taken.stood) begun.has_rows
+          (subst (λ (g : ℕ). IsTold whole (start_at before rows) g played.report played.history) o.taken.accepted p) next few;
+    }
+
+-- the same of a script that is the one with the tables of the log
+pub whole_begins : (script whole : Script) (old : Stored) (base : ℕ) (log : Logged) → whole ≡ with_tables script (log_before base log) → IsOpened script old base log →
+    (rows : Rows) × IsBegunAt whole base (log_before base log) log rows
+whole_begins script whole old base log is o =
+    ((begins_at script old base log o).rows, subst (λ (w : Script). IsBegunAt w base (log_before base log) log (begins_at script old base log o).rows) (sym is) (begun_at script old base log o))
+
+pub whole_runs : KeepTheirKeys → (script whole : Script) (old new : Stored) (base : ℕ) (log : Logged) (s : Status) (text : List ℕ) → whole ≡ with_tables script (log_before base log) → CanRun whole → IsNamed script →
+    IsOpened script old base log →
+    ((rows : Rows) → IsBegunAt whole base (log_before base log) log rows → IsPlayedText whole (start_at (log_before base log) rows) log new s text) → IsRunText script old new s text
+whole_runs law script whole old new base log s text is can names o played =
+    let b = whole_begins script whole old base log is o in
+    let p = played b.0 b.1 in
+    record {
+      status_is = p.is_text.status_is;
+      run = is_run law script old new base log (log_before base log) s text (subst CanRun is can) names o (before_is script old base log o) b.0
+          (subst (λ (w : Script). IsBegunAt w base (log_before base log) log b.0) is b.1)
+          (subst (λ (w : Script). IsPlayedText w (start_at (log_before base log) b.0) log new s text) is p);
+    }
+
+-- the rows of a log that was opened are known
+pub opened_known : (script : Script) (old : Stored) (base : ℕ) (log : Logged) → IsOpened script old base log →
+    ((pages : ℕ → Image) (tables : List TableDef) (rows others : Rows) → Stands pages tables rows → Stands pages tables others → rows ≡ others) → IsKnown base log
+opened_known script old base log o one =
+    ∣ record { rows = (begins_at script old base log o).rows; has = (begun_at script old base log o).has_rows; one = only_state (log_before base log) one } ∣₁
+
+-- what is told of a node that is not up
+pub not_up_text : (script : Script) (w : WhyNotUp) (old new : Stored) (s : Status) (text : List ℕ) → IsWhy w 1 (cluster_of script) old.synced (tables_of script) old.faults new.faults →
+    IsLeft w 1 (cluster_of script) old.synced new.synced (tables_of script) → IsNotUpText script w s text → IsTextOver script old new s text
+not_up_text script (why.StoreFault size) old new s text is left told =
+    subst (λ (t : Status). IsTextOver script old new t text) (sym told.0) (inr (record { told = told.1; size = size; fault = is; left = left }))
+not_up_text script (why.Refused at) old new s text is left told =
+    subst (λ (t : Status). IsTextOver script old new t text) (sym told.0) (refl, is, left, told.1)
+not_up_text script why.Unsound old new s text is left told =
+    subst (λ (t : Status). IsTextOver script old new t text) (sym told.0) (refl, is, left, told.1)
+not_up_text script (why.Differs place) old new s text is left told =
+    subst (λ (t : Status). IsTextOver script old new t text) (sym told.status_is)
+    (record { place = place; other = is; said = told.said; at = told.at; line_is = refl }, refl, left, told.text_is)
+not_up_text script why.NoMemory old new s text is left told = absurd told
+
+-- the place of a table that differs is that of one of the script's
+pub place_in : (script : Script) (w : WhyNotUp) (old : List ℕ) (before now : ℕ) → IsWhy w 1 (cluster_of script) old (tables_of script) before now → IsPlaceIn w (tables_of script)
+place_in script (why.StoreFault size) old before now is = tt
+place_in script (why.Refused at) old before now is = tt
+place_in script why.Unsound old before now is = tt
+place_in script (why.Differs place) old before now is = is.other.difference.within
+place_in script why.NoMemory old before now is = tt
+
+-- why a node is not up, of the script's cluster and tables
+pub why_of : (script : Script) (w : WhyNotUp) (cluster : ℕ) (given : List TableDef) (old : List ℕ) (before now : ℕ) → cluster ≡ cluster_of script → given ≡ tables_of script →
+    IsWhy w 1 cluster old given before now → IsWhy w 1 (cluster_of script) old (tables_of script) before now
+why_of script w cluster given old before now is same why =
+    subst (λ (c : ℕ). IsWhy w 1 c old (tables_of script) before now) is (subst (λ (ts : List TableDef). IsWhy w 1 cluster old ts before now) same why)
+
+pub left_as : (script : Script) (w : WhyNotUp) (cluster : ℕ) (given : List TableDef) (old new : List ℕ) → cluster ≡ cluster_of script → given ≡ tables_of script →
+    IsLeft w 1 cluster old new given → IsLeft w 1 (cluster_of script) old new (tables_of script)
+left_as script w cluster given old new is same left =
+    subst (λ (c : ℕ). IsLeft w 1 c old new (tables_of script)) is (subst (λ (ts : List TableDef). IsLeft w 1 cluster old new ts) same left)
+
+-- the text of a run is one of a script over its store
+pub run_text : (script : Script) (old new : Stored) (s : Status) (text : List ℕ) → IsRunText script old new s text → IsTextOver script old new s text
+run_text script old new s text r = subst (λ (t : Status). IsTextOver script old new t text) (sym r.status_is) (inl r.run)
+
+-- what is left of a store, whatever is answered
+
+pub same_cut : (script : Script) (old new : Stored) → new ≡ old → IsCutOff script old new
+same_cut script old new same = subst (λ (s : Stored). IsCutOff script old s) (sym same) (inl (λ s stands. stands))
+
+pub left_cut : (script : Script) (w : WhyNotUp) (old new : Stored) → IsLeft w 1 (cluster_of script) old.synced new.synced (tables_of script) → IsCutOff script old new
+left_cut script (why.StoreFault size) old new (inl alike) = inl alike
+left_cut script (why.StoreFault size) old new (inr partway) = inr (inl partway)
+left_cut script (why.Refused at) old new alike = inl alike
+left_cut script why.Unsound old new alike = inl alike
+left_cut script (why.Differs place) old new alike = inl alike
+left_cut script why.NoMemory old new (inl alike) = inl alike
+left_cut script why.NoMemory old new (inr partway) = inr (inl partway)
+
+pub run_cut : (script : Script) (old new : Stored) (base : ℕ) (log : Logged) → IsOpened script old base log → IsLeftFrom (log_before base log) log new → IsCutOff script old new
+run_cut script old new base log o l = inr (inr (record {
+  promised = o.taken.old_promise;
+  accepted = o.taken.old_accepted;
+  before = log_before base log;
+  stood = subst (λ (es : List Entry). StandsForGood 1 (cluster_of script) old.synced (tables_of script) o.taken.old_promise o.taken.old_accepted es) (sym (before_is script old base log o)) o.taken.stood;
+  entries = l.entries;
+  history = l.history;
+  told = subst (λ (g : ℕ). AreTold (log_before base log) g l.entries l.history) o.taken.accepted l.told;
+  count = l.count;
+  left = left_older l.count (cluster_of script) old log.store new (o.taken.old_promise + 1) l.history o.later
+      (subst (λ (g : ℕ). IsLeftBy l.count (cluster_of script) log.store new g l.history) o.taken.accepted
+      (subst (λ (c : ℕ). IsLeftBy l.count c log.store new log.accepted l.history) o.cluster l.left));
+}))
+
+-- a run is given up before it begins
+pub opened_left : (script : Script) (old : Stored) (base : ℕ) (log : Logged) (new : Stored) → IsOpened script old base log → IsLeftOf log new → IsLeftFrom (log_before base log) log new
+opened_left script old base log new o left =
+    let b = begun_at script old base log o in
+    let start = start_at (log_before base log) (begins_at script old base log o).rows in
+    given_left start log log new refl o.node b.same (given_first (tables_of (with_tables script (log_before base log))) start log o.running b.opened) left

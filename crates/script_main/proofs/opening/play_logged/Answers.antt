@@ -1,0 +1,54 @@
+use Rattle.std.proofs.Common.{◌∙◌, ◌≡◌, ap, map, subst, sym, List}
+use Rattle.std.proofs.lemmas.Result.{IfOk-weaker}
+use Rattle.cdb_values.specs.Rows.{Rows}
+use Rattle.log_rows.specs.History as history
+use Rattle.phys_log.specs.declared.entries.Entry.{Entry}
+use Rattle.store_log.specs.Keeps.{Stored}
+use Rattle.script_main.proofs.BegunLemmas.{takes_as, takes_tables}
+use Rattle.script_main.proofs.RanLemmas.{opened_left, whole_begins, whole_runs}
+use Rattle.script_main.specs.Steps.{log_before, IsBegunAt, IsLeftFrom, IsOpened, IsPlayedText, IsRunText}
+use Rattle.script_main.specs.Stores.{kept_by, start_at, unsaid}
+use Rattle.script_main.proofs.opening.play_logged.Goals as goal
+
+pub play_begun-ended-requires-clause-runs : goal.play_begun-ended-requires-clause-runs
+play_begun-ended-requires-clause-runs g c =
+    let b = c.args.begun in
+    let script = c.args.script.now in
+    let o = c.requires.opened in
+    let is : c.in-Ok.whole ≡ record script { tables = map unsaid (history.tables_of b.log.entries) } =
+    c.in-Ok.ensures ∙ ap (λ (es : List Entry). record script { tables = map unsaid (history.tables_of es) }) c.log.ensures.entries in
+    takes_tables script c.in-Ok.whole o.0 b.base b.log c.requires.runs o.1 (c.log.ensures.spelled o.1.running) c.requires.some is
+
+pub play_begun-ended-requires-clause-begun : goal.play_begun-ended-requires-clause-begun
+play_begun-ended-requires-clause-begun g c =
+    let b = c.args.begun in
+    let script = c.args.script.now in
+    let o = c.requires.opened in
+    let is : c.in-Ok.whole ≡ record script { tables = map unsaid (history.tables_of b.log.entries) } =
+    c.in-Ok.ensures ∙ ap (λ (es : List Entry). record script { tables = map unsaid (history.tables_of es) }) c.log.ensures.entries in
+    whole_begins script c.in-Ok.whole o.0 b.base b.log (takes_as script c.in-Ok.whole o.0 b.base b.log o.1 c.requires.some c.requires.none is) o.1
+
+pub returns-in-Ok-clause-text : goal.returns-in-Ok-clause-text
+returns-in-Ok-clause-text g c =
+    let b = c.args.begun in
+    let script = c.args.script.now in
+    let before = log_before b.base b.log in
+    let o = c.requires.opened in
+    let new = kept_by g.D.LogStore.synced g.D.LogStore.pending g.D.LogStore.faults c.play_begun-ended.result.store in
+    let is : c.in-Ok.whole ≡ record script { tables = map unsaid (history.tables_of b.log.entries) } =
+    c.in-Ok.ensures ∙ ap (λ (es : List Entry). record script { tables = map unsaid (history.tables_of es) }) c.log.ensures.entries in
+    IfOk-weaker c.play_begun-ended.result.answer
+    (λ a. (rows : Rows) → IsBegunAt c.in-Ok.whole b.base before b.log rows → IsPlayedText c.in-Ok.whole (start_at before rows) b.log new a.status a.text)
+    (λ a. (old : Stored) → IsOpened script old b.base b.log → IsRunText script old new a.status a.text)
+    (λ a told old opened. whole_runs c.pages_that_stand_keep_their_keys.ensures.good script c.in-Ok.whole old new b.base b.log a.status a.text
+    (takes_as script c.in-Ok.whole o.0 b.base b.log o.1 c.requires.some c.requires.none is)
+    (takes_tables script c.in-Ok.whole o.0 b.base b.log c.requires.runs o.1 (c.log.ensures.spelled o.1.running) c.requires.some is) c.requires.names opened told)
+    c.play_begun-ended.ensures.text
+
+pub returns-in-Err-clause-left : goal.returns-in-Err-clause-left
+returns-in-Err-clause-left g c =
+    let b = c.args.begun in
+    let o = c.requires.opened in
+    let back = c.give_back.ensures in
+    subst (λ store. IsLeftFrom (log_before b.base b.log) b.log (kept_by g.D.LogStore.synced g.D.LogStore.pending g.D.LogStore.faults store)) (sym c.no_memory.ensures.store)
+    (opened_left c.args.script.now o.0 b.base b.log (kept_by g.D.LogStore.synced g.D.LogStore.pending g.D.LogStore.faults c.give_back.result) o.1 (record { joined = back.joined; later = back.later; stands = back.stands }))

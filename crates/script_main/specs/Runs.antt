@@ -1,0 +1,116 @@
+-- What is told and kept by a run over the store of its node.
+--
+-- The run begins behind the log for which the store stands, at the rows for which that log's pages stand, in the generation
+-- above the promised one. Where the store fails at the opening, the node is down from there on, and nothing is read.
+use Rattle.std.specs.Prelude.{◌≡◌, ◌≢◌, ◌⊎◌, ℕ, ◌+◌, ◌<◌, ◌^◌, List, [], ◌∷◌, ◌++◌}
+use Rattle.std.specs.List.{AllByRecursion}
+use Rattle.cdb_values.specs.Rows.{Rows}
+use Rattle.node_opening.specs.declared.up.WhyNotUp.TheVariants as why
+use Rattle.node_opening.specs.Goods.{StandsForGood}
+use Rattle.node_opening.specs.Left.{IsLeft, StopsPartway}
+use Rattle.node_opening.specs.Why.{HasRisen, IsFault}
+use Rattle.log_rows.specs.History.{rows_over}
+use Rattle.page_workspace.specs.Spare.{count_of}
+use Rattle.phys_log.specs.Logs.{pages_of}
+use Rattle.phys_log.specs.declared.entries.Entry.{Entry}
+use Rattle.report_laws.specs.History.{Basis}
+use Rattle.report_laws.specs.Lawful.{Lawful}
+use Rattle.report_laws.specs.Nodes.{downs}
+use Rattle.report_laws.specs.One.{IsUncut}
+use Rattle.report_laws.specs.Play.{InPlayOrder}
+use Rattle.report_laws.specs.Spelled.{IsNamedTable}
+use Rattle.report_text.specs.Grammar.{IsReport}
+use Rattle.report_text.specs.Text.{report_text}
+use Rattle.report_text.specs.declared.reports.EntryLine.{EntryLine}
+use Rattle.report_text.specs.declared.reports.Report.{Report}
+use Rattle.script_form.specs.CanRun.{tables_of}
+use Rattle.script_form.specs.declared.scripts.Script.{Script}
+use Rattle.script_play.specs.Basis.{from_nothing, from_start}
+use Rattle.script_play.specs.EntryLines.{AreTold}
+use Rattle.script_play.specs.Played.{IsTold}
+use Rattle.script_play.specs.Start.{ground_of}
+use Rattle.sound_log.specs.Sound.{IsSound}
+use Rattle.store_log.specs.declared.standings.Standing.TheVariants.{Log}
+use Rattle.store_log.specs.Held.{StandsFor}
+use Rattle.store_log.specs.Keeps.{Stored}
+use Rattle.script_main.specs.Stores.{cluster_of, start_at, with_tables, HasRows, IsAlike}
+
+-- where no transaction is cut short and no node goes down, there is no other such report
+abbrev pub IsOne : Basis → Report → Type 0
+IsOne basis report =
+    (other : Report) → IsUncut report → Lawful basis other → InPlayOrder basis other → IsUncut other → report ≡ other
+
+-- the script says its tables, or those that it takes from the log are called by names
+abbrev pub AreCalled : Script → Script → Type 0
+AreCalled script whole = (script.tables ≢ []) ⊎ AllByRecursion IsNamedTable (tables_of whole)
+
+-- the bytes of a store stand for the history, promised and accepted in a generation
+abbrev pub Keeps : ℕ → List ℕ → ℕ → List Entry → Type 0
+Keeps cluster bytes generation history = StandsFor 1 cluster bytes (Log generation generation history)
+
+-- what is left where the node went down: the history, or one entry more
+pub record KeepsOrMore (cluster : ℕ) (bytes : List ℕ) (generation : ℕ) (history : List Entry) : Type 0 where
+  pub entry : Entry
+  pub stands : ∥ Keeps cluster bytes generation history ⊎ Keeps cluster bytes generation (history ++ entry ∷ []) ∥₁
+
+-- what is left of the store, by how many down lines are told: none, or one, where its count of faults rose
+abbrev pub IsLeftBy : ℕ → ℕ → Stored → Stored → ℕ → List Entry → Type 0
+IsLeftBy count cluster old new generation history =
+    ((count ≡ 0) × ∥ Keeps cluster new.synced generation history ∥₁)
+    ⊎ ((count ≡ 1) × HasRisen old.faults new.faults × KeepsOrMore cluster new.synced generation history)
+
+-- the text of a report of a run behind the log for which the store stood, which is sound and has the script's tables; and what
+-- is left of the store. The history is sound again, as long as the next genid and the number of pages are below 2^62.
+pub record IsRun (script : Script) (old new : Stored) (text : List ℕ) : Type 0 where
+  pub promised : ℕ
+  pub accepted : ℕ
+  pub before : List Entry
+  pub stood : StandsForGood 1 (cluster_of script) old.synced (tables_of script) promised accepted before
+  pub rows : Rows
+  pub has_rows : HasRows before rows
+  pub report : Report
+  pub history : List Entry
+  pub told : IsTold (with_tables script before) (start_at before rows) (promised + 1) report history
+  pub one : IsOne (from_start (with_tables script before) (start_at before rows)) report
+  pub is_report : AreCalled script (with_tables script before) → IsReport report
+  pub is_text : text ≡ report_text report
+  pub left : IsLeftBy (downs report.lines) (cluster_of script) old new (promised + 1) history
+  pub sound : (rows_over (ground_of (start_at before rows)) history).next < 2 ^ 62 → count_of (pages_of history) < 2 ^ 62 → IsSound (promised + 1) history
+
+-- the text of a report that tells of no entry, and that the node went down
+pub record IsDownText (script : Script) (text : List ℕ) : Type 0 where
+  pub report : Report
+  pub lawful : Lawful (from_nothing script) report
+  pub in_order : InPlayOrder (from_nothing script) report
+  pub down : downs report.lines ≡ 1
+  pub none : report.entries ≡ []
+  pub is_report : IsReport report
+  pub is_text : text ≡ report_text report
+
+-- the same where the store failed at the opening, once a log of that size was read, or none; and what is left of the store
+pub record IsDownFirst (script : Script) (old new : Stored) (text : List ℕ) : Type 0 where
+  pub told : IsDownText script text
+  pub size : ℕ
+  pub fault : IsFault 1 (cluster_of script) old.synced (tables_of script) size old.faults new.faults
+  pub left : IsLeft (why.StoreFault size) 1 (cluster_of script) old.synced new.synced (tables_of script)
+
+-- what is left of the store where the run was given up behind its opening, for want of memory: the log for which it stood, with
+-- entries of the run
+pub record IsGivenUp (script : Script) (old new : Stored) : Type 0 where
+  pub promised : ℕ
+  pub accepted : ℕ
+  pub before : List Entry
+  pub stood : StandsForGood 1 (cluster_of script) old.synced (tables_of script) promised accepted before
+  pub entries : List EntryLine
+  pub history : List Entry
+  pub told : AreTold before (promised + 1) entries history
+  pub count : ℕ
+  pub left : IsLeftBy count (cluster_of script) old new (promised + 1) history
+
+-- what is left of the store whatever is answered: what it stood for; that with some of what the opening appends; or what a run
+-- behind the opening leaves
+abbrev pub IsCutOff : Script → Stored → Stored → Type 0
+IsCutOff script old new =
+    IsAlike script old new
+    ⊎ (StopsPartway 1 (cluster_of script) old.synced new.synced (tables_of script)
+    ⊎ IsGivenUp script old new)

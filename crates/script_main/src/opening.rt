@@ -1,0 +1,344 @@
+//! A script is played over the store of its node.
+ghost use Rattle.std.specs.Prelude.{◌≡◌, ◌≢◌, ◌⊎◌, ◌++◌, ◌∷◌, [], false, map, IfOk, OnOk, IsErr};
+ghost use Rattle.cdb_values.specs.Rows.{Rows};
+ghost use Rattle.log_rows.specs.History.{tables_of as tables_of_log};
+ghost use Rattle.script_form.specs.CanRun.{tables_of, CanRun};
+ghost use Rattle.script_form.specs.Named.{IsNamed};
+ghost use Rattle.report_laws.specs.Lawful.{Lawful};
+ghost use Rattle.report_laws.specs.Nodes.{downs};
+ghost use Rattle.report_laws.specs.Play.{InPlayOrder};
+ghost use Rattle.script_play.specs.Basis.{from_nothing};
+ghost use Rattle.script_form.specs.declared.scripts.Script.{Script};
+ghost use Rattle.script_play.specs.Start.{Start};
+ghost use Rattle.store_log.specs.Keeps.{Stored};
+ghost use Rattle.script_main.specs.Run.{IsTextOver};
+ghost use Rattle.script_main.specs.Runs.{IsCutOff, IsDownText};
+ghost use Rattle.script_main.specs.Steps.{log_before, IsBegunAt, IsLeftFrom, IsLeftOf, IsNotUpText, IsOpened, IsPlaceIn, IsPlayedText, IsReportText, IsRunText};
+ghost use Rattle.script_main.specs.Stores.{cluster_of, kept_by, start_at, unsaid, HasId};
+
+use super::answers::{Answer, differs, let_go, reported, store_refused, unsound};
+use super::begun::Begun;
+use super::statuses::Status;
+use cdb_outside::LogStore;
+use cdb_values::{List, Schema, TableDef};
+use cluster_id::cluster_id;
+use log_replay::PagedLog;
+use node_log::NodeLog;
+use node_opening::{NotUp, UpNode, WhyNotUp, open_node};
+use report_text::{Report, print};
+use script_form::{Script, TableLine};
+use script_play::{Played, play, play_down};
+use std::alloc::{AllocError, Global};
+use table_store::{pages_stand_for_one_state, pages_that_stand_keep_their_keys};
+
+/// The number of the one node.
+const NODE: u8 = 1;
+
+/// What a script over a store is answered, and the store behind it.
+#[derive(Drop)]
+pub(crate) struct Ended<D: LogStore> {
+    pub store: D,
+    pub answer: Result<Answer, AllocError>,
+}
+
+/// The answer to a script over the store of its node.
+pub(crate) fn play_over<D: LogStore + Drop>(alloc: Global, script: &Script, store: D) -> Ended<D>
+    requires runs { CanRun script.now }
+    requires names { IsNamed script.now }
+    requires settled { D.pending store ≡ [] }
+    ensures text { IfOk result.answer (λ a. IsTextOver script.now (kept_by D.synced D.pending D.faults store) (kept_by D.synced D.pending D.faults result.store) a.status a.text) }
+    ensures id { IfOk result.answer (λ _. HasId script.now) }
+    ensures left { IsCutOff script.now (kept_by D.synced D.pending D.faults store) (kept_by D.synced D.pending D.faults result.store) }
+    ensures settled { D.pending result.store ≡ [] }
+{
+    let Ok(schema) = schema_of(alloc, script.tables.as_slice()) else {
+        return no_memory(store);
+    };
+    let Ok(cluster) = cluster_id(alloc, &script.cluster, script.nodes) else {
+        return no_memory(store);
+    };
+    let ended = open_and_play(alloc, script, store, cluster, &schema);
+    let_go(schema);
+    ended
+}
+
+/// The same, by the id of the script's cluster and its tables.
+fn open_and_play<D: LogStore + Drop>(
+    alloc: Global,
+    script: &Script,
+    store: D,
+    cluster: u128,
+    schema: &Schema,
+) -> Ended<D>
+    requires runs { CanRun script.now }
+    requires names { IsNamed script.now }
+    requires settled { D.pending store ≡ [] }
+    requires cluster { cluster ≡ cluster_of script.now }
+    requires schema { schema.now ≡ tables_of script.now }
+    ensures text { IfOk result.answer (λ a. IsTextOver script.now (kept_by D.synced D.pending D.faults store) (kept_by D.synced D.pending D.faults result.store) a.status a.text) }
+    ensures left { IsCutOff script.now (kept_by D.synced D.pending D.faults store) (kept_by D.synced D.pending D.faults result.store) }
+    ensures settled { D.pending result.store ≡ [] }
+{
+    match open_node(alloc, store, NODE, cluster, schema) {
+        Ok(up) => play_up(alloc, script, up),
+        Err(down) => refuse(alloc, script, down),
+    }
+}
+
+/// Want of memory, with the store as it is.
+fn no_memory<D: LogStore>(store: D) -> Ended<D>
+    ensures answer { IsErr result.answer }
+    ensures store { result.store ≡ store }
+{
+    Ended {
+        store,
+        answer: Err(AllocError),
+    }
+}
+
+/// The tables of a script, in order.
+fn schema_of(alloc: Global, tables: &[TableLine]) -> Result<Schema, AllocError>
+    ensures { IfOk result (λ schema. schema ≡ map (λ t. t.table) tables.now) }
+{
+    let mut schema = Schema::new(alloc);
+    let mut rest = tables;
+    'tables: while let Some((line, after)) = rest.split_first() {
+        add_copy(&mut schema, &line.table)?;
+        rest = after;
+    }
+    Ok(schema)
+}
+
+/// Adds a copy of a table. A script that is read has lawful tables, so that memory is all that can be wanting here.
+fn add_copy(schema: &mut Schema, table: &TableDef) -> Result<(), AllocError>
+    ensures { OnOk result (schema.new ≡ schema.old ++ table.now ∷ []) }
+{
+    match schema.add(table.clone()?) {
+        Ok(()) => Ok(()),
+        Err(_) => Err(AllocError),
+    }
+}
+
+/// The answer to a script whose node is not up, and its store.
+fn refuse<D: LogStore>(alloc: Global, script: &Script, down: NotUp<D>) -> Ended<D>
+    requires runs { CanRun script.now }
+    requires names { IsNamed script.now }
+    requires place { IsPlaceIn down.why (tables_of script.now) }
+    ensures answer { IfOk result.answer (λ a. IsNotUpText script.now down.why a.status a.text) }
+    ensures store { result.store ≡ down.store }
+{
+    Ended {
+        answer: not_up(alloc, script, down.why),
+        store: down.store,
+    }
+}
+
+/// The answer to a script whose node is not up.
+fn not_up(alloc: Global, script: &Script, why: WhyNotUp) -> Result<Answer, AllocError>
+    requires runs { CanRun script.now }
+    requires names { IsNamed script.now }
+    requires place { IsPlaceIn why (tables_of script.now) }
+    ensures { IfOk result (λ a. IsNotUpText script.now why a.status a.text) }
+{
+    match why {
+        WhyNotUp::StoreFault { .. } => down(alloc, script),
+        WhyNotUp::Refused { at } => store_refused(alloc, NODE, at),
+        WhyNotUp::Unsound => unsound(alloc, NODE),
+        WhyNotUp::Differs { table } => differs(alloc, script.tables.as_slice(), table),
+        WhyNotUp::NoMemory => Err(AllocError),
+    }
+}
+
+/// The answer to a script whose node is down from the opening on.
+fn down(alloc: Global, script: &Script) -> Result<Answer, AllocError>
+    requires runs { CanRun script.now }
+    requires names { IsNamed script.now }
+    ensures { IfOk result (λ a. (a.status ≡ Status.Done) × IsDownText script.now a.text) }
+{
+    let report = play_down(alloc, script, 0)?;
+    let answer = down_told(alloc, script, &report);
+    let_go(report);
+    answer
+}
+
+/// The answer to a script by the report of a node that was down.
+#[tactic(auto, using(crate::proofs::ReportedLemmas::down_text))]
+fn down_told(alloc: Global, script: &Script, report: &Report) -> Result<Answer, AllocError>
+    requires runs { CanRun script.now }
+    requires names { IsNamed script.now }
+    requires lawful { Lawful (from_nothing script.now) report.now }
+    requires in_order { InPlayOrder (from_nothing script.now) report.now }
+    requires down { downs report.now.lines ≡ 1 }
+    requires none { report.now.entries ≡ [] }
+    ensures { IfOk result (λ a. (a.status ≡ Status.Done) × IsDownText script.now a.text) }
+{
+    let text = print(alloc, report)?;
+    Ok(Answer {
+        status: Status::Done,
+        text,
+    })
+}
+
+/// The answer to a script whose node is up. A script without tables has those of the log.
+fn play_up<D: LogStore + Drop>(alloc: Global, script: &Script, up: UpNode<D>) -> Ended<D>
+    requires runs { CanRun script.now }
+    requires names { IsNamed script.now }
+    requires opened { (old : Stored) × IsOpened script.now old up.base up.log }
+    ensures text { IfOk result.answer (λ a. (old : Stored) → IsOpened script.now old up.base up.log
+        → IsRunText script.now old (kept_by D.synced D.pending D.faults result.store) a.status a.text) }
+    ensures left { IsLeftFrom (log_before up.base up.log) up.log (kept_by D.synced D.pending D.faults result.store) }
+    ensures settled { D.pending result.store ≡ [] }
+{
+    let begun = begin(up);
+    if begun.base == 0 || !script.tables.as_slice().is_empty() {
+        play_own(alloc, script, begun)
+    } else {
+        play_logged(alloc, script, begun)
+    }
+}
+
+/// The log of a node that is up, which stands for some rows.
+fn begin<D: LogStore>(up: UpNode<D>) -> Begun<D>
+    requires opened { (script : Script) × (old : Stored) × IsOpened script old up.base up.log }
+    ensures base { result.base ≡ up.base }
+    ensures log { result.log ≡ up.log }
+{
+    pages_stand_for_one_state();
+    Begun {
+        base: up.base,
+        log: up.log,
+    }
+}
+
+/// The answer to a script with tables of its own, or behind a log without entries.
+fn play_own<D: LogStore + Drop>(alloc: Global, script: &Script, begun: Begun<D>) -> Ended<D>
+    requires runs { CanRun script.now }
+    requires names { IsNamed script.now }
+    requires opened { (old : Stored) × IsOpened script.now old begun.base begun.log }
+    requires own { (begun.base ≡ 0) ⊎ (script.now.tables ≢ []) }
+    ensures text { IfOk result.answer (λ a. (old : Stored) → IsOpened script.now old begun.base begun.log
+        → IsRunText script.now old (kept_by D.synced D.pending D.faults result.store) a.status a.text) }
+    ensures left { IsLeftFrom (log_before begun.base begun.log) begun.log (kept_by D.synced D.pending D.faults result.store) }
+    ensures settled { D.pending result.store ≡ [] }
+{
+    pages_that_stand_keep_their_keys();
+    play_begun(alloc, script, begun)
+}
+
+/// The answer to a script without tables behind a log that has entries: it has the tables of that log.
+fn play_logged<D: LogStore + Drop>(alloc: Global, script: &Script, begun: Begun<D>) -> Ended<D>
+    requires runs { CanRun script.now }
+    requires names { IsNamed script.now }
+    requires opened { (old : Stored) × IsOpened script.now old begun.base begun.log }
+    requires some { begun.base ≢ 0 }
+    requires none { script.now.tables ≡ [] }
+    ensures text { IfOk result.answer (λ a. (old : Stored) → IsOpened script.now old begun.base begun.log
+        → IsRunText script.now old (kept_by D.synced D.pending D.faults result.store) a.status a.text) }
+    ensures left { IsLeftFrom (log_before begun.base begun.log) begun.log (kept_by D.synced D.pending D.faults result.store) }
+    ensures settled { D.pending result.store ≡ [] }
+{
+    pages_that_stand_keep_their_keys();
+    match with_tables(alloc, script, begun.log.log()) {
+        Ok(whole) => {
+            let ended = play_begun(alloc, &whole, begun);
+            let_go(whole);
+            ended
+        }
+        Err(_) => no_memory(begun.log.give_back()),
+    }
+}
+
+/// A script with the tables of a log.
+fn with_tables(alloc: Global, script: &Script, log: &PagedLog) -> Result<Script, AllocError>
+    ensures { IfOk result (λ whole. whole ≡ record script.now { tables = map unsaid (tables_of_log log.now) }) }
+{
+    let tables = logged_lines(alloc, log)?;
+    let mut whole = copied(script)?;
+    whole.tables = tables;
+    Ok(whole)
+}
+
+/// A copy of a script.
+fn copied(script: &Script) -> Result<Script, AllocError>
+    ensures { IfOk result (λ copy. copy ≡ script.now) }
+{
+    script.clone()
+}
+
+/// The tables of a log, as lines that stand in no script.
+fn logged_lines(alloc: Global, log: &PagedLog) -> Result<List<TableLine>, AllocError>
+    ensures { IfOk result (λ lines. lines ≡ map unsaid (tables_of_log log.now)) }
+{
+    match log.schema() {
+        Some(schema) => lines_of(alloc, schema.tables()),
+        None => Ok(List::new(alloc)),
+    }
+}
+
+/// Lines of these tables, that stand in no script.
+fn lines_of(alloc: Global, tables: &[TableDef]) -> Result<List<TableLine>, AllocError>
+    ensures { IfOk result (λ lines. lines ≡ map unsaid tables.now) }
+{
+    let mut lines = List::new(alloc);
+    let mut rest = tables;
+    'tables: while let Some((table, after)) = rest.split_first() {
+        add_unsaid(&mut lines, table)?;
+        rest = after;
+    }
+    Ok(lines)
+}
+
+/// Adds a line of a table, that stands in no script.
+fn add_unsaid(lines: &mut List<TableLine>, table: &TableDef) -> Result<(), AllocError>
+    ensures { OnOk result (lines.new ≡ lines.old ++ unsaid table.now ∷ []) }
+{
+    lines.push(TableLine {
+        line: 0,
+        table: table.clone()?,
+    })
+}
+
+/// The answer to a script whose tables are those of the log that was opened.
+fn play_begun<D: LogStore + Drop>(alloc: Global, script: &Script, begun: Begun<D>) -> Ended<D>
+    requires runs { CanRun script.now }
+    requires begun { (rows : Rows) × IsBegunAt script.now begun.base (log_before begun.base begun.log) begun.log rows }
+    ensures text { IfOk result.answer (λ a. (rows : Rows) → IsBegunAt script.now begun.base (log_before begun.base begun.log) begun.log rows
+        → IsPlayedText script.now (start_at (log_before begun.base begun.log) rows) begun.log (kept_by D.synced D.pending D.faults result.store) a.status a.text) }
+    ensures left { IsLeftFrom (log_before begun.base begun.log) begun.log (kept_by D.synced D.pending D.faults result.store) }
+    ensures settled { D.pending result.store ≡ [] }
+{
+    pages_stand_for_one_state();
+    play_from(alloc, script, begun)
+}
+
+/// The same, where it is known at which rows the run begins.
+fn play_from<D: LogStore + Drop>(alloc: Global, script: &Script, begun: Begun<D>) -> Ended<D>
+    ghost start: { Start }
+    requires runs { CanRun script.now }
+    requires before { start.before ≡ log_before begun.base begun.log }
+    requires begun { IsBegunAt script.now begun.base (log_before begun.base begun.log) begun.log start.rows }
+    ensures text { IfOk result.answer (λ a. IsPlayedText script.now start begun.log (kept_by D.synced D.pending D.faults result.store) a.status a.text) }
+    ensures left { IsLeftFrom start.before begun.log (kept_by D.synced D.pending D.faults result.store) }
+    ensures settled { D.pending result.store ≡ [] }
+{
+    let Begun { log, base } = begun;
+    match play(alloc, script, log, base) {
+        Ok(played) => told(alloc, played),
+        Err(log) => no_memory(log.give_back()),
+    }
+}
+
+/// The answer to a script that was played.
+fn told<D: LogStore + Drop>(alloc: Global, played: Played<D>) -> Ended<D>
+    ensures text { IfOk result.answer (λ a. IsReportText played.report a.status a.text) }
+    ensures left { IsLeftOf played.log (kept_by D.synced D.pending D.faults result.store) }
+    ensures settled { D.pending result.store ≡ [] }
+{
+    let Played { report, log } = played;
+    let answer = reported(alloc, &report);
+    let_go(report);
+    Ended {
+        store: log.give_back(),
+        answer,
+    }
+}
