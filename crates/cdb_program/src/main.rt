@@ -1,7 +1,7 @@
 //! The command `cdb`: its words, standard input and standard output, and the status of the run.
 #![tactic(auto)]
 
-ghost use Rattle.std.specs.Prelude.{◌≡◌, [], IfOk};
+ghost use Rattle.std.specs.Prelude.{◌≡◌, [], IfOk, OnOk};
 ghost use Rattle.std.specs.List.{AllByRecursion};
 
 use cdb_outside::{FileStore, LogStore, MemStore, ReadSource, WriteSink};
@@ -73,7 +73,10 @@ fn empty_stores(rt: &HostRuntime) -> Result<Vec<MemStore>, AllocError>
     let alloc = rt.alloc();
     let mut stores = Vec::new(alloc);
     'nodes: for _ in 0..NODES {
-        stores.push(MemStore::new(Vec::new(alloc), Vec::new(alloc), None, 0))?;
+        add(
+            &mut stores,
+            MemStore::new(Vec::new(alloc), Vec::new(alloc), None, 0),
+        )?;
     }
     Ok(stores)
 }
@@ -89,7 +92,18 @@ fn file_stores<'a>(
     let mut stores = Vec::new(alloc);
     'nodes: for node in 1..=NODES {
         let path = format!(in alloc; "{folder}/node{node}.log")?;
-        stores.push(FileStore::new(rt, path))?;
+        add(&mut stores, FileStore::new(rt, path))?;
     }
     Ok(stores)
+}
+
+/// Adds a store in which nothing is pending.
+#[tactic(auto, using(crate::proofs::StoreLemmas::all_more))]
+fn add<D: LogStore + Drop>(stores: &mut Vec<D>, store: D) -> Result<(), AllocError>
+    requires settled { D.pending store ≡ [] }
+    requires before { AllByRecursion (λ d. D.pending d ≡ []) stores.old.items }
+    ensures { OnOk result (AllByRecursion (λ d. D.pending d ≡ []) stores.new.items) }
+{
+    stores.push(store)?;
+    Ok(())
 }
