@@ -178,7 +178,7 @@ fn count_told(alloc: Global, script: &[u8], text: &[u8]) -> Result<u64, AllocErr
     for call in 1..=16u64 {
         let run = failed(alloc, script, call, 0)?;
         if run.status == Status::Done && run.text.as_slice() == text {
-            count += 1;
+            count = count.saturating_add(1);
         }
     }
     Ok(count)
@@ -197,7 +197,11 @@ fn a_store_fails(rt: HostRuntime) -> Result<(), Fail> {
     let whole = count_told(alloc, INSERT, WHOLE)?;
     is_so(&rt, 0 < down, "a store fails at the opening");
     is_so(&rt, 0 < lost, "a store fails at an entry");
-    is_so(&rt, down + lost + whole == 16, "nothing else is told");
+    is_so(
+        &rt,
+        down.saturating_add(lost).saturating_add(whole) == 16,
+        "nothing else is told",
+    );
     Ok(())
 }
 
@@ -230,7 +234,7 @@ fn count_again(alloc: Global, keeps: u64, text: &[u8]) -> Result<u64, AllocError
         let first = failed(alloc, INSERT, call, keeps)?;
         let second = ran(alloc, INSERT, first.bytes.as_slice())?;
         if first.text.as_slice() == LOST && second.text.as_slice() == text {
-            count += 1;
+            count = count.saturating_add(1);
         }
     }
     Ok(count)
