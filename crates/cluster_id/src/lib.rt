@@ -44,6 +44,3 @@ fn full_name(alloc: Global, cluster: &Name, nodes: u8) -> Result<Vec<u8>, AllocE
     name.extend_from_slice(number.as_bytes())?;
     Ok(name)
 }
-
-#[cfg(test)]
-mod tests;

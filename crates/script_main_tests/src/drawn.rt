@@ -1,8 +1,8 @@
-//! Scripts of three sessions over four keys, drawn by a seed.
+//! Scripts of three sessions over four keys of three tables, drawn by a seed.
 
 use std::alloc::{AllocError, Global};
 
-/// What a session says in a line. A statement is about the rows of one key, or about all.
+/// What a session says in a line. A statement is about the rows of one key of a table, or about all its rows.
 #[derive(Clone, Copy)]
 pub(crate) enum Said {
     Begin,
@@ -16,10 +16,11 @@ pub(crate) enum Said {
     Select { of: Option<u64> },
 }
 
-/// A line of a script: a session, by its place, says something.
+/// A line of a script: a session, by its place, says something, which is about a table where it is a statement.
 #[derive(Clone, Copy)]
 pub(crate) struct Turn {
     pub session: usize,
+    pub table: u64,
     pub said: Said,
 }
 
@@ -50,6 +51,7 @@ pub(crate) fn turn_of(x: u64) -> Turn {
     };
     Turn {
         session: (drawn % 3) as usize,
+        table: drawn / 9600 % 3,
         said,
     }
 }
@@ -62,29 +64,31 @@ fn filter_text(alloc: Global, of: Option<u64>) -> Result<String, AllocError> {
     }
 }
 
-/// The text of what is said.
-pub(crate) fn text_of(alloc: Global, said: Said) -> Result<String, AllocError> {
+/// The text of what is said about a table.
+pub(crate) fn text_of(alloc: Global, table: u64, said: Said) -> Result<String, AllocError> {
     match said {
         Said::Begin => String::from_str(alloc, "begin"),
         Said::Commit => String::from_str(alloc, "commit"),
         Said::Rollback => String::from_str(alloc, "rollback"),
         Said::Level => String::from_str(alloc, "set transaction snapshot"),
-        Said::Insert { key, value } => { format!(in alloc; "insert into t values({key}, {value})") }
+        Said::Insert { key, value } => {
+            format!(in alloc; "insert into t{table} values({key}, {value})")
+        }
         Said::SetValue { value, of } => {
             let filter = filter_text(alloc, of)?;
-            format!(in alloc; "update t set v = {value}{filter}")
+            format!(in alloc; "update t{table} set v = {value}{filter}")
         }
         Said::SetKey { key, of } => {
             let filter = filter_text(alloc, of)?;
-            format!(in alloc; "update t set id = {key}{filter}")
+            format!(in alloc; "update t{table} set id = {key}{filter}")
         }
         Said::Delete { of } => {
             let filter = filter_text(alloc, of)?;
-            format!(in alloc; "delete from t{filter}")
+            format!(in alloc; "delete from t{table}{filter}")
         }
         Said::Select { of } => {
             let filter = filter_text(alloc, of)?;
-            format!(in alloc; "select * from t{filter}")
+            format!(in alloc; "select * from t{table}{filter}")
         }
     }
 }

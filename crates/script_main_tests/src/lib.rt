@@ -4,6 +4,8 @@
 #[cfg(test)]
 mod drawn;
 #[cfg(test)]
+mod resumed;
+#[cfg(test)]
 mod runs;
 #[cfg(test)]
 mod slow;

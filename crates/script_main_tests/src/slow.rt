@@ -5,9 +5,10 @@
 use super::drawn::{Said, Turn, text_of};
 use std::alloc::{AllocError, Global};
 
-/// A row of the one table.
+/// A row of a table.
 #[derive(Clone, Copy)]
 struct Kept {
+    table: u64,
     genid: u64,
     key: u64,
     value: u64,
@@ -17,6 +18,7 @@ struct Kept {
 /// where it stands for none. Those of the begin come before its own.
 #[derive(Clone, Copy)]
 struct Seen {
+    table: u64,
     own: bool,
     genid: u64,
     key: u64,
@@ -32,11 +34,11 @@ struct Alone {
     told: Vec<String>,
 }
 
-/// A transaction that is open.
+/// A transaction that is open: its begin, and what it said, each about a table.
 #[derive(Drop)]
 struct Open {
     begin: usize,
-    said: Vec<Said>,
+    said: Vec<(u64, Said)>,
 }
 
 #[derive(Drop)]
@@ -51,10 +53,24 @@ pub(crate) struct Expected {
     pub script: String,
     pub told: String,
     pub history: String,
+    /// The length of the log before the run.
+    base: usize,
     /// The rows at each position from 1 on.
     states: Vec<Vec<Kept>>,
     next_genid: u64,
     sessions: Vec<Session>,
+}
+
+/// The rows of a table, those of one key or all.
+#[derive(Clone, Copy)]
+struct Those {
+    table: u64,
+    of: Option<u64>,
+}
+
+/// Whether a row is one of those.
+fn is_among(those: Those, row: Seen) -> bool {
+    row.table == those.table && is_of(those.of, row.key)
 }
 
 fn is_of(of: Option<u64>, key: u64) -> bool {
@@ -69,6 +85,7 @@ impl Alone {
         let mut seen = Vec::new(alloc);
         for row in rows {
             seen.push(Seen {
+                table: row.table,
                 own: false,
                 genid: row.genid,
                 key: row.key,
@@ -83,11 +100,11 @@ impl Alone {
     }
 
     /// Takes the chosen rows out of what is seen, and their versions away.
-    fn take_out(&mut self, alloc: Global, of: Option<u64>) -> Result<Vec<Seen>, AllocError> {
+    fn take_out(&mut self, alloc: Global, those: Those) -> Result<Vec<Seen>, AllocError> {
         let mut stay = Vec::new(alloc);
         let mut out = Vec::new(alloc);
         for row in self.seen.as_slice() {
-            if is_of(of, row.key) {
+            if is_among(those, *row) {
                 out.push(*row)?;
             } else {
                 stay.push(*row)?;
@@ -117,27 +134,16 @@ impl Alone {
     }
 
     fn put(&mut self, row: Seen) -> Result<(), AllocError> {
-        let Seen {
-            genid,
-            key,
-            value,
-            ..
-        } = row;
-        self.seen.push(Seen {
-            own: true,
-            genid,
-            key,
-            value,
-        })?;
+        self.seen.push(Seen { own: true, ..row })?;
         Ok(())
     }
 
-    fn select(&mut self, alloc: Global, of: Option<u64>) -> Result<(), AllocError> {
+    fn select(&mut self, alloc: Global, those: Those) -> Result<(), AllocError> {
         let mut count = 0u64;
         for row in self.seen.as_slice() {
             let key = row.key;
             let value = row.value;
-            if is_of(of, key) {
+            if is_among(those, *row) {
                 count = count.saturating_add(1);
                 self.told.push(format!(in alloc; "row {key}|{value}")?)?;
             }
@@ -146,12 +152,13 @@ impl Alone {
         Ok(())
     }
 
-    fn say(&mut self, alloc: Global, said: Said) -> Result<(), AllocError> {
+    fn say(&mut self, alloc: Global, table: u64, said: Said) -> Result<(), AllocError> {
         self.told = Vec::new(alloc);
         match said {
             Said::Begin | Said::Commit | Said::Rollback | Said::Level => Ok(()),
             Said::Insert { key, value } => {
                 self.put(Seen {
+                    table,
                     own: true,
                     genid: 0,
                     key,
@@ -161,22 +168,22 @@ impl Alone {
                 Ok(())
             }
             Said::SetValue { value, of } => {
-                for row in self.take_out(alloc, of)? {
+                for row in self.take_out(alloc, Those { table, of })? {
                     self.put(Seen { value, ..row })?;
                 }
                 Ok(())
             }
             Said::SetKey { key, of } => {
-                for row in self.take_out(alloc, of)? {
+                for row in self.take_out(alloc, Those { table, of })? {
                     self.put(Seen { key, ..row })?;
                 }
                 Ok(())
             }
             Said::Delete { of } => {
-                let _gone = self.take_out(alloc, of)?;
+                let _gone = self.take_out(alloc, Those { table, of })?;
                 Ok(())
             }
-            Said::Select { of } => self.select(alloc, of),
+            Said::Select { of } => self.select(alloc, Those { table, of }),
         }
     }
 
@@ -207,48 +214,79 @@ fn has_genid_among(genids: &[u64], genid: u64) -> bool {
     false
 }
 
-/// How many rows have a key.
-fn count_of(rows: &[Kept], key: u64) -> u64 {
+/// How many rows of a table have a key.
+fn count_of(rows: &[Kept], table: u64, key: u64) -> u64 {
     let mut count = 0u64;
     for row in rows {
-        if row.key == key {
+        if row.table == table && row.key == key {
             count = count.saturating_add(1);
         }
     }
     count
 }
 
-fn has_key_twice(rows: &[Kept]) -> bool {
-    for row in rows {
-        if count_of(rows, row.key) > 1 {
-            return true;
+/// The first of the three tables that has a key twice.
+fn table_with_twice(rows: &[Kept]) -> Option<u64> {
+    for table in 0..3u64 {
+        for row in rows {
+            if row.table == table && count_of(rows, table, row.key) > 1 {
+                return Some(table);
+            }
         }
     }
-    false
+    None
+}
+
+/// The table of the version of a genid.
+fn table_of(rows: &[Kept], genid: u64) -> u64 {
+    for row in rows {
+        if row.genid == genid {
+            return row.table;
+        }
+    }
+    0
+}
+
+/// The head of each script: three sessions and three tables.
+const HEAD: &str =
+    "nodes 1\nsession s0 1\nsession s1 1\nsession s2 1\ncreate table t0(id integer primary key, v integer)\ncreate table t1(id integer primary key, v integer)\ncreate table t2(id integer primary key, v integer)\n";
+
+/// Three sessions that did nothing.
+fn new_sessions(alloc: Global) -> Result<Vec<Session>, AllocError> {
+    let mut sessions = Vec::new(alloc);
+    for _ in 0..3 {
+        sessions.push(Session {
+            number: 0,
+            open: None,
+        })?;
+    }
+    Ok(sessions)
 }
 
 impl Expected {
     pub(crate) fn new(alloc: Global) -> Result<Expected, AllocError> {
-        let mut sessions = Vec::new(alloc);
-        for _ in 0..3 {
-            sessions.push(Session {
-                number: 0,
-                open: None,
-            })?;
-        }
         let mut states = Vec::new(alloc);
         states.push(Vec::new(alloc))?;
         Ok(Expected {
-            script: String::from_str(
-                alloc,
-                "nodes 1\nsession s0 1\nsession s1 1\nsession s2 1\ncreate table t(id integer primary key, v integer)\n",
-            )?,
+            script: String::from_str(alloc, HEAD)?,
             told: String::new(alloc),
             history: String::from_str(alloc, "entry 1 schema\n")?,
+            base: 0,
             states,
             next_genid: 1,
-            sessions,
+            sessions: new_sessions(alloc)?,
         })
+    }
+
+    /// A script of the same head, whose run goes on over the log of the one before: what was open there is gone.
+    pub(crate) fn resume(&mut self, alloc: Global) -> Result<(), AllocError> {
+        self.script = String::from_str(alloc, HEAD)?;
+        self.told = String::new(alloc);
+        self.sessions = new_sessions(alloc)?;
+        self.base = self.states.len();
+        let base = self.base;
+        self.history = format!(in alloc; "base {base}\n")?;
+        Ok(())
     }
 
     pub(crate) fn report(&self, alloc: Global) -> Result<String, AllocError> {
@@ -268,8 +306,8 @@ impl Expected {
 
     fn alone(&self, alloc: Global, open: &Open) -> Result<Alone, AllocError> {
         let mut alone = Alone::at(alloc, self.rows_at(open.begin))?;
-        for said in open.said.as_slice() {
-            alone.say(alloc, *said)?;
+        for (table, said) in open.said.as_slice() {
+            alone.say(alloc, *table, *said)?;
         }
         Ok(alone)
     }
@@ -307,9 +345,18 @@ impl Expected {
         let mut genid = self.next_genid;
         for row in alone.seen.as_slice() {
             if row.own {
-                let key = row.key;
-                let value = row.value;
-                rows.push(Kept { genid, key, value })?;
+                let Seen {
+                    table,
+                    key,
+                    value,
+                    ..
+                } = *row;
+                rows.push(Kept {
+                    table,
+                    genid,
+                    key,
+                    value,
+                })?;
                 genid = genid.saturating_add(1);
             }
         }
@@ -344,12 +391,13 @@ impl Expected {
             let position = position.saturating_add(1);
             let genid = self.taken_at(position, alone.used.as_slice());
             if genid != 0 {
-                return format!(in alloc; "conflict {position} genid t {genid}");
+                let table = table_of(self.rows_at(begin), genid);
+                return format!(in alloc; "conflict {position} genid t{table} {genid}");
             }
         }
         let rows = self.with(alloc, alone)?;
-        if has_key_twice(rows.as_slice()) {
-            return format!(in alloc; "duplicate {last} t pk");
+        if let Some(table) = table_with_twice(rows.as_slice()) {
+            return format!(in alloc; "duplicate {last} t{table} pk");
         }
         self.keep(alloc, session, number, begin, rows)
     }
@@ -400,7 +448,7 @@ impl Expected {
         session: usize,
         number: u64,
         open: &mut Open,
-        said: Said,
+        said: (u64, Said),
     ) -> Result<(), AllocError> {
         open.said.push(said)?;
         let alone = self.alone(alloc, open)?;
@@ -416,10 +464,10 @@ impl Expected {
         alloc: Global,
         session: usize,
         number: u64,
-        said: Said,
+        said: (u64, Said),
     ) -> Result<Session, AllocError> {
         let closed = Session { number, open: None };
-        match said {
+        match said.1 {
             Said::Begin => {
                 let (number, open) = self.begin(alloc, session, number)?;
                 Ok(Session {
@@ -451,10 +499,10 @@ impl Expected {
         session: usize,
         number: u64,
         open: Open,
-        said: Said,
+        said: (u64, Said),
     ) -> Result<Session, AllocError> {
         let mut open = open;
-        match said {
+        match said.1 {
             Said::Commit => {
                 self.end(alloc, session, number, &open)?;
                 return Ok(Session { number, open: None });
@@ -474,8 +522,13 @@ impl Expected {
 
     /// A line more of the script.
     pub(crate) fn take(&mut self, alloc: Global, turn: Turn) -> Result<(), AllocError> {
-        let Turn { session, said } = turn;
-        let text = text_of(alloc, said)?;
+        let Turn {
+            session,
+            table,
+            said,
+        } = turn;
+        let text = text_of(alloc, table, said)?;
+        let said = (table, said);
         self.script
             .push_str(format!(in alloc; "s{session}: {text}\n")?.as_str())?;
         let Some(place) = self.sessions.get_mut(session) else {

@@ -10,14 +10,14 @@ use std::test::Fail;
 
 /// What a run answers and writes, and the synced bytes of its store behind it.
 #[derive(Drop)]
-struct Outcome {
-    status: Status,
-    text: Vec<u8>,
-    bytes: Vec<u8>,
+pub(crate) struct Outcome {
+    pub status: Status,
+    pub text: Vec<u8>,
+    pub bytes: Vec<u8>,
 }
 
 /// A run of a script over a store.
-fn ran_over(alloc: Global, script: &[u8], store: MemStore) -> Result<Outcome, AllocError>
+pub(crate) fn ran_over(alloc: Global, script: &[u8], store: MemStore) -> Result<Outcome, AllocError>
     requires { store.waiting ≡ [] }
 {
     let words = vec![in alloc; String::from_str(alloc, "play")?]?;
@@ -40,7 +40,7 @@ fn ran_over(alloc: Global, script: &[u8], store: MemStore) -> Result<Outcome, Al
 }
 
 /// A run of a script over a store with these bytes, which does not fail.
-fn ran(alloc: Global, script: &[u8], bytes: &[u8]) -> Result<Outcome, AllocError> {
+pub(crate) fn ran(alloc: Global, script: &[u8], bytes: &[u8]) -> Result<Outcome, AllocError> {
     let store = MemStore::new(Vec::from_slice(alloc, bytes)?, Vec::new(alloc), None, 0);
     ran_over(alloc, script, store)
 }

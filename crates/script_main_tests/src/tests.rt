@@ -23,11 +23,11 @@ fn played(alloc: Global, script: &[u8]) -> Result<(Status, Vec<u8>), AllocError>
     Ok((status, Vec::from_slice(alloc, outside.sink.taken())?))
 }
 
-/// A script of 40 lines that a seed draws, and its report.
+/// A script of 120 lines that a seed draws, and its report.
 fn drawn(alloc: Global, seed: u64) -> Result<Expected, AllocError> {
     let mut expected = Expected::new(alloc)?;
     let mut x = seed;
-    for _ in 0..40 {
+    for _ in 0..120 {
         x = next_number(x);
         expected.take(alloc, turn_of(x))?;
     }

@@ -5,7 +5,7 @@ use Rattle.cdb_values.specs.declared.rows.Level.{Level}
 use Rattle.cdb_values.specs.declared.rows.RowOp.{RowOp}
 
 -- what a session is doing: it is in no transaction; in one that began at a position, has these operations so far, and whose
--- texts used these versions besides; or in one that want of memory ended, whose lines are skipped
+-- texts used these versions besides; or in one that was cut short, whose lines are skipped
 pub data Doing : Type 0 where
   No : Doing
   Open : ℕ → List RowOp → List GenidItem → Doing

@@ -1,4 +1,4 @@
-//! What a line of a session is to do, by where the session is: nothing is told or kept yet.
+//! What a line of a session is to do on a node that is up, by where the session is: nothing is told or kept yet.
 ghost use Rattle.std.specs.Prelude.{◌≡◌, ℕ, List, ◌+◌, ◌++◌, ◌∷◌, [], length, IfOk, IfSome};
 ghost use Rattle.cdb_values.specs.declared.items.GenidItem.{GenidItem};
 ghost use Rattle.cdb_values.specs.declared.rows.RowOp.{RowOp};

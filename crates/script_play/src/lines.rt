@@ -30,7 +30,7 @@ const TEXT_LIMIT: usize = 1 << 32;
 
 /// Does a line of a session, and gives where the session is then. Where want of memory ends its
 /// transaction, only that is told. The error comes where that can't be told either, where a line
-/// outside a transaction can't be answered, or where the text can't be read.
+/// outside a transaction can't be answered, or where the text can't be read; only lines were added then.
 pub(crate) fn run_session_line<D: LogStore>(
     alloc: Global,
     schema: &Schema,

@@ -76,7 +76,7 @@ fn answer_over<P: PageSource + Drop>(
     let mut source = PageRows::new(pages, schema);
     match session.statement(alloc, schema, prepared, &mut source) {
         Ok(replies) => Ok(replies),
-        // No one can be gone from a log in memory, so this is want of memory.
+        // The pages of the log are in memory, and none of them can be gone: this is want of memory.
         Err(_) => Err(AllocError),
     }
 }

@@ -10,8 +10,8 @@ pub(crate) enum InTransaction {
     No,
     /// It is in a transaction, which has come so far.
     Open(OsqlSession),
-    /// Its transaction was ended by want of memory, and the lines up to its `commit` or `rollback`
-    /// are skipped.
+    /// Its transaction was cut short, by want of memory or since the node is down, and the lines up to its
+    /// `commit` or `rollback` are skipped.
     Aborted,
 }
 

@@ -1,5 +1,7 @@
-use super::cluster_id;
+//! The ids of clusters, beside those of another program.
+
 use cdb_values::Name;
+use cluster_id::cluster_id;
 use std::alloc::{AllocError, Global};
 use std::rt::HostRuntime;
 
