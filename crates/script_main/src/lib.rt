@@ -24,13 +24,11 @@
 mod answers;
 mod begun;
 mod commands;
-mod laws;
 mod opening;
 mod running;
 mod statuses;
 mod stores;
 
 pub use commands::store_folder;
-pub use laws::runs_leave_sound_logs;
 pub use running::run;
 pub use statuses::{Outside, Status, exit_status};
