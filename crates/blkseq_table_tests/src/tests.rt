@@ -86,6 +86,17 @@ fn all_three_parts_tell(rt: HostRuntime) -> Result<(), Fail> {
     expect_three(rt.alloc(), &table)
 }
 
+/// A session of which no identity is left is as one that never came.
+#[test]
+fn a_session_goes_with_its_last_identity(rt: HostRuntime) -> Result<(), Fail> {
+    let mut table = BlkSeq::new(rt.alloc());
+    put_three(rt.alloc(), &mut table)?;
+    table.drop_above(2);
+    expect_at(rt.alloc(), &table, 1, b"a", 1, Some(2))?;
+    expect_at(rt.alloc(), &table, 1, b"b", 1, None)?;
+    expect_at(rt.alloc(), &table, 2, b"a", 1, None)
+}
+
 /// The table of a setup and one transaction.
 fn of_two_entries(alloc: Global) -> Result<BlkSeq, AllocError> {
     let id = id_of(alloc, 1, b"a", 1)?;
