@@ -1,0 +1,4 @@
+pub mod KeyLemmas
+pub mod LookupLemmas
+pub mod LogLemmas
+pub mod TailLemmas
