@@ -10,6 +10,8 @@ mod runs;
 #[cfg(test)]
 mod slow;
 #[cfg(test)]
+mod snapshots;
+#[cfg(test)]
 mod stored;
 #[cfg(test)]
 mod tests;

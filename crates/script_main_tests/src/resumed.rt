@@ -111,7 +111,7 @@ fn counted(alloc: Global, base: u64, rows: u64) -> Result<String, AllocError> {
 }
 
 /// The text of bytes.
-fn text_of(alloc: Global, bytes: &[u8]) -> Result<String, AllocError> {
+pub(crate) fn text_of(alloc: Global, bytes: &[u8]) -> Result<String, AllocError> {
     format!(in alloc; "{}", String::from_utf8_lossy(alloc, bytes)?.as_str())
 }
 
