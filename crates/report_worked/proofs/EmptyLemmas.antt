@@ -15,7 +15,7 @@ use Rattle.report_laws.proofs.LawLemmas.{schema_unhurt}
 use Rattle.report_laws.proofs.NodesLaws.{none_few}
 use Rattle.report_worked.specs.Small.{from_nothing, small_language}
 
-along_none : (P : Item → List ReplyLine → Type 0) (name : List ℕ) (body : List BodyLine) → body ≡ [] → Along P (work small_language name body) []
+pub along_none : (P : Item → List ReplyLine → Type 0) (name : List ℕ) (body : List BodyLine) → body ≡ [] → Along P (work small_language name body) []
 along_none P name body is = subst (λ (b : List BodyLine). Along P (work small_language name b) []) (sym is) refl
 
 pub empty_is_lawful : (script : Script) → script.body ≡ [] → Lawful (from_nothing script) empty_report

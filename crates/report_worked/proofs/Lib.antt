@@ -5,6 +5,7 @@ pub mod InsertSelectLemmas
 pub mod InsertSelectWrongLemmas
 pub mod KeyAgainLemmas
 pub mod OwnWritesLemmas
+mod ResumedLemmas
 pub mod SerialLemmas
 pub mod SmallLaws
 pub mod TwoUpdatesLemmas

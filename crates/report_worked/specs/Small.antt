@@ -10,7 +10,7 @@ use Rattle.std.specs.Prelude.{ℕ, ◌+◌, ◌++◌, ◌∷◌, ◌==◌, ◌&&
 use Rattle.std.specs.List.{list_any}
 use Rattle.std.specs.Ordering.{is_eq}
 use Rattle.cdb_values.specs.Order.{value_order}
-use Rattle.cdb_values.specs.Rows.{takes, written}
+use Rattle.cdb_values.specs.Rows.{Rows, takes, written}
 use Rattle.cdb_values.specs.declared.rows.RowOp.{RowOp}
 use Rattle.cdb_values.specs.declared.rows.RowOp.TheVariants as op
 use Rattle.cdb_values.specs.declared.rows.RowRef.TheVariants.{Base}
@@ -195,3 +195,7 @@ small_language = record {
 -- what a report of a run is judged by whose history begins with it: the small language, the script, and no entry before
 abbrev pub from_nothing : Script → Basis
 from_nothing script = record { language = small_language; script = script; origin = nothing_before (tables_of script) }
+
+-- the same behind a log of so many entries, whose pages stand for these rows
+abbrev pub from_log : Script → ℕ → Rows → Basis
+from_log script position rows = record { language = small_language; script = script; origin = record { position = position; tables = tables_of script; rows = rows } }

@@ -8,7 +8,7 @@
 --     create table t(id integer primary key, v integer)
 --
 -- and goes on with the lines of the sessions that stand here.
-use Rattle.std.specs.Prelude.{ℕ, ◌+◌, ◌++◌, ◌∷◌, [], List, length, true, false, None, codes, pos}
+use Rattle.std.specs.Prelude.{ℕ, ◌+◌, ◌++◌, ◌∷◌, [], List, length, true, false, Option, None, Some, codes, pos}
 use Rattle.cdb_values.specs.declared.rows.Level.TheVariants.{Snapshot}
 use Rattle.cdb_values.specs.declared.tables.TableDef.{TableDef}
 use Rattle.cdb_values.specs.declared.tables.ColumnType.TheVariants.{Integer}
@@ -81,6 +81,13 @@ report_with lines entries = record { lines = lines; base = None; entries = entri
 -- the report of a run that did nothing but open
 abbrev pub empty_report : Report
 empty_report = report_with [] (Setup 1 ∷ [])
+
+-- the report of a run that did nothing behind a log of two entries, and of that length in its first line of the tail
+abbrev pub resumed_with : Option ℕ → Report
+resumed_with base = record { lines = []; base = base; entries = []; feeds = []; end = 2 }
+
+abbrev pub resumed_report : Report
+resumed_report = resumed_with (Some 2)
 
 abbrev pub insert_text : List ℕ
 insert_text = codes "insert into t values(1, 10)"

@@ -1,10 +1,11 @@
 //! The worked examples: facts of their reports, each a clause of a function that does nothing.
 
-ghost use Rattle.std.specs.Prelude.{◌≡◌, []};
-ghost use Rattle.report_worked.specs.Small.{from_nothing};
+ghost use Rattle.std.specs.Prelude.{◌≡◌, [], None, Some};
+ghost use Rattle.cdb_values.specs.Rows.{Rows};
+ghost use Rattle.report_worked.specs.Small.{from_log, from_nothing};
 ghost use Rattle.report_laws.specs.Lawful.{Lawful};
 ghost use Rattle.report_laws.specs.Play.{InPlayOrder};
-ghost use Rattle.report_worked.specs.Worked.{empty_report, report_with, insert_select, insert_select_report, insert_select_text, two_updates, two_updates_report, key_again, key_again_report, own_writes, own_writes_report, two_selects, lost_insert_report, lost_insert_text, open_insert, open_insert_report, nothing_said, down_at_first_report};
+ghost use Rattle.report_worked.specs.Worked.{empty_report, report_with, insert_select, insert_select_report, insert_select_text, two_updates, two_updates_report, key_again, key_again_report, own_writes, own_writes_report, two_selects, lost_insert_report, lost_insert_text, open_insert, open_insert_report, nothing_said, down_at_first_report, resumed_report, resumed_with};
 ghost use Rattle.report_worked.specs.WorkedWrong.{IsRefusedBy, RepliesAreRight, BeginsAreFresh, HistoryIsRight, LinesHavePlaces, wrong_value, missing_row, out_of_order, early_row, late, wrong_position, entry_twice, node_line, lost_line, begin_too_old, untouched_row, refused_entry, serial, lost_twice, lost_late, short_while_up, down_misnumbered, down_twice, begun_behind, opened_while_down};
 ghost use Rattle.report_text.specs.Text.{report_text};
 ghost use Rattle.script_form.specs.declared.scripts.Script.{Script};
@@ -118,4 +119,13 @@ pub fn wrong_faults_are_refused()
 pub fn begun_behind_is_not_played()
     ensures lawful { Lawful (from_nothing insert_select) begun_behind }
     ensures order { InPlayOrder (from_nothing insert_select) begun_behind → ⊥ }
+{}
+
+/// The report of a run that did nothing behind a log of two entries tells so by its line `base`, and is lawful and in the order
+/// of play over that log, whatever its rows are. Without that line, and with another length in it, it is not lawful.
+pub fn resumed_report_is_lawful()
+    ensures lawful { (script : Script) (rows : Rows) → script.body ≡ [] → Lawful (from_log script 2 rows) resumed_report }
+    ensures order { (script : Script) (rows : Rows) → script.body ≡ [] → InPlayOrder (from_log script 2 rows) resumed_report }
+    ensures no_base { (script : Script) (rows : Rows) → Lawful (from_log script 2 rows) (resumed_with None) → ⊥ }
+    ensures other_base { (script : Script) (rows : Rows) → Lawful (from_log script 2 rows) (resumed_with (Some 1)) → ⊥ }
 {}
