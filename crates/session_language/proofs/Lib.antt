@@ -1,4 +1,8 @@
 pub mod AllLaws
 pub mod AnswerLaws
 pub mod EachLaws
+pub mod RowsLaws
+pub mod SerialLaws
+pub mod SoundLaws
 pub mod UpToLaws
+pub mod UsedLaws

@@ -3,8 +3,8 @@
 --
 -- A text is answered by the tables, the versions at the transaction's begin position, and the
 -- transaction's own operations so far. Its answer are reply lines, the operations after it, the versions
--- that it uses besides those that its operations take away, and whether it failed by the rows that it
--- met. A transaction run alone is its texts answered one after the other, begun without operations.
+-- that it uses besides those that its operations take away, the intervals that it reads, and whether it
+-- failed by the rows that it met. A transaction run alone is its texts answered one after the other, begun without operations.
 use Rattle.std.specs.Prelude.{ℕ, ◌++◌, ◌∷◌, [], List, Bool, false, ◌||◌}
 use Rattle.cdb_values.specs.Rows.{Rows}
 use Rattle.cdb_values.specs.declared.rows.Level.{Level}
@@ -12,6 +12,7 @@ use Rattle.cdb_values.specs.declared.rows.RowOp.{RowOp}
 use Rattle.cdb_values.specs.declared.rows.Version.{Version}
 use Rattle.cdb_values.specs.declared.tables.TableDef.{TableDef}
 use Rattle.cdb_values.specs.declared.items.GenidItem.{GenidItem}
+use Rattle.cdb_values.specs.declared.items.Interval.{Interval}
 use Rattle.report_text.specs.declared.reports.ReplyLine.{ReplyLine}
 
 -- what a text is to transactions: it begins one, commits or rolls back one, sets the level of later
@@ -27,6 +28,7 @@ pub record Answered : Type 0 where
   pub replies : List ReplyLine
   pub ops : List RowOp
   pub uses : List GenidItem
+  pub ranges : List Interval
   pub failed : Bool
 
 pub record Language : Type 0 where
@@ -41,11 +43,12 @@ answers_from language tables versions done (text ∷ texts) =
 
 -- what answers one after the other give together, behind these operations
 abbrev pub together : List RowOp → List Answered → Answered
-together done [] = record { replies = []; ops = done; uses = []; failed = false }
+together done [] = record { replies = []; ops = done; uses = []; ranges = []; failed = false }
 together done (a ∷ answers) = record {
   replies = a.replies ++ (together a.ops answers).replies;
   ops = (together a.ops answers).ops;
   uses = a.uses ++ (together a.ops answers).uses;
+  ranges = a.ranges ++ (together a.ops answers).ranges;
   failed = a.failed || (together a.ops answers).failed;
 }
 

@@ -1,6 +1,8 @@
 pub mod Answers
 pub mod Each
+pub mod Intervals
 pub mod Language
 pub mod Replies
+pub mod Serial
 pub mod Spelled
 pub mod Touched

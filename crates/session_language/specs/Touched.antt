@@ -1,7 +1,19 @@
--- Which of the versions that a transaction uses changes touch, by the versions that they take away.
-use Rattle.std.specs.Prelude.{◌∷◌, ◌==◌, ◌&&◌, [], List, Bool, Option, Some, None, if◌then◌else◌}
+-- What a transaction uses, and which of it changes touch.
+--
+-- It uses versions, which changes touch that take them away, and at level serializable the intervals that it
+-- read, which changes touch that take away or add a row in them. The versions come first, and then the
+-- intervals, each in their order.
+use Rattle.std.specs.Prelude.{◌++◌, ◌∷◌, ◌==◌, ◌&&◌, [], List, Bool, Option, Some, None, if◌then◌else◌, map}
 use Rattle.std.specs.List.{list_any}
+use Rattle.cdb_values.specs.Changes.{genids_taken, taken_by}
 use Rattle.cdb_values.specs.declared.items.GenidItem.{GenidItem}
+use Rattle.cdb_values.specs.declared.items.Interval.{Interval}
+use Rattle.cdb_values.specs.declared.rows.Change.{Change}
+use Rattle.cdb_values.specs.declared.rows.Level.{Level}
+use Rattle.cdb_values.specs.declared.rows.Level.TheVariants.{Snapshot, Serializable}
+use Rattle.cdb_values.specs.declared.tables.TableDef.{TableDef}
+use Rattle.session_language.specs.Intervals.{changes_touch}
+use Rattle.session_language.specs.Language.{Answered}
 
 abbrev pub is_same_item : GenidItem → GenidItem → Bool
 is_same_item a b = (a.table == b.table) && (a.genid == b.genid)
@@ -14,3 +26,32 @@ is_touched taken item = list_any (is_same_item item) taken
 abbrev pub first_touched : List GenidItem → List GenidItem → Option GenidItem
 first_touched taken [] = None
 first_touched taken (item ∷ used) = if is_touched taken item then Some item else first_touched taken used
+
+-- what a transaction uses: a version, or an interval that it read
+pub data Used : Type 0 where
+  TheVersion : GenidItem → Used
+  TheRange : Interval → Used
+
+-- whether changes touch it
+abbrev pub touches_used : List TableDef → List Change → Used → Bool
+touches_used tables changes (TheVersion item) = is_touched (genids_taken changes) item
+touches_used tables changes (TheRange interval) = changes_touch tables interval changes
+
+-- the first of what is used that changes touch
+abbrev pub first_used : List TableDef → List Change → List Used → Option Used
+first_used tables changes [] = None
+first_used tables changes (item ∷ used) = if touches_used tables changes item then Some item else first_used tables changes used
+
+-- the versions that a transaction uses, by what it was answered: those that its operations take away, and
+-- then those that its texts use besides
+abbrev pub versions_used : Answered → List GenidItem
+versions_used ran = taken_by ran.ops ++ ran.uses
+
+-- the intervals that it uses at a level
+abbrev pub ranges_used : Level → Answered → List Interval
+ranges_used Snapshot ran = []
+ranges_used Serializable ran = ran.ranges
+
+-- what a transaction uses at a level
+abbrev pub used_at : Level → Answered → List Used
+used_at level ran = map TheVersion (versions_used ran) ++ map TheRange (ranges_used level ran)
