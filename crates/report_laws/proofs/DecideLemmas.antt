@@ -5,20 +5,20 @@ use Rattle.cdb_values.specs.Good.{first_broken, KeyName}
 use Rattle.cdb_values.specs.Rows.{Rows, apply_all}
 use Rattle.cdb_values.specs.declared.rows.Level.{Level}
 use Rattle.cdb_values.specs.declared.rows.RowOp.{RowOp}
-use Rattle.report_laws.specs.History.{Basis, alone_on, rows_at, rows_after, rows_among, ops_alone, states_of, entry_at, last_position, taken_at, view_of}
+use Rattle.report_laws.specs.History.{Basis, alone_on, rows_at, rows_after, rows_among, ops_alone, states_of, entry_at, last_position, changes_at, view_of}
 use Rattle.report_laws.specs.View.{IsUntouched}
-use Rattle.session_language.specs.Touched.{first_touched}
+use Rattle.session_language.specs.Touched.{Used, first_used}
 use Rattle.report_laws.specs.Outcome.{IsRight, IsCommitted, IsConflict, IsDuplicate, IsDecided, conflict_line, key_name}
 use Rattle.report_laws.specs.Play.{IsTimely}
 use Rattle.report_laws.specs.Work.{Transaction, transaction_of}
-use Rattle.cdb_values.specs.declared.items.GenidItem.{GenidItem}
+use Rattle.cdb_values.specs.declared.rows.Change.{Change}
 use Rattle.report_text.specs.declared.reports.EntryLine.{EntryLine}
 use Rattle.report_text.specs.declared.reports.EntryLine.TheVariants.{Commit}
 use Rattle.report_text.specs.declared.reports.ReplyLine.{ReplyLine}
 use Rattle.report_text.specs.declared.reports.ReplyLine.TheVariants as reply
-use Rattle.report_laws.proofs.FrontLemmas.{rows_front, entry_front, taken_front, untouched_front, entry_next, rows_next}
+use Rattle.report_laws.proofs.FrontLemmas.{rows_front, entry_front, changes_front, untouched_front, entry_next, rows_next}
 
-module _ (basis : Basis) (history : List EntryLine) (name : List ℕ) (t : Transaction) (begin : ℕ) (used : List GenidItem) where
+module _ (basis : Basis) (history : List EntryLine) (name : List ℕ) (t : Transaction) (begin : ℕ) (used : List Used) where
   abbrev pub now : ℕ
   now = last_position basis.origin history
 
@@ -67,7 +67,7 @@ some_none x found is none = cc
 same_some : {A : Type 0} (x y : A) → Some x ≡ Some y → x ≡ y
 same_some x y is = cc
 
-module _ (basis : Basis) (history : List EntryLine) (name : List ℕ) (t : Transaction) (begin : ℕ) (used : List GenidItem) where
+module _ (basis : Basis) (history : List EntryLine) (name : List ℕ) (t : Transaction) (begin : ℕ) (used : List Used) where
   abbrev last : ℕ
   last = last_position basis.origin history
 
@@ -79,10 +79,10 @@ module _ (basis : Basis) (history : List EntryLine) (name : List ℕ) (t : Trans
       go (inr (inl after)) = absurd (some_none is'.item _ is'.touched (is.untouched q is'.later after))
       go (inr (inr same)) =
           let found : Some is.item ≡ Some is'.item =
-          sym is.touched ∙ ap (λ k. first_touched (taken_at basis history k) used) same ∙ is'.touched in
+          sym is.touched ∙ ap (λ k. first_used basis.origin.tables (changes_at basis history k) used) same ∙ is'.touched in
           same_some o o' (sym is.is_told
           ∙ ap (λ k. conflict_line basis.origin.tables k is.item) same
-          ∙ ap (λ (i : GenidItem). conflict_line basis.origin.tables q i) (same_some is.item is'.item found)
+          ∙ ap (λ (i : Used). conflict_line basis.origin.tables q i) (same_some is.item is'.item found)
           ∙ is'.is_told)
 
   same_duplicate : (p q : ℕ) (ops : List RowOp) (table table' key key' : List ℕ) → p ≡ last → q ≡ last → IsDuplicate basis (view_of basis history) begin p used ops table key → IsDuplicate basis (view_of basis history) begin q used ops table' key' →
@@ -133,7 +133,7 @@ IsOutcomes now name number outcome added =
     (added ≡ []) ⊎ ((begin : ℕ) × (level : Level) × (added ≡ Commit (now + 1) name number begin level ∷ []) × (outcome ≡ reply.Committed (now + 1)))
 
 -- a right outcome of the whole history that is timely is the decision of its moment
-module _ (basis : Basis) (history added later : List EntryLine) (name : List ℕ) (t : Transaction) (begin : ℕ) (used : List GenidItem)
+module _ (basis : Basis) (history added later : List EntryLine) (name : List ℕ) (t : Transaction) (begin : ℕ) (used : List Used)
     (base : basis.origin.position ≤ begin) (begun : begin ≤ last_position basis.origin history)
     (its : transaction_of basis.language name t.number basis.script.body ≡ Some t)
     (is_new : (k : ℕ) (level : Level) → entry_at basis.origin history k ≡ Some (Commit k name t.number begin level) → ⊥) where
@@ -146,8 +146,8 @@ module _ (basis : Basis) (history added later : List EntryLine) (name : List ℕ
   abbrev ops_at : List RowOp
   ops_at = (alone_on basis (rows_at basis history begin) t.texts).ops
 
-  taken_is : (k : ℕ) → begin < k → k ≤ end → taken_at basis whole k ≡ taken_at basis history k
-  taken_is k after within = taken_front basis history (added ++ later) k (omega (arith, base, after)) within
+  changes_are : (k : ℕ) → begin < k → k ≤ end → changes_at basis whole k ≡ changes_at basis history k
+  changes_are k after within = changes_front basis history (added ++ later) k (omega (arith, base, after)) within
 
   untouched_is : (position : ℕ) → position ≤ end + 1 → IsUntouched (view_of basis whole) begin position used → IsUntouched (view_of basis history) begin position used
   untouched_is position within is = untouched_front basis history (added ++ later) begin position used base within is
@@ -158,7 +158,7 @@ module _ (basis : Basis) (history added later : List EntryLine) (name : List ℕ
     later = is.later;
     within = within;
     item = is.item;
-    touched = ap (λ (taken : List GenidItem). first_touched taken used) (sym (taken_is position is.later within)) ∙ is.touched;
+    touched = ap (λ (changes : List Change). first_used basis.origin.tables changes used) (sym (changes_are position is.later within)) ∙ is.touched;
     untouched = untouched_is position (omega (arith, within)) is.untouched;
     is_told = is.is_told;
   }

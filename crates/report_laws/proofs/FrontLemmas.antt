@@ -2,12 +2,11 @@
 use Rattle.std.proofs.Common.{◌≡◌, ℕ, ◌+◌, ◌-◌, ◌<◌, ◌≤◌, List, [], ◌∷◌, ◌++◌, length, refl, sym, ap, arith, ◌∙◌, Option, Some, unwrap_or, append_assoc}
 use Rattle.std.proofs.lemmas.List.{append-nil, take-append-le, length-append}
 use Rattle.std.specs.List.{slice_get}
-use Rattle.cdb_values.specs.Changes.{genids_taken}
 use Rattle.cdb_values.specs.Rows.{Rows}
-use Rattle.report_laws.specs.History.{Origin, Basis, rows_after, rows_among, states_from, states_of, rows_at, entry_at, entries_before, last_position, changes_by, changes_at, taken_at, view_of}
+use Rattle.cdb_values.specs.declared.rows.Change.{Change}
+use Rattle.report_laws.specs.History.{Origin, Basis, rows_after, rows_among, states_from, states_of, rows_at, entry_at, entries_before, last_position, changes_by, changes_at, view_of}
 use Rattle.report_laws.specs.View.{IsUntouched}
-use Rattle.session_language.specs.Touched.{first_touched}
-use Rattle.cdb_values.specs.declared.items.GenidItem.{GenidItem}
+use Rattle.session_language.specs.Touched.{Used, first_used}
 use Rattle.report_text.specs.declared.reports.EntryLine.{EntryLine}
 use Rattle.session_language.proofs.EachLaws.{get_front, get_next}
 
@@ -47,13 +46,10 @@ module _ (basis : Basis) (es fs : List EntryLine) where
       ap (λ (before : List EntryLine). changes_by basis (states_of basis before) (entry_at basis.origin (es ++ fs) k)) (take-append-le (k - (basis.origin.position + 1)) es fs inside)
       ∙ ap (λ (found : Option EntryLine). changes_by basis (states_of basis (entries_before basis.origin es k)) found) (entry_front k first within)
 
-  pub taken_front : (k : ℕ) → basis.origin.position < k → k ≤ last_position basis.origin es → taken_at basis (es ++ fs) k ≡ taken_at basis es k
-  taken_front k first within = ap genids_taken (changes_front k first within)
-
-  pub untouched_front : (begin position : ℕ) (used : List GenidItem) → basis.origin.position ≤ begin → position ≤ last_position basis.origin es + 1 →
+  pub untouched_front : (begin position : ℕ) (used : List Used) → basis.origin.position ≤ begin → position ≤ last_position basis.origin es + 1 →
       IsUntouched (view_of basis (es ++ fs)) begin position used → IsUntouched (view_of basis es) begin position used
   untouched_front begin position used base within was = λ j after before.
-      ap (λ (taken : List GenidItem). first_touched taken used) (sym (taken_front j (omega (arith, base, after)) (omega (arith, before, within)))) ∙ was j after before
+      ap (λ (changes : List Change). first_used basis.origin.tables changes used) (sym (changes_front j (omega (arith, base, after)) (omega (arith, before, within)))) ∙ was j after before
 
 -- the entry at the next position
 pub entry_next : (origin : Origin) (es fs : List EntryLine) (e : EntryLine) → entry_at origin (es ++ e ∷ fs) (last_position origin es + 1) ≡ Some e

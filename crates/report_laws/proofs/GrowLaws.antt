@@ -2,10 +2,11 @@
 use Rattle.std.proofs.Common.{◌≡◌, ℕ, ◌≤◌, List, [], ◌∷◌, ◌++◌, refl, sym, ap, arith, ◌∙◌, inl, inr}
 use Rattle.cdb_values.specs.Rows.{Rows}
 use Rattle.cdb_values.specs.declared.rows.RowOp.{RowOp}
-use Rattle.report_laws.specs.History.{Basis, alone_on, used_by, last_position, view_of}
+use Rattle.report_laws.specs.History.{Basis, alone_on, last_position, view_of}
 use Rattle.report_laws.specs.Told.{IsTold, IsWhole, IsCut, MayCut, alone_at}
 use Rattle.report_laws.specs.Work.{Transaction, End, Nowhere, Item, Does, Lone}
 use Rattle.report_text.specs.declared.reports.EntryLine.{EntryLine}
+use Rattle.session_language.specs.Touched.{used_at}
 use Rattle.report_text.specs.declared.reports.ReplyLine.{ReplyLine}
 use Rattle.report_text.specs.declared.reports.ReplyLine.TheVariants as reply
 use Rattle.report_laws.proofs.HistoryLaws.{last_more, rows_stay}
@@ -54,7 +55,7 @@ module _ (basis : Basis) (es : List EntryLine) (e : EntryLine) where
         is_ran = was.is_ran ∙ sym (alone_stays t was.begin within);
         last = was.last;
         ends = was.ends;
-        right = all_right_stay basis es e name t was.begin (used_by was.ran) was.base was.ran.ops was.last was.right;
+        right = all_right_stay basis es e name t was.begin (used_at t.level was.ran) was.base was.ran.ops was.last was.right;
         says = was.says;
       }
 

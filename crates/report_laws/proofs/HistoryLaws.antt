@@ -1,29 +1,19 @@
 -- How the history and what speaks of it stay when it grows by an entry.
-use Rattle.std.proofs.Common.{◌≡◌, ℕ, ◌+◌, ◌-◌, ◌<◌, ◌≤◌, List, [], ◌∷◌, ◌++◌, length, refl, ap, arith, ◌∙◌, Option, Some, take, false}
+use Rattle.std.proofs.Common.{◌≡◌, ℕ, ◌+◌, ◌-◌, ◌<◌, ◌≤◌, List, [], ◌∷◌, ◌++◌, length, ap, arith, ◌∙◌, Option, Some, take, false}
 use Rattle.std.proofs.lemmas.List.{length-append}
 use Rattle.std.proofs.Math.Seq.{take-append_seam}
 use Rattle.std.specs.List.{AllByRecursion}
-use Rattle.cdb_values.specs.Rows.{Rows}
-use Rattle.cdb_values.specs.Changes.{genids_taken, taken_by}
-use Rattle.cdb_values.proofs.ChangeLaws.{take_the_same}
-use Rattle.report_laws.specs.History.{is_entry_of, Origin, Basis, rows_after, rows_among, states_of, rows_at, ops_of, entry_at, changes_by, changes_at, taken_at, last_position, view_of}
+use Rattle.cdb_values.specs.declared.rows.Change.{Change}
+use Rattle.report_laws.specs.History.{is_entry_of, Origin, Basis, rows_after, states_of, rows_at, entry_at, changes_by, changes_at, last_position, view_of}
 use Rattle.report_laws.specs.View.{IsUntouched}
-use Rattle.session_language.specs.Touched.{first_touched}
-use Rattle.cdb_values.specs.declared.items.GenidItem.{GenidItem}
+use Rattle.session_language.specs.Touched.{Used, first_used}
 use Rattle.report_text.specs.declared.reports.EntryLine.{EntryLine}
-use Rattle.report_text.specs.declared.reports.EntryLine.TheVariants.{Setup, Commit}
 use Rattle.session_language.proofs.EachLaws.{all_found}
-use Rattle.report_laws.proofs.FrontLemmas.{rows_front, entry_front, taken_front, entry_next, rows_next}
+use Rattle.report_laws.proofs.FrontLemmas.{rows_front, entry_front, changes_front, entry_next, rows_next}
 
 -- the history with an entry more is one position longer
 pub last_more : (origin : Origin) (es : List EntryLine) (e : EntryLine) → last_position origin (es ++ e ∷ []) ≡ last_position origin es + 1
 last_more origin es e = omega (arith, length-append es (e ∷ []))
-
--- an entry takes away what its operations take away
-taken_by_one : (basis : Basis) (states : List Rows) (e : EntryLine) → genids_taken (changes_by basis states (Some e)) ≡ taken_by (ops_of basis states e)
-taken_by_one basis states (Setup position) = refl
-taken_by_one basis states (Commit position session txn begin level) =
-    take_the_same (ops_of basis states (Commit position session txn begin level)) (rows_among basis.origin states (position - 1)).next
 
 -- where no entry is a transaction's, none at any position is
 pub none_stands : (origin : Origin) (es : List EntryLine) (session : List ℕ) (txn : ℕ) → AllByRecursion (λ e. is_entry_of session txn e ≡ false) es →
@@ -50,22 +40,19 @@ module _ (basis : Basis) (es : List EntryLine) (e : EntryLine) where
   pub entry_new : entry_at basis.origin (es ++ e ∷ []) (now + 1) ≡ Some e
   entry_new = entry_next basis.origin es [] e
 
-  -- so what an entry takes away stays
-  pub taken_stays : (k : ℕ) → basis.origin.position < k → k ≤ now → taken_at basis (es ++ e ∷ []) k ≡ taken_at basis es k
-  taken_stays k first within = taken_front basis es (e ∷ []) k first within
+  -- so what an entry changes stays
+  pub changes_stay : (k : ℕ) → basis.origin.position < k → k ≤ now → changes_at basis (es ++ e ∷ []) k ≡ changes_at basis es k
+  changes_stay k first within = changes_front basis es (e ∷ []) k first within
 
-  changes_new : changes_at basis (es ++ e ∷ []) (now + 1) ≡ changes_by basis (states_of basis es) (Some e)
+  -- and the new one changes what it does behind the rows before it
+  pub changes_new : changes_at basis (es ++ e ∷ []) (now + 1) ≡ changes_by basis (states_of basis es) (Some e)
   changes_new =
       let at : basis.origin.position + length es + 1 - (basis.origin.position + 1) ≡ length es = omega arith in
       ap (λ k. changes_by basis (states_of basis (take k (es ++ e ∷ []))) (entry_at basis.origin (es ++ e ∷ []) (now + 1))) at
       ∙ ap (λ (before : List EntryLine). changes_by basis (states_of basis before) (entry_at basis.origin (es ++ e ∷ []) (now + 1))) (take-append_seam es (e ∷ []))
       ∙ ap (λ (found : Option EntryLine). changes_by basis (states_of basis es) found) entry_new
 
-  -- and what the new one takes away is what its operations take away
-  pub taken_new : taken_at basis (es ++ e ∷ []) (now + 1) ≡ taken_by (ops_of basis (states_of basis es) e)
-  taken_new = ap genids_taken changes_new ∙ taken_by_one basis (states_of basis es) e
-
   -- what no entry touched stays so
-  pub untouched_stays : (begin position : ℕ) (used : List GenidItem) → basis.origin.position ≤ begin → position ≤ now + 1 → IsUntouched (view_of basis es) begin position used → IsUntouched (view_of basis (es ++ e ∷ [])) begin position used
+  pub untouched_stays : (begin position : ℕ) (used : List Used) → basis.origin.position ≤ begin → position ≤ now + 1 → IsUntouched (view_of basis es) begin position used → IsUntouched (view_of basis (es ++ e ∷ [])) begin position used
   untouched_stays begin position used base within was = λ j after before.
-      ap (λ (taken : List GenidItem). first_touched taken used) (taken_stays j (omega (arith, base, after)) (omega (arith, before, within))) ∙ was j after before
+      ap (λ (changes : List Change). first_used basis.origin.tables changes used) (changes_stay j (omega (arith, base, after)) (omega (arith, before, within))) ∙ was j after before

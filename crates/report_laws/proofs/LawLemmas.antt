@@ -29,7 +29,7 @@ use Rattle.report_laws.proofs.ToldLaws.{told_append}
 use Rattle.session_language.proofs.AllLaws.{all_behind}
 
 -- a member that stands behind others is right after them
-each_at : {A : Type 0} (P : List A → A → Type 0) (before xs : List A) (x : A) (ys : List A) → EachAfter P before (xs ++ x ∷ ys) → P (before ++ xs) x
+pub each_at : {A : Type 0} (P : List A → A → Type 0) (before xs : List A) (x : A) (ys : List A) → EachAfter P before (xs ++ x ∷ ys) → P (before ++ xs) x
 each_at P before [] x ys each = subst (λ b. P b x) (sym (append_none before)) each.0
   where
     append_none : {A : Type 0} (zs : List A) → zs ++ [] ≡ zs

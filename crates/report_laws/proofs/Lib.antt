@@ -13,6 +13,7 @@ pub mod OutcomeLemmas
 pub mod PieceLaws
 pub mod PlainLaws
 pub mod RestLemmas
+pub mod SerialLaws
 pub mod SoFarLemmas
 pub mod SpelledLaws
 pub mod ToldLaws

@@ -6,20 +6,20 @@ use Rattle.cdb_values.specs.Good.{IsGood, first_broken}
 use Rattle.cdb_values.specs.Rows.{Rows, apply_all}
 use Rattle.cdb_values.specs.declared.rows.RowOp.{RowOp}
 use Rattle.report_laws.specs.History.{Origin, Basis, entry_at, last_position, view_of}
-use Rattle.session_language.specs.Touched.{first_touched}
-use Rattle.cdb_values.specs.declared.items.GenidItem.{GenidItem}
+use Rattle.session_language.specs.Touched.{Used, first_used}
+use Rattle.cdb_values.specs.declared.rows.Change.{Change}
 use Rattle.report_laws.specs.Outcome.{IsRight, IsCommitted, IsConflict, IsDuplicate, IsEntered}
 use Rattle.report_laws.specs.Work.{Transaction}
 use Rattle.report_text.specs.declared.reports.EntryLine.{EntryLine}
 use Rattle.report_text.specs.declared.reports.ReplyLine.{ReplyLine}
 use Rattle.report_text.specs.declared.reports.ReplyLine.TheVariants as reply
-use Rattle.report_laws.proofs.HistoryLaws.{last_more, rows_stay, entry_stays, taken_stays, untouched_stays}
+use Rattle.report_laws.proofs.HistoryLaws.{last_more, rows_stay, entry_stays, changes_stay, untouched_stays}
 
 -- a position behind the origin at which an entry stands is in the history
 pub entry_within : (origin : Origin) (es : List EntryLine) (d : EntryLine) (k : ℕ) → entry_at origin es k ≡ Some d → k ≤ last_position origin es
 entry_within origin es d k is = let inside : k - (origin.position + 1) < length es = slice_get_within es _ d is in omega (arith, inside)
 
-module _ (basis : Basis) (es : List EntryLine) (e : EntryLine) (name : List ℕ) (t : Transaction) (begin : ℕ) (used : List GenidItem) (base : basis.origin.position ≤ begin) where
+module _ (basis : Basis) (es : List EntryLine) (e : EntryLine) (name : List ℕ) (t : Transaction) (begin : ℕ) (used : List Used) (base : basis.origin.position ≤ begin) where
   abbrev more : List EntryLine
   more = es ++ e ∷ []
 
@@ -47,7 +47,7 @@ module _ (basis : Basis) (es : List EntryLine) (e : EntryLine) (name : List ℕ)
         later = was.later;
         within = omega (arith, within, last_more basis.origin es e);
         item = was.item;
-        touched = ap (λ (taken : List GenidItem). first_touched taken used) (taken_stays basis es e position (omega (arith, base, later)) within) ∙ was.touched;
+        touched = ap (λ (changes : List Change). first_used basis.origin.tables changes used) (changes_stay basis es e position (omega (arith, base, later)) within) ∙ was.touched;
         untouched = untouched_stays basis es e begin position used base (omega (arith, within)) was.untouched;
         is_told = was.is_told;
       }

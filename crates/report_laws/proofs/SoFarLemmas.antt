@@ -14,7 +14,7 @@ use Rattle.report_laws.specs.History.{Basis, alone_on, rows_at}
 use Rattle.report_laws.specs.Play.{number_by, number_told}
 use Rattle.report_laws.specs.Told.{lines_of}
 use Rattle.report_laws.specs.Work.{Transaction, Does, Lone, Place, next_by, next_place, place_after}
-use Rattle.cdb_values.specs.declared.items.GenidItem.{GenidItem}
+use Rattle.session_language.specs.Touched.{Used}
 use Rattle.report_text.specs.declared.reports.EntryLine.{EntryLine}
 use Rattle.report_text.specs.declared.reports.EntryLine.TheVariants.{Setup, Commit}
 use Rattle.report_text.specs.declared.reports.Line.{Line}
@@ -149,12 +149,12 @@ module _ (basis : Basis) (history added : List EntryLine) (p : Place) (name text
   none_ended : (number : ℕ) (pending : Option (List (List ℕ))) → added ≡ [] → AllByRecursion (IsEndedAt number pending) added
   none_ended number pending none = subst (λ (es : List EntryLine). AllByRecursion (IsEndedAt number pending) es) (sym none) tt
 
-  commit_ended : (t : Transaction) (begin position : ℕ) (used : List GenidItem) (ops : List RowOp) (number : ℕ) (pending : Option (List (List ℕ))) → t.number < first_left number pending →
+  commit_ended : (t : Transaction) (begin position : ℕ) (used : List Used) (ops : List RowOp) (number : ℕ) (pending : Option (List (List ℕ))) → t.number < first_left number pending →
       Commits basis history name t begin used position ops added → AllByRecursion (IsEndedAt number pending) added
   commit_ended t begin position used [] number pending less is = none_ended number pending is.1
   commit_ended t begin position used (op ∷ ops) number pending less is = subst (λ (es : List EntryLine). AllByRecursion (IsEndedAt number pending) es) (sym is.appends) ((refl, less), tt)
 
-  decided_ended : (t : Transaction) (begin : ℕ) (used : List GenidItem) (ops : List RowOp) (o : ReplyLine) (number : ℕ) (pending : Option (List (List ℕ))) → t.number < first_left number pending →
+  decided_ended : (t : Transaction) (begin : ℕ) (used : List Used) (ops : List RowOp) (o : ReplyLine) (number : ℕ) (pending : Option (List (List ℕ))) → t.number < first_left number pending →
       Decides basis history name t begin used ops o added → AllByRecursion (IsEndedAt number pending) added
   decided_ended t begin used ops o number pending less (inl (position, tells, is)) = commit_ended t begin position used ops number pending less is
   decided_ended t begin used ops o number pending less (inr (inl (position, none, within, is))) = none_ended number pending none

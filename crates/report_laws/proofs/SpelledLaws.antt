@@ -1,6 +1,6 @@
 -- A lawful report in the order of play, whose numbers fit their types, is of the grammar, where what it is
 -- told of is called by names and has rows of the grammar.
-use Rattle.std.proofs.Common.{◌≡◌, ℕ, zero, suc, ◌-◌, ◌==◌, List, [], ◌∷◌, ◌++◌, map, refl, sym, subst, ap, Bool, true, false, not, if◌then◌else◌, Option, Some, None, unwrap_or, inl, inr, pos, negsuc}
+use Rattle.std.proofs.Common.{◌≡◌, ℕ, zero, suc, ◌-◌, ◌==◌, List, [], ◌∷◌, ◌++◌, map, refl, sym, subst, ap, Bool, true, false, not, if◌then◌else◌, Option, Some, None, unwrap_or, inl, inr, pos, negsuc, arith, codes}
 use Rattle.std.specs.Prelude.{slice_get}
 use Rattle.std.specs.List.{AllByRecursion}
 use Rattle.std.specs.Str.{bytes_eq, is_utf8}
@@ -10,7 +10,8 @@ use Rattle.cdb_values.specs.declared.rows.RowOp.{RowOp}
 use Rattle.cdb_values.specs.declared.rows.RowOp.TheVariants.{Insert, Update, Delete}
 use Rattle.cdb_values.specs.declared.rows.RowRef.TheVariants.{Base, Own}
 use Rattle.cdb_values.specs.declared.rows.Version.{Version}
-use Rattle.cdb_values.specs.declared.items.GenidItem.{GenidItem}
+use Rattle.session_language.specs.Touched.{Used, TheVersion, TheRange, used_at}
+use Rattle.session_language.specs.Intervals.{keys_at}
 use Rattle.cdb_values.specs.declared.tables.KeyDef.{KeyDef}
 use Rattle.cdb_values.specs.declared.tables.TableDef.{TableDef}
 use Rattle.cdb_values.specs.declared.values.Value.{Value}
@@ -20,10 +21,10 @@ use Rattle.script_form.specs.declared.scripts.Act.TheVariants as act
 use Rattle.script_form.specs.declared.scripts.BodyLine.{BodyLine}
 use Rattle.report_laws.specs.Cut.{cuts}
 use Rattle.session_language.specs.Each.{StandsIn}
-use Rattle.report_laws.specs.History.{Basis, ops_alone, ops_of, rows_after, rows_among, states_from, states_of, rows_at, used_by, view_of}
+use Rattle.report_laws.specs.History.{Basis, ops_alone, ops_of, rows_after, rows_among, states_from, states_of, rows_at, view_of}
 use Rattle.session_language.specs.Language.{Language, Answered, Kind, BeginText, CommitText, RollbackText, LevelText, OtherText, alone_from}
 use Rattle.report_laws.specs.Lawful.{Lawful}
-use Rattle.report_laws.specs.Outcome.{IsRight, Ends, IsOneDecision, IsDecided, line_by, name_or_none, key_name}
+use Rattle.report_laws.specs.Outcome.{IsRight, Ends, IsOneDecision, IsDecided, line_by, range_line, conflict_line, name_or_none, name_of_table, name_of_key, key_name}
 use Rattle.report_laws.specs.Play.{InPlayOrder, InTurns, IsTurnOf, IsDownLine, opened_behind}
 use Rattle.report_laws.specs.Spelled.{IsNamedTable, SaysAsNamed, IsSpelled}
 use Rattle.session_language.specs.Spelled.{IsToldValue, IsToldRow, SpellsReply, WritesRow, HaveRows, KeepsRows}
@@ -122,6 +123,39 @@ told_by_name : (tables : List TableDef) (place : ℕ) → AllByRecursion IsNamed
 told_by_name [] place all position genid answer is = none_is answer is
 told_by_name (table ∷ tables) zero all position genid answer is = subst SpellsReply (the_same (reply.ConflictGenid position table.name genid) answer is) all.0.0
 told_by_name (table ∷ tables) (suc place) all position genid answer is = told_by_name tables place all.1 position genid answer is
+
+-- a conflict over an interval names its table, and its key or all of the table
+all_named : IsName (codes "all")
+all_named = record { bytes = refl; begun = refl; short = omega arith }
+
+table_called : (tables : List TableDef) (place : ℕ) → AllByRecursion IsNamedTable tables → (name : List ℕ) → name_or_none (slice_get tables place) ≡ Some name → IsName name
+table_called [] place all name is = none_is name is
+table_called (table ∷ tables) zero all name is = subst IsName (the_same table.name name is) all.0.0
+table_called (table ∷ tables) (suc place) all name is = table_called tables place all.1 name is
+
+keys_called : (tables : List TableDef) (place : ℕ) → AllByRecursion IsNamedTable tables → AllByRecursion (λ (key : KeyDef). IsKey key.name) (keys_at tables place)
+keys_called [] place all = tt
+keys_called (table ∷ tables) zero all = all.0.1
+keys_called (table ∷ tables) (suc place) all = keys_called tables place all.1
+
+key_called : (keys : List KeyDef) (key : Option ℕ) → AllByRecursion (λ (key : KeyDef). IsKey key.name) keys → (name : List ℕ) → name_of_key keys key ≡ Some name → IsName name
+key_called keys None all name is = subst IsName (the_same (codes "all") name is) all_named
+key_called [] (Some place) all name is = none_is name is
+key_called (key ∷ keys) (Some zero) all name is = subst IsName (the_same key.name name is) all.0.name
+key_called (key ∷ keys) (Some (suc place)) all name is = key_called keys (Some place) all.1 name is
+
+range_told : (position : ℕ) (table key : Option (List ℕ)) (answer : ReplyLine) → ((name : List ℕ) → table ≡ Some name → IsName name) → ((name : List ℕ) → key ≡ Some name → IsName name) →
+    range_line position table key ≡ Some answer → SpellsReply answer
+range_told position None key answer tables keys is = none_is answer is
+range_told position (Some table) None answer tables keys is = none_is answer is
+range_told position (Some table) (Some key) answer tables keys is =
+    subst SpellsReply (the_same (reply.ConflictRange position table key) answer is) (tables table refl, keys key refl)
+
+conflict_told : (tables : List TableDef) (position : ℕ) (item : Used) (answer : ReplyLine) → AllByRecursion IsNamedTable tables → conflict_line tables position item ≡ Some answer → SpellsReply answer
+conflict_told tables position (TheVersion item) answer all is = told_by_name tables item.table all position item.genid answer is
+conflict_told tables position (TheRange interval) answer all is =
+    range_told position (name_of_table tables interval.table) (name_of_key (keys_at tables interval.table) interval.key) answer
+    (table_called tables interval.table all) (key_called (keys_at tables interval.table) interval.key (keys_called tables interval.table all)) is
 
 broken_step : (b : Bool) (key : KeyDef) (later : Option KeyDef) (found : KeyDef) → IsKey key.name → (later ≡ Some found → IsKey found.name) → (if b then Some key else later) ≡ Some found → IsKey found.name
 broken_step true key later found is more e = subst (λ (k : KeyDef). IsKey k.name) (the_same key found e) is
@@ -243,7 +277,7 @@ module _ (basis : Basis) (spelled : IsSpelled basis) where
   rows_spelled es position =
       all_got HasRows (states_of basis es) (position - basis.origin.position) basis.origin.rows (states_spelled (basis.origin.rows ∷ []) es (spelled.rows, tt)) spelled.rows
 
-  right_spelled : (es : List EntryLine) (name : List ℕ) (t : Transaction) (begin : ℕ) (used : List GenidItem) (ops : List RowOp) (answer : ReplyLine) →
+  right_spelled : (es : List EntryLine) (name : List ℕ) (t : Transaction) (begin : ℕ) (used : List Used) (ops : List RowOp) (answer : ReplyLine) →
       IsDecided answer → IsRight basis (view_of basis es) name t begin used ops answer → SpellsReply answer
   right_spelled es name t begin used ops (reply.Begin position) decided right = absurd decided
   right_spelled es name t begin used ops (reply.Row row) decided right = absurd decided
@@ -254,22 +288,22 @@ module _ (basis : Basis) (spelled : IsSpelled basis) where
   right_spelled es name t begin used ops reply.RolledBack decided right = absurd decided
   right_spelled es name t begin used ops (reply.Committed position) decided right = tt
   right_spelled es name t begin used ops (reply.ConflictGenid position table genid) decided right =
-      told_by_name basis.origin.tables right.item.table spelled.tables position right.item.genid (reply.ConflictGenid position table genid) right.is_told
+      conflict_told basis.origin.tables position right.item (reply.ConflictGenid position table genid) spelled.tables right.is_told
   right_spelled es name t begin used ops (reply.ConflictRange position table key) decided right =
-      told_by_name basis.origin.tables right.item.table spelled.tables position right.item.genid (reply.ConflictRange position table key) right.is_told
+      conflict_told basis.origin.tables position right.item (reply.ConflictRange position table key) spelled.tables right.is_told
   right_spelled es name t begin used ops (reply.Duplicate position table key) decided right =
       first_named basis.origin.tables (apply_all (rows_at basis es position) ops).tables table key spelled.tables right.breaks
   right_spelled es name t begin used ops (reply.Lost node down) decided right = absurd decided
   right_spelled es name t begin used ops (reply.NoMajority up nodes) decided right = absurd decided
   right_spelled es name t begin used ops reply.NoMemory decided right = absurd decided
 
-  decision_spelled : (es : List EntryLine) (name : List ℕ) (t : Transaction) (begin : ℕ) (used : List GenidItem) (ops : List RowOp) (last : List ReplyLine) →
+  decision_spelled : (es : List EntryLine) (name : List ℕ) (t : Transaction) (begin : ℕ) (used : List Used) (ops : List RowOp) (last : List ReplyLine) →
       IsOneDecision last → AllByRecursion (IsRight basis (view_of basis es) name t begin used ops) last → AllByRecursion SpellsReply last
   decision_spelled es name t begin used ops [] one right = absurd one
   decision_spelled es name t begin used ops (outcome ∷ []) one right = (right_spelled es name t begin used ops outcome one right.0, tt)
   decision_spelled es name t begin used ops (outcome ∷ other ∷ more) one right = absurd one
 
-  end_spelled : (es : List EntryLine) (name : List ℕ) (t : Transaction) (begin : ℕ) (used : List GenidItem) (ops : List RowOp) (end : End) (last : List ReplyLine) →
+  end_spelled : (es : List EntryLine) (name : List ℕ) (t : Transaction) (begin : ℕ) (used : List Used) (ops : List RowOp) (end : End) (last : List ReplyLine) →
       Ends end last → AllByRecursion (IsRight basis (view_of basis es) name t begin used ops) last → AllByRecursion SpellsReply last
   end_spelled es name t begin used ops ByCommit last ends right = decision_spelled es name t begin used ops last ends right
   end_spelled es name t begin used ops ByRollback last ends right = subst (AllByRecursion SpellsReply) (sym ends) (tt, tt)
@@ -284,7 +318,7 @@ module _ (basis : Basis) (spelled : IsSpelled basis) where
   whole_spelled : (es : List EntryLine) (name : List ℕ) (t : Transaction) (mine : List ReplyLine) → AreTexts t.texts → IsWhole basis (view_of basis es) name t mine → AllByRecursion SpellsReply mine
   whole_spelled es name t mine are w =
       subst (AllByRecursion SpellsReply) (sym w.says)
-      (tt, all_append SpellsReply w.ran.replies w.last (ran_spelled es t w.begin w.ran are w.is_ran) (end_spelled es name t w.begin (used_by w.ran) w.ran.ops t.end w.last w.ends w.right))
+      (tt, all_append SpellsReply w.ran.replies w.last (ran_spelled es t w.begin w.ran are w.is_ran) (end_spelled es name t w.begin (used_at t.level w.ran) w.ran.ops t.end w.last w.ends w.right))
 
   cut_short_spelled : (es : List EntryLine) (t : Transaction) (mine : List ReplyLine) → AreTexts t.texts → IsCut basis (view_of basis es) t mine → AllByRecursion SpellsReply mine
   cut_short_spelled es t mine are c =

@@ -10,7 +10,7 @@ use Rattle.session_language.specs.Language.{Answered, alone_from, Kind, BeginTex
 use Rattle.session_language.specs.Answers.{Answers}
 use Rattle.report_laws.specs.Cut.{cuts}
 use Rattle.session_language.specs.Each.{StandsIn}
-use Rattle.report_laws.specs.History.{Basis, alone_on, used_by, rows_at, entry_at, last_position, view_of}
+use Rattle.report_laws.specs.History.{Basis, alone_on, rows_at, entry_at, last_position, view_of}
 use Rattle.report_laws.specs.One.{IsUncutLine}
 use Rattle.report_laws.specs.Outcome.{IsRight, IsDecided, IsOneDecision, Ends}
 use Rattle.report_laws.specs.Play.{IsTurn, was_cut, IsTimely, IsAppended, number_by, is_own_by}
@@ -18,6 +18,7 @@ use Rattle.session_language.specs.Replies.{is_last_of, is_outcome, are_up_to}
 use Rattle.report_laws.specs.Told.{IsTold, IsWhole, alone_at}
 use Rattle.report_laws.specs.Work.{Transaction, Item, Does, Lone, Place, ByCommit, ByRollback, WithItsLine, transaction, with_open, next_by, transaction_of}
 use Rattle.report_text.specs.declared.reports.EntryLine.{EntryLine}
+use Rattle.session_language.specs.Touched.{used_at}
 use Rattle.report_text.specs.declared.reports.EntryLine.TheVariants.{Commit}
 use Rattle.report_text.specs.declared.reports.Line.{Line}
 use Rattle.report_text.specs.declared.reports.ReplyLine.{ReplyLine}
@@ -53,7 +54,7 @@ module _ (basis : Basis) (history : List EntryLine) where
   pub record IsEnding (name : List ℕ) (t : Transaction) (begin : ℕ) (front replies : List ReplyLine) (added : List EntryLine) : Type 0 where
     pub outcome : ReplyLine
     pub says : replies ≡ front ++ outcome ∷ []
-    pub decides : Decides basis history name t begin (used_by (alone_of begin t.texts)) (alone_of begin t.texts).ops outcome added
+    pub decides : Decides basis history name t begin (used_at t.level (alone_of begin t.texts)) (alone_of begin t.texts).ops outcome added
 
   -- what a line tells and appends, by its kind and the open transaction
   abbrev pub Turned : List ℕ → Place → List ℕ → Kind → Option (List (List ℕ)) → ℕ → List ReplyLine → List EntryLine → Type 0
@@ -76,7 +77,7 @@ module _ (basis : Basis) (history : List EntryLine) where
       IsEnding name t begin front replies added → IsEnding name t begin front replies' added' → (replies ≡ replies') × (added ≡ added')
   one_ending name t begin front replies replies' added added' is is' =
       let same : (is.outcome ≡ is'.outcome) × (added ≡ added') =
-      one_decision basis history name t begin (used_by (alone_of begin t.texts)) (alone_of begin t.texts).ops is.outcome is'.outcome added added' is.decides is'.decides in
+      one_decision basis history name t begin (used_at t.level (alone_of begin t.texts)) (alone_of begin t.texts).ops is.outcome is'.outcome added added' is.decides is'.decides in
       (is.says ∙ ap (λ (o : ReplyLine). front ++ o ∷ []) same.0 ∙ sym is'.says, same.1)
 
   told_same : (told replies replies' : List ReplyLine) (added added' : List EntryLine) → (replies ≡ told) × (added ≡ []) → (replies' ≡ told) × (added' ≡ []) → (replies ≡ replies') × (added ≡ added')
@@ -205,13 +206,13 @@ module _ (basis : Basis) (history added later : List EntryLine) (lines before ot
 
   -- and its outcome is right at its begin
   abbrev IsRightAt : Transaction → ℕ → ReplyLine → Type 0
-  IsRightAt t begin o = IsRight basis (view_of basis whole) name t begin (used_by (alone_at basis (view_of basis whole) t begin)) (alone_at basis (view_of basis whole) t begin).ops o
+  IsRightAt t begin o = IsRight basis (view_of basis whole) name t begin (used_at t.level (alone_at basis (view_of basis whole) t begin)) (alone_at basis (view_of basis whole) t begin).ops o
 
   right_at : (t : Transaction) (mine : List ReplyLine) (w : IsWhole basis (view_of basis whole) name t mine) (begin : ℕ) (o : ReplyLine) → w.begin ≡ begin → w.last ≡ o ∷ [] → IsRightAt t begin o
   right_at t mine w begin o at last =
       subst (λ b. IsRightAt t b o) at
-      (subst (λ (a : Answered). IsRight basis (view_of basis whole) name t w.begin (used_by a) a.ops o) w.is_ran
-      (subst (λ (os : List ReplyLine). AllByRecursion (IsRight basis (view_of basis whole) name t w.begin (used_by w.ran) w.ran.ops) os) last w.right).0)
+      (subst (λ (a : Answered). IsRight basis (view_of basis whole) name t w.begin (used_at t.level a) a.ops o) w.is_ran
+      (subst (λ (os : List ReplyLine). AllByRecursion (IsRight basis (view_of basis whole) name t w.begin (used_at t.level w.ran) w.ran.ops) os) last w.right).0)
 
   -- a line outside transactions is answered by its one reply
   lone_case : (k : Kind) (pending : Option (List (List ℕ))) (g : Given k pending) (answer : ReplyLine) (items : List Item) → number_by p.number k pending ≡ 0 → is_own_by k pending ≡ false →
@@ -250,12 +251,12 @@ module _ (basis : Basis) (history added later : List EntryLine) (lines before ot
       first_left p.number pending ≤ t.number → rest_by k pending ≡ Does t ∷ items → number_by p.number k pending ≡ t.number →
       basis.origin.position ≤ begin → begin ≤ moment basis history → IsDecided o → IsRightAt t begin o →
       replies ≡ front ++ o ∷ [] → AllByRecursion (λ r. is_outcome r ≡ false) front →
-      Decides basis history name t begin (used_by (alone_of basis history begin t.texts)) (alone_of basis history begin t.texts).ops o added
+      Decides basis history name t begin (used_at t.level (alone_of basis history begin t.texts)) (alone_of basis history begin t.texts).ops o added
   ending k pending g t items begin o front le is number base begun ends right says quiet =
-      decided basis history added later name t begin (used_by (alone_of basis history begin t.texts)) base begun (g.told t items le is).1 (λ at level. g.is_new t.number le at begin level) o ends
+      decided basis history added later name t begin (used_at t.level (alone_of basis history begin t.texts)) base begun (g.told t items le is).1 (λ at level. g.is_new t.number le at begin level) o ends
       (all_at (IsTimely (moment basis history) (moment basis history + length added)) replies o g.turn.timely (front, [], says))
       (appended_by (moment basis history) name t.number replies front o added says quiet (subst (λ n. IsAppended (moment basis history) name n replies added) number g.turn.appended))
-      (subst (λ (a : Answered). IsRight basis (view_of basis whole) name t begin (used_by a) a.ops o) same right)
+      (subst (λ (a : Answered). IsRight basis (view_of basis whole) name t begin (used_at t.level a) a.ops o) same right)
     where
       same : alone_at basis (view_of basis whole) t begin ≡ alone_of basis history begin t.texts
       same = ap (λ (rows : Rows). alone_on basis rows t.texts) (rows_front basis history (added ++ later) begin begun)

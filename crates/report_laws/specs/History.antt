@@ -1,4 +1,4 @@
--- The history, the rows at its positions, and what its entries take away.
+-- The history, the rows at its positions, and what its entries change.
 --
 -- The history is the list of entries after the base. The rows at the base are given. After the
 -- schema's entry there are its tables without rows. After a transaction's entry there are the rows
@@ -7,7 +7,7 @@
 -- The laws look at none of this: they ask a view of the history, which these entries give (`view_of`).
 use Rattle.std.specs.Prelude.{◌≡◌, ℕ, ◌+◌, ◌-◌, ◌≤◌, ◌<◌, ◌++◌, ◌∷◌, ◌==◌, ◌&&◌, ◌≢◌, [], List, Bool, false, Option, Some, None, unwrap_or, slice_get, length, take}
 use Rattle.std.specs.Str.{bytes_eq}
-use Rattle.cdb_values.specs.Changes.{changes_of, genids_taken, taken_by}
+use Rattle.cdb_values.specs.Changes.{changes_of}
 use Rattle.cdb_values.specs.Good.{IsGood}
 use Rattle.cdb_values.specs.Rows.{Rows, no_rows, apply_all}
 use Rattle.cdb_values.specs.declared.rows.Change.{Change}
@@ -16,9 +16,9 @@ use Rattle.cdb_values.specs.declared.rows.RowOp.{RowOp}
 use Rattle.cdb_values.specs.declared.tables.TableDef.{TableDef}
 use Rattle.script_form.specs.declared.scripts.Script.{Script}
 use Rattle.session_language.specs.Language.{Language, Answered, alone}
+use Rattle.session_language.specs.Touched.{used_at}
 use Rattle.report_laws.specs.View.{View, IsUntouched}
 use Rattle.report_laws.specs.Work.{Transaction, transaction_of}
-use Rattle.cdb_values.specs.declared.items.GenidItem.{GenidItem}
 use Rattle.report_text.specs.declared.reports.EntryLine.{EntryLine}
 use Rattle.report_text.specs.declared.reports.EntryLine.TheVariants.{Setup, Commit}
 
@@ -83,11 +83,6 @@ last_position origin entries = origin.position + length entries
 abbrev pub entry_at : Origin → List EntryLine → ℕ → Option EntryLine
 entry_at origin entries position = slice_get entries (position - (origin.position + 1))
 
--- the versions that a transaction uses, by what it was answered: those that its operations take away, and
--- then those that its texts use besides
-abbrev pub used_by : Answered → List GenidItem
-used_by ran = taken_by ran.ops ++ ran.uses
-
 -- what an entry changes, where these are the rows at each position before it
 abbrev pub changes_by : Basis → List Rows → Option EntryLine → List Change
 changes_by basis states None = []
@@ -104,13 +99,10 @@ abbrev pub changes_at : Basis → List EntryLine → ℕ → List Change
 changes_at basis entries position =
     changes_by basis (states_of basis (entries_before basis.origin entries position)) (entry_at basis.origin entries position)
 
--- the versions that it takes away
-abbrev pub taken_at : Basis → List EntryLine → ℕ → List GenidItem
-taken_at basis entries position = genids_taken (changes_at basis entries position)
-
 -- the history as the laws see it
 abbrev pub view_of : Basis → List EntryLine → View
 view_of basis entries = record {
+  tables = basis.origin.tables;
   rows = rows_at basis entries;
   entry = entry_at basis.origin entries;
   changes = changes_at basis entries;
@@ -125,7 +117,7 @@ is_entry_of name number (Commit position session txn begin level) = bytes_eq ses
 -- a transaction's entry is right after the history before it: it is the next position, no entry of this
 -- run is of that transaction, it began at a position before it, the transaction is one of the session's
 -- work at that level and has operations on the rows at its begin position, no entry after that
--- position touches a version that it uses, and the rows at the entry are good
+-- position touches what it uses at its level, and the rows at the entry are good
 pub record IsCommitAfter (basis : Basis) (before : View) (position : ℕ) (session : List ℕ) (txn begin : ℕ) (level : Level) : Type 0 where
   pub placed : position ≡ before.last + 1
   pub once : (k : ℕ) (e : EntryLine) → basis.origin.position < k → before.entry k ≡ Some e → is_entry_of session txn e ≡ false
@@ -136,7 +128,7 @@ pub record IsCommitAfter (basis : Basis) (before : View) (position : ℕ) (sessi
   pub ran : Answered
   pub is_ran : ran ≡ alone_on basis (before.rows begin) transaction.texts
   pub has_ops : ran.ops ≢ []
-  pub untouched : IsUntouched before begin position (used_by ran)
+  pub untouched : IsUntouched before begin position (used_at level ran)
   pub is_good : IsGood basis.origin.tables (apply_all (before.rows before.last) ran.ops).tables
 
 -- an entry is right after those before it; the schema's is the first position of all

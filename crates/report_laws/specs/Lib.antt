@@ -7,6 +7,7 @@ pub mod Outcome
 pub mod Paced
 pub mod Places
 pub mod Play
+pub mod Serial
 pub mod Spelled
 pub mod Told
 pub mod View

@@ -12,8 +12,9 @@ use Rattle.std.specs.Str.{bytes_eq}
 use Rattle.std.specs.List.{AllByRecursion}
 use Rattle.cdb_values.specs.declared.rows.RowOp.{RowOp}
 use Rattle.report_laws.specs.Cut.{cuts}
-use Rattle.report_laws.specs.History.{Basis, alone_on, used_by}
+use Rattle.report_laws.specs.History.{Basis, alone_on}
 use Rattle.session_language.specs.Language.{Answered}
+use Rattle.session_language.specs.Touched.{used_at}
 use Rattle.report_laws.specs.Outcome.{IsRight, Ends}
 use Rattle.report_laws.specs.View.{View}
 use Rattle.report_laws.specs.Work.{Transaction, End, ByCommit, ByRollback, WithItsLine, Nowhere, Item, Does, Lone, number_of, transaction_of}
@@ -66,7 +67,7 @@ pub record IsWhole (basis : Basis) (view : View) (name : List ℕ) (t : Transact
   pub is_ran : ran ≡ alone_at basis view t begin
   pub last : List ReplyLine
   pub ends : Ends t.end last
-  pub right : AllByRecursion (IsRight basis view name t begin (used_by ran) ran.ops) last
+  pub right : AllByRecursion (IsRight basis view name t begin (used_at t.level ran) ran.ops) last
   pub says : mine ≡ reply.Begin begin ∷ (ran.replies ++ last)
 
 -- whether a transaction of that end is to be committed

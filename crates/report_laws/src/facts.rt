@@ -11,7 +11,10 @@ ghost use Rattle.report_laws.specs.Nodes.{are_few, downs};
 ghost use Rattle.report_laws.specs.One.{IsUncut};
 ghost use Rattle.report_laws.specs.Places.{GoesDown, IsLost, IsShort, survives};
 ghost use Rattle.report_laws.specs.Play.{InPlayOrder, IsDownLine};
+ghost use Rattle.report_laws.specs.Serial.{IsSerialAt};
 ghost use Rattle.report_laws.specs.Spelled.{IsSpelled};
+ghost use Rattle.session_language.specs.Serial.{IsByReads, IsSound};
+ghost use Rattle.cdb_values.specs.declared.rows.Level.TheVariants.{Serializable};
 ghost use Rattle.report_laws.specs.Told.{told, numbered, Numbered};
 ghost use Rattle.report_laws.specs.Work.{Transaction, transaction_of};
 ghost use Rattle.report_text.specs.Grammar.{IsReport};
@@ -76,6 +79,14 @@ pub fn losses_are_told_once()
 #[tactic(auto, using(crate::proofs::BeginLaws::begin_has_majority))]
 pub fn begins_find_a_majority()
     ensures majority { (basis : Basis) (report : Report) (front back : List Line) (name : List ℕ) (txn begin : ℕ) → Answers basis.language → Lawful basis report → InPlayOrder basis report → report.lines ≡ front ++ line.Session name txn (reply.Begin begin) ∷ back → are_few basis.script.nodes front ≡ false }
+{}
+
+/// Each entry of a lawful report at level serializable is serial: its transaction, run alone on the rows right before
+/// the entry and without the texts that failed, is answered as the other texts were, and has the same operations. What it
+/// is asked of: the language answers by what it reads, and the genids of the rows before the run were given, each to one row.
+#[tactic(auto, using(crate::proofs::SerialLaws::entries_serial))]
+pub fn serializable_entries_are_serial()
+    ensures serial { (basis : Basis) (report : Report) (position : ℕ) (session : List ℕ) (txn begin : ℕ) → IsByReads basis.language basis.origin.tables → IsSound basis.origin.rows → Lawful basis report → StandsIn report.entries (entries.Commit position session txn begin Serializable) → IsSerialAt basis report.entries position session txn begin }
 {}
 
 /// So no transaction begins behind a line that the one node of a script went down.

@@ -9,6 +9,7 @@
 //! | what the laws see of a history: look-ups by position | `specs/View.antt` |
 //! | what a session is told, and what is told of an entry's transaction | `specs/Told.antt` |
 //! | the right outcome of a transaction | `specs/Outcome.antt` |
+//! | what it is for an entry to be serial | `specs/Serial.antt` |
 //! | a lawful report | `specs/Lawful.antt` |
 //! | the order of play | `specs/Play.antt` |
 //! | the endings that cut a transaction short | `specs/Cut.antt` |
@@ -25,5 +26,5 @@ pub use facts::{
     begins_find_a_majority, begins_reach_what_was_told, entries_are_told, lines_have_their_places,
     losses_are_told_once, nodes_go_down_once, none_begins_behind_a_fault,
     nothing_is_lost_without_a_fault, reports_are_of_the_grammar, reports_are_one,
-    the_schema_stands_first, transactions_stand_once,
+    serializable_entries_are_serial, the_schema_stands_first, transactions_stand_once,
 };
