@@ -18,7 +18,9 @@ use Rattle.report_laws.proofs.LineLaws.{fresh_begin}
 use Rattle.report_worked.proofs.WorkedLemmas.{along_each, along_parts, EachPart, whole, entry_told, ToldAt, told_at}
 use Rattle.report_worked.specs.Small.{from_nothing, small_language}
 use Rattle.report_laws.specs.Cut.{cuts}
-use Rattle.report_laws.specs.History.{nothing_before, used_by, view_of}
+use Rattle.report_laws.specs.History.{nothing_before, view_of}
+use Rattle.session_language.specs.Touched.{used_at}
+use Rattle.cdb_values.specs.declared.rows.Level.TheVariants.{Snapshot}
 use Rattle.report_laws.specs.Outcome.{IsRight}
 use Rattle.report_laws.specs.Work.{Transaction}
 use Rattle.report_laws.proofs.AlongLaws.{AllOther, along_its, of_number}
@@ -89,8 +91,8 @@ committed_behind law =
     let at = its_told inserting [] (Does selecting ∷ []) wrong_position.lines 1 (reply.Changed 1 ∷ reply.Committed 3 ∷ []) (reply.Begin 1 ∷ reply.Changed 1 ∷ []) (reply.Committed 3) refl tt (refl, tt) refl refl refl law in
     let said : reply.Changed 1 ∷ reply.Committed 3 ∷ [] ≡ reply.Changed 1 ∷ at.last = at.says in
     let last : reply.Committed 3 ∷ [] ≡ at.last = cc in
-    let right : AllByRecursion (IsRight (from_nothing insert_select) (view_of (from_nothing insert_select) inserted_entries) (codes "a") inserting 1 (used_by (alone_at (from_nothing insert_select) (view_of (from_nothing insert_select) inserted_entries) inserting 1)) (alone_at (from_nothing insert_select) (view_of (from_nothing insert_select) inserted_entries) inserting 1).ops) (reply.Committed 3 ∷ []) =
-    subst (λ (os : List ReplyLine). AllByRecursion (IsRight (from_nothing insert_select) (view_of (from_nothing insert_select) inserted_entries) (codes "a") inserting 1 (used_by (alone_at (from_nothing insert_select) (view_of (from_nothing insert_select) inserted_entries) inserting 1)) (alone_at (from_nothing insert_select) (view_of (from_nothing insert_select) inserted_entries) inserting 1).ops) os) (sym last) at.right in
+    let right : AllByRecursion (IsRight (from_nothing insert_select) (view_of (from_nothing insert_select) inserted_entries) (codes "a") inserting 1 (used_at Snapshot (alone_at (from_nothing insert_select) (view_of (from_nothing insert_select) inserted_entries) inserting 1)) (alone_at (from_nothing insert_select) (view_of (from_nothing insert_select) inserted_entries) inserting 1).ops) (reply.Committed 3 ∷ []) =
+    subst (λ (os : List ReplyLine). AllByRecursion (IsRight (from_nothing insert_select) (view_of (from_nothing insert_select) inserted_entries) (codes "a") inserting 1 (used_at Snapshot (alone_at (from_nothing insert_select) (view_of (from_nothing insert_select) inserted_entries) inserting 1)) (alone_at (from_nothing insert_select) (view_of (from_nothing insert_select) inserted_entries) inserting 1).ops) os) (sym last) at.right in
     let stands : None ≡ Some (of_a 3 1 1) = right.0.stands in
     cc
 

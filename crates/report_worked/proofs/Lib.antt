@@ -7,6 +7,7 @@ pub mod KeyAgainLemmas
 pub mod OwnWritesLemmas
 mod ResumedLemmas
 pub mod SerialLemmas
+pub mod SkewLemmas
 pub mod SmallLaws
 pub mod TwoUpdatesLemmas
 pub mod TwoUpdatesWrongLemmas

@@ -17,6 +17,7 @@ use Rattle.report_laws.proofs.LineLaws.{fresh_begin}
 use Rattle.report_worked.proofs.WorkedLemmas.{along_each, along_parts, EachPart, whole, in_turns, is_turn, entry_told}
 use Rattle.report_worked.specs.Small.{from_nothing, small_language}
 use Rattle.cdb_values.specs.Changes.{genid_item}
+use Rattle.session_language.specs.Touched.{TheVersion}
 
 -- the transactions of the sessions
 abbrev pub inserting : Transaction
@@ -76,7 +77,7 @@ two_updates_is_lawful = record {
   replies = along_their_work (IsTold (from_nothing two_updates) (view_of (from_nothing two_updates) two_updates_entries)) (
     whole 1 (reply.Committed 2) (omega arith) (omega arith) tt (record { later = omega arith; stands = refl; untouched = λ j after before. absurd (omega (arith, after, before)); is_good = good_at_2 }) refl,
     (whole 2 (reply.Committed 3) (omega arith) (omega arith) tt (record { later = omega arith; stands = refl; untouched = λ j after before. absurd (omega (arith, after, before)); is_good = good_at_3 }) refl, tt),
-  ) (whole 2 conflict (omega arith) (omega arith) tt (record { has_ops = λ is. cc; later = omega arith; within = omega arith; item = genid_item 0 1; touched = refl; untouched = λ j after before. absurd (omega (arith, after, before)); is_told = refl }) refl, tt);
+  ) (whole 2 conflict (omega arith) (omega arith) tt (record { has_ops = λ is. cc; later = omega arith; within = omega arith; item = TheVersion (genid_item 0 1); touched = refl; untouched = λ j after before. absurd (omega (arith, after, before)); is_told = refl }) refl, tt);
   begins = (fresh_begin (nothing_before (worked_table ∷ [])) _ (codes "a") 1 (omega arith) (omega arith) tt, (tt, (tt, (fresh_begin (nothing_before (worked_table ∷ [])) _ (codes "a") 2 (omega arith) (omega arith) ((omega arith, tt), (tt, ((omega arith, tt), tt))), (fresh_begin (nothing_before (worked_table ∷ [])) _ (codes "b") 2 (omega arith) (omega arith) ((omega arith, tt), (tt, ((omega arith, tt), ((omega arith, tt), tt)))), (tt, (tt, (tt, (tt, tt)))))))));
   history = (
     (refl, refl, refl),

@@ -7,7 +7,8 @@ use Rattle.std.proofs.lemmas.Slice.Eq.{bytes_eq-Decides}
 use Rattle.script_form.specs.declared.scripts.BodyLine.{BodyLine}
 use Rattle.script_form.specs.declared.scripts.Act.{Act}
 use Rattle.script_form.specs.declared.scripts.Act.TheVariants as act
-use Rattle.report_laws.specs.History.{Basis, last_position, used_by, view_of}
+use Rattle.report_laws.specs.History.{Basis, last_position, view_of}
+use Rattle.session_language.specs.Touched.{used_at}
 use Rattle.report_laws.specs.Nodes.{downs}
 use Rattle.report_laws.specs.Play.{InTurns, IsTurn, IsTurnOf, IsTimely, IsAppended, number_told, is_own}
 use Rattle.session_language.specs.Replies.{are_up_to, is_last_of}
@@ -86,7 +87,7 @@ along_each P body lines theirs to_them of_a of_b name = go (bytes_eq (codes "a")
 
 -- a transaction is told whole, by its begin and its outcome
 pub whole : {basis : Basis} {view : View} {name : List ℕ} {t : Transaction} {mine : List ReplyLine} (begin : ℕ) (o : ReplyLine) → basis.origin.position ≤ begin → begin ≤ view.last → Ends t.end (o ∷ []) →
-    IsRight basis view name t begin (used_by (alone_at basis view t begin)) (alone_at basis view t begin).ops o → mine ≡ reply.Begin begin ∷ ((alone_at basis view t begin).replies ++ o ∷ []) → IsTold basis view name (Does t) mine
+    IsRight basis view name t begin (used_at t.level (alone_at basis view t begin)) (alone_at basis view t begin).ops o → mine ≡ reply.Begin begin ∷ ((alone_at basis view t begin).replies ++ o ∷ []) → IsTold basis view name (Does t) mine
 whole {basis} {view} {name} {t} {mine} begin o base within ends right says = inl (record { begin = begin; base = base; within = within; ran = alone_at basis view t begin; is_ran = refl; last = o ∷ []; ends = ends; right = (right, tt); says = says })
 
 -- a transaction is cut short, behind a front of its begin and its replies
@@ -105,7 +106,7 @@ entry_told {basis} {view} {lines} {position} {session} {txn} {begin} t before af
 pub record ToldAt (basis : Basis) (entries : List EntryLine) (name : List ℕ) (t : Transaction) (begin : ℕ) (back : List ReplyLine) : Type 0 where
   pub last : List ReplyLine
   pub says : back ≡ (alone_at basis (view_of basis entries) t begin).replies ++ last
-  pub right : AllByRecursion (IsRight basis (view_of basis entries) name t begin (used_by (alone_at basis (view_of basis entries) t begin)) (alone_at basis (view_of basis entries) t begin).ops) last
+  pub right : AllByRecursion (IsRight basis (view_of basis entries) name t begin (used_at t.level (alone_at basis (view_of basis entries) t begin)) (alone_at basis (view_of basis entries) t begin).ops) last
 
 no_cut : (b : Bool) → b ≡ true → b ≡ false → ⊥
 no_cut b cut uncut = cc
@@ -117,8 +118,8 @@ told_at basis entries name t begin back front outcome ends uncut (inl was) = rec
   says = first_rest begin was.begin _ _ was.says
       ∙ ap (λ (a : Answered). a.replies ++ was.last) was.is_ran
       ∙ ap (λ (b : ℕ). (alone_at basis (view_of basis entries) t b).replies ++ was.last) (sym (first_begin begin was.begin _ _ was.says));
-  right = subst (λ (b : ℕ). AllByRecursion (IsRight basis (view_of basis entries) name t b (used_by (alone_at basis (view_of basis entries) t b)) (alone_at basis (view_of basis entries) t b).ops) was.last) (sym (first_begin begin was.begin _ _ was.says))
-      (subst (λ (a : Answered). AllByRecursion (IsRight basis (view_of basis entries) name t was.begin (used_by a) a.ops) was.last) was.is_ran was.right);
+  right = subst (λ (b : ℕ). AllByRecursion (IsRight basis (view_of basis entries) name t b (used_at t.level (alone_at basis (view_of basis entries) t b)) (alone_at basis (view_of basis entries) t b).ops) was.last) (sym (first_begin begin was.begin _ _ was.says))
+      (subst (λ (a : Answered). AllByRecursion (IsRight basis (view_of basis entries) name t was.begin (used_at t.level a) a.ops) was.last) was.is_ran was.right);
 }
 told_at basis entries name t begin back front outcome ends uncut (inr was) =
     absurd (no_cut (cuts was.cause) was.is_cause (ap cuts (sym (same_last front was.front outcome was.cause (sym ends ∙ was.says))) ∙ uncut))

@@ -11,6 +11,10 @@ use Rattle.std.specs.List.{list_any}
 use Rattle.std.specs.Ordering.{is_eq}
 use Rattle.cdb_values.specs.Order.{value_order}
 use Rattle.cdb_values.specs.Rows.{Rows, takes, written}
+use Rattle.cdb_values.specs.declared.items.Edge.TheVariants.{Free}
+use Rattle.cdb_values.specs.declared.items.Interval.{Interval}
+use Rattle.cdb_values.specs.declared.rows.Level.{Level}
+use Rattle.cdb_values.specs.declared.rows.Level.TheVariants.{Serializable}
 use Rattle.cdb_values.specs.declared.rows.RowOp.{RowOp}
 use Rattle.cdb_values.specs.declared.rows.RowOp.TheVariants as op
 use Rattle.cdb_values.specs.declared.rows.RowRef.TheVariants.{Base}
@@ -22,17 +26,19 @@ use Rattle.cdb_values.specs.declared.values.Value.TheVariants.{Int}
 use Rattle.script_form.specs.CanRun.{tables_of}
 use Rattle.script_form.specs.declared.scripts.Script.{Script}
 use Rattle.report_laws.specs.History.{Basis, nothing_before}
-use Rattle.session_language.specs.Language.{Answered, Language, Kind, BeginText, CommitText, OtherText}
+use Rattle.session_language.specs.Language.{Answered, Language, Kind, BeginText, CommitText, LevelText, OtherText}
 use Rattle.report_text.specs.declared.reports.ReplyLine.{ReplyLine}
 use Rattle.report_text.specs.declared.reports.ReplyLine.TheVariants as reply
 
--- a statement: it begins or commits a transaction, inserts the row of an id and a v, selects all rows, sets the v of an
--- id's rows, or deletes an id's rows
+-- a statement: it begins or commits a transaction, inserts the row of an id and a v, selects all rows or an id's, sets the
+-- level of later transactions, sets the v of an id's rows, or deletes an id's rows
 pub data Statement : Type 0 where
   Begin : Statement
   Commit : Statement
   Insert : ℕ → ℕ → Statement
   SelectAll : Statement
+  SelectWhere : ℕ → Statement
+  SetLevel : Level → Statement
   SetWhere : ℕ → ℕ → Statement
   DeleteWhere : ℕ → Statement
 
@@ -47,6 +53,9 @@ statement_of text =
     else if bytes_eq text (codes "insert into t values(1, 10)") then Some (Insert 1 10)
     else if bytes_eq text (codes "insert into t values(2, 20)") then Some (Insert 2 20)
     else if bytes_eq text (codes "select * from t") then Some SelectAll
+    else if bytes_eq text (codes "select * from t where id = 1") then Some (SelectWhere 1)
+    else if bytes_eq text (codes "select * from t where id = 2") then Some (SelectWhere 2)
+    else if bytes_eq text (codes "set transaction serializable") then Some (SetLevel Serializable)
     else if bytes_eq text (codes "update t set v = 11 where id = 1") then Some (SetWhere 11 1)
     else if bytes_eq text (codes "update t set v = 12 where id = 1") then Some (SetWhere 12 1)
     else if bytes_eq text (codes "update t set v = 21 where id = 2") then Some (SetWhere 21 2)
@@ -56,7 +65,11 @@ statement_of text =
 
 -- an answer by these replies, with these operations of the transaction after it
 abbrev pub answered : List ReplyLine → List RowOp → Answered
-answered replies ops = record { replies = replies; ops = ops; uses = []; failed = false }
+answered replies ops = record { replies = replies; ops = ops; uses = []; ranges = []; failed = false }
+
+-- and with an interval that was read for it
+abbrev pub reading : Interval → Answered → Answered
+reading range a = record { replies = a.replies; ops = a.ops; uses = a.uses; ranges = range ∷ []; failed = a.failed }
 
 -- an answer that adds no operation
 abbrev pub only_told : List RowOp → List ReplyLine → Answered
@@ -66,6 +79,11 @@ only_told done replies = answered replies done
 pub record Condition : Type 0 where
   pub column : ℕ
   pub value : Value
+
+-- the interval of a table that is read for a condition: the rows of an id by the key, or the whole table
+abbrev pub range_of : ℕ → Option Condition → Interval
+range_of table None = record { table = table; key = None; equal = []; low = Free; high = Free; empty = false }
+range_of table (Some condition) = record { table = table; key = Some 0; equal = condition.value ∷ []; low = Free; high = Free; empty = false }
 
 -- whether a row has that value there; NULL is no value of a statement, and equals none
 abbrev pub is_value : Value → Option Value → Bool
@@ -138,7 +156,7 @@ abbrev pub inserted : List RowOp → ℕ → List Value → Answered
 inserted done table row = answered (reply.Changed 1 ∷ []) (done ++ op.Insert table row ∷ [])
 
 abbrev pub selected : List (List Version) → List RowOp → ℕ → Option Condition → Answered
-selected versions done table condition = only_told done (rows_told (rows_seen versions done table condition))
+selected versions done table condition = reading (range_of table condition) (only_told done (rows_told (rows_seen versions done table condition)))
 
 -- these versions and these own operations are changed, and what they become stands at the end
 abbrev pub changed : List RowOp → List RowOp → List RowOp → ℕ → Answered
@@ -146,17 +164,19 @@ changed stay base own rows = answered (reply.Changed rows ∷ []) (stay ++ (base
 
 abbrev pub set : List (List Version) → List RowOp → ℕ → Option Condition → ℕ → Value → Answered
 set versions done table condition column value =
-    changed (staying table condition done)
+    reading (range_of table condition)
+    (changed (staying table condition done)
     (map (updated table column value) (chosen condition (left_by done table (of_table versions table))))
     (map (rewritten column value) (moving table condition done))
-    (length (chosen condition (left_by done table (of_table versions table))) + length (moving table condition done))
+    (length (chosen condition (left_by done table (of_table versions table))) + length (moving table condition done)))
 
 abbrev pub removed : List (List Version) → List RowOp → ℕ → Option Condition → Answered
 removed versions done table condition =
-    changed (staying table condition done)
+    reading (range_of table condition)
+    (changed (staying table condition done)
     (map (deleted table) (chosen condition (left_by done table (of_table versions table))))
     (undone (moving table condition done))
-    (length (chosen condition (left_by done table (of_table versions table))) + length (moving table condition done))
+    (length (chosen condition (left_by done table (of_table versions table))) + length (moving table condition done)))
 
 -- the condition that a row has an id
 abbrev pub has_id : ℕ → Option Condition
@@ -173,6 +193,8 @@ answer_to versions done (Some Begin) = refused done error.State
 answer_to versions done (Some Commit) = refused done error.State
 answer_to versions done (Some (Insert id v)) = inserted done 0 (Int (pos id) ∷ Int (pos v) ∷ [])
 answer_to versions done (Some SelectAll) = selected versions done 0 None
+answer_to versions done (Some (SelectWhere id)) = selected versions done 0 (has_id id)
+answer_to versions done (Some (SetLevel level)) = refused done error.State
 answer_to versions done (Some (SetWhere v id)) = set versions done 0 (has_id id) 1 (Int (pos v))
 answer_to versions done (Some (DeleteWhere id)) = removed versions done 0 (has_id id)
 
@@ -183,6 +205,8 @@ kind_of (Some Begin) = BeginText
 kind_of (Some Commit) = CommitText
 kind_of (Some (Insert id v)) = OtherText
 kind_of (Some SelectAll) = OtherText
+kind_of (Some (SelectWhere id)) = OtherText
+kind_of (Some (SetLevel level)) = LevelText level
 kind_of (Some (SetWhere v id)) = OtherText
 kind_of (Some (DeleteWhere id)) = OtherText
 

@@ -9,7 +9,7 @@
 --
 -- and goes on with the lines of the sessions that stand here.
 use Rattle.std.specs.Prelude.{ℕ, ◌+◌, ◌++◌, ◌∷◌, [], List, length, true, false, Option, None, Some, codes, pos}
-use Rattle.cdb_values.specs.declared.rows.Level.TheVariants.{Snapshot}
+use Rattle.cdb_values.specs.declared.rows.Level.TheVariants.{Snapshot, Serializable}
 use Rattle.cdb_values.specs.declared.tables.TableDef.{TableDef}
 use Rattle.cdb_values.specs.declared.tables.ColumnType.TheVariants.{Integer}
 use Rattle.cdb_values.specs.declared.values.Value.TheVariants.{Int}
@@ -240,3 +240,59 @@ nothing_said = script_with []
 
 abbrev pub down_at_first_report : Report
 down_at_first_report = report_with (line.Down 1 1 true ∷ []) []
+
+-- two rows, and then two transactions, open at once, of which each reads the row that the other one changes
+abbrev pub inserting_two : List Act
+inserting_two = a_says insert_text ∷ a_says (codes "insert into t values(2, 20)") ∷ []
+
+abbrev pub skewing : List Act
+skewing =
+    a_says (codes "begin")
+    ∷ b_says (codes "begin")
+    ∷ a_says (codes "select * from t where id = 2")
+    ∷ b_says (codes "select * from t where id = 1")
+    ∷ a_says (codes "update t set v = 11 where id = 1")
+    ∷ b_says (codes "update t set v = 21 where id = 2")
+    ∷ a_says (codes "commit")
+    ∷ b_says (codes "commit")
+    ∷ []
+
+abbrev pub two_inserted_lines : List Line
+two_inserted_lines = inserted_lines ++ to_a 2 (reply.Begin 2) ∷ to_a 2 (reply.Changed 1) ∷ to_a 2 (reply.Committed 3) ∷ []
+
+abbrev pub skew_lines : ReplyLine → List Line
+skew_lines outcome =
+    to_a 3 (reply.Begin 3) ∷ to_b 1 (reply.Begin 3)
+    ∷ to_a 3 (row 2 20) ∷ to_a 3 (reply.Done 1)
+    ∷ to_b 1 (row 1 10) ∷ to_b 1 (reply.Done 1)
+    ∷ to_a 3 (reply.Changed 1) ∷ to_b 1 (reply.Changed 1)
+    ∷ to_a 3 (reply.Committed 4) ∷ to_b 1 outcome ∷ []
+
+abbrev pub two_inserted : List EntryLine
+two_inserted = Setup 1 ∷ of_a 2 1 1 ∷ of_a 3 2 2 ∷ []
+
+-- at level snapshot both are committed: write skew
+abbrev pub skew : Script
+skew = script_with (inserting_two ++ skewing)
+
+abbrev pub skew_entries : List EntryLine
+skew_entries = two_inserted ++ of_a 4 3 3 ∷ of_b 5 1 3 ∷ []
+
+abbrev pub skew_report : Report
+skew_report = report_with (two_inserted_lines ++ skew_lines (reply.Committed 5)) skew_entries
+
+-- at level serializable the second one to end conflicts with the entry of the first, which touched the row that it read
+abbrev pub strict_skew : Script
+strict_skew = script_with (inserting_two ++ a_says (codes "set transaction serializable") ∷ b_says (codes "set transaction serializable") ∷ skewing)
+
+abbrev pub strict_entries : List EntryLine
+strict_entries = two_inserted ++ Commit 4 (codes "a") 3 3 Serializable ∷ []
+
+abbrev pub range_conflict : ReplyLine
+range_conflict = reply.ConflictRange 4 (codes "t") (codes "pk")
+
+abbrev pub level_lines : List Line
+level_lines = to_a 0 (reply.Level Serializable) ∷ to_b 0 (reply.Level Serializable) ∷ []
+
+abbrev pub strict_skew_report : Report
+strict_skew_report = report_with (two_inserted_lines ++ (level_lines ++ skew_lines range_conflict)) strict_entries

@@ -7,8 +7,10 @@ use Rattle.report_laws.specs.Lawful.{Lawful, IsFreshLine}
 use Rattle.report_laws.specs.Places.{HasItsPlace}
 use Rattle.report_laws.specs.Told.{told, Along, IsTold}
 use Rattle.report_laws.specs.Work.{work}
-use Rattle.report_worked.specs.Worked.{worked_table, report_with, to_a, to_b, of_a, of_b, row, inserted_lines, inserted_entries, two_updates_lines, two_updates_entries, conflict}
-use Rattle.report_text.specs.declared.reports.EntryLine.TheVariants.{Setup}
+use Rattle.report_worked.specs.Worked.{worked_table, report_with, to_a, to_b, of_a, of_b, row, inserted_lines, inserted_entries, two_updates_lines, two_updates_entries, conflict, two_inserted_lines, skew_lines, level_lines, strict_entries}
+use Rattle.cdb_values.specs.declared.rows.Level.TheVariants.{Serializable}
+use Rattle.report_text.specs.declared.reports.EntryLine.{EntryLine}
+use Rattle.report_text.specs.declared.reports.EntryLine.TheVariants.{Setup, Commit}
 use Rattle.report_text.specs.declared.reports.Report.{Report}
 use Rattle.report_text.specs.declared.reports.Line.{Line}
 use Rattle.report_text.specs.declared.reports.Line.TheVariants as line
@@ -140,3 +142,10 @@ begun_behind = report_with
 -- the node goes down at the opening, and yet the schema's entry stands: lawful, but not in the order of play
 abbrev pub opened_while_down : Report
 opened_while_down = report_with (line.Down 1 1 true ∷ []) (Setup 1 ∷ [])
+
+-- the transaction whose read row was changed is committed at level serializable
+abbrev pub strict_committed_entries : List EntryLine
+strict_committed_entries = strict_entries ++ Commit 5 (codes "b") 1 3 Serializable ∷ []
+
+abbrev pub strict_committed : Report
+strict_committed = report_with (two_inserted_lines ++ (level_lines ++ skew_lines (reply.Committed 5))) strict_committed_entries

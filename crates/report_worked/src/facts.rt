@@ -5,8 +5,8 @@ ghost use Rattle.cdb_values.specs.Rows.{Rows};
 ghost use Rattle.report_worked.specs.Small.{from_log, from_nothing};
 ghost use Rattle.report_laws.specs.Lawful.{Lawful};
 ghost use Rattle.report_laws.specs.Play.{InPlayOrder};
-ghost use Rattle.report_worked.specs.Worked.{empty_report, report_with, insert_select, insert_select_report, insert_select_text, two_updates, two_updates_report, key_again, key_again_report, own_writes, own_writes_report, two_selects, lost_insert_report, lost_insert_text, open_insert, open_insert_report, nothing_said, down_at_first_report, resumed_report, resumed_with};
-ghost use Rattle.report_worked.specs.WorkedWrong.{IsRefusedBy, RepliesAreRight, BeginsAreFresh, HistoryIsRight, LinesHavePlaces, wrong_value, missing_row, out_of_order, early_row, late, wrong_position, entry_twice, node_line, lost_line, begin_too_old, untouched_row, refused_entry, serial, lost_twice, lost_late, short_while_up, down_misnumbered, down_twice, begun_behind, opened_while_down};
+ghost use Rattle.report_worked.specs.Worked.{empty_report, report_with, insert_select, insert_select_report, insert_select_text, two_updates, two_updates_report, key_again, key_again_report, own_writes, own_writes_report, two_selects, lost_insert_report, lost_insert_text, open_insert, open_insert_report, nothing_said, down_at_first_report, resumed_report, resumed_with, skew, skew_report, strict_skew, strict_skew_report};
+ghost use Rattle.report_worked.specs.WorkedWrong.{IsRefusedBy, RepliesAreRight, BeginsAreFresh, HistoryIsRight, LinesHavePlaces, wrong_value, missing_row, out_of_order, early_row, late, wrong_position, entry_twice, node_line, lost_line, begin_too_old, untouched_row, refused_entry, serial, lost_twice, lost_late, short_while_up, down_misnumbered, down_twice, begun_behind, opened_while_down, strict_committed};
 ghost use Rattle.report_text.specs.Text.{report_text};
 ghost use Rattle.script_form.specs.declared.scripts.Script.{Script};
 
@@ -56,6 +56,17 @@ pub fn two_updates_are_lawful()
     ensures order { InPlayOrder (from_nothing two_updates) two_updates_report }
     ensures untouched_row { IsRefusedBy (RepliesAreRight two_updates untouched_row) two_updates untouched_row }
     ensures refused_entry { IsRefusedBy (HistoryIsRight two_updates refused_entry) two_updates refused_entry }
+{}
+
+/// Two transactions, open at once, each read the row that the other one changes. At level snapshot both are committed: the
+/// report is lawful and in the order of play. At level serializable so is the one in which the second one to end conflicts
+/// over the range of the key that it read, and with an entry of the second it is refused.
+pub fn write_skew_is_refused()
+    ensures snapshot { Lawful (from_nothing skew) skew_report }
+    ensures snapshot_order { InPlayOrder (from_nothing skew) skew_report }
+    ensures serializable { Lawful (from_nothing strict_skew) strict_skew_report }
+    ensures serializable_order { InPlayOrder (from_nothing strict_skew) strict_skew_report }
+    ensures committed { IsRefusedBy (HistoryIsRight strict_skew strict_committed) strict_skew strict_committed }
 {}
 
 /// The report of two inserts of the same key, of which the second one to end is a duplicate, and of a

@@ -14,5 +14,5 @@ pub use facts::{
     begins_are_fresh, begun_behind_is_not_played, down_at_first_is_lawful, empty_report_is_lawful,
     insert_select_is_lawful, key_again_is_lawful, lost_insert_is_lawful, open_insert_is_lawful,
     own_writes_are_lawful, resumed_report_is_lawful, serial_is_not_played, two_updates_are_lawful,
-    wrong_faults_are_refused, wrong_insert_selects_are_refused,
+    write_skew_is_refused, wrong_faults_are_refused, wrong_insert_selects_are_refused,
 };
