@@ -17,8 +17,8 @@ use Rattle.cdb_values.specs.declared.tables.TableDef.{TableDef}
 use Rattle.cdb_values.specs.declared.values.Value.{Value}
 use Rattle.cdb_values.specs.declared.values.Value.TheVariants.{Null, Int, Text, Blob}
 use Rattle.key_code.specs.Codes.{IsInRange, IsRowValue}
+use Rattle.query_laws.specs.Alone.{sql_language}
 use Rattle.session_language.specs.Spelled.{IsToldValue, IsToldRow, WritesRow}
-use Rattle.sql_answer.specs.Language.{sql_language}
 use Rattle.sql_run.proofs.RowLaws.{leaves_such_rows}
 use Rattle.sql_run.proofs.SoundLaws.{leaves_sound_ops}
 use Rattle.sql_run.specs.Sound.{IsBelow, IsSoundOp}

@@ -10,10 +10,10 @@ use Rattle.cdb_values.specs.declared.rows.RowRef.TheVariants.{Base, Own}
 use Rattle.cdb_values.specs.declared.rows.Version.{Version}
 use Rattle.cdb_values.specs.declared.values.Value.{Value}
 use Rattle.net_writes.specs.Net.{rewritten, undone, net_of}
+use Rattle.query_laws.specs.Alone.{sql_language}
 use Rattle.session_language.proofs.EachLaws.{all_append}
 use Rattle.sql_answer.specs.Answers.{updating, deleting}
 use Rattle.sql_answer.specs.Combinations.{Seen, of_table}
-use Rattle.sql_answer.specs.Language.{sql_language}
 use Rattle.sql_answer.specs.Writes.{set_row}
 use Rattle.sql_bind.specs.Bound.{Cond, BoundStatement, BeginIt, CommitIt, RollbackIt, SetIt, InsertInto, UpdateOf, DeleteFrom, SelectOf}
 use Rattle.sql_bind.specs.declared.types.BoundAssign.{BoundAssign}

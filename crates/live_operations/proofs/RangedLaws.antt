@@ -12,13 +12,13 @@ use Rattle.cdb_values.specs.declared.values.Value.{Value}
 use Rattle.cdb_values.specs.declared.values.Value.TheVariants.{Null, Int, Text, Blob}
 use Rattle.key_code.specs.Codes.{IsInRange}
 use Rattle.net_writes.specs.Net.{rewritten, undone}
+use Rattle.query_laws.specs.Alone.{sql_language}
 use Rattle.session_language.proofs.EachLaws.{all_append}
 use Rattle.session_language.proofs.AllLaws.{all_got, all_exchanged, all_filtered}
 use Rattle.sql_answer.specs.Aggregates.{int_value}
 use Rattle.sql_answer.specs.Answers.{updating, deleting}
 use Rattle.sql_answer.specs.Combinations.{Seen, seen_version, own_or, own_from, is_left, of_table, seen, rows_of}
 use Rattle.sql_answer.specs.Conditions.{cell_of, operand_value, meets}
-use Rattle.sql_answer.specs.Language.{sql_language}
 use Rattle.sql_answer.specs.Writes.{changed, stepped, assigned, set_from, set_row}
 use Rattle.sql_bind.specs.Bound.{Cond, BoundStatement, BeginIt, CommitIt, RollbackIt, SetIt, InsertInto, UpdateOf, DeleteFrom, SelectOf}
 use Rattle.sql_bind.specs.declared.types.BoundAssign.{BoundAssign}

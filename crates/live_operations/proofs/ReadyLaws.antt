@@ -15,11 +15,11 @@ use Rattle.cdb_values.specs.declared.rows.Version.{Version}
 use Rattle.cdb_values.specs.declared.tables.TableDef.{TableDef}
 use Rattle.cdb_values.specs.declared.values.Value.{Value}
 use Rattle.key_code.specs.Codes.{IsRowValue}
+use Rattle.query_laws.specs.Alone.{sql_language}
 use Rattle.session_language.proofs.EachLaws.{all_append, all_map}
 use Rattle.session_language.proofs.AllLaws.{all_got, all_exchanged, all_filtered}
 use Rattle.session_language.specs.Language.{alone_from}
 use Rattle.session_language.specs.Spelled.{IsToldRow, WritesRow, HaveRows}
-use Rattle.sql_answer.specs.Language.{sql_language}
 use Rattle.sql_run.specs.Sound.{AreSound, IsSoundOp, IsSoundVersion}
 use Rattle.table_store.specs.States.{Rise, AreVersions}
 use Rattle.live_operations.specs.Coded.{WritesCoded, HaveCodes, AreTexts}

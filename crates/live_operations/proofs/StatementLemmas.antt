@@ -4,6 +4,7 @@ use Rattle.std.specs.Prelude.{slice_get}
 use Rattle.std.specs.List.{filter_map}
 use Rattle.std.proofs.lemmas.Bool.{cond_both, ltb-false}
 use Rattle.cdb_values.specs.declared.items.GenidItem.{GenidItem}
+use Rattle.cdb_values.specs.declared.items.Interval.{Interval}
 use Rattle.cdb_values.specs.declared.limits.TheConstants.{MOST_NET_OPERATIONS}
 use Rattle.cdb_values.specs.declared.rows.RowOp.{RowOp}
 use Rattle.cdb_values.specs.declared.rows.RowOp.TheVariants.{Insert}
@@ -13,10 +14,11 @@ use Rattle.cdb_values.specs.declared.rows.Version.{Version}
 use Rattle.cdb_values.specs.declared.tables.TableDef.{TableDef}
 use Rattle.cdb_values.specs.declared.values.Value.{Value}
 use Rattle.net_writes.specs.Net.{net_of}
+use Rattle.query_laws.specs.Alone.{reads_of, sql_language}
 use Rattle.report_text.specs.declared.reports.ReplyLine.TheVariants as reply
-use Rattle.sql_answer.specs.Answers.{Meaning, Outcome, Fails, Gives, told_only, net_given, given_unless, rows_met, updating, deleting, items_used, rows_given, finished, finish, found}
+use Rattle.sql_answer.specs.Answers.{Meaning, Outcome, Fails, Gives, told_only, net_given, given_unless, rows_met, updating, deleting, items_used, rows_given, finished, finish, found, answer}
 use Rattle.sql_answer.specs.Combinations.{Seen, seen, rows_of, met}
-use Rattle.sql_answer.specs.Language.{answered, bound_in, meaning, sql_language}
+use Rattle.sql_answer.specs.Language.{answered, bound_in, meaning}
 use Rattle.sql_answer.specs.Shapes.{shape}
 use Rattle.sql_answer.specs.Writes.{set_row, rows_error}
 use Rattle.sql_bind.specs.Bound.{Cond, BoundStatement, BeginIt, CommitIt, RollbackIt, SetIt, InsertInto, UpdateOf, DeleteFrom, SelectOf}
@@ -38,7 +40,12 @@ writes_of versions done (SelectOf query) = []
 
 module _ (Q : List RowOp → Type 0) where
   abbrev Leaves : List RowOp → Outcome → Type 0
-  Leaves ops outcome = Q (answered ops outcome).ops
+  Leaves ops outcome = Q (answered [] ops outcome).ops
+
+  -- whatever was read for it
+  leaves_too : (ranges : List Interval) (ops : List RowOp) (outcome : Outcome) → Leaves ops outcome → Q (answered ranges ops outcome).ops
+  leaves_too ranges ops (Fails cause) is = is
+  leaves_too ranges ops (Gives told after) is = is
 
   -- net operations within the limit have it
   abbrev NetHas : List RowOp → List RowOp → Type 0
@@ -82,4 +89,6 @@ module _ (Q : List RowOp → Type 0) where
   -- they are within the limit, holds of the operations that it leaves
   pub text_leaves : (tables : List TableDef) (versions : List (List Version)) (done : List RowOp) (text : List ℕ) → Q done
       → ((s : BoundStatement) → meaning bound_in tables text ≡ Ok s → NetHas done (writes_of versions done s)) → Q (sql_language.answer tables versions done text).ops
-  text_leaves tables versions done text has net = meaning_leaves tables versions done (meaning bound_in tables text) has net
+  text_leaves tables versions done text has net =
+      leaves_too (reads_of tables versions done (meaning bound_in tables text)) done (answer tables versions done (meaning bound_in tables text))
+      (meaning_leaves tables versions done (meaning bound_in tables text) has net)

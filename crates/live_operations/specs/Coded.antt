@@ -14,9 +14,9 @@ use Rattle.cdb_values.specs.declared.rows.RowOp.TheVariants.{Insert, Update, Del
 use Rattle.cdb_values.specs.declared.rows.Version.{Version}
 use Rattle.cdb_values.specs.declared.tables.TableDef.{TableDef}
 use Rattle.key_code.specs.Codes.{IsRowValue}
+use Rattle.query_laws.specs.Alone.{sql_language}
 use Rattle.session_language.specs.Language.{alone_from}
 use Rattle.session_language.specs.Spelled.{WritesRow, HaveRows}
-use Rattle.sql_answer.specs.Language.{sql_language}
 use Rattle.sql_run.specs.Sound.{AreSound, HasDistinctColumns, IsSoundOp}
 use Rattle.sql_run.specs.Spelled.{HasColumns}
 use Rattle.table_edits.specs.Fits.{WritesFitting, AreAllDoable}

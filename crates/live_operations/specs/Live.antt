@@ -14,10 +14,10 @@ use Rattle.cdb_values.specs.declared.items.GenidItem.{GenidItem}
 use Rattle.cdb_values.specs.declared.rows.RowOp.{RowOp}
 use Rattle.cdb_values.specs.declared.rows.Version.{Version}
 use Rattle.cdb_values.specs.declared.tables.TableDef.{TableDef}
+use Rattle.query_laws.specs.Alone.{sql_language}
 use Rattle.session_language.specs.Language.{alone_from}
 use Rattle.session_language.specs.Touched.{first_touched}
 use Rattle.sql_answer.specs.Combinations.{of_table}
-use Rattle.sql_answer.specs.Language.{sql_language}
 use Rattle.table_store.specs.Listings.{IsAmong}
 use Rattle.table_store.specs.Operations.{gone, NoTwice}
 use Rattle.table_store.specs.States.{AreVersions}

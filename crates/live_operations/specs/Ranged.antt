@@ -8,8 +8,8 @@ use Rattle.cdb_values.specs.declared.rows.Version.{Version}
 use Rattle.cdb_values.specs.declared.tables.TableDef.{TableDef}
 use Rattle.cdb_values.specs.declared.values.Value.{Value}
 use Rattle.key_code.specs.Codes.{IsInRange}
+use Rattle.query_laws.specs.Alone.{sql_language}
 use Rattle.session_language.specs.Language.{alone_from}
-use Rattle.sql_answer.specs.Language.{sql_language}
 
 abbrev pub IsRanged : List Value → Type 0
 IsRanged row = AllByRecursion IsInRange row

@@ -11,9 +11,9 @@ use Rattle.cdb_values.specs.Rows.{Rows, no_rows, apply_all}
 use Rattle.cdb_values.specs.declared.limits.TheConstants.{MOST_NET_OPERATIONS}
 use Rattle.cdb_values.specs.declared.rows.RowOp.{RowOp}
 use Rattle.cdb_values.specs.declared.tables.TableDef.{TableDef}
+use Rattle.query_laws.specs.Alone.{sql_language}
 use Rattle.session_language.specs.Language.{alone}
 use Rattle.session_language.specs.Spelled.{HaveRows}
-use Rattle.sql_answer.specs.Language.{sql_language}
 use Rattle.sql_run.specs.Sound.{AreSound, HasDistinctColumns}
 use Rattle.sql_run.specs.Spelled.{HasColumns}
 use Rattle.table_edits.specs.Fits.{WritesFitting, AreAllDoable}

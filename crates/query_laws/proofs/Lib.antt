@@ -3,6 +3,7 @@ pub mod ConditionLaws
 pub mod ListLaws
 pub mod OuterLemmas
 pub mod PlanLemmas
+pub mod ReadsLaws
 pub mod RowsLaws
 pub mod RunLaws
 pub mod StableLemmas

@@ -1,16 +1,18 @@
 //! What holds of walks by intervals, and of transactions over what they read.
-ghost use Rattle.std.specs.Prelude.{◌≡◌, ℕ, List, [], false, map, Option};
+ghost use Rattle.std.specs.Prelude.{◌≡◌, ℕ, List, [], true, false, map, Option};
 ghost use Rattle.std.specs.List.{AllByRecursion};
 ghost use Rattle.cdb_values.specs.Rows.{Rows, apply_all};
 ghost use Rattle.cdb_values.specs.declared.rows.RowOp.{RowOp};
 ghost use Rattle.cdb_values.specs.declared.rows.Version.{Version};
 ghost use Rattle.cdb_values.specs.declared.tables.TableDef.{TableDef};
-ghost use Rattle.session_language.specs.Language.{alone_from};
+ghost use Rattle.session_language.specs.Intervals as told;
+ghost use Rattle.session_language.specs.Language.{alone, alone_from};
+ghost use Rattle.session_language.specs.Serial.{answers_on, lasting as lasting_texts, without_failures as answers_without_failures};
 ghost use Rattle.sql_answer.specs.Answers.{Meaning, answer};
 ghost use Rattle.sql_answer.specs.Combinations.{Seen, met};
 ghost use Rattle.sql_answer.specs.Language.{Binder, meaning, language_of};
 ghost use Rattle.sql_bind.specs.Bound.{Cond};
-ghost use Rattle.query_laws.specs.Alone.{run_answered};
+ghost use Rattle.query_laws.specs.Alone.{run_answered, reads_of};
 ghost use Rattle.query_laws.specs.Conjuncts.{conjuncts};
 ghost use Rattle.query_laws.specs.Intervals.{Interval};
 ghost use Rattle.query_laws.specs.Runs.{ranges_of, run_from, lasting, without_failures};
@@ -59,5 +61,15 @@ pub fn answers_depend_on_what_is_read()
 /// them did.
 pub fn a_transaction_alone_is_a_run()
     ensures { (bind : Binder) (tables : List TableDef) (versions : List (List Version)) (ops : List RowOp) (texts : List (List ℕ))
-        → alone_from (language_of bind) tables versions ops texts ≡ run_answered (run_from tables versions ops (map (meaning bind tables) texts)) }
+        → alone_from (language_of bind reads_of) tables versions ops texts ≡ run_answered (run_from tables versions ops (map (meaning bind tables) texts)) }
+{}
+
+/// A transaction run alone in the language of SQL, on rows that hold the same in the intervals that it read, is answered there
+/// as it was, without the texts that failed (`same`). A text that fails leaves the operations as they are (`fails`).
+#[tactic(auto, using(crate::proofs::ReadsLaws::sql_same, crate::proofs::ReadsLaws::sql_fails))]
+pub fn sql_is_answered_by_what_it_reads()
+    ensures same { (bind : Binder) (tables : List TableDef) (rows others : Rows) (texts : List (List ℕ)) → AllByRecursion (told.HoldsTheSame tables rows others) (alone (language_of bind reads_of) tables rows texts).ranges
+        → answers_on (language_of bind reads_of) tables others (lasting_texts (language_of bind reads_of) tables rows texts) ≡ answers_without_failures (answers_on (language_of bind reads_of) tables rows texts) }
+    ensures fails { (bind : Binder) (tables : List TableDef) (versions : List (List Version)) (ops : List RowOp) (text : List ℕ)
+        → ((language_of bind reads_of).answer tables versions ops text).failed ≡ true → ((language_of bind reads_of).answer tables versions ops text).ops ≡ ops }
 {}

@@ -30,5 +30,6 @@ pub use facts::{
 };
 pub use laws::{
     a_transaction_alone_is_a_run, a_walk_depends_on_what_it_reads, a_walk_finds_what_is_met,
-    a_walk_reads_for_outer_combinations, answers_depend_on_what_is_read, untouched_intervals_stay,
+    a_walk_reads_for_outer_combinations, answers_depend_on_what_is_read,
+    sql_is_answered_by_what_it_reads, untouched_intervals_stay,
 };

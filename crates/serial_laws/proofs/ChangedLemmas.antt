@@ -17,7 +17,8 @@ use Rattle.query_laws.specs.Runs.{run_from}
 use Rattle.query_laws.specs.Touched.{leaves, enters, touches}
 use Rattle.query_laws.proofs.ListLaws.{all_append, all_weaker}
 use Rattle.serial_laws.specs.Histories.{Entry, Setup, Commit, Origin, alone, states_of, ops_of, entry_at, ops_or_none, ops_at, IsUntouched, IsBegun, IsRight, AllEntries, AllRight, IsPlaced, IsSerial}
-use Rattle.serial_laws.specs.Changed.{lies_in, changes_touch, IsRowOf, IsTrueTarget, IsTrueOp, IsSound, TellsTrue, IsUnchanged, IsFair, AllFair}
+use Rattle.session_language.specs.Serial.{IsRowOf, IsTrueTarget, IsTrueOp, IsSound}
+use Rattle.serial_laws.specs.Changed.{lies_in, changes_touch, TellsTrue, IsUnchanged, IsFair, AllFair}
 use Rattle.serial_laws.proofs.SerialLemmas.{place, now, IsStep, step_at, rows_step, states_stay, get_within, right_is_serial}
 
 pub all_filter : {A : Type 0} (P : A → Type 0) (p : A → Bool) (xs : List A) → AllByRecursion P xs → AllByRecursion P (filter p xs)
@@ -144,7 +145,7 @@ touches_not tables range rows (o ∷ os) all is = one o all.0 is (touches_not ta
     one (op.Delete table (Own write) old) right is rest = rest is
 
 -- a transaction run alone names rows rightly
-run_true : (tables : List TableDef) → TellsTrue tables → (rows : Rows) (ops : List RowOp) (ss : List Meaning) → IsSound rows → AllByRecursion (IsTrueOp rows) ops →
+pub run_true : (tables : List TableDef) → TellsTrue tables → (rows : Rows) (ops : List RowOp) (ss : List Meaning) → IsSound rows → AllByRecursion (IsTrueOp rows) ops →
     AllByRecursion (IsTrueOp rows) (run_from tables rows.tables ops ss).ops
 run_true tables tells rows ops [] sound all = all
 run_true tables tells rows ops (s ∷ ss) sound all = run_true tables tells rows (ops_after ops (answer tables rows.tables ops s)) ss sound (tells rows ops s sound all)

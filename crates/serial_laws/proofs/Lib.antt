@@ -1,3 +1,4 @@
 pub mod ChangedLemmas
+pub mod ReadingLemmas
 pub mod SerialLemmas
 pub mod SqlLemmas

@@ -21,7 +21,8 @@ use Rattle.sql_answer.specs.Combinations.{Seen, seen_version, seen_own, own_from
 use Rattle.sql_answer.specs.Shapes.{shape}
 use Rattle.sql_answer.specs.Writes.{set_row, rows_error}
 use Rattle.query_laws.proofs.ListLaws.{all_append, all_flat, map_all, all_of_each, all_weaker}
-use Rattle.serial_laws.specs.Changed.{IsRowOf, IsTrueTarget, IsTrueOp, IsSound, TellsTrue}
+use Rattle.session_language.specs.Serial.{IsRowOf, IsTrueTarget, IsTrueOp, IsSound}
+use Rattle.serial_laws.specs.Changed.{TellsTrue}
 use Rattle.serial_laws.proofs.ChangedLemmas.{all_filter}
 
 abbrev Each : {A : Type 0} → (A → Type 0) → Option A → Type 0

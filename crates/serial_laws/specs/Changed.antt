@@ -3,17 +3,15 @@
 use Rattle.std.specs.Prelude.{◌≡◌, ℕ, ◌<◌, ◌-◌, ◌==◌, List, Bool, false, ◌&&◌, ◌||◌}
 use Rattle.std.specs.List.{list_any, AllByRecursion}
 use Rattle.cdb_values.specs.Changes.{changes_of}
-use Rattle.cdb_values.specs.Rows.{Rows, versions_of}
+use Rattle.cdb_values.specs.Rows.{Rows}
 use Rattle.cdb_values.specs.declared.rows.Change.{Change}
 use Rattle.cdb_values.specs.declared.rows.Change.TheVariants as change
 use Rattle.cdb_values.specs.declared.rows.Level.TheVariants.{Serializable}
 use Rattle.cdb_values.specs.declared.rows.RowOp.{RowOp}
-use Rattle.cdb_values.specs.declared.rows.RowOp.TheVariants as op
-use Rattle.cdb_values.specs.declared.rows.RowRef.{RowRef}
-use Rattle.cdb_values.specs.declared.rows.RowRef.TheVariants.{Base, Own}
 use Rattle.cdb_values.specs.declared.tables.TableDef.{TableDef}
 use Rattle.cdb_values.specs.declared.values.Value.{Value}
 use Rattle.sql_answer.specs.Answers.{Meaning, answer, ops_after}
+use Rattle.session_language.specs.Serial.{IsTrueOp, IsSound}
 use Rattle.query_laws.specs.Intervals.{Interval, lies}
 use Rattle.serial_laws.specs.Histories.{Entry, Setup, Commit, Origin, IsBegun, AllEntries, alone, rows_at, ops_at}
 
@@ -29,25 +27,6 @@ change_touches tables interval (change.Delete table genid old) = lies_in tables 
 
 abbrev pub changes_touch : List TableDef → Interval → List Change → Bool
 changes_touch tables interval changes = list_any (change_touches tables interval) changes
-
--- a genid was given, and each version of the table under it has that row
-pub record IsRowOf (rows : Rows) (table genid : ℕ) (old : List Value) : Type 0 where
-  pub below : genid < rows.next
-  pub same : AllByRecursion (λ v. v.genid ≡ genid → v.row ≡ old) (versions_of rows table)
-
-abbrev pub IsTrueTarget : Rows → ℕ → RowRef → List Value → Type 0
-IsTrueTarget rows table (Base genid) old = IsRowOf rows table genid old
-IsTrueTarget rows table (Own write) old = Unit {0}
-
--- an operation names its target's row rightly
-abbrev pub IsTrueOp : Rows → RowOp → Type 0
-IsTrueOp rows (op.Insert table row) = Unit {0}
-IsTrueOp rows (op.Update table target old row) = IsTrueTarget rows table target old
-IsTrueOp rows (op.Delete table target old) = IsTrueTarget rows table target old
-
--- each genid was given, and has one row
-abbrev pub IsSound : Rows → Type 0
-IsSound rows = (table : ℕ) → AllByRecursion (λ v. IsRowOf rows table v.genid v.row) (versions_of rows table)
 
 -- statements add operations that name their targets' rows rightly, behind operations that do
 abbrev pub TellsTrue : List TableDef → Type 0

@@ -3,7 +3,10 @@ ghost use Rattle.std.specs.Prelude.{List};
 ghost use Rattle.cdb_values.specs.Rows.{Rows, no_rows, apply_all};
 ghost use Rattle.cdb_values.specs.declared.rows.RowOp.{RowOp};
 ghost use Rattle.cdb_values.specs.declared.tables.TableDef.{TableDef};
-ghost use Rattle.serial_laws.specs.Changed.{AllFair, IsSound, TellsTrue};
+ghost use Rattle.session_language.specs.Serial.{IsByReads, IsSound};
+ghost use Rattle.sql_answer.specs.Language.{Binder, language_of};
+ghost use Rattle.query_laws.specs.Alone.{reads_of};
+ghost use Rattle.serial_laws.specs.Changed.{AllFair, TellsTrue};
 ghost use Rattle.serial_laws.specs.Histories.{Entry, Origin, AllRight, IsSerial};
 
 /// A history is serial where the schema's entry, if there is one, is the first position of all, each
@@ -25,4 +28,11 @@ pub fn rows_stay_sound()
 /// A statement's operations name the rows that their targets have, behind operations that do.
 pub fn sql_names_old_rows_rightly()
     ensures { (tables : List TableDef) → TellsTrue tables }
+{}
+
+/// The language of SQL, however statements are bound, is answered by what it reads: so transactions at level serializable are
+/// serial in each lawful report (`report_laws`).
+#[tactic(auto, using(crate::proofs::ReadingLemmas::sql_reads))]
+pub fn sql_is_by_reads()
+    ensures reads { (bind : Binder) (tables : List TableDef) → IsByReads (language_of bind reads_of) tables }
 {}

@@ -16,4 +16,6 @@ mod facts;
 mod laws;
 
 pub use facts::{the_schema_has_to_be_first, write_skew_is_seen};
-pub use laws::{fair_histories_are_serial, rows_stay_sound, sql_names_old_rows_rightly};
+pub use laws::{
+    fair_histories_are_serial, rows_stay_sound, sql_is_by_reads, sql_names_old_rows_rightly,
+};

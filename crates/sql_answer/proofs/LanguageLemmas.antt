@@ -5,6 +5,7 @@ use Rattle.std.specs.List.{filter_map, slice_get}
 use Rattle.std.proofs.lemmas.Bool.{cond_both}
 use Rattle.cdb_values.specs.declared.limits.TheConstants.{MOST_NET_OPERATIONS}
 use Rattle.cdb_values.specs.declared.items.GenidItem.{GenidItem}
+use Rattle.cdb_values.specs.declared.items.Interval.{Interval}
 use Rattle.cdb_values.specs.declared.rows.RowOp.{RowOp}
 use Rattle.cdb_values.specs.declared.rows.RowOp.TheVariants as op
 use Rattle.cdb_values.specs.declared.rows.StatementError.{StatementError}
@@ -19,9 +20,9 @@ use Rattle.session_language.proofs.UpToLaws.{up_to_rows}
 use Rattle.report_text.specs.declared.reports.ReplyLine.{ReplyLine}
 use Rattle.report_text.specs.declared.reports.ReplyLine.TheVariants as reply
 use Rattle.sql_bind.specs.Bound.{BoundStatement, BeginIt, CommitIt, RollbackIt, SetIt, InsertInto, UpdateOf, DeleteFrom, SelectOf}
-use Rattle.sql_answer.specs.Answers.{Meaning, Outcome, Fails, Gives, told_only, net_given, given_unless, rows_met, updating, deleting, items_used, rows_given, finished, finish, found}
+use Rattle.sql_answer.specs.Answers.{Meaning, Outcome, Fails, Gives, told_only, net_given, given_unless, rows_met, updating, deleting, items_used, rows_given, finished, finish, found, answer}
 use Rattle.sql_answer.specs.Combinations.{Seen, rows_of}
-use Rattle.sql_answer.specs.Language.{Binder, answered, language_of, meaning}
+use Rattle.sql_answer.specs.Language.{Binder, Reader, answered, language_of, meaning}
 use Rattle.sql_answer.specs.Shapes.{shape}
 use Rattle.sql_answer.specs.Writes.{set_row, rows_error}
 
@@ -30,7 +31,12 @@ abbrev IsTold : List ReplyLine → Type 0
 IsTold rs = ArePlain rs × (are_up_to (is_last_of false) rs ≡ true)
 
 abbrev IsAnswer : List RowOp → Outcome → Type 0
-IsAnswer ops outcome = IsTold (answered ops outcome).replies
+IsAnswer ops outcome = IsTold (answered [] ops outcome).replies
+
+-- whatever was read for it
+read_too : (ranges : List Interval) (ops : List RowOp) (outcome : Outcome) → IsAnswer ops outcome → IsTold (answered ranges ops outcome).replies
+read_too ranges ops (Fails cause) is = is
+read_too ranges ops (Gives told after) is = is
 
 plain_rows : (rows : List (List Value)) (last : List ReplyLine) → ArePlain last → ArePlain (map reply.Row rows ++ last)
 plain_rows [] last is = is
@@ -66,11 +72,13 @@ unfolding finish
 finish_told tables (Ok s) ops combinations = finished_told tables s ops combinations
 finish_told tables (Err cause) ops combinations = ((tt, tt), refl)
 
-text_told : (bind : Binder) (tables : List TableDef) (versions : List (List Version)) (ops : List RowOp) (text : List ℕ) → IsTold ((language_of bind).answer tables versions ops text).replies
-text_told bind tables versions ops text = finish_told tables (meaning bind tables text) ops (found versions ops (meaning bind tables text))
+text_told : (bind : Binder) (reads : Reader) (tables : List TableDef) (versions : List (List Version)) (ops : List RowOp) (text : List ℕ) → IsTold ((language_of bind reads).answer tables versions ops text).replies
+text_told bind reads tables versions ops text =
+    read_too (reads tables versions ops (meaning bind tables text)) ops (answer tables versions ops (meaning bind tables text))
+    (finish_told tables (meaning bind tables text) ops (found versions ops (meaning bind tables text)))
 
-pub sql_answers : (bind : Binder) → Answers (language_of bind)
-sql_answers bind = record {
-  plain = λ tables versions ops text. (text_told bind tables versions ops text).0;
-  closed = λ tables versions ops text. (text_told bind tables versions ops text).1;
+pub sql_answers : (bind : Binder) (reads : Reader) → Answers (language_of bind reads)
+sql_answers bind reads = record {
+  plain = λ tables versions ops text. (text_told bind reads tables versions ops text).0;
+  closed = λ tables versions ops text. (text_told bind reads tables versions ops text).1;
 }

@@ -1,10 +1,13 @@
 -- The language of SQL, as the laws of reports need it: what each text is to transactions, and how it is
 -- answered. How a statement is bound in a schema is a parameter of the definitions: what it means there, or
--- the error that it has before any row is looked at. The language of SQL binds as `sql_bind` does.
+-- the error that it has before any row is looked at. So is which intervals it reads. The language of SQL binds as
+-- `sql_bind` does, and reads as plans do (`query_laws`).
 use Rattle.std.specs.Prelude.{ℕ, ◌∷◌, [], List, true, false, Result, Ok, Err}
+use Rattle.cdb_values.specs.declared.items.Interval.{Interval}
 use Rattle.cdb_values.specs.declared.rows.RowOp.{RowOp}
 use Rattle.cdb_values.specs.declared.rows.StatementError.{StatementError}
 use Rattle.cdb_values.specs.declared.rows.StatementError.TheVariants as error
+use Rattle.cdb_values.specs.declared.rows.Version.{Version}
 use Rattle.cdb_values.specs.declared.tables.TableDef.{TableDef}
 use Rattle.session_language.specs.Language.{Answered, Language}
 use Rattle.report_text.specs.declared.reports.ReplyLine.TheVariants as reply
@@ -27,16 +30,20 @@ meant_by bind tables (Err at) = Err (error.Syntax at)
 unfoldable pub meaning : Binder → List TableDef → List ℕ → Meaning
 meaning bind tables text = meant_by bind tables (reading text)
 
--- an outcome behind these operations, as the laws of reports see it
-abbrev pub answered : List RowOp → Outcome → Answered
-answered ops (Fails cause) = record { replies = reply.Error cause ∷ []; ops = ops; uses = []; failed = true }
-answered ops (Gives told after) = record { replies = told.replies; ops = after; uses = told.uses; failed = false }
+-- which intervals a statement reads
+abbrev pub Reader : Type 0
+Reader = List TableDef → List (List Version) → List RowOp → Meaning → List Interval
 
--- the language of SQL whose statements are bound so
-abbrev pub language_of : Binder → Language
-language_of bind = record {
+-- an outcome behind these operations, for which these intervals were read, as the laws of reports see it
+abbrev pub answered : List Interval → List RowOp → Outcome → Answered
+answered ranges ops (Fails cause) = record { replies = reply.Error cause ∷ []; ops = ops; uses = []; ranges = []; failed = true }
+answered ranges ops (Gives told after) = record { replies = told.replies; ops = after; uses = told.uses; ranges = ranges; failed = false }
+
+-- the language of SQL whose statements are bound so, and read so
+abbrev pub language_of : Binder → Reader → Language
+language_of bind reads = record {
   kind = kind_of_text;
-  answer = λ tables versions ops text. answered ops (answer tables versions ops (meaning bind tables text));
+  answer = λ tables versions ops text. answered (reads tables versions ops (meaning bind tables text)) ops (answer tables versions ops (meaning bind tables text));
 }
 
 -- how each kind of error that a statement has in a schema is told
@@ -54,7 +61,3 @@ meant_as (Err kind) = Err (cause_of kind)
 -- statements are bound as `sql_bind` binds them
 abbrev pub bound_in : Binder
 bound_in tables statement = meant_as (binding tables statement)
-
--- the language of SQL
-abbrev pub sql_language : Language
-sql_language = language_of bound_in

@@ -44,9 +44,9 @@ pub(crate) enum Laid {
 ///
 /// `Err` is want of memory.
 pub fn answered_by(alloc: Global, done: List<RowOp>, outcome: Outcome) -> Result<Answer, AllocError>
-    ensures replies { IfOk result (λ a. a.replies ≡ (answered done (outcome_in done outcome)).replies) }
-    ensures ops { IfOk result (λ a. a.ops ≡ (answered done (outcome_in done outcome)).ops) }
-    ensures uses { IfOk result (λ a. a.uses ≡ (answered done (outcome_in done outcome)).uses) }
+    ensures replies { IfOk result (λ a. a.replies ≡ (answered [] done (outcome_in done outcome)).replies) }
+    ensures ops { IfOk result (λ a. a.ops ≡ (answered [] done (outcome_in done outcome)).ops) }
+    ensures uses { IfOk result (λ a. a.uses ≡ (answered [] done (outcome_in done outcome)).uses) }
 {
     match outcome {
         Outcome::Fails(cause) => refused(alloc, done, cause),
@@ -79,9 +79,9 @@ pub fn refused(
 
 /// The answer of writes, where no row has an error.
 fn written(alloc: Global, done: List<RowOp>, writes: List<RowOp>) -> Result<Answer, AllocError>
-    ensures replies { IfOk result (λ a. a.replies ≡ (answered done (net_given done writes)).replies) }
-    ensures ops { IfOk result (λ a. a.ops ≡ (answered done (net_given done writes)).ops) }
-    ensures uses { IfOk result (λ a. a.uses ≡ (answered done (net_given done writes)).uses) }
+    ensures replies { IfOk result (λ a. a.replies ≡ (answered [] done (net_given done writes)).replies) }
+    ensures ops { IfOk result (λ a. a.ops ≡ (answered [] done (net_given done writes)).ops) }
+    ensures uses { IfOk result (λ a. a.uses ≡ (answered [] done (net_given done writes)).uses) }
 {
     let count = writes.len() as u64;
     match lay(alloc, done, writes)? {

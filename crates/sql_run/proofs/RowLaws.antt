@@ -1,11 +1,10 @@
 -- Over rows of the grammar of reports, SQL answers by such rows and leaves operations that write such rows.
-use Rattle.std.proofs.Common.{◌≡◌, ℕ, zero, suc, ◌+◌, ◌<◌, ◌==◌, ◌^◌, List, [], ◌∷◌, ◌++◌, length, map, filter, Bool, true, false, ltb, refl, sym, subst, Option, Some, None, Ok, Err, Result, ◌+ℤ◌, ◌-ℤ◌}
+use Rattle.std.proofs.Common.{◌≡◌, ℕ, zero, suc, ◌+◌, ◌==◌, List, [], ◌∷◌, ◌++◌, length, map, filter, Bool, true, false, ltb, refl, subst, Option, Some, None, Ok, Err, Result, ◌+ℤ◌, ◌-ℤ◌}
 use Rattle.std.specs.Prelude.{slice_get, slice_set, option_map}
 use Rattle.std.specs.Option.{option_and_then}
 use Rattle.std.specs.List.{AllByRecursion, cons_option, filter_map}
 use Rattle.std.specs.Str.{is_utf8}
 use Rattle.std.proofs.lemmas.Bool.{cond_both}
-use Rattle.std.proofs.lemmas.List.{length-map}
 use Rattle.std.proofs.lemmas.Option.{same_Some}
 use Rattle.cdb_values.specs.declared.items.GenidItem.{GenidItem}
 use Rattle.cdb_values.specs.declared.limits.TheConstants.{MOST_NET_OPERATIONS}
@@ -23,10 +22,12 @@ use Rattle.session_language.proofs.AllLaws.{all_got, all_exchanged, all_filtered
 use Rattle.session_language.specs.Spelled.{IsToldValue, IsToldRow, SpellsReply, WritesRow, HaveRows}
 use Rattle.report_text.specs.declared.reports.ReplyLine.{ReplyLine}
 use Rattle.report_text.specs.declared.reports.ReplyLine.TheVariants as reply
-use Rattle.sql_answer.specs.Answers.{Meaning, Outcome, Fails, Gives, told_only, net_given, given_unless, rows_met, updating, deleting, items_used, rows_given, finished, finish, found, tables_read}
+use Rattle.sql_answer.specs.Answers.{Meaning, Outcome, Fails, Gives, told_only, net_given, given_unless, rows_met, updating, deleting, items_used, rows_given, finished, finish, found, tables_read, answer}
 use Rattle.sql_answer.specs.Combinations.{Seen, seen_version, own_or, own_from, is_left, of_table, seen, rows_of}
 use Rattle.sql_answer.specs.Conditions.{operand_value}
 use Rattle.sql_answer.specs.Language.{answered, bound_in, meaning, meant_by, meant_as}
+use Rattle.query_laws.specs.Alone.{reads_of}
+use Rattle.cdb_values.specs.declared.items.Interval.{Interval}
 use Rattle.sql_answer.specs.Reading.{reading}
 use Rattle.sql_answer.specs.Shapes.{shape}
 use Rattle.sql_answer.specs.Writes.{changed, stepped, assigned, set_from, set_row, rows_error}
@@ -172,7 +173,12 @@ deletes_are table (s ∷ rows) = (tt, deletes_are table rows)
 -- ---- what a statement leaves
 
 abbrev LeavesRows : List RowOp → Outcome → Type 0
-LeavesRows ops outcome = AllByRecursion WritesRow (answered ops outcome).ops
+LeavesRows ops outcome = AllByRecursion WritesRow (answered [] ops outcome).ops
+
+-- whatever was read for it
+leaves_too : (ranges : List Interval) (ops : List RowOp) (outcome : Outcome) → LeavesRows ops outcome → AllByRecursion WritesRow (answered ranges ops outcome).ops
+leaves_too ranges ops (Fails cause) is = is
+leaves_too ranges ops (Gives told after) is = is
 
 net_leaves : (ops writes : List RowOp) → AllByRecursion WritesRow ops → AllByRecursion WritesRow writes → LeavesRows ops (net_given ops writes)
 net_leaves ops writes all are =
@@ -214,7 +220,11 @@ finish_leaves tables (Err cause) ops combos well all are = all
 -- ---- what a statement tells
 
 abbrev TellsRows : List RowOp → Outcome → Type 0
-TellsRows ops outcome = AllByRecursion SpellsReply (answered ops outcome).replies
+TellsRows ops outcome = AllByRecursion SpellsReply (answered [] ops outcome).replies
+
+tells_too : (ranges : List Interval) (ops : List RowOp) (outcome : Outcome) → TellsRows ops outcome → AllByRecursion SpellsReply (answered ranges ops outcome).replies
+tells_too ranges ops (Fails cause) is = is
+tells_too ranges ops (Gives told after) is = is
 
 net_tells : (ops writes : List RowOp) → TellsRows ops (net_given ops writes)
 net_tells ops writes =
@@ -271,8 +281,10 @@ means_well tables text has utf8 = go (reading text) refl
 
 pub replies_by_such_rows : RepliesBySuchRows
 replies_by_such_rows tables versions done text has utf8 have all =
-    finish_tells tables (meaning bound_in tables text) done (found versions done (meaning bound_in tables text)) (means_well tables text has utf8) (all_found_are versions done (meaning bound_in tables text) have all)
+    tells_too (reads_of tables versions done (meaning bound_in tables text)) done (answer tables versions done (meaning bound_in tables text))
+    (finish_tells tables (meaning bound_in tables text) done (found versions done (meaning bound_in tables text)) (means_well tables text has utf8) (all_found_are versions done (meaning bound_in tables text) have all))
 
 pub leaves_such_rows : LeavesSuchRows
 leaves_such_rows tables versions done text has utf8 have all =
-    finish_leaves tables (meaning bound_in tables text) done (found versions done (meaning bound_in tables text)) (means_well tables text has utf8) all (all_found_are versions done (meaning bound_in tables text) have all)
+    leaves_too (reads_of tables versions done (meaning bound_in tables text)) done (answer tables versions done (meaning bound_in tables text))
+    (finish_leaves tables (meaning bound_in tables text) done (found versions done (meaning bound_in tables text)) (means_well tables text has utf8) all (all_found_are versions done (meaning bound_in tables text) have all))

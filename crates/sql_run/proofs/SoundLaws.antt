@@ -26,9 +26,11 @@ use Rattle.net_writes.specs.Net.{held_of, net_of}
 use Rattle.session_language.proofs.EachLaws.{all_append, all_found as found_in_all}
 use Rattle.session_language.proofs.AllLaws.{all_filtered}
 use Rattle.report_text.specs.declared.reports.ReplyLine.TheVariants as reply
-use Rattle.sql_answer.specs.Answers.{Meaning, Outcome, Fails, Gives, told_only, net_given, given_unless, rows_met, updating, deleting, items_used, rows_given, finished, finish, found, tables_read}
+use Rattle.sql_answer.specs.Answers.{Meaning, Outcome, Fails, Gives, told_only, net_given, given_unless, rows_met, updating, deleting, items_used, rows_given, finished, finish, found, tables_read, answer}
 use Rattle.sql_answer.specs.Combinations.{Seen, seen_version, own_or, own_from, is_left, of_table, seen, rows_of}
 use Rattle.sql_answer.specs.Language.{answered, bound_in, meaning, meant_by, meant_as}
+use Rattle.query_laws.specs.Alone.{reads_of}
+use Rattle.cdb_values.specs.declared.items.Interval.{Interval}
 use Rattle.sql_answer.specs.Reading.{reading}
 use Rattle.sql_answer.specs.Shapes.{shape}
 use Rattle.sql_answer.specs.Truth.{is_null}
@@ -215,7 +217,12 @@ module _ (tables : List TableDef) (next : ℕ) (done : List RowOp) (place : ℕ)
 -- ---- what a statement leaves
 
 abbrev LeavesSound : List TableDef → ℕ → List RowOp → Outcome → Type 0
-LeavesSound tables next ops outcome = AllByRecursion (IsSoundOp tables next) (answered ops outcome).ops
+LeavesSound tables next ops outcome = AllByRecursion (IsSoundOp tables next) (answered [] ops outcome).ops
+
+-- whatever was read for it
+sound_too : (tables : List TableDef) (next : ℕ) (ranges : List Interval) (ops : List RowOp) (outcome : Outcome) → LeavesSound tables next ops outcome → AllByRecursion (IsSoundOp tables next) (answered ranges ops outcome).ops
+sound_too tables next ranges ops (Fails cause) is = is
+sound_too tables next ranges ops (Gives told after) is = is
 
 net_leaves : (tables : List TableDef) (next : ℕ) (ops writes : List RowOp) → AllByRecursion (IsSoundOp tables next) ops → AllByRecursion (IsSoundWrite tables next (map (λ op. Some op) ops)) writes
     → LeavesSound tables next ops (net_given ops writes)
@@ -369,4 +376,5 @@ meaning_leaves tables versions done next (Err cause) sound all typed = all
 
 pub leaves_sound_ops : LeavesSoundOps
 leaves_sound_ops tables versions done text next distinct sound all =
-    meaning_leaves tables versions done next (meaning bound_in tables text) sound all (text_typed tables text distinct)
+    sound_too tables next (reads_of tables versions done (meaning bound_in tables text)) done (answer tables versions done (meaning bound_in tables text))
+    (meaning_leaves tables versions done next (meaning bound_in tables text) sound all (text_typed tables text distinct))

@@ -10,7 +10,7 @@ use Rattle.cdb_values.specs.declared.rows.Version.{Version}
 use Rattle.cdb_values.specs.declared.tables.ColumnDef.{ColumnDef}
 use Rattle.cdb_values.specs.declared.tables.TableDef.{TableDef}
 use Rattle.session_language.specs.Spelled.{SpellsReply, WritesRow, HaveRows}
-use Rattle.sql_answer.specs.Language.{sql_language}
+use Rattle.query_laws.specs.Alone.{sql_language}
 
 abbrev pub HasColumn : List ColumnDef → Type 0
 HasColumn [] = ⊥

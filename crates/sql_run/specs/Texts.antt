@@ -4,6 +4,7 @@ use Rattle.std.specs.Prelude.{List, [], Ok, Err}
 use Rattle.cdb_values.specs.declared.rows.RowOp.{RowOp}
 use Rattle.cdb_values.specs.declared.rows.Version.{Version}
 use Rattle.cdb_values.specs.declared.tables.TableDef.{TableDef}
+use Rattle.query_laws.specs.Alone.{reads_of}
 use Rattle.query_plan.specs.Planned.{Planned, plan_of}
 use Rattle.session_language.specs.Language.{Answered, Kind}
 use Rattle.sql_answer.specs.Answers.{Meaning, answer}
@@ -21,4 +22,4 @@ plan_by tables (Err cause) = []
 
 -- the answer of what a text means, behind these operations
 abbrev pub answer_to : List TableDef → List (List Version) → List RowOp → Meaning → Answered
-answer_to tables versions done meaning = answered done (answer tables versions done meaning)
+answer_to tables versions done meaning = answered (reads_of tables versions done meaning) done (answer tables versions done meaning)
