@@ -1,1 +1,3 @@
+pub mod IntervalLemmas
 pub mod TouchLemmas
+pub mod UsedLemmas

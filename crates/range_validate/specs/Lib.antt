@@ -1,1 +1,2 @@
 pub mod Touches
+pub mod Used

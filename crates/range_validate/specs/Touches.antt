@@ -20,9 +20,8 @@ use Rattle.cdb_values.specs.declared.rows.Change.TheVariants.{Insert, Update, De
 use Rattle.cdb_values.specs.declared.tables.TableDef.{TableDef}
 use Rattle.phys_log.specs.declared.entries.Entry.{Entry}
 use Rattle.phys_log.specs.declared.entries.Entry.TheVariants.{Setup, Commit}
-use Rattle.query_plan.specs.Views.{interval_in}
+use Rattle.session_language.specs.Intervals.{changes_touch}
 use Rattle.session_language.specs.Touched.{first_touched, is_same_item}
-use Rattle.serial_laws.specs.Changed.{changes_touch}
 use Rattle.range_validate.specs.declared.touches.Touch.{Touch}
 
 -- the changes of an entry; a setup has none
@@ -44,7 +43,7 @@ range_item interval = Range interval.table interval.key
 abbrev pub first_range : List TableDef → List Change → List Interval → Option Item
 first_range tables changes [] = None
 first_range tables changes (interval ∷ intervals) =
-    if changes_touch tables (interval_in interval) changes then Some (range_item interval) else first_range tables changes intervals
+    if changes_touch tables interval changes then Some (range_item interval) else first_range tables changes intervals
 
 abbrev pub or_range : Option GenidItem → Option Item → Option Item
 or_range (Some item) later = Some (Genid item)

@@ -1,7 +1,6 @@
 //! Which interval changes touch.
 ghost use Rattle.std.specs.Prelude.{◌≡◌};
-ghost use Rattle.query_plan.specs.Views.{interval_in};
-ghost use Rattle.serial_laws.specs.Changed.{change_touches as change_touches_of, changes_touch, lies_in as lies_in_of};
+ghost use Rattle.session_language.specs.Intervals.{change_touches as change_touches_of, changes_touch, lies_in as lies_in_of};
 ghost use Rattle.range_validate.specs.Touches.{first_range as first_range_of};
 
 use cdb_values::{Change, Interval, Item, TableDef, Value};
@@ -30,7 +29,7 @@ pub(crate) fn first_range(
 
 /// Whether one of these changes touches an interval.
 fn is_touched(tables: &[TableDef], changes: &[Change], interval: &Interval) -> bool
-    ensures { result ≡ changes_touch tables.now (interval_in interval.now) changes.now }
+    ensures { result ≡ changes_touch tables.now interval.now changes.now }
 {
     changes
         .iter()
@@ -39,7 +38,7 @@ fn is_touched(tables: &[TableDef], changes: &[Change], interval: &Interval) -> b
 
 /// Whether a row that a change takes away or adds lies in an interval.
 fn touches(tables: &[TableDef], interval: &Interval, change: &Change) -> bool
-    ensures { result ≡ change_touches_of tables.now (interval_in interval.now) change.now }
+    ensures { result ≡ change_touches_of tables.now interval.now change.now }
 {
     match change {
         Change::Insert { table, row, .. } => lies_in(tables, interval, *table, row.as_slice()),
@@ -57,8 +56,9 @@ fn touches(tables: &[TableDef], interval: &Interval, change: &Change) -> bool
 }
 
 /// Whether a row of a table lies in an interval.
+#[tactic(auto, using(crate::proofs::IntervalLemmas::lies_alike))]
 fn lies_in(tables: &[TableDef], interval: &Interval, table: u16, row: &[Value]) -> bool
-    ensures { result ≡ lies_in_of tables.now (interval_in interval.now) table row.now }
+    ensures { result ≡ lies_in_of tables.now interval.now table row.now }
 {
     table == interval.table && lies(tables, interval, row)
 }

@@ -21,7 +21,7 @@
 //! | Notion | Code | Definition |
 //! |---|---|---|
 //! | a version is taken away | `versions` | `first_touched` of `session_language`, over `genids_taken` |
-//! | a row that goes or comes lies in an interval | `intervals` | `changes_touch` of `serial_laws` |
+//! | a row that goes or comes lies in an interval | `intervals` | `changes_touch` of `session_language` |
 //! | the first entry that touches an item | `touches` | `first_touch_of` of `specs/Touches.antt` |
 #![tactic(auto)]
 
@@ -30,5 +30,5 @@ mod laws;
 mod touches;
 mod versions;
 
-pub use laws::touches_are_first;
+pub use laws::{items_are_of_what_is_used, touches_are_first};
 pub use touches::{Touch, first_touch};
