@@ -25,8 +25,8 @@ use Rattle.log_rows.specs.History.{Ground, rows_over, rows_over_at, takes_in, ta
 use Rattle.log_rows.proofs.HistoryLemmas.{stays}
 use Rattle.block_processor.specs.Able.{IsAble, is_commit}
 use Rattle.block_processor.specs.Asked.{IsAsked, Writes}
-use Rattle.block_processor.specs.Decided.{conflict_of}
-use Rattle.block_processor.proofs.ConflictLemmas.{free_untaken}
+use Rattle.block_processor.specs.Conflicts.{conflict_of}
+use Rattle.block_processor.proofs.ConflictLemmas.{free_untaken, free_versions}
 use Rattle.block_processor.proofs.OperationLemmas.{next_below}
 
 -- what operations take away is named
@@ -115,7 +115,7 @@ able footing request entries asked free commits ranges room = record { doable = 
         all_both (λ v. IsAmong v (versions_of (rows_over_at footing entries request.begin) table)) (λ v. IsAmong (genid_item table v.genid) request.genids)
         (λ v. IsAmong v (versions_of (rows_over footing entries) table)) (gone table request.ops)
         (λ v here named. stays footing entries request.begin table v asked.begun.1 commits here
-        (free_untaken request.begin (drop request.begin (takes_in entries)) request.genids (genid_item table v.genid) free named))
+        (free_untaken request.begin (drop request.begin (takes_in entries)) request.genids (genid_item table v.genid) (free_versions request entries free) named))
         (asked.there table) (gone_named request.ops table request.genids asked.named)
 
     doable : AreAllDoable (rows_over footing entries) request.ops

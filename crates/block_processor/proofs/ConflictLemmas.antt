@@ -1,5 +1,5 @@
 -- The first conflict, entry by entry, and what is not touched where there is none.
-use Rattle.std.proofs.Common.{◌≡◌, ℕ, zero, suc, ◌+◌, ◌-◌, ◌<◌, ◌≤◌, ◌==◌, ◌&&◌, ◌||◌, inl, inr, Bool, true, false, if◌then◌else◌, List, [], ◌∷◌, refl, sym, subst, ◌∙◌, ap, arith, length, drop}
+use Rattle.std.proofs.Common.{◌≡◌, ℕ, zero, suc, ◌+◌, ◌-◌, ◌<◌, ◌≤◌, ◌==◌, ◌&&◌, ◌||◌, inl, inr, Bool, true, false, if◌then◌else◌, List, [], ◌∷◌, refl, sym, ◌∙◌, ap, arith, length, drop}
 use Rattle.std.proofs.Math.ListN.{length-drop}
 use Rattle.std.proofs.lemmas.Bool.{eq-eqb, false≢true}
 use Rattle.std.proofs.lemmas.Option.{none-some}
@@ -7,124 +7,139 @@ use Rattle.std.specs.Prelude.{Option, Some, None}
 use Rattle.std.specs.List.{AllByRecursion}
 use Rattle.cdb_values.specs.Changes.{genids_taken}
 use Rattle.cdb_values.specs.declared.items.GenidItem.{GenidItem}
-use Rattle.cdb_values.specs.declared.rows.Change.{Change}
+use Rattle.cdb_values.specs.declared.items.Interval.{Interval}
 use Rattle.cdb_values.specs.declared.items.Item.{Item}
-use Rattle.cdb_values.specs.declared.items.Item.TheVariants.{Genid, Range}
+use Rattle.cdb_values.specs.declared.items.Item.TheVariants.{Genid}
+use Rattle.cdb_values.specs.declared.rows.Change.{Change}
+use Rattle.cdb_values.specs.declared.rows.Level.{Level}
+use Rattle.cdb_values.specs.declared.rows.Level.TheVariants.{Snapshot}
 use Rattle.cdb_values.specs.declared.tables.TableDef.{TableDef}
 use Rattle.phys_log.specs.declared.entries.Entry.{Entry}
 use Rattle.phys_log.specs.declared.entries.Entry.TheVariants.{Setup, Commit}
-use Rattle.range_validate.specs.Touches.{changes_in, first_item, first_touch_from, first_touch_of, or_range, or_later as touch_or}
+use Rattle.phys_log.specs.declared.requests.CommitRequest.{CommitRequest}
+use Rattle.range_validate.specs.Touches.{changes_in, first_item, first_range, first_touch_from, first_touch_of, or_range, or_later as touch_or}
 use Rattle.range_validate.specs.declared.touches.Touch.{Touch}
 use Rattle.session_language.specs.Touched.{first_touched, is_same_item, is_touched}
 use Rattle.table_store.specs.Listings.{IsAmong}
-use Rattle.log_rows.specs.History.{takes_of, takes_in, IsUntaken}
-use Rattle.block_processor.specs.Conflicts.{Touched, first_conflict, or_later}
+use Rattle.log_rows.specs.History.{takes_of, takes_in, tables_of, IsUntaken}
+use Rattle.block_processor.specs.Conflicts.{conflict_of, conflict_since, found_behind, ranges_at, ranges_of}
+use Rattle.block_processor.specs.Versions.{Touched, first_conflict, found_by, or_later}
 
 takes_behind : (begin : ℕ) (entries : List Entry) → drop begin (takes_in entries) ≡ takes_in (drop begin entries)
 takes_behind zero entries = refl
 takes_behind (suc begin) [] = refl
 takes_behind (suc begin) (e ∷ es) = takes_behind begin es
 
--- a touch of used versions alone as a conflict: its position, where the entries that were looked at begin behind a position
-abbrev conflict_item : ℕ → Item → Option Touched
-conflict_item position (Genid item) = Some (record { position = position; item = item })
-conflict_item position (Range table key) = None
-
-abbrev conflict_by : ℕ → Option Touch → Option Touched
-conflict_by begin None = None
-conflict_by begin (Some t) = conflict_item (begin + t.place + 1) t.item
-
-item_alone : (tables : List TableDef) (position place begin : ℕ) (changes : List Change) (used : List GenidItem) (later : Option Touch) → begin + place ≡ position
-    → conflict_by begin (touch_or place (first_item tables changes used []) later)
-    ≡ or_later (position + 1) (first_touched (genids_taken changes) used) (conflict_by begin later)
-item_alone tables position place begin changes used later same = pick (first_touched (genids_taken changes) used)
-  where
-    pick : (found : Option GenidItem) → conflict_by begin (touch_or place (or_range found None) later) ≡ or_later (position + 1) found (conflict_by begin later)
-    pick None = refl
-    pick (Some item) = ap (λ n. Some (record { position = n + 1; item = item })) same
-
 takes_changes : (e : Entry) → genids_taken (changes_in e) ≡ takes_of e
 takes_changes (Setup generation schema records) = refl
 takes_changes (Commit generation id begin level changes records) = refl
 
-touch_alone : (tables : List TableDef) (position place begin : ℕ) (entries : List Entry) (used : List GenidItem) → begin + place ≡ position
-    → conflict_by begin (first_touch_from tables place entries used []) ≡ first_conflict position (takes_in entries) used
-touch_alone tables position place begin [] used same = refl
-touch_alone tables position place begin (e ∷ es) used same =
-    let next : begin + (place + 1) ≡ position + 1 = omega (arith, same) in
-    item_alone tables position place begin (changes_in e) used (first_touch_from tables (place + 1) es used []) same
-    ∙ ap (λ (l : List GenidItem). or_later (position + 1) (first_touched l used) (conflict_by begin (first_touch_from tables (place + 1) es used []))) (takes_changes e)
-    ∙ ap (λ (o : Option Touched). or_later (position + 1) (first_touched (takes_of e) used) o) (touch_alone tables (position + 1) (place + 1) begin es used next)
-
-conflict_alone : (tables : List TableDef) (begin : ℕ) (entries : List Entry) (used : List GenidItem)
-    → conflict_by begin (first_touch_of tables (drop begin entries) used []) ≡ first_conflict begin (drop begin (takes_in entries)) used
-conflict_alone tables begin entries used =
-    let same : begin + 0 ≡ begin = omega arith in
-    touch_alone tables begin 0 begin (drop begin entries) used same
-    ∙ ap (λ (l : List (List GenidItem)). first_conflict begin l used) (sym (takes_behind begin entries))
-
-pub touch_is_conflict : (tables : List TableDef) (begin : ℕ) (entries since : List Entry) (used : List GenidItem) (t : Touch) (item : GenidItem)
-    → since ≡ drop begin entries → begin ≤ length entries → first_touch_of tables since used [] ≡ Some t → t.item ≡ Genid item
-    → Some (record { position = length entries - length since + t.place + 1; item = item }) ≡ first_conflict begin (drop begin (takes_in entries)) used
-touch_is_conflict tables begin entries since used t item behind within is at =
+-- a touch is told by its position, and none where there is none
+pub touch_is_conflict : (tables : List TableDef) (begin : ℕ) (entries since : List Entry) (genids : List GenidItem) (ranges : List Interval) (t : Touch)
+    → since ≡ drop begin entries → begin ≤ length entries → first_touch_of tables since genids ranges ≡ Some t
+    → Some (record { position = length entries - length since + t.place + 1; item = t.item }) ≡ conflict_since tables begin entries genids ranges
+touch_is_conflict tables begin entries since genids ranges t behind within is =
     let long : length (drop begin entries) ≡ length entries - begin = length-drop begin entries in
     let same : length since ≡ length (drop begin entries) = ap length behind in
     let position : length entries - length since + t.place + 1 ≡ begin + t.place + 1 = omega (arith, long, same, within) in
-    let found : first_touch_of tables (drop begin entries) used [] ≡ Some t = ap (λ (l : List Entry). first_touch_of tables l used []) (sym behind) ∙ is in
-    ap (λ (n : ℕ). Some (record { position = n; item = item })) position
-    ∙ sym (ap (conflict_item (begin + t.place + 1)) at) ∙ sym (ap (conflict_by begin) found) ∙ conflict_alone tables begin entries used
+    let found : first_touch_of tables (drop begin entries) genids ranges ≡ Some t = ap (λ (l : List Entry). first_touch_of tables l genids ranges) (sym behind) ∙ is in
+    ap (λ (n : ℕ). Some (record { position = n; item = t.item })) position ∙ sym (ap (found_behind begin) found)
 
-pub no_touch_is_none : (tables : List TableDef) (begin : ℕ) (entries : List Entry) (used : List GenidItem)
-    → first_touch_of tables (drop begin entries) used [] ≡ None → first_conflict begin (drop begin (takes_in entries)) used ≡ None
-no_touch_is_none tables begin entries used is = sym (conflict_alone tables begin entries used) ∙ ap (conflict_by begin) is
+pub no_touch_is_none : (tables : List TableDef) (begin : ℕ) (entries : List Entry) (genids : List GenidItem) (ranges : List Interval)
+    → first_touch_of tables (drop begin entries) genids ranges ≡ None → conflict_since tables begin entries genids ranges ≡ None
+no_touch_is_none tables begin entries genids ranges is = ap (found_behind begin) is
 
--- where no interval is given, none is touched
-abbrev IsVersion : Item → Type 0
-IsVersion (Genid item) = Unit {0}
-IsVersion (Range table key) = ⊥
-
-abbrev IsVersionIn : Option Item → Type 0
-IsVersionIn None = Unit {0}
-IsVersionIn (Some item) = IsVersion item
-
-here_item : (place : ℕ) (item : Item) (later : Option Touch) (t : Touch) → touch_or place (Some item) later ≡ Some t → item ≡ t.item
-here_item place item later t is = cc
-
+-- a touch stands among the entries that were looked at
 here_place : (place : ℕ) (item : Item) (later : Option Touch) (t : Touch) → touch_or place (Some item) later ≡ Some t → place ≡ t.place
 here_place place item later t is = cc
 
-found_version : (found : Option GenidItem) → IsVersionIn (or_range found None)
-found_version None = tt
-found_version (Some item) = tt
-
-version_from : (tables : List TableDef) (place : ℕ) (entries : List Entry) (used : List GenidItem) (t : Touch)
-    → first_touch_from tables place entries used [] ≡ Some t → IsVersion t.item
-version_from tables place [] used t is = absurd (none-some _ is)
-version_from tables place (e ∷ es) used t is =
-    pick (first_item tables (changes_in e) used []) (found_version (first_touched (genids_taken (changes_in e)) used)) is (version_from tables (place + 1) es used t)
+place_from : (tables : List TableDef) (place : ℕ) (entries : List Entry) (genids : List GenidItem) (ranges : List Interval) (t : Touch)
+    → first_touch_from tables place entries genids ranges ≡ Some t → t.place < place + length entries
+place_from tables place [] genids ranges t is = absurd (none-some _ is)
+place_from tables place (e ∷ es) genids ranges t is = pick (first_item tables (changes_in e) genids ranges) is (place_from tables (place + 1) es genids ranges t)
   where
-    pick : (here : Option Item) → IsVersionIn here → touch_or place here (first_touch_from tables (place + 1) es used []) ≡ Some t
-        → (first_touch_from tables (place + 1) es used [] ≡ Some t → IsVersion t.item) → IsVersion t.item
-    pick None version found more = more found
-    pick (Some item) version found more = subst IsVersion (here_item place item (first_touch_from tables (place + 1) es used []) t found) version
-
-place_from : (tables : List TableDef) (place : ℕ) (entries : List Entry) (used : List GenidItem) (t : Touch)
-    → first_touch_from tables place entries used [] ≡ Some t → t.place < place + length entries
-place_from tables place [] used t is = absurd (none-some _ is)
-place_from tables place (e ∷ es) used t is = pick (first_item tables (changes_in e) used []) is (place_from tables (place + 1) es used t)
-  where
-    pick : (here : Option Item) → touch_or place here (first_touch_from tables (place + 1) es used []) ≡ Some t
-        → (first_touch_from tables (place + 1) es used [] ≡ Some t → t.place < place + 1 + length es) → t.place < place + length (e ∷ es)
+    pick : (here : Option Item) → touch_or place here (first_touch_from tables (place + 1) es genids ranges) ≡ Some t
+        → (first_touch_from tables (place + 1) es genids ranges ≡ Some t → t.place < place + 1 + length es) → t.place < place + length (e ∷ es)
     pick None found more = omega (arith, more found)
-    pick (Some item) found more = omega (arith, here_place place item (first_touch_from tables (place + 1) es used []) t found)
+    pick (Some item) found more = omega (arith, here_place place item (first_touch_from tables (place + 1) es genids ranges) t found)
 
-pub touch_is_within : (tables : List TableDef) (entries : List Entry) (used : List GenidItem) (t : Touch)
-    → first_touch_of tables entries used [] ≡ Some t → t.place < length entries
-touch_is_within tables entries used t is = omega (arith, place_from tables 0 entries used t is)
+pub touch_is_within : (tables : List TableDef) (entries : List Entry) (genids : List GenidItem) (ranges : List Interval) (t : Touch)
+    → first_touch_of tables entries genids ranges ≡ Some t → t.place < length entries
+touch_is_within tables entries genids ranges t is = omega (arith, place_from tables 0 entries genids ranges t is)
 
-pub no_range_is_touched : (tables : List TableDef) (entries : List Entry) (used : List GenidItem) (t : Touch) (table : ℕ) (key : Option ℕ)
-    → first_touch_of tables entries used [] ≡ Some t → t.item ≡ Range table key → ⊥
-no_range_is_touched tables entries used t table key is at = subst IsVersion at (version_from tables 0 entries used t is)
+-- without intervals it is the conflict over versions alone
+item_alone : (tables : List TableDef) (position place begin : ℕ) (changes : List Change) (used : List GenidItem) (later : Option Touch) (others : Option Touched)
+    → begin + place ≡ position → found_behind begin later ≡ found_by others
+    → found_behind begin (touch_or place (first_item tables changes used []) later) ≡ found_by (or_later (position + 1) (first_touched (genids_taken changes) used) others)
+item_alone tables position place begin changes used later others same more = pick (first_touched (genids_taken changes) used)
+  where
+    pick : (found : Option GenidItem) → found_behind begin (touch_or place (or_range found None) later) ≡ found_by (or_later (position + 1) found others)
+    pick None = more
+    pick (Some item) = ap (λ (n : ℕ). Some (record { position = n + 1; item = Genid item })) same
+
+touch_alone : (tables : List TableDef) (position place begin : ℕ) (entries : List Entry) (used : List GenidItem) → begin + place ≡ position
+    → found_behind begin (first_touch_from tables place entries used []) ≡ found_by (first_conflict position (takes_in entries) used)
+touch_alone tables position place begin [] used same = refl
+touch_alone tables position place begin (e ∷ es) used same =
+    let next : begin + (place + 1) ≡ position + 1 = omega (arith, same) in
+    item_alone tables position place begin (changes_in e) used (first_touch_from tables (place + 1) es used []) (first_conflict (position + 1) (takes_in es) used) same
+    (touch_alone tables (position + 1) (place + 1) begin es used next)
+    ∙ ap (λ (l : List GenidItem). found_by (or_later (position + 1) (first_touched l used) (first_conflict (position + 1) (takes_in es) used))) (takes_changes e)
+
+pub conflict_alone : (tables : List TableDef) (begin : ℕ) (entries : List Entry) (used : List GenidItem)
+    → conflict_since tables begin entries used [] ≡ found_by (first_conflict begin (drop begin (takes_in entries)) used)
+conflict_alone tables begin entries used =
+    let same : begin + 0 ≡ begin = omega arith in
+    touch_alone tables begin 0 begin (drop begin entries) used same
+    ∙ ap (λ (l : List (List GenidItem)). found_by (first_conflict begin l used)) (sym (takes_behind begin entries))
+
+-- so it is of a request for which no interval counts, as at level snapshot
+pub conflict_unranged : (request : CommitRequest) (entries : List Entry) → ranges_of request ≡ []
+    → conflict_of request entries ≡ found_by (first_conflict request.begin (drop request.begin (takes_in entries)) request.genids)
+conflict_unranged request entries none =
+    ap (λ (r : List Interval). conflict_since (tables_of entries) request.begin entries request.genids r) none
+    ∙ conflict_alone (tables_of entries) request.begin entries request.genids
+
+pub conflict_snapshot : (request : CommitRequest) (entries : List Entry) → request.level ≡ Snapshot
+    → conflict_of request entries ≡ found_by (first_conflict request.begin (drop request.begin (takes_in entries)) request.genids)
+conflict_snapshot request entries level = conflict_unranged request entries (ap (λ (l : Level). ranges_at l request.ranges) level)
+
+-- where there is no conflict, there is none over the versions alone
+no_version : (found : Option GenidItem) (later : Option Item) → or_range found later ≡ None → found ≡ None
+no_version None later is = refl
+no_version (Some item) later is = absurd (none-some _ (sym is))
+
+no_item : (place : ℕ) (here : Option Item) (later : Option Touch) → touch_or place here later ≡ None → here ≡ None
+no_item place None later is = refl
+no_item place (Some item) later is = absurd (none-some _ (sym is))
+
+no_later : (place : ℕ) (here : Option Item) (later : Option Touch) → touch_or place here later ≡ None → later ≡ None
+no_later place None later is = is
+no_later place (Some item) later is = absurd (none-some _ (sym is))
+
+no_found : (begin : ℕ) (found : Option Touch) → found_behind begin found ≡ None → found ≡ None
+no_found begin None is = refl
+no_found begin (Some t) is = absurd (none-some _ (sym is))
+
+free_from : (tables : List TableDef) (position place : ℕ) (entries : List Entry) (genids : List GenidItem) (ranges : List Interval)
+    → first_touch_from tables place entries genids ranges ≡ None → first_conflict position (takes_in entries) genids ≡ None
+free_from tables position place [] genids ranges none = refl
+free_from tables position place (e ∷ es) genids ranges none =
+    ap (λ (found : Option GenidItem). or_later (position + 1) found (first_conflict (position + 1) (takes_in es) genids)) here
+    ∙ free_from tables (position + 1) (place + 1) es genids ranges (no_later place (first_item tables (changes_in e) genids ranges) (first_touch_from tables (place + 1) es genids ranges) none)
+  where
+    here : first_touched (takes_of e) genids ≡ None
+    here =
+        ap (λ (l : List GenidItem). first_touched l genids) (sym (takes_changes e))
+        ∙ no_version (first_touched (genids_taken (changes_in e)) genids) (first_range tables (changes_in e) ranges)
+        (no_item place (first_item tables (changes_in e) genids ranges) (first_touch_from tables (place + 1) es genids ranges) none)
+
+pub free_versions : (request : CommitRequest) (entries : List Entry) → conflict_of request entries ≡ None
+    → first_conflict request.begin (drop request.begin (takes_in entries)) request.genids ≡ None
+free_versions request entries none =
+    ap (λ (l : List (List GenidItem)). first_conflict request.begin l request.genids) (takes_behind request.begin entries)
+    ∙ free_from (tables_of entries) request.begin 0 (drop request.begin entries) request.genids (ranges_of request)
+    (no_found request.begin (first_touch_of (tables_of entries) (drop request.begin entries) request.genids (ranges_of request)) none)
 
 -- a used version that entries do not touch is none of those that they take away
 or_none : (position : ℕ) (here : Option GenidItem) (later : Option Touched) → or_later position here later ≡ None → here ≡ None

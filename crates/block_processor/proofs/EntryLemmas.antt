@@ -16,14 +16,16 @@ use Rattle.log_rows.specs.Applied.{apply_changes}
 use Rattle.log_rows.specs.History.{Ground, rows_over, tables_of}
 use Rattle.log_rows.proofs.HistoryLemmas.{rows_last}
 use Rattle.log_rows.proofs.RowLemmas.{changes_make}
-use Rattle.block_processor.specs.Decided.{conflict_of, broken_by, IsDuplicate, IsNextEntry}
+use Rattle.block_processor.specs.Conflicts.{conflict_of}
+use Rattle.block_processor.specs.Decided.{broken_by, IsDuplicate, IsNew, IsNextEntry}
 
 pub next_is : (footing : Ground) (request : CommitRequest) (entries : List Entry) (generation : ℕ) (changes : List Change) (records : List LogRecord)
-    → footing.position ≤ length entries → conflict_of request entries ≡ None → broken_by footing request entries ≡ None → changes ≡ changes_of request.ops (rows_over footing entries).next
+    → footing.position ≤ length entries → IsNew request entries → conflict_of request entries ≡ None → broken_by footing request entries ≡ None → changes ≡ changes_of request.ops (rows_over footing entries).next
     → AreNext (pages_of entries) (last_lsn_of entries + 1) records
     → Stands (replayed (pages_of entries) records) (tables_of entries) (apply_all (rows_over footing entries) request.ops)
     → IsNextEntry footing request entries generation (entry.Commit generation request.id request.begin request.level changes records)
-next_is footing request entries generation changes records within free kept made next stands = record {
+next_is footing request entries generation changes records within fresh free kept made next stands = record {
+  fresh = fresh;
   free = free;
   kept = kept;
   records = records;
@@ -41,12 +43,12 @@ next_is footing request entries generation changes records within free kept made
     rows_are = rows_last footing entries it within ∙ ap (apply_changes (rows_over footing entries)) made ∙ changes_make (rows_over footing entries) request.ops
 
 -- a duplicate, whose table and key are told by equal numbers
-pub duplicate_is : (footing : Ground) (request : CommitRequest) (entries : List Entry) (position table key place at : ℕ) → conflict_of request entries ≡ None
+pub duplicate_is : (footing : Ground) (request : CommitRequest) (entries : List Entry) (position table key place at : ℕ) → IsNew request entries → conflict_of request entries ≡ None
     → position ≡ length entries → broken_by footing request entries ≡ Some (record { table = place; key = at }) → table ≡ place → key ≡ at
     → IsDuplicate footing request entries position table key
-duplicate_is footing request entries position table key place at free now broken t k =
+duplicate_is footing request entries position table key place at fresh free now broken t k =
     subst (λ (n : ℕ). IsDuplicate footing request entries position n key) (sym t)
-    (subst (λ (n : ℕ). IsDuplicate footing request entries position place n) (sym k) (record { free = free; now = now; broken = broken }))
+    (subst (λ (n : ℕ). IsDuplicate footing request entries position place n) (sym k) (record { fresh = fresh; free = free; now = now; broken = broken }))
 
 -- pages that are those of the log stand for its rows, with its schema
 pub begun : (footing : Ground) (entries : List Entry) (schema : List TableDef) (pages : ℕ → Image) → schema ≡ tables_of entries → pages ≡ pages_of entries

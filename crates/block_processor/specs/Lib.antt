@@ -2,4 +2,5 @@ pub mod Conflicts
 pub mod Asked
 pub mod Able
 pub mod Decided
-pub mod Views
+pub mod Versions
+pub mod Changed

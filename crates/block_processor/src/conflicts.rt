@@ -1,43 +1,52 @@
 //! Which entry touches what a request used.
 ghost use Rattle.std.specs.Prelude.{◌≡◌, ◌≤◌, drop, length};
-ghost use Rattle.log_rows.specs.History.{takes_in};
-ghost use Rattle.block_processor.specs.Conflicts.{first_conflict as first_conflict_of};
-ghost use Rattle.block_processor.specs.Views.{touched_in};
+ghost use Rattle.block_processor.specs.Conflicts.{conflict_since, ranges_of};
 
-use cdb_values::{GenidItem, Item, Schema};
-use phys_log::Entry;
+use cdb_values::{Interval, Item, Level, Schema};
+use phys_log::{CommitRequest, Entry};
 use range_validate::first_touch;
 
-/// An entry that took a used version away, and the first such version.
+/// An entry that touches a used item, by its position, and the first such item.
 #[derive(Clone, Copy)]
 pub(crate) struct Found {
     pub position: u64,
-    pub item: GenidItem,
+    pub item: Item,
 }
 
-/// The first entry after a position that took a used version away. Goes once over the entries, and takes no memory.
-#[tactic(auto, using(crate::proofs::ConflictLemmas::no_touch_is_none, crate::proofs::ConflictLemmas::no_range_is_touched, crate::proofs::ConflictLemmas::touch_is_within))]
+/// The first entry after the begin of a request that touches an item that it used. Goes once over the entries, and takes no
+/// memory.
+#[tactic(auto, using(crate::proofs::ConflictLemmas::no_touch_is_none, crate::proofs::ConflictLemmas::touch_is_conflict, crate::proofs::ConflictLemmas::touch_is_within))]
 pub(crate) fn first_conflict(
     schema: &Schema,
     entries: &[Entry],
-    begin: u64,
-    used: &[GenidItem],
+    request: &CommitRequest,
 ) -> Option<Found>
-    requires { begin ≤ length entries.now }
-    ensures { touched_in result ≡ first_conflict_of begin (drop begin (takes_in entries.now)) used.now }
+    requires { request.now.begin ≤ length entries.now }
+    ensures { result ≡ conflict_since schema.now request.now.begin entries.now request.now.genids (ranges_of request.now) }
 {
-    let since = entries_since(entries, begin);
+    let since = entries_since(entries, request.begin);
     let before = (entries.len() - since.len()) as u64;
-    match first_touch(schema, since, used, &[]) {
+    match first_touch(
+        schema,
+        since,
+        request.genids.as_slice(),
+        used_ranges(request),
+    ) {
         None => None,
-        Some(touch) => match touch.item {
-            Item::Genid(item) => Some(Found {
-                position: before + touch.place + 1,
-                item,
-            }),
-            // no interval was given
-            Item::Range { .. } => unreachable!(),
-        },
+        Some(touch) => Some(Found {
+            position: before + touch.place + 1,
+            item: touch.item,
+        }),
+    }
+}
+
+/// The intervals that count for a request: those that it read, where its level is serializable.
+fn used_ranges(request: &CommitRequest) -> &[Interval]
+    ensures { result.now ≡ ranges_of request.now }
+{
+    match request.level {
+        Level::Snapshot => &[],
+        Level::Serializable => request.ranges.as_slice(),
     }
 }
 

@@ -1,30 +1,62 @@
 //! What is decided of a request.
-ghost use Rattle.std.specs.Prelude.{◌≡◌, IfOk, None};
+ghost use Rattle.std.specs.Prelude.{◌≡◌, List, IfOk, IfSome, IsNone, None};
+ghost use Rattle.blkseq_table.specs.OfLogs.{identities_of, HasId};
 ghost use Rattle.cdb_values.specs.Rows.{apply_all};
 ghost use Rattle.page_workspace.specs.Drafts.{meant};
+ghost use Rattle.phys_log.specs.declared.entries.Entry.{Entry};
 ghost use Rattle.phys_log.specs.Logs.{pages_of};
 ghost use Rattle.table_store.specs.Stored.{Stands};
 ghost use Rattle.log_rows.specs.History.{Ground, rows_over, tables_of};
 ghost use Rattle.log_rows.specs.Sources.{source_pages};
 ghost use Rattle.block_processor.specs.Able.{IsAble};
 ghost use Rattle.block_processor.specs.Asked.{IsAsked};
-ghost use Rattle.block_processor.specs.Decided.{conflict_of, broken_by, Decides, IsNextEntry};
+ghost use Rattle.block_processor.specs.Conflicts.{conflict_of};
+ghost use Rattle.block_processor.specs.Decided.{broken_by, Decides, IsNew, IsNextEntry};
 
 use crate::conflicts::first_conflict;
 use crate::operations::{are_able, changes_made};
+use blkseq_table::BlkSeq;
 use log_replay::{LogPages, PagedLog};
 use log_rows::{entry_records, next_genid};
 use page_workspace::Workspace;
-use phys_log::{CommitId, CommitRequest, Decision, Entry, Item};
+use phys_log::{CommitId, CommitRequest, Decision, Entry};
 use std::alloc::{AllocError, Global};
 use table_edits::{OpsFault, change_rows};
 
-/// What is decided of a request over a log, whose next entry is of a generation: the first of a conflict, a duplicate and
-/// the next entry that is right. Nothing is changed. This holds over every ground over which the request is what is asked.
+/// What is decided of a request over a log, whose identities are known and whose next entry is of a generation: the first of a
+/// repeat, a conflict, a duplicate and the next entry that is right. Nothing is changed. This holds over every ground over
+/// which the request is what is asked.
 ///
 /// Answers `AllocError` for want of memory, where the next genid or an LSN would not be below 2^62, and where the log has a
-/// setup behind the begin position, which no log that is kept has.
+/// setup behind the begin position, which no log that is kept has. A repeat and a conflict take no memory.
 pub fn decide(
+    alloc: Global,
+    request: &CommitRequest,
+    log: &PagedLog,
+    known: &BlkSeq,
+    generation: u64,
+) -> Result<Decision, AllocError>
+    ghost footing: { Ground }
+    requires asked { IsAsked footing request.now log.now }
+    requires known { known.now ≡ identities_of log.now }
+    ensures { IfOk result (Decides footing request.now log.now generation) }
+{
+    match repeat_of(request, known) {
+        Some(position) => Ok(Decision::Repeat(position)),
+        None => decide_new(alloc, request, log, generation),
+    }
+}
+
+/// The position of the entry that has the identity of a request, in the log whose identities these are.
+fn repeat_of(request: &CommitRequest, known: &BlkSeq) -> Option<u64>
+    ensures found { IfSome result (λ position. (entries : List Entry) → known.now ≡ identities_of entries → HasId entries position request.now.id) }
+    ensures none { IsNone result → (entries : List Entry) → known.now ≡ identities_of entries → IsNew request.now entries }
+{
+    known.lookup(&request.id)
+}
+
+/// What is decided of a request whose identity no entry has.
+fn decide_new(
     alloc: Global,
     request: &CommitRequest,
     log: &PagedLog,
@@ -32,26 +64,22 @@ pub fn decide(
 ) -> Result<Decision, AllocError>
     ghost footing: { Ground }
     requires asked { IsAsked footing request.now log.now }
+    requires fresh { IsNew request.now log.now }
     ensures { IfOk result (Decides footing request.now log.now generation) }
 {
     let Some(schema) = log.schema() else {
         unreachable!();
     };
-    match first_conflict(
-        schema,
-        log.entries(),
-        request.begin,
-        request.genids.as_slice(),
-    ) {
+    match first_conflict(schema, log.entries(), request) {
         Some(found) => Ok(Decision::Conflict {
             position: found.position,
-            item: Item::Genid(found.item),
+            item: found.item,
         }),
         None => decide_free(alloc, request, log, generation),
     }
 }
 
-/// What is decided of a request that no entry touches.
+/// What is decided of a new request that no entry touches.
 fn decide_free(
     alloc: Global,
     request: &CommitRequest,
@@ -60,6 +88,7 @@ fn decide_free(
 ) -> Result<Decision, AllocError>
     ghost footing: { Ground }
     requires asked { IsAsked footing request.now log.now }
+    requires fresh { IsNew request.now log.now }
     requires free { conflict_of request.now log.now ≡ None }
     ensures { IfOk result (Decides footing request.now log.now generation) }
 {
@@ -69,7 +98,7 @@ fn decide_free(
     decide_able(alloc, request, log, generation)
 }
 
-/// What is decided of a request that no entry touches, and whose operations can be done.
+/// What is decided of a new request that no entry touches, and whose operations can be done.
 fn decide_able(
     alloc: Global,
     request: &CommitRequest,
@@ -78,6 +107,7 @@ fn decide_able(
 ) -> Result<Decision, AllocError>
     ghost footing: { Ground }
     requires asked { IsAsked footing request.now log.now }
+    requires fresh { IsNew request.now log.now }
     requires free { conflict_of request.now log.now ≡ None }
     requires able { IsAble footing request.now log.now }
     ensures { IfOk result (Decides footing request.now log.now generation) }
@@ -109,6 +139,7 @@ fn next_entry<'a>(
 ) -> Result<Entry, AllocError>
     ghost footing: { Ground }
     requires asked { IsAsked footing request.now log.now }
+    requires fresh { IsNew request.now log.now }
     requires free { conflict_of request.now log.now ≡ None }
     requires able { IsAble footing request.now log.now }
     requires kept { broken_by footing request.now log.now ≡ None }

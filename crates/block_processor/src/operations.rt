@@ -8,7 +8,7 @@ ghost use Rattle.log_rows.specs.History.{Ground};
 ghost use Rattle.table_changes.specs.Changed.{next_of};
 ghost use Rattle.block_processor.specs.Able.{IsAble, is_commit as is_commit_of};
 ghost use Rattle.block_processor.specs.Asked.{IsAsked, Writes};
-ghost use Rattle.block_processor.specs.Decided.{conflict_of};
+ghost use Rattle.block_processor.specs.Conflicts.{conflict_of};
 
 use cdb_values::limits::GENID_LIMIT;
 use cdb_values::{Change, List, Row, RowOp, RowRef, Value};

@@ -17,7 +17,7 @@ use Rattle.block_processor.proofs.EntryLemmas.{begun, duplicate_is}
 use Rattle.block_processor.proofs.decisions.decide_able.Goals as goal
 
 pub next_entry-requires : goal.next_entry-requires
-next_entry-requires g c = (c.requires.0, (c.requires.1.0, (c.requires.1.1, (kept, (over, done)))))
+next_entry-requires g c = (c.requires.0, (c.requires.1.0, (c.requires.1.1.0, (c.requires.1.1.1, (kept, (over, done))))))
   where
     -- no key is broken
     kept : broken_by g.footing c.args.request.now c.args.log.now ≡ None
@@ -31,7 +31,7 @@ next_entry-requires g c = (c.requires.0, (c.requires.1.0, (c.requires.1.1, (kept
         let start : meant source_pages c.new-space.result ≡ pages_of log =
         ap (λ (d : Draft LogSource). meant source_pages d) c.new-space.ensures ∙ ap source_pages c.in_ok-new.ensures in
         let stands = begun g.footing log schema (meant source_pages c.new-space.result) tables start c.requires.0.stands in
-        let doable : AreAllDoable rows ops = subst (λ (l : List RowOp). AreAllDoable rows l) (sym c.as_slice.ensures) c.requires.1.1.doable in
+        let doable : AreAllDoable rows ops = subst (λ (l : List RowOp). AreAllDoable rows l) (sym c.as_slice.ensures) c.requires.1.1.1.doable in
         subst (λ (t : List TableDef). broken_place (apply_all rows request.ops) 0 t ≡ None) tables
         (subst (λ (l : List RowOp). broken_place (apply_all rows l) 0 schema ≡ None) c.as_slice.ensures (c.in-Ok.ensures.duplicate rows stands doable))
 
@@ -52,7 +52,7 @@ next_entry-requires g c = (c.requires.0, (c.requires.1.0, (c.requires.1.1, (kept
         let start : meant source_pages c.new-space.result ≡ pages_of log =
         ap (λ (d : Draft LogSource). meant source_pages d) c.new-space.ensures ∙ ap source_pages c.in_ok-new.ensures in
         let stands = begun g.footing log schema (meant source_pages c.new-space.result) tables start c.requires.0.stands in
-        let doable : AreAllDoable rows ops = subst (λ (l : List RowOp). AreAllDoable rows l) (sym c.as_slice.ensures) c.requires.1.1.doable in
+        let doable : AreAllDoable rows ops = subst (λ (l : List RowOp). AreAllDoable rows l) (sym c.as_slice.ensures) c.requires.1.1.1.doable in
         subst (λ (t : List TableDef). Stands after t (apply_all rows request.ops)) tables
         (subst (λ (l : List RowOp). Stands after schema (apply_all rows l)) c.as_slice.ensures (c.in-Ok.ensures.stands rows stands doable))
 
@@ -67,12 +67,12 @@ returns-in-Err-Duplicate g c =
     let start : meant source_pages c.new-space.result ≡ pages_of log =
     ap (λ (d : Draft LogSource). meant source_pages d) c.new-space.ensures ∙ ap source_pages c.in_ok-new.ensures in
     let stands = begun g.footing log schema (meant source_pages c.new-space.result) tables start c.requires.0.stands in
-    let doable : AreAllDoable rows ops = subst (λ (l : List RowOp). AreAllDoable rows l) (sym c.as_slice.ensures) c.requires.1.1.doable in
+    let doable : AreAllDoable rows ops = subst (λ (l : List RowOp). AreAllDoable rows l) (sym c.as_slice.ensures) c.requires.1.1.1.doable in
     let said = c.in-Err-Duplicate.ensures.duplicate rows stands doable in
     let told = rw c.in-Err-Duplicate.field-0-is at said in
     let place : KeyPlace = record { table = c.in-Err-Duplicate.table; key = c.in-Err-Duplicate.key } in
     let broken : broken_by g.footing request log ≡ Some place =
     subst (λ (t : List TableDef). broken_place (apply_all rows request.ops) 0 t ≡ Some place) tables
     (subst (λ (l : List RowOp). broken_place (apply_all rows l) 0 schema ≡ Some place) c.as_slice.ensures told) in
-    duplicate_is g.footing request log _ _ _ c.in-Err-Duplicate.table c.in-Err-Duplicate.key c.requires.1.0 (ap length c.entries.ensures) broken
+    duplicate_is g.footing request log _ _ _ c.in-Err-Duplicate.table c.in-Err-Duplicate.key c.requires.1.0 c.requires.1.1.0 (ap length c.entries.ensures) broken
     c.in-Err-Duplicate.table-is c.in-Err-Duplicate.key-is

@@ -22,5 +22,5 @@ returns g c =
     let made : changes ≡ changes_of request.ops (rows_over g.footing log).next =
     c.in_ok-changes.ensures ∙ ap (λ (l : List RowOp). changes_of l c.next_genid.result) c.as_slice.ensures ∙ ap (changes_of request.ops) next in
     subst (λ (i : CommitId). IsNextEntry g.footing request log c.args.generation (entry.Commit c.args.generation i request.begin request.level changes records)) (sym same)
-    (next_is g.footing request log c.args.generation changes records base c.requires.1.0 c.requires.1.1.1.0 made c.in_ok-records.ensures.next
-    (c.in_ok-records.ensures.stands (tables_of log) (apply_all (rows_over g.footing log) request.ops) c.requires.1.1.1.1.1))
+    (next_is g.footing request log c.args.generation changes records base c.requires.1.0 c.requires.1.1.0 c.requires.1.1.1.1.0 made c.in_ok-records.ensures.next
+    (c.in_ok-records.ensures.stands (tables_of log) (apply_all (rows_over g.footing log) request.ops) c.requires.1.1.1.1.1.1))
