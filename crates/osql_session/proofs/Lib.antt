@@ -2,3 +2,4 @@ pub mod BaseLemmas
 pub mod CourseLemmas
 pub mod ItemLemmas
 pub mod RepeatLemmas
+pub mod TouchedLemmas

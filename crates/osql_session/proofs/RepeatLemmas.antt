@@ -27,7 +27,7 @@ or_absorbs false true is = is refl
 or_absorbs false false is = refl
 
 -- one version is the other
-same_is : (a b : GenidItem) → is_same_item a b ≡ true → a ≡ b
+pub same_is : (a b : GenidItem) → is_same_item a b ≡ true → a ≡ b
 same_is a b is =
     let table : a.table ≡ b.table = eqb-true a.table b.table (both_first (a.table == b.table) (a.genid == b.genid) is) in
     let genid : a.genid ≡ b.genid = eqb-true a.genid b.genid (both_second (a.table == b.table) (a.genid == b.genid) is) in

@@ -4,12 +4,12 @@ use Rattle.std.specs.Prelude.{◌≡◌, ℕ, [], List, map}
 use Rattle.cdb_values.specs.declared.rows.Version.{Version}
 use Rattle.cdb_values.specs.declared.tables.TableDef.{TableDef}
 use Rattle.plan_run.specs.PlanWalks.{intervals_in}
-use Rattle.query_laws.specs.Alone.{run_answered}
+use Rattle.query_laws.specs.Alone.{run_answered, sql_language}
 use Rattle.query_laws.specs.Runs.{run_from}
 use Rattle.session_language.specs.Language.{alone_from}
 use Rattle.report_text.specs.declared.reports.ReplyLine.{ReplyLine}
 use Rattle.sql_answer.specs.Answers.{Meaning}
-use Rattle.sql_answer.specs.Language.{meaning, bound_in, sql_language}
+use Rattle.sql_answer.specs.Language.{meaning, bound_in}
 use Rattle.osql_session.specs.Sessions.{Session}
 
 -- after these statements it told these lines
@@ -28,4 +28,4 @@ pub record IsAlone (tables : List TableDef) (versions : List (List Version)) (te
   pub replies : told ≡ (alone_from sql_language tables versions [] texts).replies
   pub ops : s.ops ≡ (alone_from sql_language tables versions [] texts).ops
   pub genids : s.genids ≡ (alone_from sql_language tables versions [] texts).uses
-  pub ranges : intervals_in s.ranges ≡ (run_from tables versions [] (meanings_of tables texts)).ranges
+  pub ranges : s.ranges ≡ (alone_from sql_language tables versions [] texts).ranges

@@ -2,9 +2,9 @@
 ghost use Rattle.std.specs.Prelude.{◌≡◌, ◌++◌, ◌∷◌, [], ◌+◌, ◌≤◌, true, false, length, if◌then◌else◌, is_ok, IfOk, OnOk, OnErr};
 ghost use Rattle.std.specs.List.{list_all};
 ghost use Rattle.net_writes.specs.Net.{held_after, net_of};
+ghost use Rattle.query_laws.specs.Alone.{replies_of};
 ghost use Rattle.report_text.specs.declared.reports.ReplyLine.TheVariants as reply;
-ghost use Rattle.sql_answer.specs.Answers.{net_given};
-ghost use Rattle.sql_answer.specs.Language.{answered};
+ghost use Rattle.sql_answer.specs.Answers.{net_given, ops_after};
 ghost use Rattle.sql_answer_plain.specs.Laid.{is_base as is_base_of, is_on_base as is_on_base_of};
 ghost use Rattle.osql_session.specs.Used.{used_of};
 
@@ -52,8 +52,8 @@ pub(crate) fn written(
     read: List<Interval>,
 ) -> Result<List<ReplyLine>, AllocError>
     requires { list_all is_on_base_of ops.old.items ≡ true }
-    ensures replies { IfOk result (λ lines. lines ≡ (answered ops.old.items (net_given ops.old.items writes)).replies) }
-    ensures ops { OnOk result (ops.new.items ≡ (answered ops.old.items (net_given ops.old.items writes)).ops) }
+    ensures replies { IfOk result (λ lines. lines ≡ replies_of (net_given ops.old.items writes)) }
+    ensures ops { OnOk result (ops.new.items ≡ ops_after ops.old.items (net_given ops.old.items writes)) }
     ensures ranges { OnOk result (ranges.new.items ≡ ranges.old.items ++ used_of (net_given ops.old.items writes) read) }
     ensures ops_stay { OnErr result (ops.new.items ≡ ops.old.items) }
     ensures ranges_stay { OnErr result (ranges.new.items ≡ ranges.old.items) }
@@ -121,8 +121,8 @@ fn added(
     requires based { list_all is_on_base_of ops.old.items ≡ true }
     requires own { list_all is_on_base_of writes ≡ true }
     requires few { length ops.old.items + length writes ≤ 16384 }
-    ensures replies { IfOk result (λ lines. lines ≡ (answered ops.old.items (net_given ops.old.items writes)).replies) }
-    ensures ops { OnOk result (ops.new.items ≡ (answered ops.old.items (net_given ops.old.items writes)).ops) }
+    ensures replies { IfOk result (λ lines. lines ≡ replies_of (net_given ops.old.items writes)) }
+    ensures ops { OnOk result (ops.new.items ≡ ops_after ops.old.items (net_given ops.old.items writes)) }
     ensures ranges { OnOk result (ranges.new.items ≡ ranges.old.items ++ used_of (net_given ops.old.items writes) read) }
     ensures ops_stay { OnErr result (ops.new.items ≡ ops.old.items) }
     ensures ranges_stay { OnErr result (ranges.new.items ≡ ranges.old.items) }
@@ -143,8 +143,8 @@ fn laid(
     read: List<Interval>,
 ) -> Result<List<ReplyLine>, AllocError>
     requires { list_all is_on_base_of ops.old.items ≡ true }
-    ensures replies { IfOk result (λ lines. lines ≡ (answered ops.old.items (net_given ops.old.items writes)).replies) }
-    ensures ops { OnOk result (ops.new.items ≡ (answered ops.old.items (net_given ops.old.items writes)).ops) }
+    ensures replies { IfOk result (λ lines. lines ≡ replies_of (net_given ops.old.items writes)) }
+    ensures ops { OnOk result (ops.new.items ≡ ops_after ops.old.items (net_given ops.old.items writes)) }
     ensures ranges { OnOk result (ranges.new.items ≡ ranges.old.items ++ used_of (net_given ops.old.items writes) read) }
     ensures ops_stay { OnErr result (ops.new.items ≡ ops.old.items) }
     ensures ranges_stay { OnErr result (ranges.new.items ≡ ranges.old.items) }

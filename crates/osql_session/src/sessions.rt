@@ -3,11 +3,12 @@ ghost use Rattle.std.specs.Prelude.{◌≡◌, ◌<◌, ◌^◌, ◌++◌, ◌�
 ghost use Rattle.std.specs.Str.{is_utf8};
 ghost use Rattle.plan_run.specs.PlanWalks.{intervals_in};
 ghost use Rattle.plan_run.specs.Sources.{IsExcused};
+ghost use Rattle.query_laws.specs.Alone.{replies_of, uses_of};
 ghost use Rattle.query_laws.specs.Runs.{ranges_of, used_if};
 ghost use Rattle.query_plan.specs.Planned.{plan_of};
 ghost use Rattle.report_text.specs.declared.reports.ReplyLine.{ReplyLine as OneLine};
-ghost use Rattle.sql_answer.specs.Answers.{Meaning as OneMeaning, answer as answer_of};
-ghost use Rattle.sql_answer.specs.Language.{answered, meaning as meaning_of, bound_in as bound_as};
+ghost use Rattle.sql_answer.specs.Answers.{Meaning as OneMeaning, answer as answer_of, ops_after};
+ghost use Rattle.sql_answer.specs.Language.{meaning as meaning_of, bound_in as bound_as};
 ghost use Rattle.sql_answer_plain.specs.Views.{outcome_in};
 ghost use Rattle.sql_bind.specs.Views.{bound_in};
 ghost use Rattle.sql_run.specs.Texts.{plan_by, answer_to};
@@ -220,6 +221,7 @@ impl OsqlSession {
     }
 
     /// What a bound statement is answered by its plan.
+    #[tactic(auto, using(query_laws::proofs::AloneLemmas::after_is, crate::proofs::CourseLemmas::answered_replies, crate::proofs::CourseLemmas::answered_uses))]
     fn run<S: RowSource>(
         &mut self,
         alloc: Global,
@@ -254,11 +256,9 @@ impl OsqlSession {
 
     /// What a statement is answered by what it came to.
     fn met(&mut self, alloc: Global, executed: Executed) -> Result<List<ReplyLine>, AllocError>
-        ensures replies { IfOk result (λ lines. lines
-            ≡ (answered self.old.ops (outcome_in self.old.ops executed.outcome)).replies) }
-        ensures ops { OnOk result (self.new.ops ≡ (answered self.old.ops (outcome_in self.old.ops executed.outcome)).ops) }
-        ensures genids { OnOk result (self.new.genids ≡ self.old.genids
-            ++ (answered self.old.ops (outcome_in self.old.ops executed.outcome)).uses) }
+        ensures replies { IfOk result (λ lines. lines ≡ replies_of (outcome_in self.old.ops executed.outcome)) }
+        ensures ops { OnOk result (self.new.ops ≡ ops_after self.old.ops (outcome_in self.old.ops executed.outcome)) }
+        ensures genids { OnOk result (self.new.genids ≡ self.old.genids ++ uses_of (outcome_in self.old.ops executed.outcome)) }
         ensures ranges { OnOk result (self.new.ranges ≡ self.old.ranges
             ++ used_of (outcome_in self.old.ops executed.outcome) executed.ranges) }
         ensures id { self.new.id ≡ self.old.id }
