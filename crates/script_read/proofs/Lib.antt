@@ -1,5 +1,4 @@
 pub mod KindLemmas
-pub mod LaterLemmas
 pub mod LawLemmas
 pub mod LimitLemmas
 pub mod NameLemmas

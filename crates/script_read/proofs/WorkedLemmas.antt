@@ -1,10 +1,6 @@
 -- A worked example and the reasons of small scripts, computed by the definitions.
 use Rattle.std.proofs.Common.{◌≡◌, ℕ, List, [], ◌∷◌, ◌++◌, false, Ok, Err, codes, refl}
 use Rattle.std.specs.Str.{is_utf8, chars}
-use Rattle.sql_answer.specs.Reading.{reading, spots_of}
-use Rattle.sql_grammar.specs.Readers.{statement_r, one_r, simple_r}
-use Rattle.sql_grammar.specs.Words.{keyword, sign_is}
-use Rattle.sql_tokens.specs.Reading.{next, word_found, keyword_of}
 use Rattle.script_read.specs.Answers.{refusal}
 use Rattle.script_read.specs.Heads.{session_of}
 use Rattle.script_read.specs.ScriptText.{script_of, read_lines, read_line}
@@ -15,16 +11,16 @@ abbrev lines : List (List ℕ) → List ℕ
 lines [] = []
 lines (line ∷ others) = line ++ 10 ∷ lines others
 
-pub is_read : script_of 1 0 (lines (codes "nodes 1" ∷ codes "session a 1" ∷ codes "# run" ∷ codes " a: begin " ∷ [])) ≡ Ok (record {
+pub is_read : script_of 1 0 (lines (codes "nodes 1" ∷ codes "session a 1" ∷ codes "# run" ∷ codes " a: set transaction serializable " ∷ [])) ≡ Ok (record {
   nodes = 1;
   cluster = codes "main";
   workers = 1;
   sessions = record { line = 2; name = codes "a"; node = 1; hasql = false } ∷ [];
   tables = [];
   watches = [];
-  body = record { line = 4; act = Say (codes "a") (codes "begin") } ∷ [];
+  body = record { line = 4; act = Say (codes "a") (codes "set transaction serializable") } ∷ [];
 })
-unfolding read_lines read_line session_of is_utf8 chars lib.Utf8.encode reading spots_of next word_found keyword_of keyword statement_r one_r simple_r sign_is
+unfolding read_lines read_line session_of is_utf8 chars lib.Utf8.encode
 is_read = refl
 
 pub empty_is_refused : script_of 1 0 [] ≡ Err (refusal 1 4)

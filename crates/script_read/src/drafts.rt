@@ -135,7 +135,7 @@ fn kind_after(
     match kind {
         LineKind::Create => table_after(alloc, draft, line, text),
         LineKind::Say => match say_line(alloc, &draft, line, text) {
-            Ok(said) => said_after(alloc, draft, line, said),
+            Ok(said) => said_after(draft, line, said),
             Err(stop) => {
                 drop(draft);
                 Err(stop)
@@ -156,7 +156,7 @@ fn told_after(
     ensures { Answers (λ d. d) result (and_then (told draft line (after_piece text.now) keyword) (if_built draft line)) }
 {
     match keyword_line(alloc, &draft, line, keyword, next_piece(text).1) {
-        Ok(said) => said_after(alloc, draft, line, said),
+        Ok(said) => said_after(draft, line, said),
         Err(stop) => {
             drop(draft);
             Err(stop)
@@ -189,24 +189,18 @@ fn keyword_line(
 }
 
 /// What a line says added to what was read, where it runs today.
-fn said_after(alloc: Global, draft: Draft, line: u64, said: Said) -> Result<Draft, ScriptStop>
+fn said_after(draft: Draft, line: u64, said: Said) -> Result<Draft, ScriptStop>
     ensures { Answers (λ d. d) result (if_built draft line said) }
 {
-    match runs_today(alloc, &said) {
-        Ok(true) => added(draft, line, said),
-        Ok(false) => {
-            drop(draft);
-            drop(said);
-            Err(ScriptStop::Refused {
-                line,
-                why: NOT_BUILT,
-            })
-        }
-        Err(_) => {
-            drop(draft);
-            drop(said);
-            Err(ScriptStop::NoMemory)
-        }
+    if runs_today(&said) {
+        added(draft, line, said)
+    } else {
+        drop(draft);
+        drop(said);
+        Err(ScriptStop::Refused {
+            line,
+            why: NOT_BUILT,
+        })
     }
 }
 

@@ -29,7 +29,7 @@
 //! | 6 | says a number that is no node's |
 //! | 7 | says a table that may not be, or watches none |
 //! | 8 | passes a limit, or wants more stores or consumers than there are |
-//! | 10 | does not run today: it says `nodes 2` to `nodes 7` or `hasql`, is a `workers`, `watch`, `stop`, `start`, `arm`, `barrier` or `feed` line, or its text reads as `set transaction serializable` or as a query with `selectv` |
+//! | 10 | does not run today: it says `nodes 2` to `nodes 7` or `hasql`, or is a `workers`, `watch`, `stop`, `start`, `arm`, `barrier` or `feed` line |
 //!
 //! Reasons 1 and 2 are tested on skipped lines too. The smallest reason of a line is told. The line of
 //! the byte 67,108,865 has reason 8, whatever stands in it.

@@ -267,21 +267,16 @@ fn arms_are_judged(rt: HostRuntime) {
 }
 
 #[test]
-fn statements_are_judged(rt: HostRuntime) {
-    fifth_refused(&rt, rt.alloc(), b"a: set transaction serializable", 10);
-    fifth_refused(&rt, rt.alloc(), b"a: SET Transaction SERIALIZABLE ;", 10);
-    fifth_refused(&rt, rt.alloc(), b"a: selectv * from t", 10);
-    fifth_refused(
+fn every_text_is_read(rt: HostRuntime) {
+    fifth_read(&rt, rt.alloc(), b"a: set transaction serializable");
+    fifth_read(&rt, rt.alloc(), b"a: set transaction snapshot");
+    fifth_read(&rt, rt.alloc(), b"a: selectv * from t");
+    fifth_read(
         &rt,
         rt.alloc(),
         b"a: SELECTV count(*) from nowhere group by x",
-        10,
     );
-    fifth_read(&rt, rt.alloc(), b"a: set transaction snapshot");
     fifth_read(&rt, rt.alloc(), b"a: select * from t");
-    fifth_read(&rt, rt.alloc(), b"a: insert into t values('selectv')");
-    fifth_read(&rt, rt.alloc(), b"a: selectv from t");
-    fifth_read(&rt, rt.alloc(), b"a: set transaction serializable now");
     fifth_read(&rt, rt.alloc(), b"a: update nowhere set w = 1");
     fifth_read(&rt, rt.alloc(), b"a: hello");
     fifth_read(&rt, rt.alloc(), b"a:");

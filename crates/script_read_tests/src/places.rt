@@ -15,9 +15,9 @@ static NAMES: [&[u8]; 3] = [
 ];
 
 /// Scripts whose last line has a name at each `@`, where `&` is the name of 32 bytes; and the reason
-/// of that line for each name, 0 for none. In `create` lines and statements, letters are of either case. A
-/// statement that does not read is none with SELECTV.
-static OF_NAMES: [(&[u8], &[u8]); 16] = [
+/// of that line for each name, 0 for none. In `create` lines, letters are of either case. What stands in a text is not
+/// looked at.
+static OF_NAMES: [(&[u8], &[u8]); 14] = [
     (b"nodes 1\ncluster @", &[0, 3, 3]),
     (b"nodes 1\nsession @ 1", &[0, 5, 5]),
     (b"nodes 1\ncreate table @(a int)", &[0, 7, 0]),
@@ -34,12 +34,7 @@ static OF_NAMES: [(&[u8], &[u8]); 16] = [
     (b"nodes 1\nsession & 1\narm @ row 1", &[10, 5, 5]),
     (b"nodes 1\nsession & 1\narm @ append", &[10, 5, 5]),
     (b"nodes 1\nsession & 1\narm @ ship", &[10, 5, 5]),
-    (b"nodes 1\nsession a 1\na:selectv * from @", &[10, 0, 10]),
-    (b"nodes 1\nsession a 1\na:selectv @ from t", &[10, 0, 10]),
-    (
-        b"nodes 1\nsession a 1\na:selectv * from t where @=1",
-        &[10, 0, 10],
-    ),
+    (b"nodes 1\nsession a 1\na:selectv * from @", &[0, 0, 0]),
 ];
 
 /// The greatest number and the two above it, which are 0 and 1 where 64 bits overflow, and one with
@@ -51,9 +46,8 @@ static NUMBERS: [&[u8]; 4] = [
     b"00000000000000000001",
 ];
 
-/// Scripts whose last line has a number at `@`, and the reason of that line for each number. In a
-/// statement stands a literal: at most 9223372036854775807, with zeros in front or not; else it does not read.
-static OF_NUMBERS: [(&[u8], &[u8]); 8] = [
+/// Scripts whose last line has a number at `@`, and the reason of that line for each number.
+static OF_NUMBERS: [(&[u8], &[u8]); 7] = [
     (b"nodes @", &[4, 3, 3, 3]),
     (b"nodes 1\nworkers @", &[8, 3, 3, 3]),
     (b"nodes 1\nsession a @", &[6, 3, 3, 3]),
@@ -62,11 +56,7 @@ static OF_NUMBERS: [(&[u8], &[u8]); 8] = [
     (b"nodes 1\nsession a 1\narm a row @", &[10, 3, 3, 3]),
     (
         b"nodes 1\nsession a 1\na:selectv * from t where v=@",
-        &[0, 0, 0, 10],
-    ),
-    (
-        b"nodes 1\nsession a 1\na:selectv * from t limit @",
-        &[0, 0, 0, 10],
+        &[0, 0, 0, 0],
     ),
 ];
 

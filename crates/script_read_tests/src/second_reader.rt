@@ -1,8 +1,8 @@
 //! A second reader, slow and with nothing of the first: it writes each line anew as pieces with blanks
-//! between them. It knows no limit but that of stores, and of statements only the two that run later.
+//! between them. It knows no limit but that of stores.
 
 use crate::tables::table_of;
-use crate::tokens::{is_free, is_literal, is_name, is_well_formed, number, tokens, without_tabs};
+use crate::tokens::{is_name, is_well_formed, number, tokens, without_tabs};
 use std::alloc::{AllocError, Global};
 
 /// The stores that there are.
@@ -36,14 +36,10 @@ fn pieces_of<'a>(alloc: Global, text: &'a str) -> Result<Vec<&'a str>, AllocErro
     Ok(pieces)
 }
 
-/// The name before the colon, and what is said behind it.
-fn said_by(text: &str) -> Option<(&str, &str)> {
-    let (name, said) = text.split_once(':')?;
-    if is_name(name) {
-        Some((name, said))
-    } else {
-        None
-    }
+/// The name before the colon.
+fn speaker(text: &str) -> Option<&str> {
+    let (name, _) = text.split_once(':')?;
+    if is_name(name) { Some(name) } else { None }
 }
 
 fn begins_with_create(words: &str) -> bool {
@@ -61,7 +57,7 @@ fn first_piece(text: &str) -> &str {
 
 /// The part in which a line of these tokens stands, 0 for none.
 fn part_of(text: &str, words: &str) -> u8 {
-    if said_by(text).is_some() {
+    if speaker(text).is_some() {
         return 7;
     }
     if begins_with_create(words) {
@@ -104,36 +100,6 @@ fn is_armable(pieces: &[&str]) -> bool {
     match pieces {
         [what] => *what == "append" || *what == "ship",
         [what, row] => *what == "row" && number(row).unwrap_or(0) > 0,
-        _ => false,
-    }
-}
-
-/// Tokens without a semicolon at their end.
-fn without_end<'a>(pieces: &'a [&'a str]) -> &'a [&'a str] {
-    match pieces {
-        [rest @ .., ";"] => rest,
-        _ => pieces,
-    }
-}
-
-/// Whether tokens are a statement that runs later. Of queries with SELECTV it knows those that stand in the cases: of one
-/// table, with one item, and a test for equality or a limit.
-fn is_later(pieces: &[&str]) -> bool {
-    match pieces {
-        ["set", "transaction", "serializable"] => true,
-        ["selectv", item, "from", table, rest @ ..] => {
-            (*item == "*" || is_free(item)) && is_free(table) && is_tail(rest)
-        }
-        _ => false,
-    }
-}
-
-/// Whether tokens are what may stand behind the table of a query.
-fn is_tail(pieces: &[&str]) -> bool {
-    match pieces {
-        [] => true,
-        ["where", column, "=", value] => is_free(column) && is_literal(value),
-        ["limit", most] => is_literal(most),
         _ => false,
     }
 }
@@ -259,17 +225,13 @@ impl Told {
         }
     }
 
-    fn say(&self, alloc: Global, name: &str, said: &str) -> Result<Option<u8>, AllocError> {
-        if !has_text(self.sessions.as_slice(), name) {
-            return Ok(Some(5));
-        }
-        let words = tokens(alloc, said)?.as_str().to_ascii_lowercase(alloc)?;
-        let pieces = pieces_of(alloc, words.as_str())?;
-        Ok(if is_later(without_end(pieces.as_slice())) {
-            Some(10)
-        } else {
+    /// Why a text of a session is refused. What stands in it is not looked at.
+    fn say(&self, name: &str) -> Option<u8> {
+        if has_text(self.sessions.as_slice(), name) {
             None
-        })
+        } else {
+            Some(5)
+        }
     }
 
     /// Why a line is refused that stands in its part.
@@ -283,8 +245,8 @@ impl Told {
             4 => self.session(alloc, pieces),
             5 => self.create(alloc, words),
             6 => Ok(Some(self.watch(pieces))),
-            _ => match said_by(text) {
-                Some((name, said)) => self.say(alloc, name, said),
+            _ => match speaker(text) {
+                Some(name) => Ok(self.say(name)),
                 None => Ok(Some(self.act(pieces))),
             },
         }

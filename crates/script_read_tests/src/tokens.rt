@@ -50,17 +50,6 @@ pub(crate) fn number(text: &str) -> Option<u64> {
     text.parse::<u64>().ok()
 }
 
-/// Whether a token is the digits of a literal.
-pub(crate) fn is_literal(token: &str) -> bool {
-    if !is_digits(token) {
-        return false;
-    }
-    match token.parse::<u64>() {
-        Ok(value) => value < 1 << 63,
-        Err(_) => false,
-    }
-}
-
 /// Writes a piece behind a text, a blank between them.
 pub(crate) fn append(text: &mut String, piece: &str) -> Result<(), AllocError> {
     if !text.is_empty() {
