@@ -3,7 +3,7 @@ use Rattle.std.proofs.Common.{◌≡◌, ℕ, List, [], ◌∷◌, ◌++◌, ref
 use Rattle.std.specs.Cmp.Lexicographic.{same_text}
 use Rattle.std.specs.List.{AllByRecursion}
 use Rattle.std.specs.Str.{bytes_eq, is_utf8}
-use Rattle.cdb_values.specs.declared.items.GenidItem.{GenidItem}
+use Rattle.cdb_values.specs.declared.rows.Change.{Change}
 use Rattle.report_laws.specs.Told.{told}
 use Rattle.report_laws.specs.Work.{Place, next_by, next_place, place_after}
 use Rattle.report_laws.proofs.WorkLaws.{after_own, after_other, its_transaction}
@@ -16,7 +16,7 @@ use Rattle.script_form.specs.declared.scripts.BodyLine.{BodyLine}
 use Rattle.script_form.specs.declared.scripts.Script.{Script}
 use Rattle.session_language.specs.Language.{Kind, BeginText, CommitText, RollbackText, LevelText, OtherText}
 use Rattle.session_language.proofs.EachLaws.{all_map}
-use Rattle.sql_answer.specs.Language.{sql_language}
+use Rattle.query_laws.specs.Alone.{sql_language}
 use Rattle.sql_answer.specs.Reading.{kind_of_text}
 use Rattle.script_play.specs.Doing.{SessionAt}
 use Rattle.script_play.specs.Ready.{IsAskable}
@@ -56,8 +56,8 @@ ended_later done l name text is_act (Commit position session txn begin level) is
         (past_next (place_after sql_language session done) text (kind_of_text text) (place_after sql_language session done).pending txn is)
     pick false differs = subst (λ (p : Place). IsPast p.number p.pending txn) (sym (after_other sql_language session name text l done is_act differs)) is
 
-module _ (script : Script) (start : Start) (down : Bool) (done left : List BodyLine) (l : BodyLine) (lines : List Line) (entries : List EntryLine) (taken : List (List GenidItem)) (seen : Seen) (states : List SessionAt) (name text : List ℕ)
-    (was : SoFar script start down done (l ∷ left) lines entries taken seen states) (is_act : l.act ≡ Say name text) where
+module _ (script : Script) (start : Start) (down : Bool) (done left : List BodyLine) (l : BodyLine) (lines : List Line) (entries : List EntryLine) (changed : List (List Change)) (seen : Seen) (states : List SessionAt) (name text : List ℕ)
+    (was : SoFar script start down done (l ∷ left) lines entries changed seen states) (is_act : l.act ≡ Say name text) where
   abbrev pub place : Place
   place = place_after sql_language name done
 
@@ -65,7 +65,7 @@ module _ (script : Script) (start : Start) (down : Bool) (done left : List BodyL
   own_place = after_own sql_language name name text l done is_act (same_itself name)
 
   -- the session before its line
-  pub comes : AllByRecursion IsAskable (tables_of script) → is_utf8 text ≡ true → Comes script start entries taken seen name place place.pending (state_of name script.sessions states).doing text (kind_of_text text) (told name lines)
+  pub comes : AllByRecursion IsAskable (tables_of script) → is_utf8 text ≡ true → Comes script start entries changed seen name place place.pending (state_of name script.sessions states).doing text (kind_of_text text) (told name lines)
   comes askable utf8 = record {
     askable = askable;
     utf8 = utf8;

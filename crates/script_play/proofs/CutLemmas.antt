@@ -11,11 +11,13 @@ use Rattle.script_form.specs.CanRun.{tables_of}
 use Rattle.report_laws.specs.History.{rows_at, view_of}
 use Rattle.session_language.specs.Language.{alone, Kind, BeginText, CommitText, RollbackText, LevelText, OtherText}
 use Rattle.script_play.specs.Basis.{from_start}
-use Rattle.sql_answer.specs.Language.{sql_language}
+use Rattle.query_laws.specs.Alone.{sql_language}
 use Rattle.report_laws.specs.Play.{number_by}
 use Rattle.report_laws.specs.Told.{Numbered, IsCut, numbered, alone_at}
 use Rattle.report_laws.specs.Work.{Does, Place, End, ByCommit, ByRollback, WithItsLine, Nowhere, transaction, with_open, with_own_line, closed, next_by}
 use Rattle.cdb_values.specs.declared.items.GenidItem.{GenidItem}
+use Rattle.cdb_values.specs.declared.items.Interval.{Interval}
+use Rattle.cdb_values.specs.declared.rows.Change.{Change}
 use Rattle.session_language.proofs.AnswerLaws.{replies_more}
 use Rattle.script_play.specs.SoFar.{Standing}
 use Rattle.script_play.specs.Step.{Cut, cut_by, state}
@@ -29,7 +31,7 @@ pub record CutStands (script : Script) (start : Start) (entries : List EntryLine
   pub stands : Standing script start entries seen.next name after (lines ++ numbered c.number (reply.NoMemory ∷ [])) c.after
   pub number : c.number ≡ told
 
-module _ (script : Script) (start : Start) (entries : List EntryLine) (taken : List (List GenidItem)) (seen : Seen) (name : List ℕ) (p : Place) (text : List ℕ) (lines : List Numbered) where
+module _ (script : Script) (start : Start) (entries : List EntryLine) (changed : List (List Change)) (seen : Seen) (name : List ℕ) (p : Place) (text : List ℕ) (lines : List Numbered) where
   abbrev pub CutGoal : Place → ℕ → Option Cut → Type 0
   CutGoal after told found = (c : Cut) → found ≡ Some c → CutStands script start entries seen name after lines told c
 
@@ -40,7 +42,7 @@ module _ (script : Script) (start : Start) (entries : List EntryLine) (taken : L
   empty_cut : (t_texts : List (List ℕ)) (number : ℕ) (end : End) → IsCut (from_start script start) (view_of (from_start script start) entries) (transaction number t_texts p.level end) (reply.NoMemory ∷ [])
   empty_cut t_texts number end = record { begin = base start; base = omega arith; within = omega arith; ran = alone_at (from_start script start) (view_of (from_start script start) entries) (transaction number t_texts p.level end) (base start); is_ran = refl; front = []; rest = _; fits = refl; cause = reply.NoMemory; is_cause = refl; may = tt; says = refl }
 
-  module _ (texts : List (List ℕ)) (begin : ℕ) (ops : List RowOp) (uses : List GenidItem) (k : Kind) (c : Comes script start entries taken seen name p (Some texts) (doing.Open begin ops uses) text k lines) where
+  module _ (texts : List (List ℕ)) (begin : ℕ) (ops : List RowOp) (uses : List GenidItem) (ranges : List Interval) (k : Kind) (c : Comes script start entries changed seen name p (Some texts) (doing.Open begin ops uses ranges) text k lines) where
     cut_more : IsCut (from_start script start) (view_of (from_start script start) entries) (transaction p.number (texts ++ text ∷ []) p.level Nowhere) (c.mine ++ reply.NoMemory ∷ [])
     cut_more = record {
       begin = begin;
@@ -73,39 +75,39 @@ module _ (script : Script) (start : Start) (entries : List EntryLine) (taken : L
       number = refl;
     }
 
-  begin_cut : (c : Comes script start entries taken seen name p None doing.No text BeginText lines) → CutStands script start entries seen name (with_open p (Some []) (p.number + 1)) lines (p.number + 1) (record { number = p.number + 1; after = state (p.number + 1) p.level doing.Aborted })
+  begin_cut : (c : Comes script start entries changed seen name p None doing.No text BeginText lines) → CutStands script start entries seen name (with_open p (Some []) (p.number + 1)) lines (p.number + 1) (record { number = p.number + 1; after = state (p.number + 1) p.level doing.Aborted })
   begin_cut c = record {
     stands = in_transaction script start entries entries (inl refl) name p c.before c.past [] (reply.NoMemory ∷ []) (lines ++ numbered (p.number + 1) (reply.NoMemory ∷ [])) seen.next (p.number + 1) doing.Aborted
         (empty_cut [] (p.number + 1) Nowhere)
-        (ap (λ ls. ls ++ numbered (p.number + 1) (reply.NoMemory ∷ [])) (idle_lines script start entries taken seen seen name p text lines BeginText c));
+        (ap (λ ls. ls ++ numbered (p.number + 1) (reply.NoMemory ∷ [])) (idle_lines script start entries changed seen seen name p text lines BeginText c));
     number = refl;
   }
 
-  own_cut : (c : Comes script start entries taken seen name p None doing.No text OtherText lines) → CutStands script start entries seen name (with_own_line p text) lines (p.number + 1) (record { number = p.number + 1; after = state (p.number + 1) p.level doing.No })
+  own_cut : (c : Comes script start entries changed seen name p None doing.No text OtherText lines) → CutStands script start entries seen name (with_own_line p text) lines (p.number + 1) (record { number = p.number + 1; after = state (p.number + 1) p.level doing.No })
   own_cut c = record {
     stands = idle_after script start entries entries (inl refl) name p c.before c.past (Does (transaction (p.number + 1) (text ∷ []) p.level WithItsLine)) (reply.NoMemory ∷ []) (lines ++ numbered (p.number + 1) (reply.NoMemory ∷ [])) seen.next (p.number + 1) p.level
         (inr (empty_cut (text ∷ []) (p.number + 1) WithItsLine))
-        (ap (λ ls. ls ++ numbered (p.number + 1) (reply.NoMemory ∷ [])) (idle_lines script start entries taken seen seen name p text lines OtherText c));
+        (ap (λ ls. ls ++ numbered (p.number + 1) (reply.NoMemory ∷ [])) (idle_lines script start entries changed seen seen name p text lines OtherText c));
     number = refl;
   }
 
-  pub cuts : (k : Kind) (pending : Option (List (List ℕ))) (what : Doing) → Comes script start entries taken seen name p pending what text k lines →
+  pub cuts : (k : Kind) (pending : Option (List (List ℕ))) (what : Doing) → Comes script start entries changed seen name p pending what text k lines →
       CutGoal (next_by p text k pending) (number_by p.number k pending) (cut_by p.number p.level k what)
   cuts BeginText None doing.No c x is = this _ _ _ x is (begin_cut c)
   cuts CommitText None doing.No c x is = absurd cc
   cuts RollbackText None doing.No c x is = absurd cc
   cuts (LevelText later) None doing.No c x is = absurd cc
   cuts OtherText None doing.No c x is = this _ _ _ x is (own_cut c)
-  cuts BeginText (Some texts) (doing.Open begin ops uses) c x is = this _ _ _ x is (goes_cut texts begin ops uses BeginText c)
-  cuts CommitText (Some texts) (doing.Open begin ops uses) c x is = this _ _ _ x is (ends_cut texts begin ops uses CommitText c ByCommit)
-  cuts RollbackText (Some texts) (doing.Open begin ops uses) c x is = this _ _ _ x is (ends_cut texts begin ops uses RollbackText c ByRollback)
-  cuts (LevelText later) (Some texts) (doing.Open begin ops uses) c x is = this _ _ _ x is (goes_cut texts begin ops uses (LevelText later) c)
-  cuts OtherText (Some texts) (doing.Open begin ops uses) c x is = this _ _ _ x is (goes_cut texts begin ops uses OtherText c)
+  cuts BeginText (Some texts) (doing.Open begin ops uses ranges) c x is = this _ _ _ x is (goes_cut texts begin ops uses ranges BeginText c)
+  cuts CommitText (Some texts) (doing.Open begin ops uses ranges) c x is = this _ _ _ x is (ends_cut texts begin ops uses ranges CommitText c ByCommit)
+  cuts RollbackText (Some texts) (doing.Open begin ops uses ranges) c x is = this _ _ _ x is (ends_cut texts begin ops uses ranges RollbackText c ByRollback)
+  cuts (LevelText later) (Some texts) (doing.Open begin ops uses ranges) c x is = this _ _ _ x is (goes_cut texts begin ops uses ranges (LevelText later) c)
+  cuts OtherText (Some texts) (doing.Open begin ops uses ranges) c x is = this _ _ _ x is (goes_cut texts begin ops uses ranges OtherText c)
   cuts BeginText (Some texts) doing.Aborted c x is = absurd cc
   cuts CommitText (Some texts) doing.Aborted c x is = absurd cc
   cuts RollbackText (Some texts) doing.Aborted c x is = absurd cc
   cuts (LevelText later) (Some texts) doing.Aborted c x is = absurd cc
   cuts OtherText (Some texts) doing.Aborted c x is = absurd cc
-  cuts k None (doing.Open begin ops uses) c x is = absurd c.doing
+  cuts k None (doing.Open begin ops uses ranges) c x is = absurd c.doing
   cuts k None doing.Aborted c x is = absurd c.doing
   cuts k (Some texts) doing.No c x is = absurd c.doing

@@ -1,10 +1,13 @@
 -- Whatever is decided on a transaction at its commit is right, and the history and the rows stay in order.
-use Rattle.std.proofs.Common.{◌≡◌, ◌≢◌, ℕ, zero, suc, ◌+◌, ◌-◌, ◌≤◌, List, [], ◌∷◌, ◌++◌, map, refl, sym, subst, ap, arith, Option, Some, None, ◌∙◌, unwrap_or, ◌⊎◌, inl, inr}
+use Rattle.std.proofs.Common.{◌≡◌, ◌≢◌, ℕ, zero, suc, ◌+◌, ◌-◌, ◌≤◌, ◌<◌, List, [], ◌∷◌, ◌++◌, map, refl, sym, subst, ap, arith, Option, Some, None, ◌∙◌, unwrap_or, ◌⊎◌, inl, inr}
 use Rattle.std.proofs.lemmas.List.{length-append, append-nil}
 use Rattle.std.specs.List.{AllByRecursion, slice_get}
 use Rattle.std.specs.Prelude.{drop}
 use Rattle.cdb_values.specs.Good.{first_broken, KeyName}
 use Rattle.cdb_values.specs.Rows.{Rows, apply_all}
+use Rattle.cdb_values.specs.declared.items.GenidItem.{GenidItem}
+use Rattle.cdb_values.specs.declared.items.Interval.{Interval}
+use Rattle.cdb_values.specs.declared.rows.Change.{Change}
 use Rattle.cdb_values.specs.declared.rows.Level.{Level}
 use Rattle.cdb_values.specs.declared.rows.RowOp.{RowOp}
 use Rattle.script_play.specs.Seen.{Seen}
@@ -13,19 +16,19 @@ use Rattle.script_form.specs.declared.scripts.Script.{Script}
 use Rattle.report_text.specs.declared.reports.EntryLine.{EntryLine}
 use Rattle.report_text.specs.declared.reports.ReplyLine.{ReplyLine}
 use Rattle.report_text.specs.declared.reports.ReplyLine.TheVariants as reply
-use Rattle.cdb_values.specs.Changes.{taken_by}
+use Rattle.cdb_values.specs.Changes.{changes_of}
 use Rattle.report_laws.specs.History.{view_of}
-use Rattle.session_language.specs.Touched.{first_touched}
-use Rattle.report_laws.specs.Outcome.{IsRight, IsDecided, IsConflict, IsDuplicate, line_by, name_of_table}
+use Rattle.report_laws.specs.View.{touched_in}
+use Rattle.range_validate.specs.Used.{item_of}
+use Rattle.session_language.specs.Touched.{Used, TheVersion, TheRange, first_used}
+use Rattle.report_laws.specs.Outcome.{IsRight, IsDecided, IsConflict, IsDuplicate}
 use Rattle.report_laws.specs.Paced.{Paced}
 use Rattle.script_form.specs.CanRun.{tables_of}
 use Rattle.report_laws.specs.Work.{Transaction}
 use Rattle.script_play.specs.Basis.{from_start}
-use Rattle.cdb_values.specs.declared.items.GenidItem.{GenidItem}
-use Rattle.block_processor.specs.Conflicts.{first_conflict, Touched}
-use Rattle.script_play.specs.Decisions.{HasName, decision, judged, by_key, added_by}
-use Rattle.block_processor.proofs.ConflictLaws.{one_since}
-use Rattle.block_processor.specs.Conflicts.{IsFirstSince}
+use Rattle.block_processor.specs.Changed.{FirstUse, IsFirstUse, first_use}
+use Rattle.script_play.specs.Decisions.{HasName, used_by, item_told, conflict_told, decision, judged, by_key, added_by}
+use Rattle.block_processor.proofs.ChangedLaws.{one_used}
 use Rattle.script_play.proofs.ConflictLaws.{named}
 use Rattle.script_play.specs.SoFar.{Stored, now_of}
 use Rattle.script_play.specs.Step.{IsKept}
@@ -44,113 +47,120 @@ all_behind P (suc n) [] at from all = tt
 all_behind P (suc n) (xs ∷ lists) zero from all = absurd (omega (arith, from))
 all_behind P (suc n) (xs ∷ lists) (suc at) from all = all_behind P n lists at (omega (arith, from)) all
 
--- the entries after a decision, and what they took away
+-- the entries after a decision, and what they changed
 abbrev pub entries_after : Start → List EntryLine → List ℕ → ℕ → ℕ → Level → List (List RowOp) → List EntryLine
 entries_after start entries name number begin level added = entries ++ map (λ ops. entry_of name number begin level (now_of start entries)) added
 
-abbrev pub taken_after : List (List GenidItem) → List (List RowOp) → List (List GenidItem)
-taken_after taken added = taken ++ map taken_by added
+abbrev pub changed_after : Seen → List (List Change) → List (List RowOp) → List (List Change)
+changed_after seen changed added = changed ++ map (λ ops. changes_of ops seen.next) added
 
 -- a decision is right
-pub record Decided (script : Script) (start : Start) (entries : List EntryLine) (taken : List (List GenidItem)) (seen seen' : Seen) (name : List ℕ) (t : Transaction) (begin : ℕ) (uses : List GenidItem) (ops : List RowOp) (outcome : ReplyLine) (added : List (List RowOp)) : Type 0 where
-  pub right : IsRight (from_start script start) (view_of (from_start script start) (entries_after start entries name t.number begin t.level added)) name t begin (taken_by ops ++ uses) ops outcome
+pub record Decided (script : Script) (start : Start) (entries : List EntryLine) (changed : List (List Change)) (seen seen' : Seen) (name : List ℕ) (t : Transaction) (begin : ℕ) (uses : List GenidItem) (ranges : List Interval) (ops : List RowOp) (outcome : ReplyLine) (added : List (List RowOp)) : Type 0 where
+  pub right : IsRight (from_start script start) (view_of (from_start script start) (entries_after start entries name t.number begin t.level added)) name t begin (used_by t.level ops uses ranges) ops outcome
   pub decided : IsDecided outcome
-  pub stored : Stored script start (entries_after start entries name t.number begin t.level added) (taken_after taken added) seen'
+  pub stored : Stored script start (entries_after start entries name t.number begin t.level added) (changed_after seen changed added) seen'
   pub paced : Paced (now_of start entries) (now_of start (entries_after start entries name t.number begin t.level added)) (outcome ∷ [])
   pub grows : seen.next ≤ seen'.next
   pub told : (added ≡ []) ⊎ ((o : List RowOp) × (added ≡ o ∷ []) × (outcome ≡ reply.Committed (now_of start entries + 1)))
 
-module _ (script : Script) (start : Start) (entries : List EntryLine) (taken : List (List GenidItem)) (seen seen' : Seen) (name : List ℕ) (t : Transaction) (begin : ℕ) (uses : List GenidItem) where
+module _ (script : Script) (start : Start) (entries : List EntryLine) (changed : List (List Change)) (seen seen' : Seen) (name : List ℕ) (t : Transaction) (begin : ℕ) (uses : List GenidItem) (ranges : List Interval) where
   -- a decision that adds nothing
-  nothing_added : (ops : List RowOp) (outcome : ReplyLine) → Stored script start entries taken seen → seen' ≡ seen → IsDecided outcome →
-      IsRight (from_start script start) (view_of (from_start script start) entries) name t begin (taken_by ops ++ uses) ops outcome → Paced (now_of start entries) (now_of start entries) (outcome ∷ []) →
-      Decided script start entries taken seen seen' name t begin uses ops outcome []
+  nothing_added : (ops : List RowOp) (outcome : ReplyLine) → Stored script start entries changed seen → seen' ≡ seen → IsDecided outcome →
+      IsRight (from_start script start) (view_of (from_start script start) entries) name t begin (used_by t.level ops uses ranges) ops outcome → Paced (now_of start entries) (now_of start entries) (outcome ∷ []) →
+      Decided script start entries changed seen seen' name t begin uses ranges ops outcome []
   nothing_added ops outcome stored same decided right paced = record {
-    right = subst (λ es. IsRight (from_start script start) (view_of (from_start script start) es) name t begin (taken_by ops ++ uses) ops outcome) (sym (append-nil entries)) right;
+    right = subst (λ es. IsRight (from_start script start) (view_of (from_start script start) es) name t begin (used_by t.level ops uses ranges) ops outcome) (sym (append-nil entries)) right;
     decided = decided;
-    stored = subst (λ (a : Seen). Stored script start (entries ++ []) (taken ++ []) a) (sym same)
-        (subst (λ es. Stored script start es (taken ++ []) seen) (sym (append-nil entries)) (subst (λ ts. Stored script start entries ts seen) (sym (append-nil taken)) stored));
+    stored = subst (λ (a : Seen). Stored script start (entries ++ []) (changed ++ []) a) (sym same)
+        (subst (λ es. Stored script start es (changed ++ []) seen) (sym (append-nil entries)) (subst (λ ts. Stored script start entries ts seen) (sym (append-nil changed)) stored));
     paced = subst (λ es. Paced (now_of start entries) (now_of start es) (outcome ∷ [])) (sym (append-nil entries)) paced;
     grows = let n = ap (λ (a : Seen). a.next) same in omega (arith, n);
     told = inl refl;
   }
 
-  module _ (op : RowOp) (more : List RowOp) (c : Commits script start entries taken seen name t begin uses (op ∷ more)) where
+  module _ (op : RowOp) (more : List RowOp) (c : Commits script start entries changed seen name t begin uses ranges (op ∷ more)) where
     abbrev pub ops : List RowOp
     ops = op ∷ more
 
-    abbrev pub used : List GenidItem
-    used = taken_by ops ++ uses
+    abbrev pub used : List Used
+    used = used_by t.level ops uses ranges
 
     some : ops ≢ []
     some is = absurd cc
 
     -- what follows from an outcome, once the run did it
     abbrev pub Follows : ReplyLine → Type 0
-    Follows outcome = IsKept (now_of start entries) seen seen' (added_by outcome ops) → Decided script start entries taken seen seen' name t begin uses ops outcome (added_by outcome ops)
+    Follows outcome = IsKept (now_of start entries) seen seen' (added_by outcome ops) → Decided script start entries changed seen seen' name t begin uses ranges ops outcome (added_by outcome ops)
 
-    conflict : (touched : Touched) (table : List ℕ) → name_of_table (tables_of script) touched.item.table ≡ Some table → first_conflict begin (drop begin taken) used ≡ Some touched →
-        IsConflict (from_start script start) (view_of (from_start script start) entries) begin touched.position used ops (reply.ConflictGenid touched.position table touched.item.genid)
-    conflict touched table has is = record {
+    -- what the entry at a position behind the begin touches, by the changes that were kept for it
+    touched_at : (position : ℕ) → begin < position → position ≤ now_of start entries
+        → touched_in (view_of (from_start script start) entries) position used ≡ first_used (tables_of script) (unwrap_or (slice_get changed (position - 1)) []) used
+    touched_at position after within =
+        ap (λ (changes : List Change). first_used (tables_of script) changes used) (sym (c.stored.changed_are position (let b = c.first.1 in omega (arith, after, b)) within))
+
+    conflict : (found : FirstUse) → first_use (tables_of script) begin (drop begin changed) used ≡ Some found →
+        IsConflict (from_start script start) (view_of (from_start script start) entries) begin found.position used ops (conflict_told (tables_of script) found)
+    conflict found is = record {
       has_ops = some;
       later = since.after;
-      within = let w : touched.position ≤ now_of start entries = within in omega (arith, w);
-      item = touched.item;
-      touched = ap (λ (items : List GenidItem). first_touched items used) (sym (c.stored.taken_are touched.position (let l = since.after in let b = c.first.1 in omega (arith, l, b)) within)) ∙ since.touched;
-      untouched = λ j after before. ap (λ (items : List GenidItem). first_touched items used) (sym (c.stored.taken_are j (let b = c.first.1 in omega (arith, after, b)) (omega (arith, before, within)))) ∙ since.before j after before;
-      is_told = ap (line_by touched.position touched.item.genid) has;
+      within = let w : found.position ≤ now_of start entries = within in omega (arith, w);
+      item = found.item;
+      touched = touched_at found.position since.after within ∙ since.touched;
+      untouched = λ j after before. touched_at j after (omega (arith, before, within)) ∙ since.before j after before;
+      is_told = named (tables_of script) (unwrap_or (slice_get changed (found.position - 1)) []) used found.position found.item its_changes since.touched;
     }
       where
-        since : IsFirstSince begin taken used touched
-        since = one_since begin taken used touched is
+        since : IsFirstUse (tables_of script) begin changed used found
+        since = one_used (tables_of script) used begin changed found is
 
-        within : touched.position ≤ now_of start entries
-        within = let w = since.within in let same = c.stored.taken_length in omega (arith, w, same)
+        within : found.position ≤ now_of start entries
+        within = let w = since.within in let same = c.stored.changed_length in omega (arith, w, same)
 
-    duplicate : (key : KeyName) → first_conflict begin (drop begin taken) used ≡ None → first_broken (tables_of script) (apply_all (seen.at (now_of start entries)) ops).tables ≡ Some key →
+        its_changes : AllByRecursion (HasName (tables_of script)) (unwrap_or (slice_get changed (found.position - 1)) [])
+        its_changes = all_behind (HasName (tables_of script)) (base start) changed (found.position - 1) (let l = since.after in let b = c.first.1 in omega (arith, l, b)) c.stored.named
+
+    -- a conflict adds nothing
+    told_conflict : (position : ℕ) (item : Used) → position ≤ now_of start entries →
+        IsConflict (from_start script start) (view_of (from_start script start) entries) begin position used ops (item_told (tables_of script) position (item_of item)) →
+        Follows (item_told (tables_of script) position (item_of item))
+    told_conflict position (TheVersion item) within is kept = nothing_added ops (item_told (tables_of script) position (item_of (TheVersion item))) c.stored kept tt is (refl, within, refl)
+    told_conflict position (TheRange interval) within is kept = nothing_added ops (item_told (tables_of script) position (item_of (TheRange interval))) c.stored kept tt is (refl, within, refl)
+
+    duplicate : (key : KeyName) → first_use (tables_of script) begin (drop begin changed) used ≡ None → first_broken (tables_of script) (apply_all (seen.at (now_of start entries)) ops).tables ≡ Some key →
         IsDuplicate (from_start script start) (view_of (from_start script start) entries) begin (now_of start entries) used ops key.table key.key
     duplicate key clear broken = record {
       has_ops = some;
       begun = c.within;
       within = omega arith;
-      untouched = untouched_now script start entries taken seen name t begin uses ops c clear;
+      untouched = untouched_now script start entries changed seen name t begin uses ranges ops c clear;
       breaks = ap (λ (r : Rows). first_broken (tables_of script) (apply_all r ops).tables) (sym c.stored.now_are) ∙ broken;
     }
 
-    by_its_key : (found : Option KeyName) → first_broken (tables_of script) (apply_all (seen.at (now_of start entries)) ops).tables ≡ found → first_conflict begin (drop begin taken) used ≡ None → Follows (by_key (now_of start entries) found)
+    by_its_key : (found : Option KeyName) → first_broken (tables_of script) (apply_all (seen.at (now_of start entries)) ops).tables ≡ found → first_use (tables_of script) begin (drop begin changed) used ≡ None → Follows (by_key (now_of start entries) found)
     by_its_key (Some key) broken clear kept = nothing_added ops (reply.Duplicate (now_of start entries) key.table key.key) c.stored kept tt (duplicate key clear broken) (refl, omega arith, refl)
     by_its_key None unbroken clear kept = record {
-      right = committed_right script start entries taken seen name t begin uses ops c seen' kept unbroken some clear op more refl;
+      right = committed_right script start entries changed seen name t begin uses ranges ops c seen' kept unbroken some clear op more refl;
       decided = tt;
-      stored = stored_more script start entries taken seen name t begin uses ops c seen' kept unbroken some clear;
+      stored = stored_more script start entries changed seen name t begin uses ranges ops c seen' kept unbroken some clear;
       paced = (refl, omega (arith, count), omega (arith, count));
-      grows = let g = c.grows in let n = next_is script start entries taken seen name t begin uses ops c seen' kept unbroken some clear in omega (arith, g, n);
+      grows = let g = c.grows in let n = next_is script start entries changed seen name t begin uses ranges ops c seen' kept unbroken some clear in omega (arith, g, n);
       told = inr (ops, refl, refl);
     }
       where
         count : now_of start (entries ++ entry_of name t.number begin t.level (now_of start entries) ∷ []) ≡ now_of start entries + 1
         count = omega (arith, length-append entries (entry_of name t.number begin t.level (now_of start entries) ∷ []))
 
-    by_conflict : (found : Option Touched) → first_conflict begin (drop begin taken) used ≡ found → Follows (judged (tables_of script) (seen.at (now_of start entries)) (now_of start entries) ops found)
+    by_conflict : (found : Option FirstUse) → first_use (tables_of script) begin (drop begin changed) used ≡ found → Follows (judged (tables_of script) (seen.at (now_of start entries)) (now_of start entries) ops found)
     by_conflict None clear kept = by_its_key (first_broken (tables_of script) (apply_all (seen.at (now_of start entries)) ops).tables) refl clear kept
-    by_conflict (Some touched) is kept = go (name_of_table (tables_of script) touched.item.table) refl kept
-      where
-        its_name : (table : List ℕ) × (name_of_table (tables_of script) touched.item.table ≡ Some table)
-        its_name = named (tables_of script) (unwrap_or (slice_get taken (touched.position - 1)) []) used touched.item (all_behind (HasName (tables_of script)) (base start) taken (touched.position - 1) (let l = (one_since begin taken used touched is).after in let b = c.first.1 in omega (arith, l, b)) c.stored.named) (one_since begin taken used touched is).touched
-
-        go : (found : Option (List ℕ)) → name_of_table (tables_of script) touched.item.table ≡ found → Follows (reply.ConflictGenid touched.position (unwrap_or found []) touched.item.genid)
-        go None none kept = let one = its_name.1 in absurd (cc)
-        go (Some table) has kept = nothing_added ops (reply.ConflictGenid touched.position table touched.item.genid) c.stored kept tt (conflict touched table has is) (refl, conflict_within, refl)
-          where
-            conflict_within : touched.position ≤ now_of start entries
-            conflict_within = let w = (conflict touched table has is).within in omega (arith, w)
+    by_conflict (Some found) is kept = told_conflict found.position found.item (let w = (conflict found is).within in omega (arith, w)) (conflict found is) kept
 
 -- whatever is decided is right
-pub decides : (script : Script) (start : Start) (entries : List EntryLine) (taken : List (List GenidItem)) (seen seen' : Seen) (name : List ℕ) (t : Transaction) (begin : ℕ) (uses : List GenidItem) (ops : List RowOp) →
-    Commits script start entries taken seen name t begin uses ops →
-    IsKept (now_of start entries) seen seen' (added_by (decision (tables_of script) taken (seen.at (now_of start entries)) begin (now_of start entries) uses ops) ops) →
-    Decided script start entries taken seen seen' name t begin uses ops (decision (tables_of script) taken (seen.at (now_of start entries)) begin (now_of start entries) uses ops) (added_by (decision (tables_of script) taken (seen.at (now_of start entries)) begin (now_of start entries) uses ops) ops)
-decides script start entries taken seen seen' name t begin uses [] c kept =
-    nothing_added script start entries taken seen seen' name t begin uses [] (reply.Committed begin) c.stored kept tt refl (refl, c.within, (let w = c.within in omega (arith, w)))
-decides script start entries taken seen seen' name t begin uses (op ∷ more) c kept =
-    by_conflict script start entries taken seen seen' name t begin uses op more c (first_conflict begin (drop begin taken) (taken_by (op ∷ more) ++ uses)) refl kept
+pub decides : (script : Script) (start : Start) (entries : List EntryLine) (changed : List (List Change)) (seen seen' : Seen) (name : List ℕ) (t : Transaction) (begin : ℕ) (uses : List GenidItem) (ranges : List Interval) (ops : List RowOp) →
+    Commits script start entries changed seen name t begin uses ranges ops →
+    IsKept (now_of start entries) seen seen' (added_by (decision (tables_of script) changed (seen.at (now_of start entries)) begin (now_of start entries) (used_by t.level ops uses ranges) ops) ops) →
+    Decided script start entries changed seen seen' name t begin uses ranges ops (decision (tables_of script) changed (seen.at (now_of start entries)) begin (now_of start entries) (used_by t.level ops uses ranges) ops)
+    (added_by (decision (tables_of script) changed (seen.at (now_of start entries)) begin (now_of start entries) (used_by t.level ops uses ranges) ops) ops)
+decides script start entries changed seen seen' name t begin uses ranges [] c kept =
+    nothing_added script start entries changed seen seen' name t begin uses ranges [] (reply.Committed begin) c.stored kept tt refl (refl, c.within, (let w = c.within in omega (arith, w)))
+decides script start entries changed seen seen' name t begin uses ranges (op ∷ more) c kept =
+    by_conflict script start entries changed seen seen' name t begin uses ranges op more c (first_use (tables_of script) begin (drop begin changed) (used_by t.level (op ∷ more) uses ranges)) refl kept

@@ -3,6 +3,8 @@
 use Rattle.std.proofs.Common.{◌≡◌, ◌≢◌, ℕ, ◌+◌, List, [], ◌∷◌, ◌++◌, refl, sym, subst, ap, arith, Option, Some, None, ◌∙◌, Bool, inl, inr}
 use Rattle.std.proofs.lemmas.List.{append-nil}
 use Rattle.cdb_values.specs.declared.items.GenidItem.{GenidItem}
+use Rattle.cdb_values.specs.declared.items.Interval.{Interval}
+use Rattle.cdb_values.specs.declared.rows.Change.{Change}
 use Rattle.cdb_values.specs.declared.rows.RowOp.{RowOp}
 use Rattle.script_form.specs.CanRun.{tables_of}
 use Rattle.script_form.specs.declared.scripts.Script.{Script}
@@ -15,7 +17,7 @@ use Rattle.report_laws.specs.Work.{Does, Place, End, ByCommit, ByRollback, WithI
 use Rattle.report_text.specs.declared.reports.EntryLine.{EntryLine}
 use Rattle.report_text.specs.declared.reports.ReplyLine.{ReplyLine}
 use Rattle.report_text.specs.declared.reports.ReplyLine.TheVariants as reply
-use Rattle.sql_answer.specs.Language.{sql_language}
+use Rattle.query_laws.specs.Alone.{sql_language}
 use Rattle.script_play.specs.Basis.{from_start}
 use Rattle.script_play.specs.Doing.{SessionAt, Doing}
 use Rattle.script_play.specs.Doing as doing
@@ -39,7 +41,7 @@ pub record DownStands (script : Script) (start : Start) (entries : List EntryLin
   pub stands : Standing script start entries seen.next name after (lines ++ numbered t.number t.replies) t.after
   pub number : t.number ≡ told
 
-module _ (script : Script) (start : Start) (entries : List EntryLine) (taken : List (List GenidItem)) (seen : Seen) (name : List ℕ) (p : Place) (text : List ℕ) (lines : List Numbered) where
+module _ (script : Script) (start : Start) (entries : List EntryLine) (changed : List (List Change)) (seen : Seen) (name : List ℕ) (p : Place) (text : List ℕ) (lines : List Numbered) where
   abbrev pub DownGoal : Place → ℕ → Turned → Type 0
   DownGoal after told t = DownStands script start entries seen name after lines told t
 
@@ -47,7 +49,7 @@ module _ (script : Script) (start : Start) (entries : List EntryLine) (taken : L
   none_begun : (texts : List (List ℕ)) (number : ℕ) (end : End) → IsCut (from_start script start) (view_of (from_start script start) entries) (transaction number texts p.level end) (reply.NoMajority 0 1 ∷ [])
   none_begun texts number end = record { begin = base start; base = omega arith; within = omega arith; ran = alone_at (from_start script start) (view_of (from_start script start) entries) (transaction number texts p.level end) (base start); is_ran = refl; front = []; rest = _; fits = refl; cause = reply.NoMajority 0 1; is_cause = refl; may = inl refl; says = refl }
 
-  module _ (texts : List (List ℕ)) (begin : ℕ) (ops : List RowOp) (uses : List GenidItem) (k : Kind) (c : Comes script start entries taken seen name p (Some texts) (doing.Open begin ops uses) text k lines) where
+  module _ (texts : List (List ℕ)) (begin : ℕ) (ops : List RowOp) (uses : List GenidItem) (ranges : List Interval) (k : Kind) (c : Comes script start entries changed seen name p (Some texts) (doing.Open begin ops uses ranges) text k lines) where
     -- a transaction is lost that was begun
     lost_more : IsCut (from_start script start) (view_of (from_start script start) entries) (transaction p.number (texts ++ text ∷ []) p.level Nowhere) (c.mine ++ reply.Lost 1 1 ∷ [])
     lost_more = record {
@@ -94,46 +96,46 @@ module _ (script : Script) (start : Start) (entries : List EntryLine) (taken : L
       number = refl;
     }
 
-  begin_few : (c : Comes script start entries taken seen name p None doing.No text BeginText lines) → DownGoal (with_open p (Some []) (p.number + 1)) (p.number + 1) (turned (p.number + 1) (reply.NoMajority 0 1 ∷ []) (state (p.number + 1) p.level doing.Aborted))
+  begin_few : (c : Comes script start entries changed seen name p None doing.No text BeginText lines) → DownGoal (with_open p (Some []) (p.number + 1)) (p.number + 1) (turned (p.number + 1) (reply.NoMajority 0 1 ∷ []) (state (p.number + 1) p.level doing.Aborted))
   begin_few c = record {
     stands = in_transaction script start entries entries (inl refl) name p c.before c.past [] (reply.NoMajority 0 1 ∷ []) (lines ++ numbered (p.number + 1) (reply.NoMajority 0 1 ∷ [])) seen.next (p.number + 1) doing.Aborted
         (none_begun [] (p.number + 1) Nowhere)
-        (ap (λ ls. ls ++ numbered (p.number + 1) (reply.NoMajority 0 1 ∷ [])) (idle_lines script start entries taken seen seen name p text lines BeginText c));
+        (ap (λ ls. ls ++ numbered (p.number + 1) (reply.NoMajority 0 1 ∷ [])) (idle_lines script start entries changed seen seen name p text lines BeginText c));
     number = refl;
   }
 
-  own_few : (c : Comes script start entries taken seen name p None doing.No text OtherText lines) → DownGoal (with_own_line p text) (p.number + 1) (turned (p.number + 1) (reply.NoMajority 0 1 ∷ []) (state (p.number + 1) p.level doing.No))
+  own_few : (c : Comes script start entries changed seen name p None doing.No text OtherText lines) → DownGoal (with_own_line p text) (p.number + 1) (turned (p.number + 1) (reply.NoMajority 0 1 ∷ []) (state (p.number + 1) p.level doing.No))
   own_few c = record {
     stands = idle_after script start entries entries (inl refl) name p c.before c.past (Does (transaction (p.number + 1) (text ∷ []) p.level WithItsLine)) (reply.NoMajority 0 1 ∷ []) (lines ++ numbered (p.number + 1) (reply.NoMajority 0 1 ∷ [])) seen.next (p.number + 1) p.level
         (inr (none_begun (text ∷ []) (p.number + 1) WithItsLine))
-        (ap (λ ls. ls ++ numbered (p.number + 1) (reply.NoMajority 0 1 ∷ [])) (idle_lines script start entries taken seen seen name p text lines OtherText c));
+        (ap (λ ls. ls ++ numbered (p.number + 1) (reply.NoMajority 0 1 ∷ [])) (idle_lines script start entries changed seen seen name p text lines OtherText c));
     number = refl;
   }
 
   -- a line that does what it does on a node that is up, and adds nothing
-  as_up : (after : Place) (told number : ℕ) (own : Bool) (replies : List ReplyLine) (at : SessionAt) → Turns script start entries (entries ++ []) (taken ++ []) seen seen name after lines told own (turned number replies at) → DownGoal after told (turned number replies at)
+  as_up : (after : Place) (told number : ℕ) (own : Bool) (replies : List ReplyLine) (at : SessionAt) → Turns script start entries (entries ++ []) (changed ++ []) seen seen name after lines told own (turned number replies at) → DownGoal after told (turned number replies at)
   as_up after told number own replies at turn = record {
     stands = subst (λ (es : List EntryLine). Standing script start es seen.next name after (lines ++ numbered number replies) at) (append-nil entries) turn.stands;
     number = turn.number;
   }
 
-  pub stands_down : (k : Kind) (pending : Option (List (List ℕ))) (what : Doing) → Comes script start entries taken seen name p pending what text k lines →
+  pub stands_down : (k : Kind) (pending : Option (List (List ℕ))) (what : Doing) → Comes script start entries changed seen name p pending what text k lines →
       DownGoal (next_by p text k pending) (number_by p.number k pending) (turn_down p.number p.level k what)
   stands_down BeginText None doing.No c = begin_few c
   stands_down OtherText None doing.No c = own_few c
-  stands_down CommitText None doing.No c = as_up _ _ _ _ _ _ (turns script start entries taken seen seen name p text lines CommitText None doing.No c refl)
-  stands_down RollbackText None doing.No c = as_up _ _ _ _ _ _ (turns script start entries taken seen seen name p text lines RollbackText None doing.No c refl)
-  stands_down (LevelText later) None doing.No c = as_up _ _ _ _ _ _ (turns script start entries taken seen seen name p text lines (LevelText later) None doing.No c refl)
-  stands_down BeginText (Some texts) (doing.Open begin ops uses) c = goes_lost texts begin ops uses BeginText c
-  stands_down CommitText (Some texts) (doing.Open begin ops uses) c = ends_lost texts begin ops uses CommitText c ByCommit
-  stands_down RollbackText (Some texts) (doing.Open begin ops uses) c = ends_lost texts begin ops uses RollbackText c ByRollback
-  stands_down (LevelText later) (Some texts) (doing.Open begin ops uses) c = goes_lost texts begin ops uses (LevelText later) c
-  stands_down OtherText (Some texts) (doing.Open begin ops uses) c = goes_lost texts begin ops uses OtherText c
-  stands_down BeginText (Some texts) doing.Aborted c = as_up _ _ _ _ _ _ (turns script start entries taken seen seen name p text lines BeginText (Some texts) doing.Aborted c refl)
-  stands_down CommitText (Some texts) doing.Aborted c = as_up _ _ _ _ _ _ (turns script start entries taken seen seen name p text lines CommitText (Some texts) doing.Aborted c refl)
-  stands_down RollbackText (Some texts) doing.Aborted c = as_up _ _ _ _ _ _ (turns script start entries taken seen seen name p text lines RollbackText (Some texts) doing.Aborted c refl)
-  stands_down (LevelText later) (Some texts) doing.Aborted c = as_up _ _ _ _ _ _ (turns script start entries taken seen seen name p text lines (LevelText later) (Some texts) doing.Aborted c refl)
-  stands_down OtherText (Some texts) doing.Aborted c = as_up _ _ _ _ _ _ (turns script start entries taken seen seen name p text lines OtherText (Some texts) doing.Aborted c refl)
-  stands_down k None (doing.Open begin ops uses) c = absurd c.doing
+  stands_down CommitText None doing.No c = as_up _ _ _ _ _ _ (turns script start entries changed seen seen name p text lines CommitText None doing.No c refl)
+  stands_down RollbackText None doing.No c = as_up _ _ _ _ _ _ (turns script start entries changed seen seen name p text lines RollbackText None doing.No c refl)
+  stands_down (LevelText later) None doing.No c = as_up _ _ _ _ _ _ (turns script start entries changed seen seen name p text lines (LevelText later) None doing.No c refl)
+  stands_down BeginText (Some texts) (doing.Open begin ops uses ranges) c = goes_lost texts begin ops uses ranges BeginText c
+  stands_down CommitText (Some texts) (doing.Open begin ops uses ranges) c = ends_lost texts begin ops uses ranges CommitText c ByCommit
+  stands_down RollbackText (Some texts) (doing.Open begin ops uses ranges) c = ends_lost texts begin ops uses ranges RollbackText c ByRollback
+  stands_down (LevelText later) (Some texts) (doing.Open begin ops uses ranges) c = goes_lost texts begin ops uses ranges (LevelText later) c
+  stands_down OtherText (Some texts) (doing.Open begin ops uses ranges) c = goes_lost texts begin ops uses ranges OtherText c
+  stands_down BeginText (Some texts) doing.Aborted c = as_up _ _ _ _ _ _ (turns script start entries changed seen seen name p text lines BeginText (Some texts) doing.Aborted c refl)
+  stands_down CommitText (Some texts) doing.Aborted c = as_up _ _ _ _ _ _ (turns script start entries changed seen seen name p text lines CommitText (Some texts) doing.Aborted c refl)
+  stands_down RollbackText (Some texts) doing.Aborted c = as_up _ _ _ _ _ _ (turns script start entries changed seen seen name p text lines RollbackText (Some texts) doing.Aborted c refl)
+  stands_down (LevelText later) (Some texts) doing.Aborted c = as_up _ _ _ _ _ _ (turns script start entries changed seen seen name p text lines (LevelText later) (Some texts) doing.Aborted c refl)
+  stands_down OtherText (Some texts) doing.Aborted c = as_up _ _ _ _ _ _ (turns script start entries changed seen seen name p text lines OtherText (Some texts) doing.Aborted c refl)
+  stands_down k None (doing.Open begin ops uses ranges) c = absurd c.doing
   stands_down k None doing.Aborted c = absurd c.doing
   stands_down k (Some texts) doing.No c = absurd c.doing

@@ -33,7 +33,7 @@ use Rattle.report_text.specs.declared.reports.Line.{Line}
 use Rattle.report_text.specs.declared.reports.ReplyLine.{ReplyLine}
 use Rattle.report_text.specs.declared.reports.Report.{Report}
 use Rattle.report_text.specs.declared.reports.ReplyLine.TheVariants as reply
-use Rattle.sql_answer.specs.Language.{sql_language}
+use Rattle.query_laws.specs.Alone.{sql_language}
 use Rattle.sql_answer.specs.Reading.{kind_of_text}
 use Rattle.script_play.specs.Basis.{from_origin}
 use Rattle.script_play.specs.Doing.{SessionAt, Doing}
@@ -134,18 +134,18 @@ module _ (script : Script) (origin : Origin) (name text : List ℕ) (p : Place) 
   stands_behind RollbackText (Some texts) doing.Aborted so = ends texts ByRollback so
   stands_behind (LevelText later) (Some texts) doing.Aborted so = skips (texts ++ text ∷ []) so
   stands_behind OtherText (Some texts) doing.Aborted so = skips (texts ++ text ∷ []) so
-  stands_behind k None (doing.Open begin ops uses) so = absurd so
+  stands_behind k None (doing.Open begin ops uses ranges) so = absurd so
   stands_behind k None doing.Aborted so = absurd so
   stands_behind k (Some texts) doing.No so = absurd so
-  stands_behind k (Some texts) (doing.Open begin ops uses) so = absurd so
+  stands_behind k (Some texts) (doing.Open begin ops uses ranges) so = absurd so
 
   -- all that a session did, where the script ends there
   along_all : (pending : Option (List (List ℕ))) (what : Doing) → IsDoingDown pending what mine → Along IsToldOf (p.over ++ open_item p pending) (before ++ numbered p.number mine)
   along_all None doing.No none = subst (λ (rs : List ReplyLine). Along IsToldOf (p.over ++ []) (before ++ numbered p.number rs)) (sym none) (along_append IsToldOf p.over [] before [] past refl)
-  along_all None (doing.Open begin ops uses) so = absurd so
+  along_all None (doing.Open begin ops uses ranges) so = absurd so
   along_all None doing.Aborted so = absurd so
   along_all (Some texts) doing.No so = absurd so
-  along_all (Some texts) (doing.Open begin ops uses) so = absurd so
+  along_all (Some texts) (doing.Open begin ops uses ranges) so = absurd so
   along_all (Some texts) doing.Aborted so = subst (λ (rs : List ReplyLine). Along IsToldOf (p.over ++ Does (transaction p.number texts p.level Nowhere) ∷ []) (before ++ numbered p.number rs)) (sym so)
       (along_append IsToldOf p.over (Does (transaction p.number texts p.level Nowhere) ∷ []) before (numbered p.number (reply.NoMajority 0 1 ∷ [])) past
       (along_one IsToldOf (Does (transaction p.number texts p.level Nowhere)) (reply.NoMajority 0 1 ∷ []) (inr (none_begun script origin (transaction p.number texts p.level Nowhere)))))
@@ -169,10 +169,10 @@ module _ (script : Script) (origin : Origin) (one : script.nodes ≡ 1) (now : �
   told_right p before mine is RollbackText (Some texts) doing.Aborted so = told_nothing script origin now lines name RollbackText texts p.number refl (was_cut_there before p.number mine is so)
   told_right p before mine is (LevelText later) (Some texts) doing.Aborted so = told_nothing script origin now lines name (LevelText later) texts p.number refl (was_cut_there before p.number mine is so)
   told_right p before mine is OtherText (Some texts) doing.Aborted so = told_nothing script origin now lines name OtherText texts p.number refl (was_cut_there before p.number mine is so)
-  told_right p before mine is k None (doing.Open begin ops uses) so = absurd so
+  told_right p before mine is k None (doing.Open begin ops uses ranges) so = absurd so
   told_right p before mine is k None doing.Aborted so = absurd so
   told_right p before mine is k (Some texts) doing.No so = absurd so
-  told_right p before mine is k (Some texts) (doing.Open begin ops uses) so = absurd so
+  told_right p before mine is k (Some texts) (doing.Open begin ops uses ranges) so = absurd so
 
 -- ---- the run behind a line more
 

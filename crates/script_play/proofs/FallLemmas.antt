@@ -5,6 +5,8 @@ use Rattle.std.proofs.lemmas.List.{append-nil}
 use Rattle.std.specs.List.{AllByRecursion, list_any}
 use Rattle.std.specs.Str.{bytes_eq}
 use Rattle.cdb_values.specs.declared.items.GenidItem.{GenidItem}
+use Rattle.cdb_values.specs.declared.items.Interval.{Interval}
+use Rattle.cdb_values.specs.declared.rows.Change.{Change}
 use Rattle.cdb_values.specs.declared.rows.RowOp.{RowOp}
 use Rattle.log_rows.specs.History.{IsFrom}
 use Rattle.report_laws.specs.History.{view_of}
@@ -166,7 +168,7 @@ pub record Falls (script : Script) (start : Start) (entries : List EntryLine) (s
   pub down : (states : List SessionAt) → ((m : List ℕ) → IsGone (state_of m script.sessions states).doing (told m (lines_of name t.number (reply.Lost 1 1 ∷ [])))) → IsDown script (lines ++ fallen_lines name t.number front) states
   pub idle : t.after.doing ≡ doing.No
 
-module _ (script : Script) (start : Start) (entries : List EntryLine) (taken : List (List GenidItem)) (seen : Seen) (name : List ℕ) (p : Place) (text : List ℕ) (lines : List Line) (can : CanRun script) (unhurt : downs lines ≡ 0)
+module _ (script : Script) (start : Start) (entries : List EntryLine) (changed : List (List Change)) (seen : Seen) (name : List ℕ) (p : Place) (text : List ℕ) (lines : List Line) (can : CanRun script) (unhurt : downs lines ≡ 0)
     (names : NameUpTo (now_of start entries) lines) (places : EachAfter (HasItsPlace script) [] lines) where
   abbrev pub now : ℕ
   now = now_of start entries
@@ -176,16 +178,16 @@ module _ (script : Script) (start : Start) (entries : List EntryLine) (taken : L
 
   -- the answer to a line that is a transaction of its own
   abbrev pub own_answer : Answered
-  own_answer = answer_at (world script start entries taken seen) now [] text
+  own_answer = answer_at (world script start entries changed seen) now [] text
 
-  own_falls : (c : Comes script start entries taken seen name p None doing.No text OtherText (told name lines)) → AllByRecursion (IsBelow (p.number + 1)) p.over →
-      FallsAt (with_own_line p text) (p.number + 1) OtherText None (own_line (world script start entries taken seen) (p.number + 1) p.level own_answer) (reply.Begin now ∷ own_answer.replies)
+  own_falls : (c : Comes script start entries changed seen name p None doing.No text OtherText (told name lines)) → AllByRecursion (IsBelow (p.number + 1)) p.over →
+      FallsAt (with_own_line p text) (p.number + 1) OtherText None (own_line (world script start entries changed seen) (p.number + 1) p.level own_answer) (reply.Begin now ∷ own_answer.replies)
   own_falls c below = record {
     told_so = falls_so script start entries lines name can unhurt c.stored.opened names places (p.number + 1) now (reply.Begin now ∷ own_answer.replies) its_pace begun OtherText None refl uncut (own_answer.replies, refl, closed_by, quiet);
     stands = subst (λ (ls : List Numbered). Standing script start entries seen.next name (with_own_line p text) (told name lines ++ ls) (state (p.number + 1) p.level doing.No)) (sym (fallen_told name (p.number + 1) (reply.Begin now ∷ own_answer.replies)))
         (idle_after script start entries entries (inl refl) name p c.before c.past (Does (transaction (p.number + 1) (text ∷ []) p.level WithItsLine)) ((reply.Begin now ∷ own_answer.replies) ++ reply.Lost 1 1 ∷ [])
         (told name lines ++ numbered (p.number + 1) ((reply.Begin now ∷ own_answer.replies) ++ reply.Lost 1 1 ∷ [])) seen.next (p.number + 1) p.level (inr cut)
-        (ap (λ (ls : List Numbered). ls ++ numbered (p.number + 1) ((reply.Begin now ∷ own_answer.replies) ++ reply.Lost 1 1 ∷ [])) (idle_lines script start entries taken seen seen name p text (told name lines) OtherText c)));
+        (ap (λ (ls : List Numbered). ls ++ numbered (p.number + 1) ((reply.Begin now ∷ own_answer.replies) ++ reply.Lost 1 1 ∷ [])) (idle_lines script start entries changed seen seen name p text (told name lines) OtherText c)));
     down = goes_down script start entries lines name can unhurt c.stored.opened names places (p.number + 1) now (reply.Begin now ∷ own_answer.replies) its_pace begun;
     idle = refl;
   }
@@ -207,7 +209,7 @@ module _ (script : Script) (start : Start) (entries : List EntryLine) (taken : L
 
       uncut : was_cut lines name (p.number + 1) ≡ false
       uncut = uncut_where name (p.number + 1) lines
-          (subst (λ (ls : List Numbered). AllByRecursion (IsUncutUnder (p.number + 1)) ls) (sym (idle_lines script start entries taken seen seen name p text (told name lines) OtherText c))
+          (subst (λ (ls : List Numbered). AllByRecursion (IsUncutUnder (p.number + 1)) ls) (sym (idle_lines script start entries changed seen seen name p text (told name lines) OtherText c))
           (over_uncut (IsTold (from_start script start) (view_of (from_start script start) entries) name) (p.number + 1) p.over c.before (over_other (p.number + 1) (p.number + 1) p.over (omega arith) (omega arith) below) c.past))
 
       cut : IsCut (from_start script start) (view_of (from_start script start) entries) (transaction (p.number + 1) (text ∷ []) p.level WithItsLine) ((reply.Begin now ∷ own_answer.replies) ++ reply.Lost 1 1 ∷ [])
@@ -219,49 +221,49 @@ module _ (script : Script) (start : Start) (entries : List EntryLine) (taken : L
         is_ran = refl;
         front = reply.Begin now ∷ own_answer.replies;
         rest = [];
-        fits = append-nil (reply.Begin now ∷ own_answer.replies) ∙ own_says script start entries taken seen seen name p text (told name lines) c;
+        fits = append-nil (reply.Begin now ∷ own_answer.replies) ∙ own_says script start entries changed seen seen name p text (told name lines) c;
         cause = reply.Lost 1 1;
         is_cause = refl;
         may = begins_so now own_answer.replies (reply.Begin now ∷ own_answer.replies) refl;
         says = refl;
       }
 
-  commit_falls : (texts : List (List ℕ)) (begin : ℕ) (ops : List RowOp) (uses : List GenidItem) (c : Comes script start entries taken seen name p (Some texts) (doing.Open begin ops uses) text CommitText (told name lines)) → AllByRecursion (IsBelow p.number) p.over → 1 ≤ p.number →
-      FallsAt (closed p texts ByCommit) p.number CommitText (Some texts) (committed (world script start entries taken seen) p.number p.level begin uses ops) []
-  commit_falls texts begin ops uses c below first = record {
-    told_so = falls_so script start entries lines name can unhurt c.stored.opened names places p.number begin [] refl begun CommitText (Some texts) refl (open_uncut script start entries taken seen name p text lines texts begin ops uses CommitText c below first) refl;
+  commit_falls : (texts : List (List ℕ)) (begin : ℕ) (ops : List RowOp) (uses : List GenidItem) (ranges : List Interval) (c : Comes script start entries changed seen name p (Some texts) (doing.Open begin ops uses ranges) text CommitText (told name lines)) → AllByRecursion (IsBelow p.number) p.over → 1 ≤ p.number →
+      FallsAt (closed p texts ByCommit) p.number CommitText (Some texts) (committed (world script start entries changed seen) p.number p.level begin uses ranges ops) []
+  commit_falls texts begin ops uses ranges c below first = record {
+    told_so = falls_so script start entries lines name can unhurt c.stored.opened names places p.number begin [] refl begun CommitText (Some texts) refl (open_uncut script start entries changed seen name p text lines texts begin ops uses ranges CommitText c below first) refl;
     stands = subst (λ (ls : List Numbered). Standing script start entries seen.next name (closed p texts ByCommit) (told name lines ++ ls) (state p.number p.level doing.No)) (sym (fallen_told name p.number []))
-        (ends_lost script start entries taken seen name p text (told name lines) texts begin ops uses CommitText c ByCommit).stands;
+        (ends_lost script start entries changed seen name p text (told name lines) texts begin ops uses ranges CommitText c ByCommit).stands;
     down = goes_down script start entries lines name can unhurt c.stored.opened names places p.number begin [] refl begun;
     idle = refl;
   }
     where
       begun : StandsIn (lines ++ lines_of name p.number []) (line.Session name p.number (reply.Begin begin))
-      begun = stands_more lines [] (line.Session name p.number (reply.Begin begin)) (told_stands name p.number (reply.Begin begin) lines (begin_told script start entries taken seen name p text lines texts begin ops uses CommitText c))
+      begun = stands_more lines [] (line.Session name p.number (reply.Begin begin)) (told_stands name p.number (reply.Begin begin) lines (begin_told script start entries changed seen name p text lines texts begin ops uses ranges CommitText c))
 
   -- whatever the line is that has an entry
-  pub falls : (k : Kind) (pending : Option (List (List ℕ))) (what : Doing) → Comes script start entries taken seen name p pending what text k (told name lines) → AllByRecursion (IsBelow (first_left p.number pending)) p.over → IsBegun p.number pending →
-      (out : HasOutcome (turn_by (world script start entries taken seen) p.number p.level text k what).replies) → (turn_by (world script start entries taken seen) p.number p.level text k what).added ≢ [] →
-      FallsAt (next_by p text k pending) (number_by p.number k pending) k pending (turn_by (world script start entries taken seen) p.number p.level text k what) out.front
+  pub falls : (k : Kind) (pending : Option (List (List ℕ))) (what : Doing) → Comes script start entries changed seen name p pending what text k (told name lines) → AllByRecursion (IsBelow (first_left p.number pending)) p.over → IsBegun p.number pending →
+      (out : HasOutcome (turn_by (world script start entries changed seen) p.number p.level text k what).replies) → (turn_by (world script start entries changed seen) p.number p.level text k what).added ≢ [] →
+      FallsAt (next_by p text k pending) (number_by p.number k pending) k pending (turn_by (world script start entries changed seen) p.number p.level text k what) out.front
   falls BeginText None doing.No c below first out some = absurd (some refl)
   falls CommitText None doing.No c below first out some = absurd (some refl)
   falls RollbackText None doing.No c below first out some = absurd (some refl)
   falls (LevelText later) None doing.No c below first out some = absurd (some refl)
   falls OtherText None doing.No c below first out some =
-      subst (λ (front : List ReplyLine). FallsAt (with_own_line p text) (p.number + 1) OtherText None (own_line (world script start entries taken seen) (p.number + 1) p.level own_answer) front)
-      (same_fronts (reply.Begin now ∷ own_answer.replies) out.front (outcome (world script start entries taken seen) now own_answer.uses own_answer.ops) out.outcome out.is) (own_falls c below)
-  falls BeginText (Some texts) (doing.Open begin ops uses) c below first out some = absurd (some refl)
-  falls CommitText (Some texts) (doing.Open begin ops uses) c below first out some =
-      subst (λ (front : List ReplyLine). FallsAt (closed p texts ByCommit) p.number CommitText (Some texts) (committed (world script start entries taken seen) p.number p.level begin uses ops) front)
-      (same_fronts [] out.front (outcome (world script start entries taken seen) begin uses ops) out.outcome out.is) (commit_falls texts begin ops uses c below first)
-  falls RollbackText (Some texts) (doing.Open begin ops uses) c below first out some = absurd (some refl)
-  falls (LevelText later) (Some texts) (doing.Open begin ops uses) c below first out some = absurd (some refl)
-  falls OtherText (Some texts) (doing.Open begin ops uses) c below first out some = absurd (some refl)
+      subst (λ (front : List ReplyLine). FallsAt (with_own_line p text) (p.number + 1) OtherText None (own_line (world script start entries changed seen) (p.number + 1) p.level own_answer) front)
+      (same_fronts (reply.Begin now ∷ own_answer.replies) out.front (outcome (world script start entries changed seen) now p.level own_answer.uses own_answer.ranges own_answer.ops) out.outcome out.is) (own_falls c below)
+  falls BeginText (Some texts) (doing.Open begin ops uses ranges) c below first out some = absurd (some refl)
+  falls CommitText (Some texts) (doing.Open begin ops uses ranges) c below first out some =
+      subst (λ (front : List ReplyLine). FallsAt (closed p texts ByCommit) p.number CommitText (Some texts) (committed (world script start entries changed seen) p.number p.level begin uses ranges ops) front)
+      (same_fronts [] out.front (outcome (world script start entries changed seen) begin p.level uses ranges ops) out.outcome out.is) (commit_falls texts begin ops uses ranges c below first)
+  falls RollbackText (Some texts) (doing.Open begin ops uses ranges) c below first out some = absurd (some refl)
+  falls (LevelText later) (Some texts) (doing.Open begin ops uses ranges) c below first out some = absurd (some refl)
+  falls OtherText (Some texts) (doing.Open begin ops uses ranges) c below first out some = absurd (some refl)
   falls BeginText (Some texts) doing.Aborted c below first out some = absurd (some refl)
   falls CommitText (Some texts) doing.Aborted c below first out some = absurd (some refl)
   falls RollbackText (Some texts) doing.Aborted c below first out some = absurd (some refl)
   falls (LevelText later) (Some texts) doing.Aborted c below first out some = absurd (some refl)
   falls OtherText (Some texts) doing.Aborted c below first out some = absurd (some refl)
-  falls k None (doing.Open begin ops uses) c below first out some = absurd c.doing
+  falls k None (doing.Open begin ops uses ranges) c below first out some = absurd c.doing
   falls k None doing.Aborted c below first out some = absurd c.doing
   falls k (Some texts) doing.No c below first out some = absurd c.doing

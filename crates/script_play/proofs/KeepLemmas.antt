@@ -3,7 +3,7 @@ use Rattle.std.proofs.Common.{◌≡◌, ◌≢◌, ℕ, List, [], ◌∷◌, �
 use Rattle.std.proofs.lemmas.List.{append-nil, length-set}
 use Rattle.std.specs.List.{slice_get}
 use Rattle.std.specs.Str.{bytes_eq, is_utf8}
-use Rattle.cdb_values.specs.declared.items.GenidItem.{GenidItem}
+use Rattle.cdb_values.specs.declared.rows.Change.{Change}
 use Rattle.cdb_values.specs.declared.rows.Level.{Level}
 use Rattle.report_laws.specs.Play.{IsTurnOf, number_by}
 use Rattle.report_laws.specs.Told.{Numbered, lines_of, told}
@@ -20,7 +20,7 @@ use Rattle.script_form.specs.declared.scripts.Act.TheVariants.{Say}
 use Rattle.script_form.specs.declared.scripts.BodyLine.{BodyLine}
 use Rattle.script_form.specs.declared.scripts.Script.{Script}
 use Rattle.session_language.specs.Language.{Kind, BeginText, CommitText, RollbackText, LevelText, OtherText}
-use Rattle.sql_answer.specs.Language.{sql_language}
+use Rattle.query_laws.specs.Alone.{sql_language}
 use Rattle.sql_answer.specs.Reading.{kind_of_text}
 use Rattle.script_play.specs.Basis.{from_start}
 use Rattle.script_play.specs.Doing.{Doing, SessionAt}
@@ -46,7 +46,7 @@ use Rattle.script_play.proofs.RunLemmas.{cut_keeps, turned_keeps}
 -- a session that was told nothing since the down line is where it may be
 pub none_gone : (d : Doing) → IsGone d []
 none_gone doing.No = tt
-none_gone (doing.Open begin ops uses) = refl
+none_gone (doing.Open begin ops uses ranges) = refl
 none_gone doing.Aborted = tt
 
 -- no transaction is open behind such a line
@@ -63,18 +63,18 @@ shut_behind number level CommitText doing.No since = tt
 shut_behind number level RollbackText doing.No since = tt
 shut_behind number level (LevelText later) doing.No since = tt
 shut_behind number level OtherText doing.No since = tt
-shut_behind number level BeginText (doing.Open begin ops uses) since = tt
-shut_behind number level CommitText (doing.Open begin ops uses) since = tt
-shut_behind number level RollbackText (doing.Open begin ops uses) since = tt
-shut_behind number level (LevelText later) (doing.Open begin ops uses) since = tt
-shut_behind number level OtherText (doing.Open begin ops uses) since = tt
+shut_behind number level BeginText (doing.Open begin ops uses ranges) since = tt
+shut_behind number level CommitText (doing.Open begin ops uses ranges) since = tt
+shut_behind number level RollbackText (doing.Open begin ops uses ranges) since = tt
+shut_behind number level (LevelText later) (doing.Open begin ops uses ranges) since = tt
+shut_behind number level OtherText (doing.Open begin ops uses ranges) since = tt
 shut_behind number level BeginText doing.Aborted since = tt
 shut_behind number level CommitText doing.Aborted since = tt
 shut_behind number level RollbackText doing.Aborted since = tt
 shut_behind number level (LevelText later) doing.Aborted since = tt
 shut_behind number level OtherText doing.Aborted since = tt
 
-module _ (script : Script) (start : Start) (done left : List BodyLine) (l : BodyLine) (lines : List Line) (entries : List EntryLine) (taken : List (List GenidItem)) (seen : Seen) (states sites' : List SessionAt) (name text : List ℕ) (can : CanRun script)
+module _ (script : Script) (start : Start) (done left : List BodyLine) (l : BodyLine) (lines : List Line) (entries : List EntryLine) (changed : List (List Change)) (seen : Seen) (states sites' : List SessionAt) (name text : List ℕ) (can : CanRun script)
     (is_act : l.act ≡ Say name text) (is_said : IsDeclared name script.sessions × (is_utf8 text ≡ true)) (others : (m : List ℕ) → bytes_eq name m ≡ false → state_of m script.sessions sites' ≡ state_of m script.sessions states) where
   abbrev pub place : Place
   place = place_after sql_language name done
@@ -95,31 +95,31 @@ module _ (script : Script) (start : Start) (done left : List BodyLine) (l : Body
 
   -- what the line does on a node that is up, by the number of transactions that the session has begun, and its level
   abbrev pub turn_there : ℕ → Level → Turned
-  turn_there n level = turn_by (world script start entries taken seen) n level text (kind_of_text text) site.doing
+  turn_there n level = turn_by (world script start entries changed seen) n level text (kind_of_text text) site.doing
 
   abbrev pub FallsThere : ℕ → Level → Type 0
   FallsThere n level = (out : HasOutcome (turn_there n level).replies) → (turn_there n level).added ≢ [] →
       Falls script start entries seen lines name (next_place sql_language place text) (number_by place.number (kind_of_text text) place.pending) (kind_of_text text) place.pending (turn_there n level) out.front
 
-  module _ (was : SoFar script start false done (l ∷ left) lines entries taken seen states) where
+  module _ (was : SoFar script start false done (l ∷ left) lines entries changed seen states) where
     falls_there : FallsThere site.number site.level
     falls_there =
         subst (λ (v : Level). FallsThere site.number v) (sym (was.standing name).level)
         (subst (λ (n : ℕ). FallsThere n place.level) (sym (was.standing name).number)
-        (falls script start entries taken seen name place text lines can was.node was.named was.placed (kind_of_text text) place.pending site.doing
-        (comes script start false done left l lines entries taken seen states name text was is_act (runs_askable script can) is_said.1) numbers.below numbers.begun))
+        (falls script start entries changed seen name place text lines can was.node was.named was.placed (kind_of_text text) place.pending site.doing
+        (comes script start false done left l lines entries changed seen states name text was is_act (runs_askable script can) is_said.1) numbers.below numbers.begun))
 
     -- a line at whose entry the node goes down keeps the run so far
-    pub fallen_keeps : (after : SessionAt) (lines' : List Line) (entries' : List EntryLine) (taken' : List (List GenidItem)) (seen' : Seen) →
-        IsFallen (world script start entries taken seen) name (turn (world script start entries taken seen) site text) after lines lines' entries entries' taken' seen' → state_of name script.sessions sites' ≡ after →
-        SoFar script start true (done ++ l ∷ []) left lines' entries' taken' seen' sites'
-    fallen_keeps after lines' entries' taken' seen' fall own =
-        subst (λ (ls : List Line). SoFar script start true (done ++ l ∷ []) left ls entries' taken' seen' sites') (sym fall.lines_are)
-        (subst (λ (es : List EntryLine). SoFar script start true (done ++ l ∷ []) left (lines ++ mine) es taken' seen' sites') (sym fall.still.entries_are)
-        (subst (λ (ts : List (List GenidItem)). SoFar script start true (done ++ l ∷ []) left (lines ++ mine) entries ts seen' sites') (sym fall.still.taken_are)
-        (subst (λ (a : Seen). SoFar script start true (done ++ l ∷ []) left (lines ++ mine) entries taken a sites') (sym fall.still.rows_are)
-        (went script start false true done left l lines mine entries taken seen states sites' name text was is_act entries taken seen
-        (adds_lines script start false true done left l lines mine entries taken seen states sites' name text was is_act adds) others))))
+    pub fallen_keeps : (after : SessionAt) (lines' : List Line) (entries' : List EntryLine) (changed' : List (List Change)) (seen' : Seen) →
+        IsFallen (world script start entries changed seen) name (turn (world script start entries changed seen) site text) after lines lines' entries entries' changed' seen' → state_of name script.sessions sites' ≡ after →
+        SoFar script start true (done ++ l ∷ []) left lines' entries' changed' seen' sites'
+    fallen_keeps after lines' entries' changed' seen' fall own =
+        subst (λ (ls : List Line). SoFar script start true (done ++ l ∷ []) left ls entries' changed' seen' sites') (sym fall.lines_are)
+        (subst (λ (es : List EntryLine). SoFar script start true (done ++ l ∷ []) left (lines ++ mine) es changed' seen' sites') (sym fall.still.entries_are)
+        (subst (λ (ts : List (List Change)). SoFar script start true (done ++ l ∷ []) left (lines ++ mine) entries ts seen' sites') (sym fall.still.changed_are)
+        (subst (λ (a : Seen). SoFar script start true (done ++ l ∷ []) left (lines ++ mine) entries changed a sites') (sym fall.still.rows_are)
+        (went script start false true done left l lines mine entries changed seen states sites' name text was is_act entries changed seen
+        (adds_lines script start false true done left l lines mine entries changed seen states sites' name text was is_act adds) others))))
       where
         t : Turned
         t = turn_there site.number site.level
@@ -146,7 +146,7 @@ module _ (script : Script) (start : Start) (done left : List BodyLine) (l : Body
           node = its.down sites' gone;
         }
 
-  module _ (was : SoFar script start true done (l ∷ left) lines entries taken seen states) where
+  module _ (was : SoFar script start true done (l ∷ left) lines entries changed seen states) where
     -- what the line does on a node that is down, by the same
     abbrev pub down_there : ℕ → Level → Turned
     down_there n level = turn_down n level (kind_of_text text) site.doing
@@ -157,32 +157,32 @@ module _ (script : Script) (start : Start) (done left : List BodyLine) (l : Body
     abbrev pub StandsThere : ℕ → Level → Type 0
     StandsThere n level = DownStands script start entries seen name (next_place sql_language place text) (told name lines) (number_by place.number (kind_of_text text) place.pending) (down_there n level)
 
-    comes_there : Comes script start entries taken seen name place place.pending site.doing text (kind_of_text text) (told name lines)
-    comes_there = comes script start true done left l lines entries taken seen states name text was is_act (runs_askable script can) is_said.1
+    comes_there : Comes script start entries changed seen name place place.pending site.doing text (kind_of_text text) (told name lines)
+    comes_there = comes script start true done left l lines entries changed seen states name text was is_act (runs_askable script can) is_said.1
 
     tells_there : TellsThere site.number site.level
     tells_there =
         subst (λ (v : Level). TellsThere site.number v) (sym (was.standing name).level)
         (subst (λ (n : ℕ). TellsThere n place.level) (sym (was.standing name).number)
-        (tells script start entries taken seen name place text lines states can is_said.0 was.placed was.node (kind_of_text text) place.pending site.doing comes_there (was.node.gone name) numbers.below numbers.begun))
+        (tells script start entries changed seen name place text lines states can is_said.0 was.placed was.node (kind_of_text text) place.pending site.doing comes_there (was.node.gone name) numbers.below numbers.begun))
 
     stands_there : StandsThere site.number site.level
     stands_there =
         subst (λ (v : Level). StandsThere site.number v) (sym (was.standing name).level)
         (subst (λ (n : ℕ). StandsThere n place.level) (sym (was.standing name).number)
-        (stands_down script start entries taken seen name place text (told name lines) (kind_of_text text) place.pending site.doing comes_there))
+        (stands_down script start entries changed seen name place text (told name lines) (kind_of_text text) place.pending site.doing comes_there))
 
     -- and so does a line on a node that is down
-    pub down_keeps : (after : SessionAt) (lines' : List Line) (entries' : List EntryLine) (taken' : List (List GenidItem)) (seen' : Seen) →
-        IsDoneDown (world script start entries taken seen) name site text after lines lines' entries entries' taken' seen' → state_of name script.sessions sites' ≡ after →
-        SoFar script start true (done ++ l ∷ []) left lines' entries' taken' seen' sites'
-    down_keeps after lines' entries' taken' seen' run own =
-        subst (λ (ls : List Line). SoFar script start true (done ++ l ∷ []) left ls entries' taken' seen' sites') (sym run.told.lines_are)
-        (subst (λ (es : List EntryLine). SoFar script start true (done ++ l ∷ []) left (lines ++ mine) es taken' seen' sites') (sym run.still.entries_are)
-        (subst (λ (ts : List (List GenidItem)). SoFar script start true (done ++ l ∷ []) left (lines ++ mine) entries ts seen' sites') (sym run.still.taken_are)
-        (subst (λ (a : Seen). SoFar script start true (done ++ l ∷ []) left (lines ++ mine) entries taken a sites') (sym run.still.rows_are)
-        (went script start true true done left l lines mine entries taken seen states sites' name text was is_act entries taken seen
-        (adds_lines script start true true done left l lines mine entries taken seen states sites' name text was is_act adds) others))))
+    pub down_keeps : (after : SessionAt) (lines' : List Line) (entries' : List EntryLine) (changed' : List (List Change)) (seen' : Seen) →
+        IsDoneDown (world script start entries changed seen) name site text after lines lines' entries entries' changed' seen' → state_of name script.sessions sites' ≡ after →
+        SoFar script start true (done ++ l ∷ []) left lines' entries' changed' seen' sites'
+    down_keeps after lines' entries' changed' seen' run own =
+        subst (λ (ls : List Line). SoFar script start true (done ++ l ∷ []) left ls entries' changed' seen' sites') (sym run.told.lines_are)
+        (subst (λ (es : List EntryLine). SoFar script start true (done ++ l ∷ []) left (lines ++ mine) es changed' seen' sites') (sym run.still.entries_are)
+        (subst (λ (ts : List (List Change)). SoFar script start true (done ++ l ∷ []) left (lines ++ mine) entries ts seen' sites') (sym run.still.changed_are)
+        (subst (λ (a : Seen). SoFar script start true (done ++ l ∷ []) left (lines ++ mine) entries changed a sites') (sym run.still.rows_are)
+        (went script start true true done left l lines mine entries changed seen states sites' name text was is_act entries changed seen
+        (adds_lines script start true true done left l lines mine entries changed seen states sites' name text was is_act adds) others))))
       where
         t : Turned
         t = down_there site.number site.level
@@ -228,8 +228,8 @@ pub record IsBack (script : Script) (states : List SessionAt) (name text : List 
   pub own : state_of name script.sessions (slice_set states at after) ≡ after
   pub others : (m : List ℕ) → bytes_eq name m ≡ false → state_of m script.sessions (slice_set states at after) ≡ state_of m script.sessions states
 
-module _ (script : Script) (start : Start) (down : Bool) (left : List BodyLine) (l : BodyLine) (lines : List Line) (entries : List EntryLine) (taken : List (List GenidItem)) (seen : Seen) (states : List SessionAt)
-    (before : IsBefore script start down (l ∷ left) lines entries taken seen states) where
+module _ (script : Script) (start : Start) (down : Bool) (left : List BodyLine) (l : BodyLine) (lines : List Line) (entries : List EntryLine) (changed : List (List Change)) (seen : Seen) (states : List SessionAt)
+    (before : IsBefore script start down (l ∷ left) lines entries changed seen states) where
   is_back : (name text : List ℕ) (at : ℕ) (x after : SessionAt) → l.act ≡ Say name text → session_at name script.sessions ≡ Some at → slice_get states at ≡ Some x → IsBack script states name text at x after
   is_back name text at x after is_act found has = record {
     said = subst (λ (a : Act). IsSaidBy script.sessions a) is_act before.said.0;
@@ -238,9 +238,9 @@ module _ (script : Script) (start : Start) (down : Bool) (left : List BodyLine) 
     others = λ m differs. other_state 0 name m script.sessions states at at after found (omega arith) differs;
   }
 
-  put_back : (at : ℕ) (after : SessionAt) (down' : Bool) (lines' : List Line) (entries' : List EntryLine) (taken' : List (List GenidItem)) (seen' : Seen) → SoFar script start down' (before.done ++ l ∷ []) left lines' entries' taken' seen' (slice_set states at after) →
-      IsBefore script start down' left lines' entries' taken' seen' (slice_set states at after)
-  put_back at after down' lines' entries' taken' seen' so_far = record {
+  put_back : (at : ℕ) (after : SessionAt) (down' : Bool) (lines' : List Line) (entries' : List EntryLine) (changed' : List (List Change)) (seen' : Seen) → SoFar script start down' (before.done ++ l ∷ []) left lines' entries' changed' seen' (slice_set states at after) →
+      IsBefore script start down' left lines' entries' changed' seen' (slice_set states at after)
+  put_back at after down' lines' entries' changed' seen' so_far = record {
     can_run = before.can_run;
     said = before.said.1;
     same = length-set states at after ∙ before.same;
@@ -249,35 +249,35 @@ module _ (script : Script) (start : Start) (down : Bool) (left : List BodyLine) 
   }
 
 -- a line that was taken keeps the run so far, wherever the node stands before it and behind it
-pub taken_on : (script : Script) (start : Start) (down down' : Bool) (left : List BodyLine) (l : BodyLine) (lines lines' : List Line) (entries entries' : List EntryLine) (taken taken' : List (List GenidItem)) (seen seen' : Seen) (states : List SessionAt) (name text : List ℕ) (at : ℕ) (x after : SessionAt) →
-    IsBefore script start down (l ∷ left) lines entries taken seen states → l.act ≡ Say name text → session_at name script.sessions ≡ Some at → slice_get states at ≡ Some x →
-    IsTakenOn down down' (world_of (tables_of script) seen taken (now_of start entries)) name x text after lines lines' entries entries' taken' seen' →
-    IsBefore script start down' left lines' entries' taken' seen' (slice_set states at after)
-taken_on script start false false left l lines lines' entries entries' taken taken' seen seen' states name text at x after before is_act found has run =
-    put_back script start false left l lines entries taken seen states before at after false lines' entries' taken' seen'
-    (go (subst (λ (y : SessionAt). IsTaken (world script start entries taken seen) name y text after lines lines' entries entries' taken' seen') (sym back.its) run))
+pub taken_on : (script : Script) (start : Start) (down down' : Bool) (left : List BodyLine) (l : BodyLine) (lines lines' : List Line) (entries entries' : List EntryLine) (changed changed' : List (List Change)) (seen seen' : Seen) (states : List SessionAt) (name text : List ℕ) (at : ℕ) (x after : SessionAt) →
+    IsBefore script start down (l ∷ left) lines entries changed seen states → l.act ≡ Say name text → session_at name script.sessions ≡ Some at → slice_get states at ≡ Some x →
+    IsTakenOn down down' (world_of (tables_of script) seen changed (now_of start entries)) name x text after lines lines' entries entries' changed' seen' →
+    IsBefore script start down' left lines' entries' changed' seen' (slice_set states at after)
+taken_on script start false false left l lines lines' entries entries' changed changed' seen seen' states name text at x after before is_act found has run =
+    put_back script start false left l lines entries changed seen states before at after false lines' entries' changed' seen'
+    (go (subst (λ (y : SessionAt). IsTaken (world script start entries changed seen) name y text after lines lines' entries entries' changed' seen') (sym back.its) run))
   where
     back : IsBack script states name text at x after
-    back = is_back script start false left l lines entries taken seen states before name text at x after is_act found has
+    back = is_back script start false left l lines entries changed seen states before name text at x after is_act found has
 
-    go : IsTaken (world script start entries taken seen) name (state_of name script.sessions states) text after lines lines' entries entries' taken' seen' →
-        SoFar script start false (before.done ++ l ∷ []) left lines' entries' taken' seen' (slice_set states at after)
-    go (inl (done, there)) = turned_keeps script start before.done left l lines entries taken seen states (slice_set states at after) name text before.so_far is_act (runs_askable script before.can_run) back.said.1
-        lines' entries' taken' seen' done (back.own ∙ there) back.others
-    go (inr (c, is, short, there)) = cut_keeps script start before.done left l lines entries taken seen states (slice_set states at after) name text before.so_far is_act (runs_askable script before.can_run) back.said.1
-        lines' entries' taken' seen' c is short (back.own ∙ there) back.others
-taken_on script start true false left l lines lines' entries entries' taken taken' seen seen' states name text at x after before is_act found has run = absurd run
-taken_on script start false true left l lines lines' entries entries' taken taken' seen seen' states name text at x after before is_act found has run =
-    put_back script start false left l lines entries taken seen states before at after true lines' entries' taken' seen'
-    (fallen_keeps script start before.done left l lines entries taken seen states (slice_set states at after) name text before.can_run is_act back.said back.others before.so_far after lines' entries' taken' seen'
-    (subst (λ (y : SessionAt). IsFallen (world script start entries taken seen) name (turn (world script start entries taken seen) y text) after lines lines' entries entries' taken' seen') (sym back.its) run) back.own)
+    go : IsTaken (world script start entries changed seen) name (state_of name script.sessions states) text after lines lines' entries entries' changed' seen' →
+        SoFar script start false (before.done ++ l ∷ []) left lines' entries' changed' seen' (slice_set states at after)
+    go (inl (done, there)) = turned_keeps script start before.done left l lines entries changed seen states (slice_set states at after) name text before.so_far is_act (runs_askable script before.can_run) back.said.1
+        lines' entries' changed' seen' done (back.own ∙ there) back.others
+    go (inr (c, is, short, there)) = cut_keeps script start before.done left l lines entries changed seen states (slice_set states at after) name text before.so_far is_act (runs_askable script before.can_run) back.said.1
+        lines' entries' changed' seen' c is short (back.own ∙ there) back.others
+taken_on script start true false left l lines lines' entries entries' changed changed' seen seen' states name text at x after before is_act found has run = absurd run
+taken_on script start false true left l lines lines' entries entries' changed changed' seen seen' states name text at x after before is_act found has run =
+    put_back script start false left l lines entries changed seen states before at after true lines' entries' changed' seen'
+    (fallen_keeps script start before.done left l lines entries changed seen states (slice_set states at after) name text before.can_run is_act back.said back.others before.so_far after lines' entries' changed' seen'
+    (subst (λ (y : SessionAt). IsFallen (world script start entries changed seen) name (turn (world script start entries changed seen) y text) after lines lines' entries entries' changed' seen') (sym back.its) run) back.own)
   where
     back : IsBack script states name text at x after
-    back = is_back script start false left l lines entries taken seen states before name text at x after is_act found has
-taken_on script start true true left l lines lines' entries entries' taken taken' seen seen' states name text at x after before is_act found has run =
-    put_back script start true left l lines entries taken seen states before at after true lines' entries' taken' seen'
-    (down_keeps script start before.done left l lines entries taken seen states (slice_set states at after) name text before.can_run is_act back.said back.others before.so_far after lines' entries' taken' seen'
-    (subst (λ (y : SessionAt). IsDoneDown (world script start entries taken seen) name y text after lines lines' entries entries' taken' seen') (sym back.its) run) back.own)
+    back = is_back script start false left l lines entries changed seen states before name text at x after is_act found has
+taken_on script start true true left l lines lines' entries entries' changed changed' seen seen' states name text at x after before is_act found has run =
+    put_back script start true left l lines entries changed seen states before at after true lines' entries' changed' seen'
+    (down_keeps script start before.done left l lines entries changed seen states (slice_set states at after) name text before.can_run is_act back.said back.others before.so_far after lines' entries' changed' seen'
+    (subst (λ (y : SessionAt). IsDoneDown (world script start entries changed seen) name y text after lines lines' entries entries' changed' seen') (sym back.its) run) back.own)
   where
     back : IsBack script states name text at x after
-    back = is_back script start true left l lines entries taken seen states before name text at x after is_act found has
+    back = is_back script start true left l lines entries changed seen states before name text at x after is_act found has

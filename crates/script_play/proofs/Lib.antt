@@ -26,9 +26,11 @@ pub mod LineLemmas
 pub mod WholeLemmas
 pub mod StartLemmas
 pub mod CourseLemmas
+pub mod KnownLemmas
 pub mod SiteLemmas
 pub mod SqlLaws
 pub mod PlayLaws
 pub mod TakeLemmas
 pub mod AppendLemmas
 pub mod TextLemmas
+pub mod SerialLemmas

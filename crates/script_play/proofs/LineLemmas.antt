@@ -1,7 +1,7 @@
 -- A line of a session, as the code keeps the run: what is known before it, and that the run is kept behind it.
 use Rattle.std.proofs.Common.{◌≡◌, ℕ, ◌<◌, List, ◌∷◌, length, map, sym, subst, arith, Some, None, slice_set}
 use Rattle.std.specs.List.{slice_get}
-use Rattle.log_rows.specs.History.{takes_in}
+use Rattle.block_processor.specs.Changed.{changed_in}
 use Rattle.node_log.specs.Logged.{Logged}
 use Rattle.report_text.specs.declared.reports.EntryLine.{EntryLine}
 use Rattle.report_text.specs.declared.reports.Line.{Line}
@@ -59,10 +59,10 @@ module _ (script : Script) (start : Start) (generation had : ℕ) (left : List B
   pub taken_there : (at : ℕ) (x after : SessionState) (lines' : List Line) (entries' : List EntryLine) (log' : Logged) → session_at name script.sessions ≡ Some at → slice_get states at ≡ Some x →
       IsTakenFrom start generation (tables_of script) name x text after lines lines' entries entries' log log' → IsBeforeLine script start generation had left lines' entries' log' (slice_set states at after)
   taken_there at x after lines' entries' log' found has run = record {
-    before = subst (λ (ss : List SessionAt). IsBefore script start log'.failed left lines' entries' (takes_in (history_of log')) (seen_in start (history_of log')) ss) (sym (map_set state_in states at after))
-        (taken_on script start log.failed log'.failed left line lines lines' entries entries' (takes_in (history_of log)) (takes_in (history_of log')) (seen_in start (history_of log)) (seen_in start (history_of log'))
+    before = subst (λ (ss : List SessionAt). IsBefore script start log'.failed left lines' entries' (changed_in (history_of log')) (seen_in start (history_of log')) ss) (sym (map_set state_in states at after))
+        (taken_on script start log.failed log'.failed left line lines lines' entries entries' (changed_in (history_of log)) (changed_in (history_of log')) (seen_in start (history_of log)) (seen_in start (history_of log'))
         (map state_in states) name text at (state_in x) (state_in after) before.before is_act found (map_get state_in states at x has)
-        (subst (λ (n : ℕ). IsTakenOn log.failed log'.failed (world_of (tables_of script) (seen_in start (history_of log)) (takes_in (history_of log)) n) name (state_in x) text (state_in after) lines lines' entries entries' (takes_in (history_of log')) (seen_in start (history_of log')))
+        (subst (λ (n : ℕ). IsTakenOn log.failed log'.failed (world_of (tables_of script) (seen_in start (history_of log)) (changed_in (history_of log)) n) name (state_in x) text (state_in after) lines lines' entries entries' (changed_in (history_of log')) (seen_in start (history_of log')))
         before.logged.count run.taken));
     logged = subst (λ (n : ℕ). IsLogged start (tables_of script) n (history_of log')) (told_count start.before generation entries' (history_of log') (run.told before.told)) run.logged;
     told = run.told before.told;

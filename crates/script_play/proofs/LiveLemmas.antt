@@ -12,7 +12,7 @@ use Rattle.log_rows.specs.History.{IsCommit}
 use Rattle.page_store.specs.Image.{Image}
 use Rattle.phys_log.specs.declared.entries.Entry.{Entry}
 use Rattle.session_language.specs.Language.{alone_from}
-use Rattle.sql_answer.specs.Language.{sql_language}
+use Rattle.query_laws.specs.Alone.{sql_language}
 use Rattle.table_store.specs.Stored.{Stands}
 
 -- the rows that pages stand for have no genid twice in a table

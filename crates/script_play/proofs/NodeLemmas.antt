@@ -3,7 +3,7 @@ use Rattle.std.proofs.Common.{◌≡◌, ℕ, List, [], ◌∷◌, ◌++◌, len
 use Rattle.std.proofs.lemmas.List.{append-nil}
 use Rattle.std.specs.Str.{bytes_eq}
 use Rattle.std.specs.List.{AllByRecursion}
-use Rattle.cdb_values.specs.declared.items.GenidItem.{GenidItem}
+use Rattle.cdb_values.specs.declared.rows.Change.{Change}
 use Rattle.report_laws.specs.History.{last_position, view_of}
 use Rattle.report_laws.specs.Lawful.{IsFreshLine, NameUpTo}
 use Rattle.report_laws.specs.Places.{HasItsPlace}
@@ -21,7 +21,7 @@ use Rattle.script_form.specs.declared.scripts.BodyLine.{BodyLine}
 use Rattle.script_form.specs.declared.scripts.Script.{Script}
 use Rattle.session_language.specs.Each.{EachAfter}
 use Rattle.session_language.proofs.EachLaws.{each_append, all_append, all_map}
-use Rattle.sql_answer.specs.Language.{sql_language}
+use Rattle.query_laws.specs.Alone.{sql_language}
 use Rattle.script_play.specs.Basis.{from_start}
 use Rattle.script_play.specs.Doing.{SessionAt}
 use Rattle.script_play.specs.Seen.{Seen}
@@ -31,8 +31,8 @@ use Rattle.script_play.proofs.ComesLemmas.{ended_later, same_itself, same_name}
 use Rattle.script_play.proofs.StandingLemmas.{Grows, grows_length, stands_on}
 
 -- what a line adds to the report, and to the history if it appends an entry
-pub record Adds (script : Script) (start : Start) (down' : Bool) (done : List BodyLine) (l : BodyLine) (lines mine : List Line) (entries entries' : List EntryLine) (taken' : List (List GenidItem)) (seen seen' : Seen) (name text : List ℕ) (sites' : List SessionAt) : Type 0 where
-  pub stored : Stored script start entries' taken' seen'
+pub record Adds (script : Script) (start : Start) (down' : Bool) (done : List BodyLine) (l : BodyLine) (lines mine : List Line) (entries entries' : List EntryLine) (changed' : List (List Change)) (seen seen' : Seen) (name text : List ℕ) (sites' : List SessionAt) : Type 0 where
+  pub stored : Stored script start entries' changed' seen'
   pub grows : Grows entries entries'
   pub next : seen.next ≤ seen'.next
   pub stands : Standing script start entries' seen'.next name (next_place sql_language (place_after sql_language name done) text) (told name lines ++ told name mine) (state_of name script.sessions sites')
@@ -57,9 +57,9 @@ pub record AddsLines (script : Script) (start : Start) (down' : Bool) (done : Li
   pub turn : IsTurnOf (from_start script start) (now_of start entries) done lines l.act mine []
   pub node : IsAtNode down' script (lines ++ mine) sites'
 
-module _ (script : Script) (start : Start) (down down' : Bool) (done left : List BodyLine) (l : BodyLine) (lines mine : List Line) (entries : List EntryLine) (taken : List (List GenidItem)) (seen : Seen) (states sites' : List SessionAt) (name text : List ℕ)
-    (was : SoFar script start down done (l ∷ left) lines entries taken seen states) (is_act : l.act ≡ Say name text) where
-  pub adds_lines : AddsLines script start down' done l lines mine entries seen name text sites' → Adds script start down' done l lines mine entries entries taken seen seen name text sites'
+module _ (script : Script) (start : Start) (down down' : Bool) (done left : List BodyLine) (l : BodyLine) (lines mine : List Line) (entries : List EntryLine) (changed : List (List Change)) (seen : Seen) (states sites' : List SessionAt) (name text : List ℕ)
+    (was : SoFar script start down done (l ∷ left) lines entries changed seen states) (is_act : l.act ≡ Say name text) where
+  pub adds_lines : AddsLines script start down' done l lines mine entries seen name text sites' → Adds script start down' done l lines mine entries entries changed seen seen name text sites'
   adds_lines adds = record {
     stored = was.stored;
     grows = inl refl;
@@ -77,7 +77,7 @@ module _ (script : Script) (start : Start) (down down' : Bool) (done left : List
     node = adds.node;
   }
 
-  module _ (entries' : List EntryLine) (taken' : List (List GenidItem)) (seen' : Seen) (adds : Adds script start down' done l lines mine entries entries' taken' seen seen' name text sites')
+  module _ (entries' : List EntryLine) (changed' : List (List Change)) (seen' : Seen) (adds : Adds script start down' done l lines mine entries entries' changed' seen seen' name text sites')
       (stay : (m : List ℕ) → bytes_eq name m ≡ false → state_of m script.sessions sites' ≡ state_of m script.sessions states) where
     abbrev pub StandsAt : List ℕ → Type 0
     StandsAt m = Standing script start entries' seen'.next m (place_after sql_language m (done ++ l ∷ [])) (told m (lines ++ mine)) (state_of m script.sessions sites')
@@ -110,7 +110,7 @@ module _ (script : Script) (start : Start) (down down' : Bool) (done left : List
     longer : now_of start entries ≤ now_of start entries'
     longer = let le = grows_length entries entries' adds.grows in omega (arith, le)
 
-    pub went : SoFar script start down' (done ++ l ∷ []) left (lines ++ mine) entries' taken' seen' sites'
+    pub went : SoFar script start down' (done ++ l ∷ []) left (lines ++ mine) entries' changed' seen' sites'
     went = record {
       body = was.body ∙ sym (append_assoc done (l ∷ []) left);
       stored = adds.stored;

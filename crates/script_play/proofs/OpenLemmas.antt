@@ -2,6 +2,8 @@
 use Rattle.std.proofs.Common.{◌≡◌, ℕ, ◌≤◌, List, [], ◌++◌, refl, sym, subst, ap, arith, Some, ◌∙◌, false}
 use Rattle.std.specs.List.{AllByRecursion}
 use Rattle.cdb_values.specs.declared.items.GenidItem.{GenidItem}
+use Rattle.cdb_values.specs.declared.items.Interval.{Interval}
+use Rattle.cdb_values.specs.declared.rows.Change.{Change}
 use Rattle.cdb_values.specs.declared.rows.RowOp.{RowOp}
 use Rattle.report_laws.specs.Cut.{cuts}
 use Rattle.report_laws.specs.History.{rows_at, view_of}
@@ -19,9 +21,8 @@ use Rattle.script_form.specs.declared.scripts.Script.{Script}
 use Rattle.session_language.specs.Each.{StandsIn}
 use Rattle.session_language.specs.Language.{alone, Kind}
 use Rattle.session_language.proofs.EachLaws.{all_append}
-use Rattle.sql_answer.specs.Language.{sql_language}
+use Rattle.query_laws.specs.Alone.{sql_language}
 use Rattle.script_play.specs.Basis.{from_start}
-use Rattle.script_play.specs.Doing.{Doing, SessionAt}
 use Rattle.script_play.specs.Doing as doing
 use Rattle.script_play.specs.Seen.{Seen}
 use Rattle.script_play.specs.Start.{Start}
@@ -29,8 +30,8 @@ use Rattle.script_play.proofs.LossLemmas.{IsUncutUnder, none_cuts, over_other, o
 use Rattle.script_play.proofs.SqlLaws.{sql_is_answered}
 use Rattle.script_play.proofs.TurnLemmas.{Comes}
 
-module _ (script : Script) (start : Start) (entries : List EntryLine) (taken : List (List GenidItem)) (seen : Seen) (name : List ℕ) (p : Place) (text : List ℕ) (lines : List Line)
-    (texts : List (List ℕ)) (begin : ℕ) (ops : List RowOp) (uses : List GenidItem) (k : Kind) (c : Comes script start entries taken seen name p (Some texts) (doing.Open begin ops uses) text k (told name lines)) where
+module _ (script : Script) (start : Start) (entries : List EntryLine) (changed : List (List Change)) (seen : Seen) (name : List ℕ) (p : Place) (text : List ℕ) (lines : List Line)
+    (texts : List (List ℕ)) (begin : ℕ) (ops : List RowOp) (uses : List GenidItem) (ranges : List Interval) (k : Kind) (c : Comes script start entries changed seen name p (Some texts) (doing.Open begin ops uses ranges) text k (told name lines)) where
   -- its begin
   pub begin_told : StandsIn (told name lines) (p.number, reply.Begin begin)
   begin_told = (

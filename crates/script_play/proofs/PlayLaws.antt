@@ -3,7 +3,7 @@ use Rattle.std.proofs.Common.{◌≡◌, zero, suc, ℕ, ◌+◌, ◌-◌, ◌++
 use Rattle.std.proofs.lemmas.List.{length-take-le}
 use Rattle.std.specs.Prelude.{slice_get, Some}
 use Rattle.cdb_values.specs.declared.tables.TableDef.{TableDef}
-use Rattle.log_rows.specs.History.{takes_in}
+use Rattle.block_processor.specs.Changed.{changed_in}
 use Rattle.node_log.specs.Logged.{Logged, Leaves}
 use Rattle.report_laws.specs.Nodes.{downs}
 use Rattle.report_laws.proofs.NodesLaws.{downs_append}
@@ -72,8 +72,8 @@ pub begins_at : (script : Script) (start : Start) (log : Logged) (lines : List L
     IsOpening (tables_of script) log.accepted start.before entries log.entries → CanBegin (tables_of script) start.before start.rows → map state_in states ≡ map (λ _. at_start) script.sessions →
     IsBeforeLine script start log.accepted log.store.faults script.body lines entries log states
 begins_at script start log lines entries states can up none opening begin starts = record {
-  before = subst (λ (ls : List Line). IsBefore script start log.failed script.body ls entries (takes_in (history_of log)) (seen_in start (history_of log)) (map state_in states)) (sym none)
-      (subst (λ (b : Bool). IsBefore script start b script.body [] entries (takes_in (history_by b log.entries)) (seen_in start (history_by b log.entries)) (map state_in states)) (sym up) first.before_line);
+  before = subst (λ (ls : List Line). IsBefore script start log.failed script.body ls entries (changed_in (history_of log)) (seen_in start (history_of log)) (map state_in states)) (sym none)
+      (subst (λ (b : Bool). IsBefore script start b script.body [] entries (changed_in (history_by b log.entries)) (seen_in start (history_by b log.entries)) (map state_in states)) (sym up) first.before_line);
   logged = subst (λ (b : Bool). IsLogged start (tables_of script) (now_of start entries) (history_by b log.entries)) (sym up) first.logged_so;
   told = subst (λ (b : Bool). AreTold start.before log.accepted entries (history_by b log.entries)) (sym up) first.told;
   own = opens_own log.accepted script.sessions states starts;
@@ -89,11 +89,11 @@ done_so : (script : Script) (start : Start) (opened : Logged) (lines : List Line
     IsPlayed script start opened (report_of (base start) (now_of start entries) lines entries) log
 done_so script start opened lines entries log states now = record {
   told = record {
-    lawful = ends_lawful script start log.failed now.before.done lines entries (takes_in (history_of log)) (seen_in start (history_of log)) (map state_in states) now.before.so_far;
-    in_order = ends_in_order script start log.failed now.before.done lines entries (takes_in (history_of log)) (seen_in start (history_of log)) (map state_in states) now.before.so_far;
+    lawful = ends_lawful script start log.failed now.before.done lines entries (changed_in (history_of log)) (seen_in start (history_of log)) (map state_in states) now.before.so_far;
+    in_order = ends_in_order script start log.failed now.before.done lines entries (changed_in (history_of log)) (seen_in start (history_of log)) (map state_in states) now.before.so_far;
     entries = now.told;
     schema = now.logged.schema;
-    taken = λ k first within. now.before.so_far.stored.taken_are k first (let n = now.logged.count in omega (arith, n, within));
+    changed = λ k first within. now.before.so_far.stored.changed_are k first (let n = now.logged.count in omega (arith, n, within));
     rows = λ k from within. now.before.so_far.stored.rows_are k from (let n = now.logged.count in omega (arith, n, within));
     stands = now.logged.stands;
   };

@@ -1,12 +1,15 @@
 -- What a session asks at its commit can be decided on, and what is decided of it is what the definitions decide: versions
 -- without repeats are touched as those with repeats are.
-use Rattle.std.proofs.Common.{◌≡◌, ◌≢◌, ℕ, ◌+◌, ◌==◌, ◌++◌, ◌∷◌, [], List, Bool, true, false, ◌&&◌, ◌||◌, if◌then◌else◌, refl, sym, ◌∙◌, ap, subst, arith, Option, Some, inl, inr, append_assoc, append-nil, unwrap_or}
+use Rattle.std.proofs.Common.{◌≡◌, ◌≢◌, ℕ, ◌==◌, ◌++◌, ◌∷◌, [], List, Bool, true, false, ◌&&◌, ◌||◌, if◌then◌else◌, refl, sym, ◌∙◌, ap, map, subst, arith, Option, Some, inl, inr, unwrap_or}
 use Rattle.std.proofs.lemmas.Str.{IsUtf8-from_is_utf8}
 use Rattle.std.specs.List.{AllByRecursion}
 use Rattle.block_processor.specs.Asked.{IsAsked, Writes}
-use Rattle.block_processor.specs.Conflicts.{first_conflict, or_later, Touched}
+use Rattle.block_processor.specs.Changed.{first_use}
+use Rattle.block_processor.proofs.ChangedLemmas.{same_uses}
 use Rattle.cdb_values.specs.Changes.{taken_by}
 use Rattle.cdb_values.specs.declared.items.GenidItem.{GenidItem}
+use Rattle.cdb_values.specs.declared.items.Interval.{Interval}
+use Rattle.cdb_values.specs.declared.rows.Change.{Change}
 use Rattle.cdb_values.specs.declared.rows.RowOp.{RowOp}
 use Rattle.cdb_values.specs.declared.rows.RowOp.TheVariants.{Insert, Update, Delete}
 use Rattle.cdb_values.specs.declared.tables.TableDef.{TableDef}
@@ -17,6 +20,8 @@ use Rattle.live_operations.proofs.CodedLaws.{sound_fit}
 use Rattle.log_replay.specs.Answers.{schema_of}
 use Rattle.log_rows.proofs.HistoryLemmas.{stand_whole}
 use Rattle.log_rows.specs.History.{rows_over, tables_of}
+use Rattle.osql_session.proofs.RepeatLemmas.{same_is}
+use Rattle.osql_session.proofs.TouchedLemmas.{used_once}
 use Rattle.osql_session.specs.Items.{with_item, with_items, without_repeats, is_among}
 use Rattle.osql_session.specs.Requests.{request_if, request_of, request_with}
 use Rattle.osql_session.specs.Sessions.{Session}
@@ -24,7 +29,7 @@ use Rattle.phys_log.specs.Logs.{pages_of}
 use Rattle.phys_log.specs.declared.entries.Entry.{Entry}
 use Rattle.phys_log.specs.declared.requests.CommitRequest.{CommitRequest}
 use Rattle.session_language.specs.Spelled.{IsToldRow, IsToldValue, WritesRow}
-use Rattle.session_language.specs.Touched.{first_touched, is_same_item, is_touched}
+use Rattle.session_language.specs.Touched.{TheVersion, TheRange, is_same_item}
 use Rattle.script_play.proofs.SoundLaws.{kept_sound, kept_told}
 use Rattle.script_play.specs.Ready.{IsAble, IsReady}
 use Rattle.script_play.specs.Start.{Start, ground_of}
@@ -34,16 +39,11 @@ use Rattle.table_store.specs.Stored.{Stands}
 
 -- ---- versions without repeats
 
-equal : (m n : ℕ) → (m == n) ≡ true → m ≡ n
-equal m n is = grind arith
-
-same_is : (a b : GenidItem) → is_same_item a b ≡ true → a ≡ b
-same_is a b is = pick (a.table == b.table) refl (a.genid == b.genid) refl is
-  where
-    pick : (t : Bool) → (a.table == b.table) ≡ t → (g : Bool) → (a.genid == b.genid) ≡ g → (t && g) ≡ true → a ≡ b
-    pick true table true genid both = let at : a.table ≡ b.table = equal a.table b.table table in let of : a.genid ≡ b.genid = equal a.genid b.genid genid in (λ j. record { table = at j; genid = of j })
-    pick true table false genid both = absurd cc
-    pick false table g genid both = absurd cc
+-- the first conflict is that over the versions with repeats
+pub conflict_once : (tables : List TableDef) (position : ℕ) (later : List (List Change)) (genids : List GenidItem) (ranges : List Interval)
+    → first_use tables position later (map TheVersion (without_repeats genids) ++ map TheRange ranges) ≡ first_use tables position later (map TheVersion genids ++ map TheRange ranges)
+conflict_once tables position later genids ranges =
+    same_uses tables position later (map TheVersion (without_repeats genids) ++ map TheRange ranges) (map TheVersion genids ++ map TheRange ranges) (λ changes. used_once tables changes genids ranges)
 
 among_is : (items : List GenidItem) (item : GenidItem) → is_among items item ≡ true → IsAmong item items
 among_is [] item is = absurd cc
@@ -52,43 +52,6 @@ among_is (first ∷ items) item is = pick (is_same_item item first) refl (among_
     pick : (b : Bool) → is_same_item item first ≡ b → (is_among items item ≡ true → IsAmong item items) → (b || is_among items item) ≡ true → IsAmong item (first ∷ items)
     pick true same later found = inl (same_is item first same)
     pick false other later found = inr (later found)
-
--- a version that is not touched can be left out
-skip_untouched : (taken before behind : List GenidItem) (item : GenidItem) → is_touched taken item ≡ false → first_touched taken (before ++ item ∷ behind) ≡ first_touched taken (before ++ behind)
-skip_untouched taken [] behind item is = rw is refl
-skip_untouched taken (first ∷ before) behind item is = ap (λ (later : Option GenidItem). if is_touched taken first then Some first else later) (skip_untouched taken before behind item is)
-
--- and so can one that was there before
-skip_again : (taken before behind : List GenidItem) (item : GenidItem) → is_among before item ≡ true → first_touched taken (before ++ item ∷ behind) ≡ first_touched taken (before ++ behind)
-skip_again taken [] behind item is = absurd cc
-skip_again taken (first ∷ before) behind item is = pick (is_touched taken first) refl (is_same_item item first) refl (skip_again taken before behind item) is
-  where
-    pick : (touched : Bool) → is_touched taken first ≡ touched → (same : Bool) → is_same_item item first ≡ same
-        → (is_among before item ≡ true → first_touched taken (before ++ item ∷ behind) ≡ first_touched taken (before ++ behind)) → (same || is_among before item) ≡ true
-        → (if is_touched taken first then Some first else first_touched taken (before ++ item ∷ behind)) ≡ (if is_touched taken first then Some first else first_touched taken (before ++ behind))
-    pick true here same is_same later found = rw here refl
-    pick false here true is_same later found =
-        ap (λ (o : Option GenidItem). if is_touched taken first then Some first else o)
-        (skip_untouched taken before behind item (ap (λ (i : GenidItem). is_touched taken i) (same_is item first is_same) ∙ here))
-    pick false here false is_same later found = ap (λ (o : Option GenidItem). if is_touched taken first then Some first else o) (later found)
-
-touched_with : (taken known items : List GenidItem) → first_touched taken (with_items known items) ≡ first_touched taken (known ++ items)
-touched_with taken known [] = ap (λ (all : List GenidItem). first_touched taken all) (sym (append-nil known))
-touched_with taken known (item ∷ items) = touched_with taken (with_item known item) items ∙ pick (is_among known item) refl
-  where
-    pick : (b : Bool) → is_among known item ≡ b → first_touched taken ((if is_among known item then known else known ++ item ∷ []) ++ items) ≡ first_touched taken (known ++ item ∷ items)
-    pick true is = rw is (sym (skip_again taken known items item is))
-    pick false is = rw is (ap (λ (all : List GenidItem). first_touched taken all) (append_assoc known (item ∷ []) items))
-
-touched_once : (taken items : List GenidItem) → first_touched taken (without_repeats items) ≡ first_touched taken items
-touched_once taken items = touched_with taken [] items
-
--- the first conflict is that of the versions with repeats
-pub conflict_once : (position : ℕ) (later : List (List GenidItem)) (items : List GenidItem) → first_conflict position later (without_repeats items) ≡ first_conflict position later items
-conflict_once position [] items = refl
-conflict_once position (taken ∷ later) items =
-    ap (λ (here : Option GenidItem). or_later (position + 1) here (first_conflict (position + 1) later (without_repeats items))) (touched_once taken items)
-    ∙ ap (λ (found : Option Touched). or_later (position + 1) (first_touched taken items) found) (conflict_once (position + 1) later items)
 
 -- each of some versions is among these without repeats, and those behind them
 among_known : (known : List GenidItem) (item first : GenidItem) → is_among known item ≡ true → is_among (with_item known first) item ≡ true

@@ -16,14 +16,14 @@ use Rattle.report_text.specs.declared.reports.EntryLine.{EntryLine}
 use Rattle.report_text.specs.declared.reports.Line.{Line}
 use Rattle.report_text.specs.declared.reports.ReplyLine.{ReplyLine}
 use Rattle.report_text.specs.declared.reports.ReplyLine.TheVariants as reply
-use Rattle.cdb_values.specs.Changes.{taken_by}
+use Rattle.cdb_values.specs.Changes.{changes_of}
 use Rattle.report_laws.specs.History.{view_of}
 use Rattle.report_laws.specs.Paced.{Paced}
 use Rattle.report_laws.specs.Play.{IsTurn, IsTurnOf, was_cut, IsTimely, IsAppended, number_told, is_own}
 use Rattle.session_language.specs.Replies.{are_up_to, is_last_of}
 use Rattle.report_laws.specs.Told.{Numbered, IsEntryTold, alone_at, told, lines_of, numbered}
 use Rattle.report_laws.specs.Work.{Place, next_place, place_after}
-use Rattle.cdb_values.specs.declared.items.GenidItem.{GenidItem}
+use Rattle.cdb_values.specs.declared.rows.Change.{Change}
 use Rattle.session_language.proofs.EachLaws.{all_append, all_map}
 use Rattle.report_laws.proofs.EntryToldLaws.{entry_told_more, entry_told_stays, told_stands}
 use Rattle.report_laws.proofs.LineLaws.{ArePaced, paced_laws, timely_paced}
@@ -32,7 +32,7 @@ use Rattle.report_laws.proofs.PieceLaws.{cut_at}
 use Rattle.report_laws.proofs.ToldLaws.{told_append, told_own, told_other}
 use Rattle.report_laws.proofs.WorkLaws.{after_own}
 use Rattle.script_play.specs.Basis.{from_start}
-use Rattle.sql_answer.specs.Language.{sql_language}
+use Rattle.query_laws.specs.Alone.{sql_language}
 use Rattle.script_play.specs.Ready.{IsAskable}
 use Rattle.script_play.specs.SoFar.{now_of, SoFar, Stored, Standing, IsPast, IsEnded, state_of}
 use Rattle.script_play.specs.Step.{Turned, Cut, IsTurned, IsCutShort, IsKept, turn, turn_by, cut_by, entries_added}
@@ -45,8 +45,8 @@ use Rattle.script_play.proofs.TurnLemmas.{Turns, IsNews, WasCutUnder, turns}
 use Rattle.script_play.proofs.CutLemmas.{CutStands, cuts}
 
 -- what a line of the script leaves, so that the run so far is kept
-pub record Keeps (script : Script) (start : Start) (done : List BodyLine) (l : BodyLine) (lines : List Line) (entries entries' : List EntryLine) (taken' : List (List GenidItem)) (seen seen' : Seen) (name text : List ℕ) (number : ℕ) (rs : List ReplyLine) (after : SessionAt) : Type 0 where
-  pub stored : Stored script start entries' taken' seen'
+pub record Keeps (script : Script) (start : Start) (done : List BodyLine) (l : BodyLine) (lines : List Line) (entries entries' : List EntryLine) (changed' : List (List Change)) (seen seen' : Seen) (name text : List ℕ) (number : ℕ) (rs : List ReplyLine) (after : SessionAt) : Type 0 where
+  pub stored : Stored script start entries' changed' seen'
   pub grows : Grows entries entries'
   pub next : seen.next ≤ seen'.next
   pub stands : Standing script start entries' seen'.next name (next_place sql_language (place_after sql_language name done) text) (told name lines ++ numbered number rs) after
@@ -58,18 +58,18 @@ pub record Keeps (script : Script) (start : Start) (done : List BodyLine) (l : B
   pub answered : AllByRecursion (IsEntryTold (from_start script start) (view_of (from_start script start) entries') (lines ++ lines_of name number rs)) entries'
   pub ended : AllByRecursion (IsEnded (done ++ l ∷ [])) entries'
 
-module _ (script : Script) (start : Start) (done left : List BodyLine) (l : BodyLine) (lines : List Line) (entries : List EntryLine) (taken : List (List GenidItem)) (seen : Seen) (states sites' : List SessionAt) (name text : List ℕ)
-    (was : SoFar script start false done (l ∷ left) lines entries taken seen states) (is_act : l.act ≡ Say name text) where
+module _ (script : Script) (start : Start) (done left : List BodyLine) (l : BodyLine) (lines : List Line) (entries : List EntryLine) (changed : List (List Change)) (seen : Seen) (states sites' : List SessionAt) (name text : List ℕ)
+    (was : SoFar script start false done (l ∷ left) lines entries changed seen states) (is_act : l.act ≡ Say name text) where
   abbrev pub place : Place
   place = place_after sql_language name done
 
   own_place : place_after sql_language name (done ++ l ∷ []) ≡ next_place sql_language place text
   own_place = after_own sql_language name name text l done is_act (same_itself name)
 
-  pub advanced : (entries' : List EntryLine) (taken' : List (List GenidItem)) (seen' : Seen) (number : ℕ) (rs : List ReplyLine) (after : SessionAt) → Keeps script start done l lines entries entries' taken' seen seen' name text number rs after →
+  pub advanced : (entries' : List EntryLine) (changed' : List (List Change)) (seen' : Seen) (number : ℕ) (rs : List ReplyLine) (after : SessionAt) → Keeps script start done l lines entries entries' changed' seen seen' name text number rs after →
       state_of name script.sessions sites' ≡ after → ((m : List ℕ) → bytes_eq name m ≡ false → state_of m script.sessions sites' ≡ state_of m script.sessions states) →
-      SoFar script start false (done ++ l ∷ []) left (lines ++ lines_of name number rs) entries' taken' seen' sites'
-  advanced entries' taken' seen' number rs after keeps own others = went script start false false done left l lines mine entries taken seen states sites' name text was is_act entries' taken' seen' (record {
+      SoFar script start false (done ++ l ∷ []) left (lines ++ lines_of name number rs) entries' changed' seen' sites'
+  advanced entries' changed' seen' number rs after keeps own others = went script start false false done left l lines mine entries changed seen states sites' name text was is_act entries' changed' seen' (record {
     stored = keeps.stored;
     grows = keeps.grows;
     next = keeps.next;
@@ -103,9 +103,9 @@ module _ (script : Script) (start : Start) (done left : List BodyLine) (l : Body
       laws = paced_laws script (from_start script start).origin name number (now_of start entries) (now_of start entries') lines rs was.named was.stored.opened.0 was.stored.opened.1 longer keeps.paced
 
   -- what a line leaves, where it did what it does
-  pub turn_keeps : (entries' : List EntryLine) (taken' : List (List GenidItem)) (seen' : Seen) (t : Turned) → Turns script start entries entries' taken' seen seen' name (next_place sql_language place text) (told name lines) (number_told sql_language place text) (is_own sql_language place text) t →
-      Keeps script start done l lines entries entries' taken' seen seen' name text t.number t.replies t.after
-  turn_keeps entries' taken' seen' t turn = record {
+  pub turn_keeps : (entries' : List EntryLine) (changed' : List (List Change)) (seen' : Seen) (t : Turned) → Turns script start entries entries' changed' seen seen' name (next_place sql_language place text) (told name lines) (number_told sql_language place text) (is_own sql_language place text) t →
+      Keeps script start done l lines entries entries' changed' seen seen' name text t.number t.replies t.after
+  turn_keeps entries' changed' seen' t turn = record {
     stored = turn.stored;
     grows = turn.grows;
     next = turn.next;
@@ -189,7 +189,7 @@ module _ (script : Script) (start : Start) (done left : List BodyLine) (l : Body
 
   -- what the line does, by the number of transactions that the session has begun, and its level
   abbrev pub turn_at : ℕ → Level → Turned
-  turn_at n level = turn_by (world script start entries taken seen) n level text (kind_of_text text) (state_of name script.sessions states).doing
+  turn_at n level = turn_by (world script start entries changed seen) n level text (kind_of_text text) (state_of name script.sessions states).doing
 
   abbrev pub its_turn : Turned
   its_turn = turn_at (state_of name script.sessions states).number (state_of name script.sessions states).level
@@ -198,20 +198,20 @@ module _ (script : Script) (start : Start) (done left : List BodyLine) (l : Body
   KeptAt seen' n level = IsKept (now_of start entries) seen seen' (turn_at n level).added
 
   abbrev pub TurnsAt : Seen → ℕ → Level → Type 0
-  TurnsAt seen' n level = Turns script start entries (entries ++ entries_added name (now_of start entries) (turn_at n level)) (taken ++ map taken_by (turn_at n level).added) seen seen' name (next_place sql_language place text) (told name lines) (number_told sql_language place text) (is_own sql_language place text) (turn_at n level)
+  TurnsAt seen' n level = Turns script start entries (entries ++ entries_added name (now_of start entries) (turn_at n level)) (changed ++ map (λ ops. changes_of ops seen.next) (turn_at n level).added) seen seen' name (next_place sql_language place text) (told name lines) (number_told sql_language place text) (is_own sql_language place text) (turn_at n level)
 
   -- a line that was done keeps the run so far
-  pub turned_keeps : AllByRecursion IsAskable (tables_of script) → is_utf8 text ≡ true → (lines' : List Line) (entries' : List EntryLine) (taken' : List (List GenidItem)) (seen' : Seen) →
-      IsTurned (world script start entries taken seen) name (turn (world script start entries taken seen) (state_of name script.sessions states) text) lines lines' entries entries' taken' seen' →
-      state_of name script.sessions sites' ≡ (turn (world script start entries taken seen) (state_of name script.sessions states) text).after →
+  pub turned_keeps : AllByRecursion IsAskable (tables_of script) → is_utf8 text ≡ true → (lines' : List Line) (entries' : List EntryLine) (changed' : List (List Change)) (seen' : Seen) →
+      IsTurned (world script start entries changed seen) name (turn (world script start entries changed seen) (state_of name script.sessions states) text) lines lines' entries entries' changed' seen' →
+      state_of name script.sessions sites' ≡ (turn (world script start entries changed seen) (state_of name script.sessions states) text).after →
       ((m : List ℕ) → bytes_eq name m ≡ false → state_of m script.sessions sites' ≡ state_of m script.sessions states) →
-      SoFar script start false (done ++ l ∷ []) left lines' entries' taken' seen' sites'
-  turned_keeps askable utf8 lines' entries' taken' seen' run own others =
-      subst (λ ls. SoFar script start false (done ++ l ∷ []) left ls entries' taken' seen' sites') (sym run.lines_are)
-      (subst (λ es. SoFar script start false (done ++ l ∷ []) left (lines ++ lines_of name its_turn.number its_turn.replies) es taken' seen' sites') (sym run.entries_are)
-      (subst (λ ts. SoFar script start false (done ++ l ∷ []) left (lines ++ lines_of name its_turn.number its_turn.replies) (entries ++ entries_added name (now_of start entries) its_turn) ts seen' sites') (sym run.taken_are)
-      (advanced (entries ++ entries_added name (now_of start entries) its_turn) (taken ++ map taken_by its_turn.added) seen' its_turn.number its_turn.replies its_turn.after
-      (turn_keeps (entries ++ entries_added name (now_of start entries) its_turn) (taken ++ map taken_by its_turn.added) seen' its_turn goes) own others)))
+      SoFar script start false (done ++ l ∷ []) left lines' entries' changed' seen' sites'
+  turned_keeps askable utf8 lines' entries' changed' seen' run own others =
+      subst (λ ls. SoFar script start false (done ++ l ∷ []) left ls entries' changed' seen' sites') (sym run.lines_are)
+      (subst (λ es. SoFar script start false (done ++ l ∷ []) left (lines ++ lines_of name its_turn.number its_turn.replies) es changed' seen' sites') (sym run.entries_are)
+      (subst (λ ts. SoFar script start false (done ++ l ∷ []) left (lines ++ lines_of name its_turn.number its_turn.replies) (entries ++ entries_added name (now_of start entries) its_turn) ts seen' sites') (sym run.changed_are)
+      (advanced (entries ++ entries_added name (now_of start entries) its_turn) (changed ++ map (λ ops. changes_of ops seen.next) its_turn.added) seen' its_turn.number its_turn.replies its_turn.after
+      (turn_keeps (entries ++ entries_added name (now_of start entries) its_turn) (changed ++ map (λ ops. changes_of ops seen.next) its_turn.added) seen' its_turn goes) own others)))
     where
       number : place.number ≡ (state_of name script.sessions states).number
       number = sym (was.standing name).number
@@ -221,21 +221,21 @@ module _ (script : Script) (start : Start) (done left : List BodyLine) (l : Body
 
       goes : TurnsAt seen' (state_of name script.sessions states).number (state_of name script.sessions states).level
       goes = subst (λ (v : Level). KeptAt seen' (state_of name script.sessions states).number v → TurnsAt seen' (state_of name script.sessions states).number v) level
-          (subst (λ n. KeptAt seen' n place.level → TurnsAt seen' n place.level) number (turns script start entries taken seen seen' name place text (told name lines) (kind_of_text text) place.pending (state_of name script.sessions states).doing (comes script start false done left l lines entries taken seen states name text was is_act askable utf8))) run.rows_are
+          (subst (λ n. KeptAt seen' n place.level → TurnsAt seen' n place.level) number (turns script start entries changed seen seen' name place text (told name lines) (kind_of_text text) place.pending (state_of name script.sessions states).doing (comes script start false done left l lines entries changed seen states name text was is_act askable utf8))) run.rows_are
 
   -- and so does one that was cut short
-  pub cut_keeps : AllByRecursion IsAskable (tables_of script) → is_utf8 text ≡ true → (lines' : List Line) (entries' : List EntryLine) (taken' : List (List GenidItem)) (seen' : Seen) (c : Cut) →
+  pub cut_keeps : AllByRecursion IsAskable (tables_of script) → is_utf8 text ≡ true → (lines' : List Line) (entries' : List EntryLine) (changed' : List (List Change)) (seen' : Seen) (c : Cut) →
       cut_by (state_of name script.sessions states).number (state_of name script.sessions states).level (kind_of_text text) (state_of name script.sessions states).doing ≡ Some c →
-      IsCutShort (world script start entries taken seen) name c lines lines' entries entries' taken' seen' →
+      IsCutShort (world script start entries changed seen) name c lines lines' entries entries' changed' seen' →
       state_of name script.sessions sites' ≡ c.after →
       ((m : List ℕ) → bytes_eq name m ≡ false → state_of m script.sessions sites' ≡ state_of m script.sessions states) →
-      SoFar script start false (done ++ l ∷ []) left lines' entries' taken' seen' sites'
-  cut_keeps askable utf8 lines' entries' taken' seen' c is run own others =
-      subst (λ ls. SoFar script start false (done ++ l ∷ []) left ls entries' taken' seen' sites') (sym run.lines_are)
-      (subst (λ es. SoFar script start false (done ++ l ∷ []) left (lines ++ lines_of name c.number (reply.NoMemory ∷ [])) es taken' seen' sites') (sym run.entries_are)
-      (subst (λ ts. SoFar script start false (done ++ l ∷ []) left (lines ++ lines_of name c.number (reply.NoMemory ∷ [])) entries ts seen' sites') (sym run.taken_are)
-      (subst (λ (a : Seen). SoFar script start false (done ++ l ∷ []) left (lines ++ lines_of name c.number (reply.NoMemory ∷ [])) entries taken a sites') (sym run.rows_are)
-      (advanced entries taken seen c.number (reply.NoMemory ∷ []) c.after (record {
+      SoFar script start false (done ++ l ∷ []) left lines' entries' changed' seen' sites'
+  cut_keeps askable utf8 lines' entries' changed' seen' c is run own others =
+      subst (λ ls. SoFar script start false (done ++ l ∷ []) left ls entries' changed' seen' sites') (sym run.lines_are)
+      (subst (λ es. SoFar script start false (done ++ l ∷ []) left (lines ++ lines_of name c.number (reply.NoMemory ∷ [])) es changed' seen' sites') (sym run.entries_are)
+      (subst (λ ts. SoFar script start false (done ++ l ∷ []) left (lines ++ lines_of name c.number (reply.NoMemory ∷ [])) entries ts seen' sites') (sym run.changed_are)
+      (subst (λ (a : Seen). SoFar script start false (done ++ l ∷ []) left (lines ++ lines_of name c.number (reply.NoMemory ∷ [])) entries changed a sites') (sym run.rows_are)
+      (advanced entries changed seen c.number (reply.NoMemory ∷ []) c.after (record {
         stored = was.stored;
         grows = inl refl;
         next = omega arith;
@@ -250,7 +250,7 @@ module _ (script : Script) (start : Start) (done left : List BodyLine) (l : Body
       }) own others))))
     where
       stands : CutStands script start entries seen name (next_place sql_language place text) (told name lines) (number_told sql_language place text) c
-      stands = cuts script start entries taken seen name place text (told name lines) (kind_of_text text) place.pending (state_of name script.sessions states).doing (comes script start false done left l lines entries taken seen states name text was is_act askable utf8) c
+      stands = cuts script start entries changed seen name place text (told name lines) (kind_of_text text) place.pending (state_of name script.sessions states).doing (comes script start false done left l lines entries changed seen states name text was is_act askable utf8) c
           (ap (λ n. cut_by n place.level (kind_of_text text) (state_of name script.sessions states).doing) (sym (was.standing name).number)
           ∙ ap (λ (v : Level). cut_by (state_of name script.sessions states).number v (kind_of_text text) (state_of name script.sessions states).doing) (sym (was.standing name).level) ∙ is)
 

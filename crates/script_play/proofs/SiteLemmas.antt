@@ -7,7 +7,8 @@ use Rattle.cdb_values.specs.Rows.{Rows}
 use Rattle.cdb_values.specs.declared.rows.RowOp.{RowOp}
 use Rattle.cdb_values.specs.declared.tables.ColumnDef.{ColumnDef}
 use Rattle.live_operations.specs.Live.{AreLive}
-use Rattle.log_rows.specs.History.{rows_over, takes_in}
+use Rattle.block_processor.specs.Changed.{changed_in}
+use Rattle.log_rows.specs.History.{rows_over}
 use Rattle.phys_log.specs.Logs.{page_at}
 use Rattle.phys_log.specs.declared.entries.Entry.{Entry}
 use Rattle.session_language.specs.Language.{alone, alone_from}
@@ -27,8 +28,9 @@ use Rattle.report_text.specs.declared.reports.EntryLine.{EntryLine}
 use Rattle.report_text.specs.declared.reports.Line.{Line}
 use Rattle.report_text.specs.declared.reports.ReplyLine.{ReplyLine}
 use Rattle.report_laws.specs.Work.{Place, place_after}
-use Rattle.sql_answer.specs.Language.{sql_language}
+use Rattle.query_laws.specs.Alone.{sql_language}
 use Rattle.cdb_values.specs.declared.items.GenidItem.{GenidItem}
+use Rattle.cdb_values.specs.declared.items.Interval.{Interval}
 use Rattle.script_play.proofs.LiveLemmas.{alone_leaves_live, stands_distinct}
 use Rattle.script_play.proofs.SoundLaws.{distinct}
 use Rattle.sql_run.specs.Sound.{HasDistinctColumns}
@@ -133,7 +135,7 @@ pub runs_askable : (script : Script) → CanRun script → AllByRecursion IsAska
 runs_askable script can = askable script.tables (distinct [] (tables_of script) can.tables_lawful) can.columns
 
 -- the rows are ready for a line
-pub ready : (script : Script) (start : Start) (entries : List EntryLine) (log : List Entry) → AllByRecursion IsAskable (tables_of script) → Stored script start entries (takes_in log) (seen_in start log) → IsLogged start (tables_of script) (now_of start entries) log →
+pub ready : (script : Script) (start : Start) (entries : List EntryLine) (log : List Entry) → AllByRecursion IsAskable (tables_of script) → Stored script start entries (changed_in log) (seen_in start log) → IsLogged start (tables_of script) (now_of start entries) log →
     IsReady start (tables_of script) (now_of start entries) log
 ready script start entries log askable stored logged = record {
   opened = stored.opened;
@@ -143,9 +145,9 @@ ready script start entries log askable stored logged = record {
 }
 
 -- a transaction that is open can go on: what its texts left is there at its begin position
-open_able : (script : Script) (start : Start) (entries : List EntryLine) (log : List Entry) (texts : List (List ℕ)) (begin : ℕ) (ops : List RowOp) (uses : List GenidItem) (mine : List ReplyLine) →
-    Stored script start entries (takes_in log) (seen_in start log) → IsLogged start (tables_of script) (now_of start entries) log → IsOpen script start entries (rows_over (ground_of start) log).next texts begin ops uses mine → IsAble start (tables_of script) (now_of start entries) log begin ops
-open_able script start entries log texts begin ops uses mine stored logged is = record {
+open_able : (script : Script) (start : Start) (entries : List EntryLine) (log : List Entry) (texts : List (List ℕ)) (begin : ℕ) (ops : List RowOp) (uses : List GenidItem) (ranges : List Interval) (mine : List ReplyLine) →
+    Stored script start entries (changed_in log) (seen_in start log) → IsLogged start (tables_of script) (now_of start entries) log → IsOpen script start entries (rows_over (ground_of start) log).next texts begin ops uses ranges mine → IsAble start (tables_of script) (now_of start entries) log begin ops
+open_able script start entries log texts begin ops uses ranges mine stored logged is = record {
   first = is.first;
   within = is.within;
   kept = is.sound;
@@ -163,12 +165,12 @@ open_able script start entries log texts begin ops uses mine stored logged is = 
     ops_are = is.ops_are ∙ ap (λ (r : Rows). (alone_from sql_language (tables_of script) r.tables [] texts).ops) (sym (stored.rows_are begin is.first is.within))
 
 doing_ready : (script : Script) (start : Start) (entries : List EntryLine) (log : List Entry) (p : Place) (q : Option (List (List ℕ))) (d : Doing) (mine : List ReplyLine) →
-    Stored script start entries (takes_in log) (seen_in start log) → IsLogged start (tables_of script) (now_of start entries) log → IsDoing script start entries (rows_over (ground_of start) log).next p q d mine → IsReadyToGo start (tables_of script) (now_of start entries) log d
+    Stored script start entries (changed_in log) (seen_in start log) → IsLogged start (tables_of script) (now_of start entries) log → IsDoing script start entries (rows_over (ground_of start) log).next p q d mine → IsReadyToGo start (tables_of script) (now_of start entries) log d
 doing_ready script start entries log p None doing.No mine stored logged is = tt
-doing_ready script start entries log p None (doing.Open begin ops uses) mine stored logged is = absurd is
+doing_ready script start entries log p None (doing.Open begin ops uses ranges) mine stored logged is = absurd is
 doing_ready script start entries log p None doing.Aborted mine stored logged is = tt
 doing_ready script start entries log p (Some texts) doing.No mine stored logged is = tt
-doing_ready script start entries log p (Some texts) (doing.Open begin ops uses) mine stored logged is = open_able script start entries log texts begin ops uses mine stored logged is
+doing_ready script start entries log p (Some texts) (doing.Open begin ops uses ranges) mine stored logged is = open_able script start entries log texts begin ops uses ranges mine stored logged is
 doing_ready script start entries log p (Some texts) doing.Aborted mine stored logged is = tt
 
 -- a log has as many entries as the one before the run and the history
@@ -190,7 +192,7 @@ pub record Turn (script : Script) (start : Start) (name text : List ℕ) (entrie
   pub inside : (at : ℕ) → session_at name script.sessions ≡ Some at → at < length states
 
 pub turn_is : (script : Script) (start : Start) (down : Bool) (left : List BodyLine) (l : BodyLine) (lines : List Line) (entries : List EntryLine) (log : List Entry) (states : List SessionAt) (name text : List ℕ) →
-    IsBefore script start down (l ∷ left) lines entries (takes_in log) (seen_in start log) states → IsLogged start (tables_of script) (now_of start entries) log → l.act ≡ Say name text → Turn script start name text entries log states
+    IsBefore script start down (l ∷ left) lines entries (changed_in log) (seen_in start log) states → IsLogged start (tables_of script) (now_of start entries) log → l.act ≡ Say name text → Turn script start name text entries log states
 turn_is script start down left l lines entries log states name text before logged is_act = record {
   ready = ready script start entries log (runs_askable script before.can_run) before.so_far.stored logged;
   to_go = λ at x found has. subst (λ (y : SessionAt). IsReadyToGo start (tables_of script) (now_of start entries) log y.doing) (found_state 0 name script.sessions states at at x found (omega arith) has)

@@ -1,5 +1,5 @@
 -- Soundness: what is sound stays so later, and is as the layers below want it.
-use Rattle.std.proofs.Common.{◌≡◌, ℕ, ◌<◌, ◌≤◌, ◌||◌, ◌++◌, ◌∷◌, [], List, nat_le, refl, arith, length, map, zero, suc, Bool, true, false}
+use Rattle.std.proofs.Common.{◌≡◌, ℕ, ◌+◌, ◌<◌, ◌≤◌, ◌||◌, ◌++◌, ◌∷◌, [], List, nat_le, refl, arith, length, map, zero, suc, Bool, true, false}
 use Rattle.std.specs.Prelude.{slice_get, Some, None, if◌then◌else◌}
 use Rattle.std.specs.List.{AllByRecursion}
 use Rattle.cdb_values.specs.declared.rows.RowOp.{RowOp}
@@ -8,7 +8,7 @@ use Rattle.cdb_values.specs.declared.rows.RowRef.{RowRef}
 use Rattle.cdb_values.specs.declared.rows.RowRef.TheVariants.{Base, Own}
 use Rattle.cdb_values.specs.declared.rows.Version.{Version}
 use Rattle.cdb_values.specs.declared.tables.TableDef.{TableDef}
-use Rattle.cdb_values.specs.Changes.{taken_by}
+use Rattle.cdb_values.specs.Changes.{changes_of}
 use Rattle.cdb_values.specs.Tables.{add_fault, are_bad_keys, has_twice, is_named, is_past_limits, is_unlawful}
 use Rattle.cdb_values.specs.declared.schemas.AddFault.TheVariants.{Taken, Unlawful, Limit}
 use Rattle.cdb_values.specs.declared.tables.ColumnDef.{ColumnDef}
@@ -61,13 +61,14 @@ place_within (first ∷ tables) (suc place) table at = let within : place < leng
 name_at : (tables : List TableDef) (place : ℕ) (table : TableDef) → slice_get tables place ≡ Some table → (name : List ℕ) × (name_of_table tables place ≡ Some name)
 name_at tables place table at = (table.name, rw at refl)
 
-pub all_named : (tables : List TableDef) (next : ℕ) (ops : List RowOp) → AllByRecursion (IsSoundOp tables next) ops → AllByRecursion (HasName tables) (taken_by ops)
-all_named tables next [] all = tt
-all_named tables next (Insert place row ∷ ops) all = all_named tables next ops all.1
-all_named tables next (Update place (Base genid) old row ∷ ops) ((table, at, fits, below), all) = (name_at tables place table at, all_named tables next ops all)
-all_named tables next (Update place (Own write) old row ∷ ops) all = all_named tables next ops all.1
-all_named tables next (Delete place (Base genid) old ∷ ops) ((table, at, below), all) = (name_at tables place table at, all_named tables next ops all)
-all_named tables next (Delete place (Own write) old ∷ ops) all = all_named tables next ops all.1
+-- what sound operations change is of tables that have names
+pub all_named : (tables : List TableDef) (next : ℕ) (ops : List RowOp) (genid : ℕ) → AllByRecursion (IsSoundOp tables next) ops → AllByRecursion (HasName tables) (changes_of ops genid)
+all_named tables next [] genid all = tt
+all_named tables next (Insert place row ∷ ops) genid ((table, at, fits), all) = (name_at tables place table at, all_named tables next ops (genid + 1) all)
+all_named tables next (Update place (Base target) old row ∷ ops) genid ((table, at, fits, below), all) = (name_at tables place table at, all_named tables next ops (genid + 1) all)
+all_named tables next (Update place (Own write) old row ∷ ops) genid all = all_named tables next ops genid all.1
+all_named tables next (Delete place (Base target) old ∷ ops) genid ((table, at, below), all) = (name_at tables place table at, all_named tables next ops genid all)
+all_named tables next (Delete place (Own write) old ∷ ops) genid all = all_named tables next ops genid all.1
 
 -- a table that may be added has distinct names of columns
 distinct_one : (before : List TableDef) (table : TableDef) → add_fault before table ≡ None → HasDistinctColumns table

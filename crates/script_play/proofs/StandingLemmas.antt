@@ -4,6 +4,7 @@ use Rattle.std.proofs.lemmas.List.{length-append, append-nil}
 use Rattle.cdb_values.specs.Rows.{Rows}
 use Rattle.cdb_values.specs.declared.rows.Level.{Level}
 use Rattle.cdb_values.specs.declared.items.GenidItem.{GenidItem}
+use Rattle.cdb_values.specs.declared.items.Interval.{Interval}
 use Rattle.cdb_values.specs.declared.rows.RowOp.{RowOp}
 use Rattle.script_form.specs.declared.scripts.Script.{Script}
 use Rattle.report_text.specs.declared.reports.EntryLine.{EntryLine}
@@ -15,7 +16,7 @@ use Rattle.session_language.specs.Language.{Answered, alone}
 use Rattle.report_laws.specs.Told.{Along, Numbered, IsTold, numbered}
 use Rattle.report_laws.specs.Work.{Item, Place, Nowhere, transaction, with_open, number_of}
 use Rattle.script_play.specs.Basis.{from_start}
-use Rattle.sql_answer.specs.Language.{sql_language}
+use Rattle.query_laws.specs.Alone.{sql_language}
 use Rattle.report_laws.proofs.GrowLaws.{told_stays, cut_stays}
 use Rattle.report_laws.proofs.HistoryLaws.{rows_stay}
 use Rattle.report_laws.proofs.ToldLaws.{along_append, along_one, along_map}
@@ -41,22 +42,23 @@ module _ (script : Script) (start : Start) (entries : List EntryLine) (e : Entry
       alone sql_language (tables_of script) (rows_at (from_start script start) grown begin) texts ≡ alone sql_language (tables_of script) (rows_at (from_start script start) entries begin) texts
   alone_stays texts begin within = ap (λ (r : Rows). alone sql_language (tables_of script) r texts) (rows_stay (from_start script start) entries e begin (omega (arith, within)))
 
-  open_stays : (next next' : ℕ) (texts : List (List ℕ)) (begin : ℕ) (ops : List RowOp) (uses : List GenidItem) (mine : List ReplyLine) → next ≤ next' → IsOpen script start entries next texts begin ops uses mine → IsOpen script start grown next' texts begin ops uses mine
-  open_stays next next' texts begin ops uses mine le is = record {
+  open_stays : (next next' : ℕ) (texts : List (List ℕ)) (begin : ℕ) (ops : List RowOp) (uses : List GenidItem) (ranges : List Interval) (mine : List ReplyLine) → next ≤ next' → IsOpen script start entries next texts begin ops uses ranges mine → IsOpen script start grown next' texts begin ops uses ranges mine
+  open_stays next next' texts begin ops uses ranges mine le is = record {
     first = is.first;
     within = let w = is.within in omega (arith, w, longer);
     says = is.says ∙ ap (λ (a : Answered). reply.Begin begin ∷ a.replies) (sym (alone_stays texts begin is.within));
     ops_are = is.ops_are ∙ ap (λ (a : Answered). a.ops) (sym (alone_stays texts begin is.within));
     uses_are = is.uses_are ∙ ap (λ (a : Answered). a.uses) (sym (alone_stays texts begin is.within));
+    ranges_are = is.ranges_are ∙ ap (λ (a : Answered). a.ranges) (sym (alone_stays texts begin is.within));
     sound = kept_later (tables_of script) next next' ops le is.sound;
   }
 
   doing_stays : (next next' : ℕ) (p : Place) (q : Option (List (List ℕ))) (d : Doing) (mine : List ReplyLine) → next ≤ next' → IsDoing script start entries next p q d mine → IsDoing script start grown next' p q d mine
   doing_stays next next' p None doing.No mine le is = is
-  doing_stays next next' p None (doing.Open begin ops uses) mine le is = absurd is
+  doing_stays next next' p None (doing.Open begin ops uses ranges) mine le is = absurd is
   doing_stays next next' p None doing.Aborted mine le is = absurd is
   doing_stays next next' p (Some texts) doing.No mine le is = absurd is
-  doing_stays next next' p (Some texts) (doing.Open begin ops uses) mine le is = open_stays next next' texts begin ops uses mine le is
+  doing_stays next next' p (Some texts) (doing.Open begin ops uses ranges) mine le is = open_stays next next' texts begin ops uses ranges mine le is
   doing_stays next next' p (Some texts) doing.Aborted mine le is = cut_stays (from_start script start) entries e (transaction p.number texts p.level Nowhere) mine is
 
   grown_stands : (next next' : ℕ) (name : List ℕ) (p : Place) (lines : List Numbered) (at : SessionAt) → next ≤ next' → Standing script start entries next name p lines at → Standing script start grown next' name p lines at
@@ -73,15 +75,16 @@ module _ (script : Script) (start : Start) (entries : List EntryLine) (e : Entry
 -- the same open transaction, below a greater next genid
 open_later : (script : Script) (start : Start) (entries : List EntryLine) (next next' : ℕ) (p : Place) (q : Option (List (List ℕ))) (d : Doing) (mine : List ReplyLine) → next ≤ next' → IsDoing script start entries next p q d mine → IsDoing script start entries next' p q d mine
 open_later script start entries next next' p None doing.No mine le is = is
-open_later script start entries next next' p None (doing.Open begin ops uses) mine le is = absurd is
+open_later script start entries next next' p None (doing.Open begin ops uses ranges) mine le is = absurd is
 open_later script start entries next next' p None doing.Aborted mine le is = absurd is
 open_later script start entries next next' p (Some texts) doing.No mine le is = absurd is
-open_later script start entries next next' p (Some texts) (doing.Open begin ops uses) mine le is = record {
+open_later script start entries next next' p (Some texts) (doing.Open begin ops uses ranges) mine le is = record {
   first = is.first;
   within = is.within;
   says = is.says;
   ops_are = is.ops_are;
   uses_are = is.uses_are;
+  ranges_are = is.ranges_are;
   sound = kept_later (tables_of script) next next' ops le is.sound;
 }
 open_later script start entries next next' p (Some texts) doing.Aborted mine le is = is

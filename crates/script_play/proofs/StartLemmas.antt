@@ -3,16 +3,17 @@ use Rattle.std.proofs.Common.{◌≡◌, zero, suc, ℕ, ◌-◌, ◌<◌, ◌�
 use Rattle.std.proofs.lemmas.Bool.{ne_eqb}
 use Rattle.std.specs.List.{AllByRecursion, slice_get}
 use Rattle.std.specs.Prelude.{drop}
+use Rattle.block_processor.specs.Changed.{changed_in}
 use Rattle.cdb_values.specs.Rows.{Rows, no_rows}
-use Rattle.cdb_values.specs.declared.items.GenidItem.{GenidItem}
+use Rattle.cdb_values.specs.declared.rows.Change.{Change}
 use Rattle.cdb_values.specs.declared.tables.TableDef.{TableDef}
 use Rattle.log_rows.proofs.HistoryLemmas.{rows_ground, rows_whole, stand_begun}
-use Rattle.log_rows.specs.History.{rows_over, rows_over_at, takes_in, IsFrom, StandsOver}
+use Rattle.log_rows.specs.History.{rows_over, rows_over_at, IsFrom, StandsOver}
 use Rattle.phys_log.specs.Logs.{page_at, pages_of}
 use Rattle.phys_log.specs.declared.entries.Entry.{Entry}
 use Rattle.phys_log.specs.declared.entries.Entry.TheVariants as log
 use Rattle.phys_log.specs.declared.entries.LogRecord.{LogRecord}
-use Rattle.report_laws.specs.History.{rows_at, taken_at}
+use Rattle.report_laws.specs.History.{rows_at, changes_at}
 use Rattle.report_laws.specs.Play.{opening}
 use Rattle.report_text.specs.declared.reports.EntryLine.{EntryLine}
 use Rattle.report_text.specs.declared.reports.EntryLine.TheVariants.{Setup}
@@ -70,8 +71,8 @@ stored_first script rows seen none next = record {
   rows_are = only_from (λ at. seen.at at ≡ rows_at (from_start script (at_nothing rows)) (Setup 1 ∷ []) at) none;
   now_are = none;
   next_is = next ∙ ap (λ (r : Rows). r.next) (sym none);
-  taken_length = refl;
-  taken_are = only_one (λ k. unwrap_or (slice_get ([] ∷ []) (k - 1)) [] ≡ taken_at (from_start script (at_nothing rows)) (Setup 1 ∷ []) k) refl;
+  changed_length = refl;
+  changed_are = only_one (λ k. unwrap_or (slice_get ([] ∷ []) (k - 1)) [] ≡ changes_at (from_start script (at_nothing rows)) (Setup 1 ∷ []) k) refl;
   sound = only_from (λ at. AreKept (tables_of script) seen.next (seen.at at).tables)
       (subst (λ (r : Rows). AreKept (tables_of script) seen.next r.tables) (sym none) (kept_none (tables_of script) seen.next));
   named = (tt, tt);
@@ -90,19 +91,19 @@ rows_behind script start at within =
     let none : at - base start ≡ 0 = omega (arith, within) in ap (λ n. unwrap_or (slice_get (start.rows ∷ []) n) start.rows) none
 
 -- its rows at first are those of the start
-stored_later : (script : Script) (start : Start) (taken : List (List GenidItem)) (seen : Seen) → 1 ≤ base start → seen.at (base start) ≡ start.rows → seen.next ≡ start.rows.next → length taken ≡ base start →
-    AreKept (tables_of script) start.rows.next start.rows.tables → Stored script start [] taken seen
-stored_later script start taken seen some is next many kept = record {
+stored_later : (script : Script) (start : Start) (changed : List (List Change)) (seen : Seen) → 1 ≤ base start → seen.at (base start) ≡ start.rows → seen.next ≡ start.rows.next → length changed ≡ base start →
+    AreKept (tables_of script) start.rows.next start.rows.tables → Stored script start [] changed seen
+stored_later script start changed seen some is next many kept = record {
   opened = (omega (arith, some), omega arith);
   history = tt;
   rows_are = λ at from within. at_base (λ k. seen.at k ≡ rows_at (from_start script start) [] k) (is ∙ sym (rows_behind script start (base start) (omega arith))) at from within;
   now_are = at_now (λ k. seen.at k ≡ rows_at (from_start script start) [] k) (is ∙ sym (rows_behind script start (base start) (omega arith)));
   next_is = next ∙ ap (λ (r : Rows). r.next) (sym is) ∙ at_now (λ k. (seen.at (base start)).next ≡ (seen.at k).next) refl;
-  taken_length = omega (arith, many);
-  taken_are = λ k first within. absurd (omega (arith, first, within));
+  changed_length = omega (arith, many);
+  changed_are = λ k first within. absurd (omega (arith, first, within));
   sound = λ at from within. at_base (λ k. AreKept (tables_of script) seen.next (seen.at k).tables)
       (subst (λ (r : Rows). AreKept (tables_of script) seen.next r.tables) (sym is) (subst (λ n. AreKept (tables_of script) n start.rows.tables) (sym next) kept)) at from within;
-  named = subst (λ (l : List (List GenidItem)). AllByRecursion (AllByRecursion (HasName (tables_of script))) l) (sym (drop_all (base start) taken many)) tt;
+  named = subst (λ (l : List (List Change)). AllByRecursion (AllByRecursion (HasName (tables_of script))) l) (sym (drop_all (base start) changed many)) tt;
 }
   where
     at_base : (P : ℕ → Type 0) → P (base start) → (at : ℕ) → IsFrom (base start) at → at ≤ now_of start [] → P at
@@ -117,9 +118,9 @@ none_opened n some = ap (λ (b : Bool). if b then Setup 1 ∷ [] else []) (ne_eq
 
 -- ---- both
 
-takes_length : (es : List Entry) → length (takes_in es) ≡ length es
-takes_length [] = refl
-takes_length (e ∷ es) = let rest = takes_length es in omega (arith, rest)
+changes_length : (es : List Entry) → length (changed_in es) ≡ length es
+changes_length [] = refl
+changes_length (e ∷ es) = let rest = changes_length es in omega (arith, rest)
 
 as_many : (ss : List SessionLine) → length (map (λ _. at_start) ss) ≡ length ss
 as_many [] = refl
@@ -127,19 +128,19 @@ as_many (s ∷ ss) = let rest = as_many ss in omega (arith, rest)
 
 -- the run as it begins, with its log
 pub record Opens (script : Script) (start : Start) (generation : ℕ) (entries : List EntryLine) (logged : List Entry) (states : List SessionAt) : Type 0 where
-  pub before_line : IsBefore script start false script.body [] entries (takes_in logged) (seen_in start logged) states
+  pub before_line : IsBefore script start false script.body [] entries (changed_in logged) (seen_in start logged) states
   pub logged_so : IsLogged start (tables_of script) (now_of start entries) logged
   pub told : AreTold start.before generation entries logged
 
-first_is : (script : Script) (start : Start) (taken : List (List GenidItem)) (seen : Seen) (states : List SessionAt) → CanRun script → states ≡ map (λ _. at_start) script.sessions → Stored script start (opening (from_start script start).origin) taken seen →
-    IsBefore script start false script.body [] (opening (from_start script start).origin) taken seen states
-first_is script start taken seen states can starts stored =
-    subst (λ (ss : List SessionAt). IsBefore script start false script.body [] (opening (from_start script start).origin) taken seen ss) (sym starts) (record {
+first_is : (script : Script) (start : Start) (changed : List (List Change)) (seen : Seen) (states : List SessionAt) → CanRun script → states ≡ map (λ _. at_start) script.sessions → Stored script start (opening (from_start script start).origin) changed seen →
+    IsBefore script start false script.body [] (opening (from_start script start).origin) changed seen states
+first_is script start changed seen states can starts stored =
+    subst (λ (ss : List SessionAt). IsBefore script start false script.body [] (opening (from_start script start).origin) changed seen ss) (sym starts) (record {
       can_run = can;
       said = can.said;
       same = as_many script.sessions;
       done = [];
-      so_far = begins_so script start taken seen stored;
+      so_far = begins_so script start changed seen stored;
     })
 
 opens_first : (script : Script) (rows : Rows) (generation : ℕ) (records : List LogRecord) (states : List SessionAt) → CanRun script → states ≡ map (λ _. at_start) script.sessions →
@@ -162,10 +163,10 @@ opens_first script rows generation records states can starts at_one = record {
 opens_later : (script : Script) (start : Start) (generation : ℕ) (states : List SessionAt) → CanRun script → states ≡ map (λ _. at_start) script.sessions → 1 ≤ base start → GoesOn (tables_of script) start.before start.rows →
     Opens script start generation [] start.before states
 opens_later script start generation states can starts some goes = record {
-  before_line = subst (λ (es : List EntryLine). IsBefore script start false script.body [] es (takes_in start.before) (seen_in start start.before) states) none
-      (first_is script start (takes_in start.before) (seen_in start start.before) states can starts
-      (subst (λ (es : List EntryLine). Stored script start es (takes_in start.before) (seen_in start start.before)) (sym none)
-      (stored_later script start (takes_in start.before) (seen_in start start.before) some (rows_whole (ground_of start) start.before ∙ there) (ap (λ (r : Rows). r.next) there) (takes_length start.before) goes.kept)));
+  before_line = subst (λ (es : List EntryLine). IsBefore script start false script.body [] es (changed_in start.before) (seen_in start start.before) states) none
+      (first_is script start (changed_in start.before) (seen_in start start.before) states can starts
+      (subst (λ (es : List EntryLine). Stored script start es (changed_in start.before) (seen_in start start.before)) (sym none)
+      (stored_later script start (changed_in start.before) (seen_in start start.before) some (rows_whole (ground_of start) start.before ∙ there) (ap (λ (r : Rows). r.next) there) (changes_length start.before) goes.kept)));
   logged_so = record {
     count = omega arith;
     schema = goes.schema;

@@ -6,7 +6,11 @@ use Rattle.std.specs.List.{AllByRecursion, slice_get}
 use Rattle.std.specs.Prelude.{drop}
 use Rattle.cdb_values.specs.Good.{AllFit, IsGood, first_broken}
 use Rattle.cdb_values.specs.Rows.{Rows, apply_all}
+use Rattle.cdb_values.specs.declared.items.GenidItem.{GenidItem}
+use Rattle.cdb_values.specs.declared.items.Interval.{Interval}
+use Rattle.cdb_values.specs.declared.rows.Change.{Change}
 use Rattle.cdb_values.specs.declared.rows.Level.{Level}
+use Rattle.cdb_values.specs.declared.rows.Level.TheVariants.{Snapshot, Serializable}
 use Rattle.cdb_values.specs.declared.rows.RowOp.{RowOp}
 use Rattle.cdb_values.specs.declared.rows.Version.{Version}
 use Rattle.log_rows.specs.History.{IsFrom}
@@ -16,23 +20,23 @@ use Rattle.script_form.specs.declared.scripts.Script.{Script}
 use Rattle.report_text.specs.declared.reports.EntryLine.{EntryLine}
 use Rattle.report_text.specs.declared.reports.EntryLine.TheVariants.{Commit}
 use Rattle.report_text.specs.declared.reports.ReplyLine.TheVariants as reply
-use Rattle.cdb_values.specs.Changes.{taken_by}
-use Rattle.report_laws.specs.History.{last_position, entry_at, rows_at, rows_after, states_of, ops_of, ops_alone, taken_at, used_by, IsEntryAfter, IsCommitAfter, is_entry_of, view_of}
+use Rattle.cdb_values.specs.Changes.{changes_of}
+use Rattle.report_laws.specs.History.{last_position, entry_at, rows_at, rows_after, states_of, ops_of, ops_alone, changes_at, IsEntryAfter, IsCommitAfter, is_entry_of, view_of}
 use Rattle.report_laws.specs.View.{IsUntouched}
-use Rattle.session_language.specs.Touched.{first_touched}
+use Rattle.session_language.specs.Language.{Answered}
+use Rattle.session_language.specs.Touched.{Used, first_used, used_at}
 use Rattle.report_laws.specs.Outcome.{IsRight, IsEntered}
 use Rattle.report_laws.specs.Told.{alone_at}
 use Rattle.script_form.specs.CanRun.{tables_of}
 use Rattle.report_laws.specs.Work.{Transaction, transaction_of}
 use Rattle.script_play.specs.Basis.{from_start}
-use Rattle.sql_answer.specs.Language.{sql_language}
-use Rattle.cdb_values.specs.declared.items.GenidItem.{GenidItem}
+use Rattle.query_laws.specs.Alone.{sql_language}
 use Rattle.session_language.proofs.EachLaws.{all_append, each_append, get_front, get_next}
-use Rattle.report_laws.proofs.HistoryLaws.{none_stands, rows_stay, rows_new, entry_new, taken_stays, taken_new, untouched_stays}
-use Rattle.block_processor.specs.Conflicts.{first_conflict}
-use Rattle.script_play.specs.Decisions.{HasName}
+use Rattle.report_laws.proofs.HistoryLaws.{none_stands, rows_stay, rows_new, entry_new, changes_stay, changes_new, untouched_stays}
+use Rattle.block_processor.specs.Changed.{first_use}
+use Rattle.script_play.specs.Decisions.{HasName, used_by}
 use Rattle.script_play.specs.Ready.{AreKept, IsKeptOp}
-use Rattle.block_processor.proofs.ConflictLaws.{none_since}
+use Rattle.block_processor.proofs.ChangedLaws.{none_used}
 use Rattle.script_play.proofs.SoundLaws.{all_named, kept_sound, rows_later}
 use Rattle.script_play.specs.SoFar.{Stored, now_of}
 use Rattle.script_play.specs.Step.{World, world_of, IsKept}
@@ -47,17 +51,23 @@ behind_more (suc n) (y ∷ xs) x within = behind_more n xs x (omega (arith, with
 abbrev pub entry_of : List ℕ → ℕ → ℕ → Level → ℕ → EntryLine
 entry_of name number begin level now = Commit (now + 1) name number begin level
 
-abbrev pub world : Script → Start → List EntryLine → List (List GenidItem) → Seen → World
-world script start entries taken seen = world_of (tables_of script) seen taken (now_of start entries)
+abbrev pub world : Script → Start → List EntryLine → List (List Change) → Seen → World
+world script start entries changed seen = world_of (tables_of script) seen changed (now_of start entries)
+
+-- what a transaction uses, by what it was answered
+pub used_alike : (level : Level) (ran : Answered) → used_by level ran.ops ran.uses ran.ranges ≡ used_at level ran
+used_alike Snapshot ran = refl
+used_alike Serializable ran = refl
 
 -- a transaction comes to its commit
-pub record Commits (script : Script) (start : Start) (entries : List EntryLine) (taken : List (List GenidItem)) (seen : Seen) (name : List ℕ) (t : Transaction) (begin : ℕ) (uses : List GenidItem) (ops : List RowOp) : Type 0 where
-  pub stored : Stored script start entries taken seen
+pub record Commits (script : Script) (start : Start) (entries : List EntryLine) (changed : List (List Change)) (seen : Seen) (name : List ℕ) (t : Transaction) (begin : ℕ) (uses : List GenidItem) (ranges : List Interval) (ops : List RowOp) : Type 0 where
+  pub stored : Stored script start entries changed seen
   pub first : IsFrom (base start) begin
   pub within : begin ≤ now_of start entries
   pub is_its : transaction_of sql_language name t.number script.body ≡ Some t
   pub ops_are : ops ≡ (alone_at (from_start script start) (view_of (from_start script start) entries) t begin).ops
   pub uses_are : uses ≡ (alone_at (from_start script start) (view_of (from_start script start) entries) t begin).uses
+  pub ranges_are : ranges ≡ (alone_at (from_start script start) (view_of (from_start script start) entries) t begin).ranges
   pub sound : AllByRecursion (IsKeptOp (tables_of script) seen.next) ops
   pub once : AllByRecursion (λ e. is_entry_of name t.number e ≡ false) entries
   -- applied now, the operations leave sound rows, which fit
@@ -65,25 +75,31 @@ pub record Commits (script : Script) (start : Start) (entries : List EntryLine) 
   pub grows : seen.next ≤ (apply_all (seen.at (now_of start entries)) ops).next
   pub fits : AllFit (tables_of script) (apply_all (seen.at (now_of start entries)) ops).tables
 
-module _ (script : Script) (start : Start) (entries : List EntryLine) (taken : List (List GenidItem)) (seen : Seen) (name : List ℕ) (t : Transaction) (begin : ℕ) (uses : List GenidItem) (ops : List RowOp) (c : Commits script start entries taken seen name t begin uses ops) where
+module _ (script : Script) (start : Start) (entries : List EntryLine) (changed : List (List Change)) (seen : Seen) (name : List ℕ) (t : Transaction) (begin : ℕ) (uses : List GenidItem) (ranges : List Interval) (ops : List RowOp) (c : Commits script start entries changed seen name t begin uses ranges ops) where
   abbrev pub now : ℕ
   now = now_of start entries
 
-  -- what it uses: what its texts used, and what its operations take away
-  abbrev pub used : List GenidItem
-  used = taken_by ops ++ uses
+  -- its texts, run alone where it began
+  abbrev ran : Answered
+  ran = alone_at (from_start script start) (view_of (from_start script start) entries) t begin
 
-  -- what no entry since the begin touches, by the versions that were kept for each entry
-  pub untouched_now : first_conflict begin (drop begin taken) used ≡ None → IsUntouched (view_of (from_start script start) entries) begin (now + 1) used
+  -- what it uses at its level
+  abbrev pub used : List Used
+  used = used_by t.level ops uses ranges
+
+  -- what no entry since the begin touches, by the changes that were kept for each entry
+  pub untouched_now : first_use (tables_of script) begin (drop begin changed) used ≡ None → IsUntouched (view_of (from_start script start) entries) begin (now + 1) used
   untouched_now none j after before =
-      ap (λ (items : List GenidItem). first_touched items used) (sym (c.stored.taken_are j (let b = c.first.1 in omega (arith, after, b)) (omega (arith, before))))
-      ∙ none_since begin taken used none j after (let same = c.stored.taken_length in omega (arith, before, same))
+      ap (λ (changes : List Change). first_used (tables_of script) changes used) (sym (c.stored.changed_are j (let b = c.first.1 in omega (arith, after, b)) (omega (arith, before))))
+      ∙ none_used (tables_of script) used begin changed none j after (let same = c.stored.changed_length in omega (arith, before, same))
 
   -- these are what it uses when it is run alone
-  used_is : used_by (alone_at (from_start script start) (view_of (from_start script start) entries) t begin) ≡ used
+  used_is : used_at t.level ran ≡ used
   used_is =
-      ap (λ (us : List GenidItem). taken_by (alone_at (from_start script start) (view_of (from_start script start) entries) t begin).ops ++ us) (sym c.uses_are)
-      ∙ ap (λ (o : List RowOp). taken_by o ++ uses) (sym c.ops_are)
+      sym (used_alike t.level ran)
+      ∙ ap (λ (o : List RowOp). used_by t.level o ran.uses ran.ranges) (sym c.ops_are)
+      ∙ ap (λ (us : List GenidItem). used_by t.level ops us ran.ranges) (sym c.uses_are)
+      ∙ ap (λ (read : List Interval). used_by t.level ops uses read) (sym c.ranges_are)
 
   abbrev pub e : EntryLine
   e = entry_of name t.number begin t.level now
@@ -111,7 +127,7 @@ module _ (script : Script) (start : Start) (entries : List EntryLine) (taken : L
   pub rows_then : rows_at (from_start script start) more (now + 1) ≡ apply_all (seen.at now) ops
   rows_then = ap (λ k. rows_at (from_start script start) more k) next_at ∙ rows_new (from_start script start) entries e ∙ rows_there
 
-  module _ (seen' : Seen) (kept : IsKept now seen seen' (ops ∷ [])) (unbroken : first_broken (tables_of script) (apply_all (seen.at now) ops).tables ≡ None) (some : ops ≢ []) (clear : first_conflict begin (drop begin taken) used ≡ None) where
+  module _ (seen' : Seen) (kept : IsKept now seen seen' (ops ∷ [])) (unbroken : first_broken (tables_of script) (apply_all (seen.at now) ops).tables ≡ None) (some : ops ≢ []) (clear : first_use (tables_of script) begin (drop begin changed) used ≡ None) where
     good : IsGood (tables_of script) (apply_all (seen.at now) ops).tables
     good = record { rows_fit = c.fits; keys_kept = unbroken }
 
@@ -133,7 +149,7 @@ module _ (script : Script) (start : Start) (entries : List EntryLine) (taken : L
       ran = alone_at (from_start script start) (view_of (from_start script start) entries) t begin;
       is_ran = refl;
       has_ops = subst (λ (o : List RowOp). o ≢ []) c.ops_are some;
-      untouched = subst (λ (items : List GenidItem). IsUntouched (view_of (from_start script start) entries) begin (now + 1) items) (sym used_is) (untouched_now clear);
+      untouched = subst (λ (items : List Used). IsUntouched (view_of (from_start script start) entries) begin (now + 1) items) (sym used_is) (untouched_now clear);
       is_good = subst (λ (r : Rows). IsGood (tables_of script) r.tables) (sym rows_applied) good;
     }
 
@@ -151,26 +167,33 @@ module _ (script : Script) (start : Start) (entries : List EntryLine) (taken : L
         pick (inl is) = subst P (sym is) new
         pick (inr before) = old at first (omega (arith, before))
 
-    abbrev pub taken' : List (List GenidItem)
-    taken' = taken ++ taken_by ops ∷ []
+    abbrev pub changed' : List (List Change)
+    changed' = changed ++ changes_of ops seen.next ∷ []
 
-    taken_there : unwrap_or (slice_get taken' (now + 1 - 1)) [] ≡ taken_at (from_start script start) more (now + 1)
-    taken_there =
-        let at : now + 1 - 1 ≡ length taken = let same = c.stored.taken_length in omega (arith, same) in
-        ap (λ k. unwrap_or (slice_get taken' k) []) at
-        ∙ ap (λ (found : Option (List GenidItem)). unwrap_or found []) (get_next taken (taken_by ops) [])
-        ∙ ap (λ (o : List RowOp). taken_by o) (sym its_ops)
-        ∙ sym (ap (λ k. taken_at (from_start script start) more k) next_at ∙ taken_new (from_start script start) entries e)
+    -- the genid of the first version that the entry adds
+    genid_is : seen.next ≡ (rows_at (from_start script start) entries (now + 1 - 1)).next
+    genid_is =
+        let back : now ≡ now + 1 - 1 = omega arith in
+        c.stored.next_is ∙ ap (λ (r : Rows). r.next) c.stored.now_are ∙ ap (λ k. (rows_at (from_start script start) entries k).next) back
 
-    taken_before : (k : ℕ) → base start < k → k ≤ now → unwrap_or (slice_get taken' (k - 1)) [] ≡ taken_at (from_start script start) more k
-    taken_before k first within =
-        let inside : k - 1 < length taken = let same = c.stored.taken_length in omega (arith, same, first, within) in
-        ap (λ (found : Option (List GenidItem)). unwrap_or found []) (get_front taken (taken_by ops ∷ []) (k - 1) inside)
-        ∙ c.stored.taken_are k first within
-        ∙ sym (taken_stays (from_start script start) entries e k (omega (arith, first)) (omega (arith, within)))
+    changed_there : unwrap_or (slice_get changed' (now + 1 - 1)) [] ≡ changes_at (from_start script start) more (now + 1)
+    changed_there =
+        let at : now + 1 - 1 ≡ length changed = let same = c.stored.changed_length in omega (arith, same) in
+        ap (λ k. unwrap_or (slice_get changed' k) []) at
+        ∙ ap (λ (found : Option (List Change)). unwrap_or found []) (get_next changed (changes_of ops seen.next) [])
+        ∙ ap (λ (genid : ℕ). changes_of ops genid) genid_is
+        ∙ ap (λ (o : List RowOp). changes_of o (rows_at (from_start script start) entries (now + 1 - 1)).next) (sym its_ops)
+        ∙ sym (ap (λ k. changes_at (from_start script start) more k) next_at ∙ changes_new (from_start script start) entries e)
+
+    changed_before : (k : ℕ) → base start < k → k ≤ now → unwrap_or (slice_get changed' (k - 1)) [] ≡ changes_at (from_start script start) more k
+    changed_before k first within =
+        let inside : k - 1 < length changed = let same = c.stored.changed_length in omega (arith, same, first, within) in
+        ap (λ (found : Option (List Change)). unwrap_or found []) (get_front changed (changes_of ops seen.next ∷ []) (k - 1) inside)
+        ∙ c.stored.changed_are k first within
+        ∙ sym (changes_stay (from_start script start) entries e k (omega (arith, first)) (omega (arith, within)))
 
     -- after the commit
-    pub stored_more : Stored script start more taken' seen'
+    pub stored_more : Stored script start more changed' seen'
     stored_more = record {
       opened = (omega (arith, count), omega arith);
       history = each_append (IsEntryAfter (from_start script start)) [] entries (e ∷ []) c.stored.history (its_entry, tt);
@@ -179,15 +202,15 @@ module _ (script : Script) (start : Start) (entries : List EntryLine) (taken : L
           (kept.0 ∙ sym rows_then);
       now_are = subst (λ k. seen'.at k ≡ rows_at (from_start script start) more k) (sym count) (kept.0 ∙ sym rows_then);
       next_is = next_is ∙ ap (λ (r : Rows). r.next) (sym kept.0) ∙ ap (λ k. (seen'.at k).next) (sym count);
-      taken_length = let same = c.stored.taken_length in omega (arith, count, same, length-append taken (taken_by ops ∷ []));
-      taken_are = at_next (λ k. base start < k) (λ k. unwrap_or (slice_get taken' (k - 1)) [] ≡ taken_at (from_start script start) more k) taken_before taken_there;
+      changed_length = let same = c.stored.changed_length in omega (arith, count, same, length-append changed (changes_of ops seen.next ∷ []));
+      changed_are = at_next (λ k. base start < k) (λ k. unwrap_or (slice_get changed' (k - 1)) [] ≡ changes_at (from_start script start) more k) changed_before changed_there;
       sound = at_next (IsFrom (base start)) (λ at. AreKept (tables_of script) seen'.next (seen'.at at).tables)
           (λ at first within. subst (λ (vs : List (List Version)). AreKept (tables_of script) seen'.next vs) (ap (λ (r : Rows). r.tables) (sym (kept.1 at (omega (arith, within)))))
           (rows_later (tables_of script) seen.next seen'.next (seen.at at).tables (let g = c.grows in let n = next_is in omega (arith, g, n)) (c.stored.sound at first within)))
           (subst (λ (vs : List (List Version)). AreKept (tables_of script) seen'.next vs) (sym tables_are) (subst (λ k. AreKept (tables_of script) k (apply_all (seen.at now) ops).tables) (sym next_is) c.applied));
-      named = subst (λ (l : List (List GenidItem)). AllByRecursion (AllByRecursion (HasName (tables_of script))) l)
-          (sym (behind_more (base start) taken (taken_by ops) (let same = c.stored.taken_length in omega (arith, same))))
-          (all_append _ (drop (base start) taken) (taken_by ops ∷ []) c.stored.named (all_named (tables_of script) seen.next ops (kept_sound (tables_of script) seen.next ops c.sound), tt));
+      named = subst (λ (l : List (List Change)). AllByRecursion (AllByRecursion (HasName (tables_of script))) l)
+          (sym (behind_more (base start) changed (changes_of ops seen.next) (let same = c.stored.changed_length in omega (arith, same))))
+          (all_append _ (drop (base start) changed) (changes_of ops seen.next ∷ []) c.stored.named (all_named (tables_of script) seen.next ops seen.next (kept_sound (tables_of script) seen.next ops c.sound), tt));
     }
 
     -- and the outcome is right

@@ -1,23 +1,26 @@
 -- A line that is planned, done or cut short: what each step needs and leaves.
 use Rattle.std.proofs.Common.{◌≡◌, ◌≢◌, ℕ, ◌+◌, ◌-◌, ◌≤◌, ◌<◌, Bool, true, false, List, [], ◌∷◌, ◌++◌, length, map, take, refl, sym, subst, ap, arith, Option, Some, None, ◌∙◌, Result, Ok, Err, IfOk, OnOk, IfSome, inl, inr, option_to_list, append-nil, append_assoc}
 use Rattle.std.proofs.Math.Seq.{take-append_seam}
-use Rattle.std.proofs.lemmas.List.{length-append}
+use Rattle.std.proofs.lemmas.List.{length-append, map-append}
 use Rattle.std.specs.List.{AllByRecursion}
 use Rattle.std.specs.Prelude.{drop}
 use Rattle.cdb_outside.specs.Faults.{Rose}
 use Rattle.cdb_values.specs.Rows.{Rows, apply_all}
+use Rattle.cdb_values.specs.declared.rows.Change.{Change}
 use Rattle.cdb_values.specs.declared.rows.Level.{Level}
 use Rattle.cdb_values.specs.declared.rows.RowOp.{RowOp}
 use Rattle.cdb_values.specs.declared.tables.TableDef.{TableDef}
 use Rattle.live_operations.specs.Live.{AreLive}
-use Rattle.log_rows.specs.History.{rows_over, rows_over_at, takes_in, IsCommit, IsFrom}
-use Rattle.log_rows.proofs.HistoryLemmas.{rows_earlier, rows_whole, stand_more, schema_front, takes_more}
+use Rattle.block_processor.specs.Changed.{changed_in}
+use Rattle.log_rows.specs.History.{rows_over, rows_over_at, IsCommit, IsFrom}
+use Rattle.log_rows.proofs.HistoryLemmas.{rows_earlier, rows_whole, stand_more, schema_front}
 use Rattle.node_log.specs.Logged.{Logged, Leaves, with_entry}
 use Rattle.phys_log.specs.Logs.{Fits, page_at}
 use Rattle.phys_log.specs.declared.entries.Entry.{Entry}
 use Rattle.phys_log.specs.declared.entries.Entry.TheVariants.{Setup as EntrySetup, Commit as EntryCommit}
+use Rattle.range_validate.specs.Touches.{changes_in}
 use Rattle.sql_answer.specs.Answers.{Meaning}
-use Rattle.sql_answer.specs.Language.{sql_language}
+use Rattle.query_laws.specs.Alone.{sql_language}
 use Rattle.sql_answer.specs.Reading.{kind_of_text}
 use Rattle.sql_run.specs.Texts.{answer_to}
 use Rattle.report_text.specs.declared.reports.EntryLine.{EntryLine}
@@ -25,18 +28,19 @@ use Rattle.report_text.specs.declared.reports.EntryLine.TheVariants.{Commit}
 use Rattle.report_text.specs.declared.reports.Line.{Line}
 use Rattle.report_text.specs.declared.reports.ReplyLine.{ReplyLine}
 use Rattle.report_text.specs.declared.reports.ReplyLine.TheVariants as reply
-use Rattle.cdb_values.specs.Changes.{taken_by}
+use Rattle.cdb_values.specs.Changes.{changes_of}
 use Rattle.session_language.specs.Language.{Kind, BeginText, CommitText, RollbackText, LevelText, OtherText}
 use Rattle.report_laws.specs.Told.{lines_of}
 use Rattle.cdb_values.specs.declared.items.GenidItem.{GenidItem}
+use Rattle.cdb_values.specs.declared.items.Interval.{Interval}
 use Rattle.store_log.specs.Held.{generation_of}
 use Rattle.store_log.specs.Keeps.{Stored}
 use Rattle.table_store.specs.Stored.{Stands}
 use Rattle.script_play.specs.Decisions.{added_by}
 use Rattle.script_play.proofs.LiveLemmas.{stands_distinct, text_alone_leaves_live}
 use Rattle.script_play.proofs.SqlLaws.{kept_answer}
-use Rattle.script_play.specs.Effects.{IsEffect, IsAdded, IsEntryOf, IsOfIts, Named, cut_in, lines_added, named_so}
-use Rattle.script_play.specs.Doing.{SessionAt, Doing}
+use Rattle.script_play.specs.Effects.{IsEffect, IsAdded, IsEntryOf, IsFreshIn, IsOfIts, Named, cut_in, lines_added, named_so}
+use Rattle.script_play.specs.Doing.{Doing}
 use Rattle.script_play.specs.Doing as doing
 use Rattle.script_play.specs.Down.{fallen_lines, with_entries, HasOutcome, IsFallenAt, IsKeptSo, TellsOutcome}
 use Rattle.script_play.specs.EntryLines.{AreTold, IsMadeIn, line_of, lines_from}
@@ -80,16 +84,16 @@ own_able start tables now begin log meant ops done ready of_text at none are = r
         ∙ ap (λ (m : Meaning). (answer_to tables (rows_over_at (ground_of start) log begin).tables [] m).ops) of_text.2
 
 -- what a transaction of one line is told, where it was answered step by step
-pub own_told : (w : World) (meant : Meaning) (begin : ℕ) (done ops : List RowOp) (uses : List GenidItem) (given all : List ReplyLine) (told : ReplyLine) → begin ≡ w.now → done ≡ [] →
-    given ≡ (answer_of w begin done meant).replies → ops ≡ (answer_of w begin done meant).ops → uses ≡ (answer_of w begin done meant).uses → told ≡ outcome w begin uses ops → all ≡ reply.Begin begin ∷ (given ++ told ∷ []) →
-    all ≡ reply.Begin w.now ∷ ((answer_of w w.now [] meant).replies ++ outcome w w.now (answer_of w w.now [] meant).uses (answer_of w w.now [] meant).ops ∷ [])
-own_told w meant begin done ops uses given all told at none gives leaves takes decides is = rw (gives, decides, takes, leaves, none, at) at is
+pub own_told : (w : World) (meant : Meaning) (begin : ℕ) (level : Level) (done ops : List RowOp) (uses : List GenidItem) (ranges : List Interval) (given all : List ReplyLine) (told : ReplyLine) → begin ≡ w.now → done ≡ [] →
+    given ≡ (answer_of w begin done meant).replies → ops ≡ (answer_of w begin done meant).ops → uses ≡ (answer_of w begin done meant).uses → ranges ≡ (answer_of w begin done meant).ranges → told ≡ outcome w begin level uses ranges ops → all ≡ reply.Begin begin ∷ (given ++ told ∷ []) →
+    all ≡ reply.Begin w.now ∷ ((answer_of w w.now [] meant).replies ++ outcome w w.now level (answer_of w w.now [] meant).uses (answer_of w w.now [] meant).ranges (answer_of w w.now [] meant).ops ∷ [])
+own_told w meant begin level done ops uses ranges given all told at none gives leaves takes reads decides is = rw (gives, decides, takes, reads, leaves, none, at) at is
 
 -- and what it commits
-pub own_added : (w : World) (meant : Meaning) (begin : ℕ) (done ops : List RowOp) (uses : List GenidItem) → begin ≡ w.now → done ≡ [] →
-    ops ≡ (answer_of w begin done meant).ops → uses ≡ (answer_of w begin done meant).uses →
-    added_by (outcome w begin uses ops) ops ≡ added_by (outcome w w.now (answer_of w w.now [] meant).uses (answer_of w w.now [] meant).ops) (answer_of w w.now [] meant).ops
-own_added w meant begin done ops uses at none leaves takes = rw (takes, leaves, none, at) refl
+pub own_added : (w : World) (meant : Meaning) (begin : ℕ) (level : Level) (done ops : List RowOp) (uses : List GenidItem) (ranges : List Interval) → begin ≡ w.now → done ≡ [] →
+    ops ≡ (answer_of w begin done meant).ops → uses ≡ (answer_of w begin done meant).uses → ranges ≡ (answer_of w begin done meant).ranges →
+    added_by (outcome w begin level uses ranges ops) ops ≡ added_by (outcome w w.now level (answer_of w w.now [] meant).uses (answer_of w w.now [] meant).ranges (answer_of w w.now [] meant).ops) (answer_of w w.now [] meant).ops
+own_added w meant begin level done ops uses ranges at none leaves takes reads = rw (takes, reads, leaves, none, at) refl
 
 -- the entry that a line appends is the next one of the log
 added_fits : (start : Start) (tables : List TableDef) (log : List Entry) (added : Option Entry) (named : Named) (all : List (List RowOp)) → IsAdded start tables log added named all → IfSome added (Fits log)
@@ -103,21 +107,21 @@ effect_fits start generation tables log name p t is = added_fits start tables lo
 
 -- what is kept of an entry, where one is appended, behind a log that is in order
 pub record Kept (start : Start) (tables : List TableDef) (log log' : List Entry) (now : ℕ) (all : List (List RowOp)) : Type 0 where
-  takes : takes_in log' ≡ takes_in log ++ map taken_by all
+  changes : changed_in log' ≡ changed_in log ++ map (λ ops. changes_of ops (rows_over (ground_of start) log).next) all
   rows : IsKept now (seen_in start log) (seen_in start log') all
   logged : IsLogged start tables (now + length all) log'
 
 module _ (start : Start) (tables : List TableDef) (log : List Entry) (now : ℕ) (logged : IsLogged start tables now log) (opened : IsFrom (base start) now) where
   kept_none : Kept start tables log (log ++ []) now []
   kept_none = subst (λ (es : List Entry). Kept start tables log es now []) (sym (append-nil log)) (record {
-    takes = sym (append-nil (takes_in log));
+    changes = sym (append-nil (changed_in log));
     rows = refl;
     logged = subst (λ n. IsLogged start tables n log) (let e : now ≡ now + 0 = omega arith in e) logged;
   })
 
   kept_one : (entry : Entry) (named : Named) (ops : List RowOp) → IsEntryOf start tables log entry named ops → Kept start tables log (log ++ entry ∷ []) now (ops ∷ [])
   kept_one entry named ops is = record {
-    takes = takes_more log entry ∙ ap (λ (items : List GenidItem). takes_in log ++ items ∷ []) is.takes;
+    changes = map-append changes_in log (entry ∷ []) ∙ ap (λ (made : List Change). changed_in log ++ made ∷ []) is.changes;
     rows = (last_rows, earlier, ap (λ (r : Rows). r.next) is.rows ∙ ap (λ (r : Rows). (apply_all r ops).next) now_rows);
     logged = record {
       count = let c = logged.count in omega (arith, c, length-append log (entry ∷ []));
@@ -204,7 +208,7 @@ told_more before generation log log' added entries entries' made kept grows is =
 -- what a line leaves of a log that stays up, by the entries of the log
 abbrev WasDone : Start → ℕ → List TableDef → List ℕ → Turned → SessionState → List Line → List Line → List EntryLine → List EntryLine → List Entry → List Entry → Type 0
 WasDone start generation tables name t after lines lines' entries entries' log log' =
-    IsTurned (world start tables log) name t lines lines' entries entries' (takes_in log') (seen_in start log') × (state_in after ≡ t.after) × IsLogged start tables (length log') log'
+    IsTurned (world start tables log) name t lines lines' entries entries' (changed_in log') (seen_in start log') × (state_in after ≡ t.after) × IsLogged start tables (length log') log'
     × (AreTold start.before generation entries log → AreTold start.before generation entries' log') × IsOwn generation name after
 
 -- a plan that was done is what the line does
@@ -216,7 +220,7 @@ effect_done start generation tables log log' name p t after lines lines' entries
   record {
     lines_are = told ∙ ap (λ n. lines ++ lines_of name n p.replies.items) is.number ∙ ap (λ rs. lines ++ lines_of name t.number rs) is.replies;
     entries_are = kept ∙ ap (λ (es : List EntryLine). entries ++ es) (added_line start tables log (named_so generation name t.number t.begin t.after.level) (length log) p.added t.added is.added);
-    taken_are = ap (λ (es : List Entry). takes_in es) grows ∙ its.takes;
+    changed_are = ap (λ (es : List Entry). changed_in es) grows ∙ its.changes;
     rows_are = subst (λ (es : List Entry). IsKept (length log) (seen_in start log) (seen_in start es) t.added) (sym grows) its.rows;
   },
   ap (λ (s : SessionState). state_in s) there ∙ is.after,
@@ -294,7 +298,7 @@ done_fallen start generation tables name t after lines lines' entries entries' l
         after_is = there;
         still = record {
           entries_are = fell.entries_are;
-          taken_are = ap (λ (es : List Entry). takes_in es) (without_last log.entries entry);
+          changed_are = ap (λ (es : List Entry). changed_in es) (without_last log.entries entry);
           rows_are = ap (λ (es : List Entry). seen_in start es) (without_last log.entries entry);
         };
       };
@@ -352,12 +356,12 @@ told_outcome w number level meant BeginText doing.No adds = absurd (adds refl)
 told_outcome w number level meant CommitText doing.No adds = absurd (adds refl)
 told_outcome w number level meant RollbackText doing.No adds = absurd (adds refl)
 told_outcome w number level meant (LevelText later) doing.No adds = absurd (adds refl)
-told_outcome w number level meant OtherText doing.No adds = record { front = reply.Begin w.now ∷ (answer_of w w.now [] meant).replies; outcome = outcome w w.now (answer_of w w.now [] meant).uses (answer_of w w.now [] meant).ops; is = refl }
-told_outcome w number level meant BeginText (doing.Open begin ops uses) adds = absurd (adds refl)
-told_outcome w number level meant CommitText (doing.Open begin ops uses) adds = record { front = []; outcome = outcome w begin uses ops; is = refl }
-told_outcome w number level meant RollbackText (doing.Open begin ops uses) adds = absurd (adds refl)
-told_outcome w number level meant (LevelText later) (doing.Open begin ops uses) adds = absurd (adds refl)
-told_outcome w number level meant OtherText (doing.Open begin ops uses) adds = absurd (adds refl)
+told_outcome w number level meant OtherText doing.No adds = record { front = reply.Begin w.now ∷ (answer_of w w.now [] meant).replies; outcome = outcome w w.now level (answer_of w w.now [] meant).uses (answer_of w w.now [] meant).ranges (answer_of w w.now [] meant).ops; is = refl }
+told_outcome w number level meant BeginText (doing.Open begin ops uses ranges) adds = absurd (adds refl)
+told_outcome w number level meant CommitText (doing.Open begin ops uses ranges) adds = record { front = []; outcome = outcome w begin level uses ranges ops; is = refl }
+told_outcome w number level meant RollbackText (doing.Open begin ops uses ranges) adds = absurd (adds refl)
+told_outcome w number level meant (LevelText later) (doing.Open begin ops uses ranges) adds = absurd (adds refl)
+told_outcome w number level meant OtherText (doing.Open begin ops uses ranges) adds = absurd (adds refl)
 told_outcome w number level meant BeginText doing.Aborted adds = absurd (adds refl)
 told_outcome w number level meant CommitText doing.Aborted adds = absurd (adds refl)
 told_outcome w number level meant RollbackText doing.Aborted adds = absurd (adds refl)
@@ -373,6 +377,15 @@ module _ (start : Start) (generation : ℕ) (tables : List TableDef) (log : List
       go None all adds = tt
       go (Some entry) [] adds = absurd adds
       go (Some entry) (ops ∷ []) adds = adds.commit
+      go (Some entry) (ops ∷ more ∷ others) adds = absurd adds
+
+  pub effect_fresh : IfSome p.added (IsFreshIn log)
+  effect_fresh = go p.added t.added is.added
+    where
+      go : (added : Option Entry) (all : List (List RowOp)) → IsAdded start tables log added (named_so generation name t.number t.begin t.after.level) all → IfSome added (IsFreshIn log)
+      go None all adds = tt
+      go (Some entry) [] adds = absurd adds
+      go (Some entry) (ops ∷ []) adds = adds.fresh
       go (Some entry) (ops ∷ more ∷ others) adds = absurd adds
 
   pub effect_made : (accepted : ℕ) → accepted ≡ generation → IfSome p.added (λ e. generation_of e ≡ accepted)
@@ -413,7 +426,7 @@ cut_done : (start : Start) (generation : ℕ) (tables : List TableDef) (log : Lo
     lines' ≡ lines ++ lines_of name after.number (reply.NoMemory ∷ []) → entries' ≡ entries → IsTakenFrom start generation tables name before text after lines lines' entries entries' log log
 cut_done start generation tables log name before after text lines lines' entries entries' up logged shut its told es =
     subst (λ (l : Logged). IsTakenFrom start generation tables name before text after lines lines' entries entries' l l) (sym (is_up log up)) (record {
-      taken = inr (record { number = after.number; after = state_in after }, its, record { lines_are = told; entries_are = es; taken_are = refl; rows_are = refl }, refl);
+      taken = inr (record { number = after.number; after = state_in after }, its, record { lines_are = told; entries_are = es; changed_are = refl; rows_are = refl }, refl);
       logged = logged;
       told = told_same start.before generation log.entries log.entries entries entries' es refl;
       own = shut_own generation name after shut;

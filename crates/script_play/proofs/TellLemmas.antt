@@ -3,6 +3,8 @@ use Rattle.std.proofs.Common.{◌≡◌, ℕ, ◌+◌, ◌≤◌, List, [], ◌�
 use Rattle.std.proofs.lemmas.List.{append-nil}
 use Rattle.std.specs.List.{AllByRecursion}
 use Rattle.cdb_values.specs.declared.items.GenidItem.{GenidItem}
+use Rattle.cdb_values.specs.declared.items.Interval.{Interval}
+use Rattle.cdb_values.specs.declared.rows.Change.{Change}
 use Rattle.cdb_values.specs.declared.rows.RowOp.{RowOp}
 use Rattle.cdb_values.specs.declared.rows.StatementError.TheVariants.{State}
 use Rattle.report_laws.specs.Nodes.{are_few, first_down}
@@ -36,7 +38,7 @@ use Rattle.script_play.proofs.OpenLemmas.{begin_told, open_uncut}
 use Rattle.script_play.proofs.ToldLemmas.{IsToldSo, told_lone, told_nothing, told_short}
 
 -- a line on a node that is down
-module _ (script : Script) (start : Start) (entries : List EntryLine) (taken : List (List GenidItem)) (seen : Seen) (name : List ℕ) (p : Place) (text : List ℕ) (lines : List Line) (states : List SessionAt) (can : CanRun script)
+module _ (script : Script) (start : Start) (entries : List EntryLine) (changed : List (List Change)) (seen : Seen) (name : List ℕ) (p : Place) (text : List ℕ) (lines : List Line) (states : List SessionAt) (can : CanRun script)
     (is_declared : IsDeclared name script.sessions) (places : EachAfter (HasItsPlace script) [] lines) (is : IsDown script lines states) where
   abbrev pub Tells : ℕ → Kind → Option (List (List ℕ)) → Turned → Type 0
   Tells number k pending t = IsToldSo script (from_start script start).origin (now_of start entries) lines name number k pending (lines_of name t.number t.replies)
@@ -45,19 +47,19 @@ module _ (script : Script) (start : Start) (entries : List EntryLine) (taken : L
   few_here = subst (λ (n : ℕ). are_few n lines ≡ true) can.one_node is.few
 
   -- a transaction was cut short, of which lines are skipped
-  cut_there : (texts : List (List ℕ)) (k : Kind) (c : Comes script start entries taken seen name p (Some texts) doing.Aborted text k (told name lines)) → was_cut lines name p.number ≡ true
-  cut_there texts k c = cut_so (cut_before script start entries taken seen seen name p text (told name lines) texts k c)
+  cut_there : (texts : List (List ℕ)) (k : Kind) (c : Comes script start entries changed seen name p (Some texts) doing.Aborted text k (told name lines)) → was_cut lines name p.number ≡ true
+  cut_there texts k c = cut_so (cut_before script start entries changed seen seen name p text (told name lines) texts k c)
     where
       cut_so : WasCutUnder (told name lines) p.number → was_cut lines name p.number ≡ true
       cut_so (cause, cuts_it, stands) = cut_at lines name p.number cause cuts_it (told_stands name p.number cause lines stands)
 
   -- a line of one that is open
-  lost : (k : Kind) (texts : List (List ℕ)) (begin : ℕ) (ops : List RowOp) (uses : List GenidItem) (c : Comes script start entries taken seen name p (Some texts) (doing.Open begin ops uses) text k (told name lines)) →
+  lost : (k : Kind) (texts : List (List ℕ)) (begin : ℕ) (ops : List RowOp) (uses : List GenidItem) (ranges : List Interval) (c : Comes script start entries changed seen name p (Some texts) (doing.Open begin ops uses ranges) text k (told name lines)) →
       told name is.back ≡ [] → AllByRecursion (IsBelow p.number) p.over → 1 ≤ p.number → IsToldSo script (from_start script start).origin (now_of start entries) lines name p.number k (Some texts) (lines_of name p.number (reply.Lost 1 1 ∷ []))
-  lost k texts begin ops uses c gone below first = record {
+  lost k texts begin ops uses ranges c gone below first = record {
     said = inr (inl (record {
       down = 1;
-      is_lost = ap (λ (b : Bool). if b then None else first_down (node_of script name) (since_begin name p.number lines)) (open_uncut script start entries taken seen name p text lines texts begin ops uses k c below first)
+      is_lost = ap (λ (b : Bool). if b then None else first_down (node_of script name) (since_begin name p.number lines)) (open_uncut script start entries changed seen name p text lines texts begin ops uses ranges k c below first)
           ∙ ap (λ (n : ℕ). first_down n (since_begin name p.number lines)) its_node
           ∙ ap (λ (ls : List Line). first_down 1 (since_begin name p.number ls)) is.is
           ∙ loses name p.number begin is.front is.back begun_before is.unhurt;
@@ -89,7 +91,7 @@ module _ (script : Script) (start : Start) (entries : List EntryLine) (taken : L
       its_node = at_the_node name script.sessions can.no_hasql is_declared
 
       begun : StandsIn (told name lines) (p.number, reply.Begin begin)
-      begun = begin_told script start entries taken seen name p text lines texts begin ops uses k c
+      begun = begin_told script start entries changed seen name p text lines texts begin ops uses ranges k c
 
       all_before : told name lines ≡ told name is.front
       all_before = ap (λ (ls : List Line). told name ls) is.is ∙ told_append name is.front (down_line ∷ is.back) ∙ ap (λ (ls : List Numbered). told name is.front ++ ls) gone ∙ append-nil (told name is.front)
@@ -98,23 +100,23 @@ module _ (script : Script) (start : Start) (entries : List EntryLine) (taken : L
       begun_before = told_stands name p.number (reply.Begin begin) is.front (begun.0, begun.1, sym all_before ∙ begun.2)
 
   -- whatever the line is, and wherever the session is
-  pub tells : (k : Kind) (pending : Option (List (List ℕ))) (what : Doing) → Comes script start entries taken seen name p pending what text k (told name lines) → IsGone what (told name is.back) →
+  pub tells : (k : Kind) (pending : Option (List (List ℕ))) (what : Doing) → Comes script start entries changed seen name p pending what text k (told name lines) → IsGone what (told name is.back) →
       AllByRecursion (IsBelow (first_left p.number pending)) p.over → IsBegun p.number pending → Tells (number_by p.number k pending) k pending (turn_down p.number p.level k what)
   tells BeginText None doing.No c gone below first = told_short script (from_start script start).origin can.one_node (now_of start entries) lines few_here name BeginText None (p.number + 1) refl
   tells OtherText None doing.No c gone below first = told_short script (from_start script start).origin can.one_node (now_of start entries) lines few_here name OtherText None (p.number + 1) refl
   tells CommitText None doing.No c gone below first = told_lone script (from_start script start).origin (now_of start entries) lines name CommitText (reply.Error State) refl refl tt tt tt tt
   tells RollbackText None doing.No c gone below first = told_lone script (from_start script start).origin (now_of start entries) lines name RollbackText (reply.Error State) refl refl tt tt tt tt
   tells (LevelText later) None doing.No c gone below first = told_lone script (from_start script start).origin (now_of start entries) lines name (LevelText later) (reply.Level later) refl refl tt tt tt tt
-  tells BeginText (Some texts) (doing.Open begin ops uses) c gone below first = lost BeginText texts begin ops uses c gone below first
-  tells CommitText (Some texts) (doing.Open begin ops uses) c gone below first = lost CommitText texts begin ops uses c gone below first
-  tells RollbackText (Some texts) (doing.Open begin ops uses) c gone below first = lost RollbackText texts begin ops uses c gone below first
-  tells (LevelText later) (Some texts) (doing.Open begin ops uses) c gone below first = lost (LevelText later) texts begin ops uses c gone below first
-  tells OtherText (Some texts) (doing.Open begin ops uses) c gone below first = lost OtherText texts begin ops uses c gone below first
+  tells BeginText (Some texts) (doing.Open begin ops uses ranges) c gone below first = lost BeginText texts begin ops uses ranges c gone below first
+  tells CommitText (Some texts) (doing.Open begin ops uses ranges) c gone below first = lost CommitText texts begin ops uses ranges c gone below first
+  tells RollbackText (Some texts) (doing.Open begin ops uses ranges) c gone below first = lost RollbackText texts begin ops uses ranges c gone below first
+  tells (LevelText later) (Some texts) (doing.Open begin ops uses ranges) c gone below first = lost (LevelText later) texts begin ops uses ranges c gone below first
+  tells OtherText (Some texts) (doing.Open begin ops uses ranges) c gone below first = lost OtherText texts begin ops uses ranges c gone below first
   tells BeginText (Some texts) doing.Aborted c gone below first = told_nothing script (from_start script start).origin (now_of start entries) lines name BeginText texts p.number refl (cut_there texts BeginText c)
   tells CommitText (Some texts) doing.Aborted c gone below first = told_nothing script (from_start script start).origin (now_of start entries) lines name CommitText texts p.number refl (cut_there texts CommitText c)
   tells RollbackText (Some texts) doing.Aborted c gone below first = told_nothing script (from_start script start).origin (now_of start entries) lines name RollbackText texts p.number refl (cut_there texts RollbackText c)
   tells (LevelText later) (Some texts) doing.Aborted c gone below first = told_nothing script (from_start script start).origin (now_of start entries) lines name (LevelText later) texts p.number refl (cut_there texts (LevelText later) c)
   tells OtherText (Some texts) doing.Aborted c gone below first = told_nothing script (from_start script start).origin (now_of start entries) lines name OtherText texts p.number refl (cut_there texts OtherText c)
-  tells k None (doing.Open begin ops uses) c gone below first = absurd c.doing
+  tells k None (doing.Open begin ops uses ranges) c gone below first = absurd c.doing
   tells k None doing.Aborted c gone below first = absurd c.doing
   tells k (Some texts) doing.No c gone below first = absurd c.doing

@@ -19,9 +19,9 @@ use Rattle.report_text.specs.declared.reports.ReplyLine.{ReplyLine}
 use Rattle.report_text.specs.declared.reports.ReplyLine.TheVariants as reply
 use Rattle.session_language.specs.Language.{Answered, alone, Kind, BeginText, CommitText, RollbackText, LevelText, OtherText}
 use Rattle.script_play.specs.Basis.{from_start}
-use Rattle.sql_answer.specs.Language.{sql_language}
+use Rattle.query_laws.specs.Alone.{sql_language}
 use Rattle.session_language.specs.Each.{StandsIn}
-use Rattle.cdb_values.specs.Changes.{taken_by}
+use Rattle.cdb_values.specs.Changes.{changes_of}
 use Rattle.report_laws.specs.History.{rows_at, is_entry_of, view_of}
 use Rattle.report_laws.specs.Cut.{cuts}
 use Rattle.report_laws.specs.Outcome.{IsRight, IsDecided, Ends}
@@ -31,25 +31,28 @@ use Rattle.session_language.specs.Replies.{are_up_to, is_last_of}
 use Rattle.report_laws.specs.Told.{Along, Numbered, IsTold, IsWhole, IsCut, numbered, alone_at}
 use Rattle.report_laws.specs.Work.{Transaction, Does, Lone, Place, End, ByCommit, ByRollback, WithItsLine, Nowhere, transaction, transaction_of, with_open, with_own_line, closed, next_by}
 use Rattle.cdb_values.specs.declared.items.GenidItem.{GenidItem}
+use Rattle.cdb_values.specs.declared.items.Interval.{Interval}
+use Rattle.cdb_values.specs.declared.rows.Change.{Change}
 use Rattle.session_language.proofs.AnswerLaws.{replies_more, ops_more}
 use Rattle.report_laws.proofs.GrowLaws.{may_later}
 use Rattle.report_laws.proofs.PieceLaws.{plain_all_quiet}
 use Rattle.session_language.proofs.UpToLaws.{up_to_last, up_to_one}
 use Rattle.report_laws.proofs.TurnedLaws.{loud, no_row}
 use Rattle.session_language.specs.Answers.{ArePlain}
+use Rattle.session_language.specs.Touched.{Used}
 use Rattle.report_laws.proofs.PlainLaws.{plain_then, plain_paced}
 use Rattle.report_laws.proofs.ToldLaws.{numbered_append}
-use Rattle.script_play.specs.Decisions.{added_by}
+use Rattle.script_play.specs.Decisions.{added_by, used_by}
 use Rattle.script_play.specs.Ready.{AreKept, IsAskable, IsKeptOp}
-use Rattle.script_play.proofs.SqlLaws.{sql_is_answered, kept_answer, uses_more}
+use Rattle.script_play.proofs.SqlLaws.{sql_is_answered, kept_answer, uses_more, ranges_more}
 use Rattle.script_play.proofs.AppliedLaws.{kept_applied}
 use Rattle.script_play.proofs.FitLaws.{sound_fits}
 use Rattle.script_play.specs.SoFar.{now_of, Stored, IsOpen, IsDoing, IsPast, Standing}
 use Rattle.script_play.specs.Step.{World, Turned, state, turned, turn_by, outcome, answer_at, own_line, committed, goes_on, entries_added, IsKept}
 use Rattle.script_play.specs.Doing.{SessionAt, Doing}
 use Rattle.script_play.specs.Doing as doing
-use Rattle.script_play.proofs.StoredLemmas.{Commits, entry_of, world}
-use Rattle.script_play.proofs.DecisionLemmas.{Decided, decides, entries_after, taken_after}
+use Rattle.script_play.proofs.StoredLemmas.{Commits, entry_of, used_alike, world}
+use Rattle.script_play.proofs.DecisionLemmas.{Decided, decides, entries_after, changed_after}
 use Rattle.script_play.proofs.StandingLemmas.{Grows, alone_on, grows_length, idle_after, in_transaction}
 
 -- an entry of this session is of a transaction that is over
@@ -77,8 +80,8 @@ abbrev pub WasCutUnder : List Numbered → ℕ → Type 0
 WasCutUnder lines told = (cause : ReplyLine) × (cuts cause ≡ true) × StandsIn lines (told, cause)
 
 -- what a line does is right
-pub record Turns (script : Script) (start : Start) (entries entries' : List EntryLine) (taken' : List (List GenidItem)) (seen seen' : Seen) (name : List ℕ) (after : Place) (lines : List Numbered) (told : ℕ) (own : Bool) (t : Turned) : Type 0 where
-  pub stored : Stored script start entries' taken' seen'
+pub record Turns (script : Script) (start : Start) (entries entries' : List EntryLine) (changed' : List (List Change)) (seen seen' : Seen) (name : List ℕ) (after : Place) (lines : List Numbered) (told : ℕ) (own : Bool) (t : Turned) : Type 0 where
+  pub stored : Stored script start entries' changed' seen'
   pub grows : Grows entries entries'
   pub next : seen.next ≤ seen'.next
   pub stands : Standing script start entries' seen'.next name after (lines ++ numbered t.number t.replies) t.after
@@ -88,10 +91,10 @@ pub record Turns (script : Script) (start : Start) (entries entries' : List Entr
   pub news : IsNews script start name lines entries entries' after t
 
 -- a session before a line of its own
-pub record Comes (script : Script) (start : Start) (entries : List EntryLine) (taken : List (List GenidItem)) (seen : Seen) (name : List ℕ) (p : Place) (pending : Option (List (List ℕ))) (what : Doing) (text : List ℕ) (k : Kind) (lines : List Numbered) : Type 0 where
+pub record Comes (script : Script) (start : Start) (entries : List EntryLine) (changed : List (List Change)) (seen : Seen) (name : List ℕ) (p : Place) (pending : Option (List (List ℕ))) (what : Doing) (text : List ℕ) (k : Kind) (lines : List Numbered) : Type 0 where
   pub askable : AllByRecursion IsAskable (tables_of script)
   pub utf8 : is_utf8 text ≡ true
-  pub stored : Stored script start entries taken seen
+  pub stored : Stored script start entries changed seen
   pub before : List Numbered
   pub mine : List ReplyLine
   pub is : lines ≡ before ++ numbered p.number mine
@@ -116,18 +119,18 @@ pub piece : (lines before : List Numbered) (number : ℕ) (mine more : List Repl
 piece lines before number mine more is =
     ap (λ ls. ls ++ numbered number more) is ∙ append_assoc before (numbered number mine) (numbered number more) ∙ ap (λ ls. before ++ ls) (sym (numbered_append number mine more))
 
-module _ (script : Script) (start : Start) (entries : List EntryLine) (taken : List (List GenidItem)) (seen seen' : Seen) (name : List ℕ) (p : Place) (text : List ℕ) (lines : List Numbered) where
+module _ (script : Script) (start : Start) (entries : List EntryLine) (changed : List (List Change)) (seen seen' : Seen) (name : List ℕ) (p : Place) (text : List ℕ) (lines : List Numbered) where
   abbrev pub w : World
-  w = world script start entries taken seen
+  w = world script start entries changed seen
 
   -- a line that adds nothing to the history
-  quiet : (k : Kind) (pending : Option (List (List ℕ))) (what : Doing) → Comes script start entries taken seen name p pending what text k lines → (after : Place) (told number : ℕ) (own : Bool) (replies : List ReplyLine) (at : SessionAt) → seen' ≡ seen →
+  quiet : (k : Kind) (pending : Option (List (List ℕ))) (what : Doing) → Comes script start entries changed seen name p pending what text k lines → (after : Place) (told number : ℕ) (own : Bool) (replies : List ReplyLine) (at : SessionAt) → seen' ≡ seen →
       Standing script start entries seen.next name after (lines ++ numbered number replies) at → Paced (now_of start entries) (now_of start entries) replies → number ≡ told → (are_up_to (is_last_of own) replies ≡ true) ⊎ ((replies ≡ []) × WasCutUnder lines told) →
-      Turns script start entries (entries ++ []) (taken ++ []) seen seen' name after lines told own (turned number replies at)
+      Turns script start entries (entries ++ []) (changed ++ []) seen seen' name after lines told own (turned number replies at)
   quiet k pending what c after told number own replies at same stands paced number_is up_to =
-      subst (λ (a : Seen). Turns script start entries (entries ++ []) (taken ++ []) seen a name after lines told own (turned number replies at)) (sym same)
-      (subst (λ es. Turns script start entries es (taken ++ []) seen seen name after lines told own (turned number replies at)) (sym (append-nil entries))
-      (subst (λ ts. Turns script start entries entries ts seen seen name after lines told own (turned number replies at)) (sym (append-nil taken)) (record {
+      subst (λ (a : Seen). Turns script start entries (entries ++ []) (changed ++ []) seen a name after lines told own (turned number replies at)) (sym same)
+      (subst (λ es. Turns script start entries es (changed ++ []) seen seen name after lines told own (turned number replies at)) (sym (append-nil entries))
+      (subst (λ ts. Turns script start entries entries ts seen seen name after lines told own (turned number replies at)) (sym (append-nil changed)) (record {
         stored = c.stored;
         grows = inl refl;
         next = omega arith;
@@ -139,26 +142,27 @@ module _ (script : Script) (start : Start) (entries : List EntryLine) (taken : L
       })))
 
   -- the answer to a line, at a position of the history
-  answer_is : (k : Kind) (pending : Option (List (List ℕ))) (what : Doing) → Comes script start entries taken seen name p pending what text k lines → (begin : ℕ) → IsFrom (base start) begin → begin ≤ now_of start entries → (ops : List RowOp) →
+  answer_is : (k : Kind) (pending : Option (List (List ℕ))) (what : Doing) → Comes script start entries changed seen name p pending what text k lines → (begin : ℕ) → IsFrom (base start) begin → begin ≤ now_of start entries → (ops : List RowOp) →
       answer_at w begin ops text ≡ sql_language.answer (tables_of script) (rows_at (from_start script start) entries begin).tables ops text
   answer_is k pending what c begin first within ops = ap (λ (r : Rows). sql_language.answer (tables_of script) r.tables ops text) (c.stored.rows_are begin first within)
 
-  answer_sound : (k : Kind) (pending : Option (List (List ℕ))) (what : Doing) → Comes script start entries taken seen name p pending what text k lines → (begin : ℕ) → IsFrom (base start) begin → begin ≤ now_of start entries → (ops : List RowOp) →
+  answer_sound : (k : Kind) (pending : Option (List (List ℕ))) (what : Doing) → Comes script start entries changed seen name p pending what text k lines → (begin : ℕ) → IsFrom (base start) begin → begin ≤ now_of start entries → (ops : List RowOp) →
       AllByRecursion (IsKeptOp (tables_of script) seen.next) ops → AllByRecursion (IsKeptOp (tables_of script) seen.next) (answer_at w begin ops text).ops
   answer_sound k pending what c begin first within ops all =
       kept_answer (tables_of script) (seen.at begin).tables ops text seen.next c.askable c.utf8 (c.stored.sound begin first within) all
 
   -- a transaction that a line ends comes to its commit
-  comes_to : (k : Kind) (pending : Option (List (List ℕ))) (what : Doing) → Comes script start entries taken seen name p pending what text k lines → (t : Transaction) (begin : ℕ) (uses : List GenidItem) (ops : List RowOp) → IsFrom (base start) begin → begin ≤ now_of start entries →
-      transaction_of sql_language name t.number script.body ≡ Some t → ops ≡ (alone_at (from_start script start) (view_of (from_start script start) entries) t begin).ops → uses ≡ (alone_at (from_start script start) (view_of (from_start script start) entries) t begin).uses →
-      AllByRecursion (IsKeptOp (tables_of script) seen.next) ops → AllByRecursion (λ e. is_entry_of name t.number e ≡ false) entries → Commits script start entries taken seen name t begin uses ops
-  comes_to k pending what c t begin uses ops first within its are uses_are sound once = record {
+  comes_to : (k : Kind) (pending : Option (List (List ℕ))) (what : Doing) → Comes script start entries changed seen name p pending what text k lines → (t : Transaction) (begin : ℕ) (uses : List GenidItem) (ranges : List Interval) (ops : List RowOp) → IsFrom (base start) begin → begin ≤ now_of start entries →
+      transaction_of sql_language name t.number script.body ≡ Some t → ops ≡ (alone_at (from_start script start) (view_of (from_start script start) entries) t begin).ops → uses ≡ (alone_at (from_start script start) (view_of (from_start script start) entries) t begin).uses → ranges ≡ (alone_at (from_start script start) (view_of (from_start script start) entries) t begin).ranges →
+      AllByRecursion (IsKeptOp (tables_of script) seen.next) ops → AllByRecursion (λ e. is_entry_of name t.number e ≡ false) entries → Commits script start entries changed seen name t begin uses ranges ops
+  comes_to k pending what c t begin uses ranges ops first within its are uses_are ranges_are sound once = record {
     stored = c.stored;
     first = first;
     within = within;
     is_its = its;
     ops_are = are;
     uses_are = uses_are;
+    ranges_are = ranges_are;
     sound = sound;
     once = once;
     applied = applied.0;
@@ -173,17 +177,17 @@ module _ (script : Script) (start : Start) (entries : List EntryLine) (taken : L
           (subst (λ n. AllByRecursion (IsKeptOp (tables_of script) n) ops) c.stored.next_is sound))
 
   -- a decision on a transaction that the line ends, behind these replies of it
-  decided_turn : (t : Transaction) (begin : ℕ) (uses : List GenidItem) (ops : List RowOp) (o : ReplyLine) (added : List (List RowOp)) → begin ≤ now_of start entries → IsFrom (base start) begin →
-      Decided script start entries taken seen seen' name t begin uses ops o added → Grows entries (entries_after start entries name t.number begin t.level added)
-  decided_turn t begin uses ops o added within first d = go d.told
+  decided_turn : (t : Transaction) (begin : ℕ) (uses : List GenidItem) (ranges : List Interval) (ops : List RowOp) (o : ReplyLine) (added : List (List RowOp)) → begin ≤ now_of start entries → IsFrom (base start) begin →
+      Decided script start entries changed seen seen' name t begin uses ranges ops o added → Grows entries (entries_after start entries name t.number begin t.level added)
+  decided_turn t begin uses ranges ops o added within first d = go d.told
     where
       go : (added ≡ []) ⊎ ((x : List RowOp) × (added ≡ x ∷ []) × (o ≡ reply.Committed (now_of start entries + 1))) → Grows entries (entries_after start entries name t.number begin t.level added)
       go (inl none) = inl (ap (λ (l : List (List RowOp)). entries_after start entries name t.number begin t.level l) none ∙ append-nil entries)
       go (inr (x, one, is)) = inr (entry_of name t.number begin t.level (now_of start entries), ap (λ (l : List (List RowOp)). entries_after start entries name t.number begin t.level l) one)
 
-  news_of : (t : Transaction) (begin : ℕ) (uses : List GenidItem) (ops : List RowOp) (o : ReplyLine) (added : List (List RowOp)) (after : Place) (turn : Turned) → turn.number ≡ t.number → turn.begin ≡ begin → turn.after.level ≡ t.level → StandsIn turn.replies o → IsPast after.number after.pending t.number → WasTold script start entries name turn.number turn.begin o (lines ++ numbered turn.number turn.replies) →
-      Decided script start entries taken seen seen' name t begin uses ops o added → IsNews script start name lines entries (entries_after start entries name t.number begin t.level added) after turn
-  news_of t begin uses ops o added after turn number at level stands past begins d = go d.told
+  news_of : (t : Transaction) (begin : ℕ) (uses : List GenidItem) (ranges : List Interval) (ops : List RowOp) (o : ReplyLine) (added : List (List RowOp)) (after : Place) (turn : Turned) → turn.number ≡ t.number → turn.begin ≡ begin → turn.after.level ≡ t.level → StandsIn turn.replies o → IsPast after.number after.pending t.number → WasTold script start entries name turn.number turn.begin o (lines ++ numbered turn.number turn.replies) →
+      Decided script start entries changed seen seen' name t begin uses ranges ops o added → IsNews script start name lines entries (entries_after start entries name t.number begin t.level added) after turn
+  news_of t begin uses ranges ops o added after turn number at level stands past begins d = go d.told
     where
       go : (added ≡ []) ⊎ ((x : List RowOp) × (added ≡ x ∷ []) × (o ≡ reply.Committed (now_of start entries + 1))) → IsNews script start name lines entries (entries_after start entries name t.number begin t.level added) after turn
       go (inl none) = inl (ap (λ (l : List (List RowOp)). entries_after start entries name t.number begin t.level l) none ∙ append-nil entries)
@@ -201,21 +205,21 @@ module _ (script : Script) (start : Start) (entries : List EntryLine) (taken : L
   Kept t = IsKept (now_of start entries) seen seen' t.added
 
   abbrev pub Goal : Place → ℕ → Bool → Turned → Type 0
-  Goal after told own t = Kept t → Turns script start entries (entries ++ entries_added name (now_of start entries) t) (taken ++ map taken_by t.added) seen seen' name after lines told own t
+  Goal after told own t = Kept t → Turns script start entries (entries ++ entries_added name (now_of start entries) t) (changed ++ map (λ ops. changes_of ops seen.next) t.added) seen seen' name after lines told own t
 
   -- outside a transaction nothing of one was told
-  pub idle_lines : (k : Kind) (c : Comes script start entries taken seen name p None doing.No text k lines) → lines ≡ c.before
+  pub idle_lines : (k : Kind) (c : Comes script start entries changed seen name p None doing.No text k lines) → lines ≡ c.before
   idle_lines k c = c.is ∙ ap (λ rs. c.before ++ numbered p.number rs) c.doing ∙ append-nil c.before
 
-  begun : (c : Comes script start entries taken seen name p None doing.No text BeginText lines) → Goal (next_by p text BeginText None) (number_by p.number BeginText None) false (turn_by w p.number p.level text BeginText doing.No)
-  begun c kept = quiet BeginText None doing.No c (with_open p (Some []) (p.number + 1)) (p.number + 1) (p.number + 1) false (reply.Begin (now_of start entries) ∷ []) (state (p.number + 1) p.level (doing.Open (now_of start entries) [] [])) kept
-      (in_transaction script start entries entries (inl refl) name p c.before c.past [] (reply.Begin (now_of start entries) ∷ []) (lines ++ numbered (p.number + 1) (reply.Begin (now_of start entries) ∷ [])) seen.next (p.number + 1) (doing.Open (now_of start entries) [] [])
-      (record { first = c.stored.opened; within = omega arith; says = refl; ops_are = refl; uses_are = refl; sound = tt })
+  begun : (c : Comes script start entries changed seen name p None doing.No text BeginText lines) → Goal (next_by p text BeginText None) (number_by p.number BeginText None) false (turn_by w p.number p.level text BeginText doing.No)
+  begun c kept = quiet BeginText None doing.No c (with_open p (Some []) (p.number + 1)) (p.number + 1) (p.number + 1) false (reply.Begin (now_of start entries) ∷ []) (state (p.number + 1) p.level (doing.Open (now_of start entries) [] [] [])) kept
+      (in_transaction script start entries entries (inl refl) name p c.before c.past [] (reply.Begin (now_of start entries) ∷ []) (lines ++ numbered (p.number + 1) (reply.Begin (now_of start entries) ∷ [])) seen.next (p.number + 1) (doing.Open (now_of start entries) [] [] [])
+      (record { first = c.stored.opened; within = omega arith; says = refl; ops_are = refl; uses_are = refl; ranges_are = refl; sound = tt })
       (ap (λ ls. ls ++ numbered (p.number + 1) (reply.Begin (now_of start entries) ∷ [])) (idle_lines BeginText c)))
       (refl, refl) refl (inl refl)
 
   -- a line outside a transaction has its one reply
-  lone : (k : Kind) (c : Comes script start entries taken seen name p None doing.No text k lines) (answered : ReplyLine) (level : Level) → Paced (now_of start entries) (now_of start entries) (answered ∷ []) → are_up_to (is_last_of false) (answered ∷ []) ≡ true →
+  lone : (k : Kind) (c : Comes script start entries changed seen name p None doing.No text k lines) (answered : ReplyLine) (level : Level) → Paced (now_of start entries) (now_of start entries) (answered ∷ []) → are_up_to (is_last_of false) (answered ∷ []) ≡ true →
       Goal (record { over = p.over ++ Lone answered ∷ []; number = p.number; level = level; pending = None }) 0 false (turned 0 (answered ∷ []) (state p.number level doing.No))
   lone k c answered level paced up_to kept = quiet k None doing.No c (record { over = p.over ++ Lone answered ∷ []; number = p.number; level = level; pending = None }) 0 0 false (answered ∷ []) (state p.number level doing.No) kept
       (idle_after script start entries entries (inl refl) name p c.before c.past (Lone answered) (answered ∷ []) (lines ++ numbered 0 (answered ∷ [])) seen.next p.number level refl
@@ -223,21 +227,23 @@ module _ (script : Script) (start : Start) (entries : List EntryLine) (taken : L
       paced refl (inl up_to)
 
   -- a transaction was told up to its decision
-  ends_with : (t : Transaction) (begin : ℕ) (uses : List GenidItem) (ops : List RowOp) (front : List ReplyLine) (o : ReplyLine) (added : List (List RowOp)) → IsFrom (base start) begin → begin ≤ now_of start entries → (IsDecided o → Ends t.end (o ∷ [])) →
+  ends_with : (t : Transaction) (begin : ℕ) (uses : List GenidItem) (ranges : List Interval) (ops : List RowOp) (front : List ReplyLine) (o : ReplyLine) (added : List (List RowOp)) → IsFrom (base start) begin → begin ≤ now_of start entries → (IsDecided o → Ends t.end (o ∷ [])) →
       front ≡ reply.Begin begin ∷ (alone_at (from_start script start) (view_of (from_start script start) entries) t begin).replies → ops ≡ (alone_at (from_start script start) (view_of (from_start script start) entries) t begin).ops →
-      uses ≡ (alone_at (from_start script start) (view_of (from_start script start) entries) t begin).uses → Decided script start entries taken seen seen' name t begin uses ops o added →
+      uses ≡ (alone_at (from_start script start) (view_of (from_start script start) entries) t begin).uses → ranges ≡ (alone_at (from_start script start) (view_of (from_start script start) entries) t begin).ranges → Decided script start entries changed seen seen' name t begin uses ranges ops o added →
       IsWhole (from_start script start) (view_of (from_start script start) (entries_after start entries name t.number begin t.level added)) name t (front ++ o ∷ [])
-  ends_with t begin uses ops front o added first within ends says are uses_are d = record {
+  ends_with t begin uses ranges ops front o added first within ends says are uses_are ranges_are d = record {
     begin = begin;
     base = first.1;
     within = let le = grows_length entries longer grows in omega (arith, le, within);
-    ran = alone_at (from_start script start) (view_of (from_start script start) longer) t begin;
+    ran = its;
     is_ran = refl;
     last = o ∷ [];
     ends = ends d.decided;
     right = (
-      subst (λ (us : List GenidItem). IsRight (from_start script start) (view_of (from_start script start) longer) name t begin (taken_by its_ops ++ us) its_ops o) (uses_are ∙ ap (λ (a : Answered). a.uses) (sym same))
-          (subst (λ (x : List RowOp). IsRight (from_start script start) (view_of (from_start script start) longer) name t begin (taken_by x ++ uses) x o) (are ∙ ap (λ (a : Answered). a.ops) (sym same)) d.right),
+      subst (λ (used : List Used). RightOver used its.ops) (used_alike t.level its)
+          (subst (λ (rs : List Interval). RightOver (used_by t.level its.ops its.uses rs) its.ops) (ranges_are ∙ ap (λ (a : Answered). a.ranges) (sym same))
+          (subst (λ (us : List GenidItem). RightOver (used_by t.level its.ops us ranges) its.ops) (uses_are ∙ ap (λ (a : Answered). a.uses) (sym same))
+          (subst (λ (x : List RowOp). RightOver (used_by t.level x uses ranges) x) (are ∙ ap (λ (a : Answered). a.ops) (sym same)) d.right))),
       tt,
     );
     says = ap (λ rs. rs ++ o ∷ []) says ∙ ap (λ (a : Answered). reply.Begin begin ∷ (a.replies ++ o ∷ [])) (sym same);
@@ -247,10 +253,14 @@ module _ (script : Script) (start : Start) (entries : List EntryLine) (taken : L
       longer = entries_after start entries name t.number begin t.level added
 
       grows : Grows entries longer
-      grows = decided_turn t begin uses ops o added within first d
+      grows = decided_turn t begin uses ranges ops o added within first d
 
-      its_ops : List RowOp
-      its_ops = (alone_at (from_start script start) (view_of (from_start script start) longer) t begin).ops
+      its : Answered
+      its = alone_at (from_start script start) (view_of (from_start script start) longer) t begin
+
+      -- the outcome is right for what is used and these operations
+      RightOver : List Used → List RowOp → Type 0
+      RightOver used x = IsRight (from_start script start) (view_of (from_start script start) longer) name t begin used x o
 
       same : alone_at (from_start script start) (view_of (from_start script start) longer) t begin ≡ alone_at (from_start script start) (view_of (from_start script start) entries) t begin
       same = alone_on script start entries longer t.texts begin grows within
@@ -260,7 +270,7 @@ module _ (script : Script) (start : Start) (entries : List EntryLine) (taken : L
   own_txn = transaction (p.number + 1) (text ∷ []) p.level WithItsLine
 
   abbrev pub own_outcome : Answered → ReplyLine
-  own_outcome a = outcome w (now_of start entries) a.uses a.ops
+  own_outcome a = outcome w (now_of start entries) p.level a.uses a.ranges a.ops
 
   abbrev pub own_added : Answered → List (List RowOp)
   own_added a = added_by (own_outcome a) a.ops
@@ -271,22 +281,22 @@ module _ (script : Script) (start : Start) (entries : List EntryLine) (taken : L
   abbrev pub own_entries : Answered → List EntryLine
   own_entries a = entries_after start entries name (p.number + 1) (now_of start entries) p.level (own_added a)
 
-  own_by : (c : Comes script start entries taken seen name p None doing.No text OtherText lines) (a : Answered) → ArePlain a.replies →
+  own_by : (c : Comes script start entries changed seen name p None doing.No text OtherText lines) (a : Answered) → ArePlain a.replies →
       own_front a ≡ reply.Begin (now_of start entries) ∷ (alone_at (from_start script start) (view_of (from_start script start) entries) own_txn (now_of start entries)).replies → a.ops ≡ (alone_at (from_start script start) (view_of (from_start script start) entries) own_txn (now_of start entries)).ops →
-      a.uses ≡ (alone_at (from_start script start) (view_of (from_start script start) entries) own_txn (now_of start entries)).uses →
-      Decided script start entries taken seen seen' name own_txn (now_of start entries) a.uses a.ops (own_outcome a) (own_added a) →
-      Turns script start entries (own_entries a) (taken_after taken (own_added a)) seen seen' name (with_own_line p text) lines (p.number + 1) true (own_line w (p.number + 1) p.level a)
-  own_by c a plain says are uses_are d = record {
+      a.uses ≡ (alone_at (from_start script start) (view_of (from_start script start) entries) own_txn (now_of start entries)).uses → a.ranges ≡ (alone_at (from_start script start) (view_of (from_start script start) entries) own_txn (now_of start entries)).ranges →
+      Decided script start entries changed seen seen' name own_txn (now_of start entries) a.uses a.ranges a.ops (own_outcome a) (own_added a) →
+      Turns script start entries (own_entries a) (changed_after seen changed (own_added a)) seen seen' name (with_own_line p text) lines (p.number + 1) true (own_line w (p.number + 1) p.level a)
+  own_by c a plain says are uses_are ranges_are d = record {
     stored = d.stored;
-    grows = decided_turn own_txn (now_of start entries) a.uses a.ops (own_outcome a) (own_added a) (omega arith) c.stored.opened d;
+    grows = decided_turn own_txn (now_of start entries) a.uses a.ranges a.ops (own_outcome a) (own_added a) (omega arith) c.stored.opened d;
     next = d.grows;
-    stands = idle_after script start entries (own_entries a) (decided_turn own_txn (now_of start entries) a.uses a.ops (own_outcome a) (own_added a) (omega arith) c.stored.opened d) name p c.before c.past (Does own_txn) (own_front a ++ own_outcome a ∷ []) (lines ++ numbered (p.number + 1) (own_front a ++ own_outcome a ∷ [])) seen'.next (p.number + 1) p.level
-        (inl (ends_with own_txn (now_of start entries) a.uses a.ops (own_front a) (own_outcome a) (own_added a) c.stored.opened (omega arith) (λ x. x) says are uses_are d))
+    stands = idle_after script start entries (own_entries a) (decided_turn own_txn (now_of start entries) a.uses a.ranges a.ops (own_outcome a) (own_added a) (omega arith) c.stored.opened d) name p c.before c.past (Does own_txn) (own_front a ++ own_outcome a ∷ []) (lines ++ numbered (p.number + 1) (own_front a ++ own_outcome a ∷ [])) seen'.next (p.number + 1) p.level
+        (inl (ends_with own_txn (now_of start entries) a.uses a.ranges a.ops (own_front a) (own_outcome a) (own_added a) c.stored.opened (omega arith) (λ x. x) says are uses_are ranges_are d))
         (ap (λ ls. ls ++ numbered (p.number + 1) (own_front a ++ own_outcome a ∷ [])) (idle_lines OtherText c));
     paced = (refl, plain_then (now_of start entries) (now_of start (own_entries a)) a.replies (own_outcome a ∷ []) plain d.paced);
     number = refl;
     up_to = inl (up_to_last (is_last_of true) (own_front a) (own_outcome a) (refl, plain_all_quiet a.replies plain) (loud (own_outcome a) d.decided));
-    news = news_of own_txn (now_of start entries) a.uses a.ops (own_outcome a) (own_added a) (with_own_line p text) (own_line w (p.number + 1) p.level a) refl refl refl (own_front a, [], refl) (omega arith) was_told d;
+    news = news_of own_txn (now_of start entries) a.uses a.ranges a.ops (own_outcome a) (own_added a) (with_own_line p text) (own_line w (p.number + 1) p.level a) refl refl refl (own_front a, [], refl) (omega arith) was_told d;
   }
     where
       was_told : WasTold script start entries name (p.number + 1) (now_of start entries) (own_outcome a) (lines ++ numbered (p.number + 1) (own_front a ++ own_outcome a ∷ []))
@@ -298,17 +308,17 @@ module _ (script : Script) (start : Start) (entries : List EntryLine) (taken : L
         says = ap (λ (rs : List ReplyLine). lines ++ numbered (p.number + 1) (rs ++ own_outcome a ∷ [])) says;
       }
 
-  own_is : (c : Comes script start entries taken seen name p None doing.No text OtherText lines) → answer_at w (now_of start entries) [] text ≡ sql_language.answer (tables_of script) (rows_at (from_start script start) entries (now_of start entries)).tables [] text
+  own_is : (c : Comes script start entries changed seen name p None doing.No text OtherText lines) → answer_at w (now_of start entries) [] text ≡ sql_language.answer (tables_of script) (rows_at (from_start script start) entries (now_of start entries)).tables [] text
   own_is c = answer_is OtherText None doing.No c (now_of start entries) c.stored.opened (omega arith) []
 
   -- its replies before its outcome
-  pub own_says : (c : Comes script start entries taken seen name p None doing.No text OtherText lines) →
+  pub own_says : (c : Comes script start entries changed seen name p None doing.No text OtherText lines) →
       own_front (answer_at w (now_of start entries) [] text) ≡ reply.Begin (now_of start entries) ∷ (alone_at (from_start script start) (view_of (from_start script start) entries) own_txn (now_of start entries)).replies
   own_says c = ap (λ (x : Answered). reply.Begin (now_of start entries) ∷ x.replies) (own_is c) ∙ ap (λ rs. reply.Begin (now_of start entries) ∷ rs) (sym (append-nil (sql_language.answer (tables_of script) (rows_at (from_start script start) entries (now_of start entries)).tables [] text).replies))
 
-  own : (c : Comes script start entries taken seen name p None doing.No text OtherText lines) → Goal (next_by p text OtherText None) (number_by p.number OtherText None) true (turn_by w p.number p.level text OtherText doing.No)
-  own c kept = own_by c (answer_at w (now_of start entries) [] text) (sql_is_answered.plain (tables_of script) (seen.at (now_of start entries)).tables [] text) (own_says c) are uses_are
-      (decides script start entries taken seen seen' name own_txn (now_of start entries) (answer_at w (now_of start entries) [] text).uses (answer_at w (now_of start entries) [] text).ops commits kept)
+  own : (c : Comes script start entries changed seen name p None doing.No text OtherText lines) → Goal (next_by p text OtherText None) (number_by p.number OtherText None) true (turn_by w p.number p.level text OtherText doing.No)
+  own c kept = own_by c (answer_at w (now_of start entries) [] text) (sql_is_answered.plain (tables_of script) (seen.at (now_of start entries)).tables [] text) (own_says c) are uses_are ranges_are
+      (decides script start entries changed seen seen' name own_txn (now_of start entries) (answer_at w (now_of start entries) [] text).uses (answer_at w (now_of start entries) [] text).ranges (answer_at w (now_of start entries) [] text).ops commits kept)
     where
       are : (answer_at w (now_of start entries) [] text).ops ≡ (alone_at (from_start script start) (view_of (from_start script start) entries) own_txn (now_of start entries)).ops
       are = ap (λ (x : Answered). x.ops) (own_is c)
@@ -316,14 +326,17 @@ module _ (script : Script) (start : Start) (entries : List EntryLine) (taken : L
       uses_are : (answer_at w (now_of start entries) [] text).uses ≡ (alone_at (from_start script start) (view_of (from_start script start) entries) own_txn (now_of start entries)).uses
       uses_are = ap (λ (x : Answered). x.uses) (own_is c) ∙ sym (append-nil (sql_language.answer (tables_of script) (rows_at (from_start script start) entries (now_of start entries)).tables [] text).uses)
 
-      commits : Commits script start entries taken seen name own_txn (now_of start entries) (answer_at w (now_of start entries) [] text).uses (answer_at w (now_of start entries) [] text).ops
-      commits = comes_to OtherText None doing.No c own_txn (now_of start entries) (answer_at w (now_of start entries) [] text).uses (answer_at w (now_of start entries) [] text).ops c.stored.opened (omega arith) (c.its own_txn refl refl) are uses_are
+      ranges_are : (answer_at w (now_of start entries) [] text).ranges ≡ (alone_at (from_start script start) (view_of (from_start script start) entries) own_txn (now_of start entries)).ranges
+      ranges_are = ap (λ (x : Answered). x.ranges) (own_is c) ∙ sym (append-nil (sql_language.answer (tables_of script) (rows_at (from_start script start) entries (now_of start entries)).tables [] text).ranges)
+
+      commits : Commits script start entries changed seen name own_txn (now_of start entries) (answer_at w (now_of start entries) [] text).uses (answer_at w (now_of start entries) [] text).ranges (answer_at w (now_of start entries) [] text).ops
+      commits = comes_to OtherText None doing.No c own_txn (now_of start entries) (answer_at w (now_of start entries) [] text).uses (answer_at w (now_of start entries) [] text).ranges (answer_at w (now_of start entries) [] text).ops c.stored.opened (omega arith) (c.its own_txn refl refl) are uses_are ranges_are
           (answer_sound OtherText None doing.No c (now_of start entries) c.stored.opened (omega arith) [] tt)
           (none_past name p.number (p.number + 1) None (λ txn le. omega (arith, le)) entries c.entered)
 
   -- what was told of an open transaction, and one statement more
-  module _ (texts : List (List ℕ)) (begin : ℕ) (ops : List RowOp) (uses : List GenidItem) (k : Kind) (c : Comes script start entries taken seen name p (Some texts) (doing.Open begin ops uses) text k lines) where
-    more_open : IsOpen script start entries seen.next (texts ++ text ∷ []) begin (answer_at w begin ops text).ops (uses ++ (answer_at w begin ops text).uses) (c.mine ++ (answer_at w begin ops text).replies)
+  module _ (texts : List (List ℕ)) (begin : ℕ) (ops : List RowOp) (uses : List GenidItem) (ranges : List Interval) (k : Kind) (c : Comes script start entries changed seen name p (Some texts) (doing.Open begin ops uses ranges) text k lines) where
+    more_open : IsOpen script start entries seen.next (texts ++ text ∷ []) begin (answer_at w begin ops text).ops (uses ++ (answer_at w begin ops text).uses) (ranges ++ (answer_at w begin ops text).ranges) (c.mine ++ (answer_at w begin ops text).replies)
     more_open = record {
       first = c.doing.first;
       within = c.doing.within;
@@ -334,21 +347,24 @@ module _ (script : Script) (start : Start) (entries : List EntryLine) (taken : L
       uses_are = ap (λ (us : List GenidItem). us ++ (answer_at w begin ops text).uses) c.doing.uses_are
           ∙ ap (λ (a : Answered). (alone sql_language (tables_of script) (rows_at (from_start script start) entries begin) texts).uses ++ a.uses) its
           ∙ sym (uses_more sql_language (tables_of script) (rows_at (from_start script start) entries begin).tables [] texts text);
-      sound = answer_sound k (Some texts) (doing.Open begin ops uses) c begin c.doing.first c.doing.within ops c.doing.sound;
+      ranges_are = ap (λ (rs : List Interval). rs ++ (answer_at w begin ops text).ranges) c.doing.ranges_are
+          ∙ ap (λ (a : Answered). (alone sql_language (tables_of script) (rows_at (from_start script start) entries begin) texts).ranges ++ a.ranges) its
+          ∙ sym (ranges_more sql_language (tables_of script) (rows_at (from_start script start) entries begin).tables [] texts text);
+      sound = answer_sound k (Some texts) (doing.Open begin ops uses ranges) c begin c.doing.first c.doing.within ops c.doing.sound;
     }
       where
         its : answer_at w begin ops text ≡ sql_language.answer (tables_of script) (rows_at (from_start script start) entries begin).tables (alone sql_language (tables_of script) (rows_at (from_start script start) entries begin) texts).ops text
-        its = answer_is k (Some texts) (doing.Open begin ops uses) c begin c.doing.first c.doing.within ops
+        its = answer_is k (Some texts) (doing.Open begin ops uses ranges) c begin c.doing.first c.doing.within ops
             ∙ ap (λ (o : List RowOp). sql_language.answer (tables_of script) (rows_at (from_start script start) entries begin).tables o text) c.doing.ops_are
 
-    goes : Goal (with_open p (Some (texts ++ text ∷ [])) p.number) p.number false (goes_on p.number p.level begin uses (answer_at w begin ops text))
-    goes kept = quiet k (Some texts) (doing.Open begin ops uses) c (with_open p (Some (texts ++ text ∷ [])) p.number) p.number p.number false (answer_at w begin ops text).replies (state p.number p.level (doing.Open begin (answer_at w begin ops text).ops (uses ++ (answer_at w begin ops text).uses))) kept
-        (in_transaction script start entries entries (inl refl) name p c.before c.past (texts ++ text ∷ []) (c.mine ++ (answer_at w begin ops text).replies) (lines ++ numbered p.number (answer_at w begin ops text).replies) seen.next p.number (doing.Open begin (answer_at w begin ops text).ops (uses ++ (answer_at w begin ops text).uses))
+    goes : Goal (with_open p (Some (texts ++ text ∷ [])) p.number) p.number false (goes_on p.number p.level begin uses ranges (answer_at w begin ops text))
+    goes kept = quiet k (Some texts) (doing.Open begin ops uses ranges) c (with_open p (Some (texts ++ text ∷ [])) p.number) p.number p.number false (answer_at w begin ops text).replies (state p.number p.level (doing.Open begin (answer_at w begin ops text).ops (uses ++ (answer_at w begin ops text).uses) (ranges ++ (answer_at w begin ops text).ranges))) kept
+        (in_transaction script start entries entries (inl refl) name p c.before c.past (texts ++ text ∷ []) (c.mine ++ (answer_at w begin ops text).replies) (lines ++ numbered p.number (answer_at w begin ops text).replies) seen.next p.number (doing.Open begin (answer_at w begin ops text).ops (uses ++ (answer_at w begin ops text).uses) (ranges ++ (answer_at w begin ops text).ranges))
         more_open (piece lines c.before p.number c.mine (answer_at w begin ops text).replies c.is))
         (plain_paced (now_of start entries) (answer_at w begin ops text).replies (sql_is_answered.plain (tables_of script) (seen.at begin).tables ops text)) refl (inl (sql_is_answered.closed (tables_of script) (seen.at begin).tables ops text))
 
     rolled : Goal (closed p texts ByRollback) p.number false (turned p.number (reply.RolledBack ∷ []) (state p.number p.level doing.No))
-    rolled kept = quiet k (Some texts) (doing.Open begin ops uses) c (closed p texts ByRollback) p.number p.number false (reply.RolledBack ∷ []) (state p.number p.level doing.No) kept
+    rolled kept = quiet k (Some texts) (doing.Open begin ops uses ranges) c (closed p texts ByRollback) p.number p.number false (reply.RolledBack ∷ []) (state p.number p.level doing.No) kept
         (idle_after script start entries entries (inl refl) name p c.before c.past (Does (transaction p.number texts p.level ByRollback)) (c.mine ++ reply.RolledBack ∷ []) (lines ++ numbered p.number (reply.RolledBack ∷ [])) seen.next p.number p.level
         (inl (record { begin = begin; base = c.doing.first.1; within = (let w = c.doing.within in omega (arith, w)); ran = alone_at (from_start script start) (view_of (from_start script start) entries) (transaction p.number texts p.level ByRollback) begin; is_ran = refl; last = reply.RolledBack ∷ []; ends = refl; right = (refl, tt); says = ap (λ rs. rs ++ reply.RolledBack ∷ []) c.doing.says }))
         (piece lines c.before p.number c.mine (reply.RolledBack ∷ []) c.is))
@@ -358,21 +374,21 @@ module _ (script : Script) (start : Start) (entries : List EntryLine) (taken : L
     ending = transaction p.number texts p.level ByCommit
 
     abbrev pub last : ReplyLine
-    last = outcome w begin uses ops
+    last = outcome w begin p.level uses ranges ops
 
-    commits_by : transaction_of sql_language name p.number script.body ≡ Some ending → Decided script start entries taken seen seen' name ending begin uses ops last (added_by last ops) →
-        Turns script start entries (entries_after start entries name p.number begin p.level (added_by last ops)) (taken_after taken (added_by last ops)) seen seen' name (closed p texts ByCommit) lines p.number false (committed w p.number p.level begin uses ops)
+    commits_by : transaction_of sql_language name p.number script.body ≡ Some ending → Decided script start entries changed seen seen' name ending begin uses ranges ops last (added_by last ops) →
+        Turns script start entries (entries_after start entries name p.number begin p.level (added_by last ops)) (changed_after seen changed (added_by last ops)) seen seen' name (closed p texts ByCommit) lines p.number false (committed w p.number p.level begin uses ranges ops)
     commits_by its d = record {
       stored = d.stored;
-      grows = decided_turn ending begin uses ops last (added_by last ops) c.doing.within c.doing.first d;
+      grows = decided_turn ending begin uses ranges ops last (added_by last ops) c.doing.within c.doing.first d;
       next = d.grows;
-      stands = idle_after script start entries (entries_after start entries name p.number begin p.level (added_by last ops)) (decided_turn ending begin uses ops last (added_by last ops) c.doing.within c.doing.first d) name p c.before c.past (Does ending) (c.mine ++ last ∷ []) (lines ++ numbered p.number (last ∷ [])) seen'.next p.number p.level
-          (inl (ends_with ending begin uses ops c.mine last (added_by last ops) c.doing.first c.doing.within (λ x. x) c.doing.says c.doing.ops_are c.doing.uses_are d))
+      stands = idle_after script start entries (entries_after start entries name p.number begin p.level (added_by last ops)) (decided_turn ending begin uses ranges ops last (added_by last ops) c.doing.within c.doing.first d) name p c.before c.past (Does ending) (c.mine ++ last ∷ []) (lines ++ numbered p.number (last ∷ [])) seen'.next p.number p.level
+          (inl (ends_with ending begin uses ranges ops c.mine last (added_by last ops) c.doing.first c.doing.within (λ x. x) c.doing.says c.doing.ops_are c.doing.uses_are c.doing.ranges_are d))
           (piece lines c.before p.number c.mine (last ∷ []) c.is);
       paced = d.paced;
       number = refl;
       up_to = inl (up_to_one (is_last_of false) last (no_row last d.decided));
-      news = news_of ending begin uses ops last (added_by last ops) (closed p texts ByCommit) (committed w p.number p.level begin uses ops) refl refl refl ([], [], refl) (omega arith) was_told d;
+      news = news_of ending begin uses ranges ops last (added_by last ops) (closed p texts ByCommit) (committed w p.number p.level begin uses ranges ops) refl refl refl ([], [], refl) (omega arith) was_told d;
     }
       where
         was_told : WasTold script start entries name p.number begin last (lines ++ numbered p.number (last ∷ []))
@@ -384,14 +400,14 @@ module _ (script : Script) (start : Start) (entries : List EntryLine) (taken : L
           says = piece lines c.before p.number c.mine (last ∷ []) c.is ∙ ap (λ (rs : List ReplyLine). c.before ++ numbered p.number (rs ++ last ∷ [])) c.doing.says;
         }
 
-  comes_to_commit : (texts : List (List ℕ)) (begin : ℕ) (ops : List RowOp) (uses : List GenidItem) (c : Comes script start entries taken seen name p (Some texts) (doing.Open begin ops uses) text CommitText lines) → Goal (closed p texts ByCommit) p.number false (committed w p.number p.level begin uses ops)
-  comes_to_commit texts begin ops uses c kept = commits_by texts begin ops uses CommitText c (c.its (transaction p.number texts p.level ByCommit) refl refl)
-      (decides script start entries taken seen seen' name (transaction p.number texts p.level ByCommit) begin uses ops
-      (comes_to CommitText (Some texts) (doing.Open begin ops uses) c (transaction p.number texts p.level ByCommit) begin uses ops c.doing.first c.doing.within (c.its (transaction p.number texts p.level ByCommit) refl refl) c.doing.ops_are c.doing.uses_are c.doing.sound
+  comes_to_commit : (texts : List (List ℕ)) (begin : ℕ) (ops : List RowOp) (uses : List GenidItem) (ranges : List Interval) (c : Comes script start entries changed seen name p (Some texts) (doing.Open begin ops uses ranges) text CommitText lines) → Goal (closed p texts ByCommit) p.number false (committed w p.number p.level begin uses ranges ops)
+  comes_to_commit texts begin ops uses ranges c kept = commits_by texts begin ops uses ranges CommitText c (c.its (transaction p.number texts p.level ByCommit) refl refl)
+      (decides script start entries changed seen seen' name (transaction p.number texts p.level ByCommit) begin uses ranges ops
+      (comes_to CommitText (Some texts) (doing.Open begin ops uses ranges) c (transaction p.number texts p.level ByCommit) begin uses ranges ops c.doing.first c.doing.within (c.its (transaction p.number texts p.level ByCommit) refl refl) c.doing.ops_are c.doing.uses_are c.doing.ranges_are c.doing.sound
       (none_past name p.number p.number (Some texts) (λ txn less. less) entries c.entered)) kept)
 
   -- lines of a transaction that want of memory ended are skipped
-  module _ (texts : List (List ℕ)) (k : Kind) (c : Comes script start entries taken seen name p (Some texts) doing.Aborted text k lines) where
+  module _ (texts : List (List ℕ)) (k : Kind) (c : Comes script start entries changed seen name p (Some texts) doing.Aborted text k lines) where
     skipped_lines : lines ++ numbered p.number [] ≡ c.before ++ numbered p.number c.mine
     skipped_lines = append-nil lines ∙ c.is
 
@@ -440,23 +456,23 @@ module _ (script : Script) (start : Start) (entries : List EntryLine) (taken : L
         refl refl (inr (refl, cut_before))
 
   -- whatever the line is, and wherever the session is
-  pub turns : (k : Kind) (pending : Option (List (List ℕ))) (what : Doing) → Comes script start entries taken seen name p pending what text k lines →
+  pub turns : (k : Kind) (pending : Option (List (List ℕ))) (what : Doing) → Comes script start entries changed seen name p pending what text k lines →
       Goal (next_by p text k pending) (number_by p.number k pending) (is_own_by k pending) (turn_by w p.number p.level text k what)
   turns BeginText None doing.No c = begun c
   turns CommitText None doing.No c = lone CommitText c (reply.Error State) p.level refl refl
   turns RollbackText None doing.No c = lone RollbackText c (reply.Error State) p.level refl refl
   turns (LevelText later) None doing.No c = lone (LevelText later) c (reply.Level later) later refl refl
   turns OtherText None doing.No c = own c
-  turns BeginText (Some texts) (doing.Open begin ops uses) c = goes texts begin ops uses BeginText c
-  turns CommitText (Some texts) (doing.Open begin ops uses) c = comes_to_commit texts begin ops uses c
-  turns RollbackText (Some texts) (doing.Open begin ops uses) c = rolled texts begin ops uses RollbackText c
-  turns (LevelText later) (Some texts) (doing.Open begin ops uses) c = goes texts begin ops uses (LevelText later) c
-  turns OtherText (Some texts) (doing.Open begin ops uses) c = goes texts begin ops uses OtherText c
+  turns BeginText (Some texts) (doing.Open begin ops uses ranges) c = goes texts begin ops uses ranges BeginText c
+  turns CommitText (Some texts) (doing.Open begin ops uses ranges) c = comes_to_commit texts begin ops uses ranges c
+  turns RollbackText (Some texts) (doing.Open begin ops uses ranges) c = rolled texts begin ops uses ranges RollbackText c
+  turns (LevelText later) (Some texts) (doing.Open begin ops uses ranges) c = goes texts begin ops uses ranges (LevelText later) c
+  turns OtherText (Some texts) (doing.Open begin ops uses ranges) c = goes texts begin ops uses ranges OtherText c
   turns BeginText (Some texts) doing.Aborted c = skips texts BeginText c
   turns CommitText (Some texts) doing.Aborted c = skips_end texts CommitText c ByCommit
   turns RollbackText (Some texts) doing.Aborted c = skips_end texts RollbackText c ByRollback
   turns (LevelText later) (Some texts) doing.Aborted c = skips texts (LevelText later) c
   turns OtherText (Some texts) doing.Aborted c = skips texts OtherText c
-  turns k None (doing.Open begin ops uses) c = absurd c.doing
+  turns k None (doing.Open begin ops uses ranges) c = absurd c.doing
   turns k None doing.Aborted c = absurd c.doing
   turns k (Some texts) doing.No c = absurd c.doing

@@ -18,13 +18,15 @@ use Rattle.script_form.specs.CanRun.{tables_of}
 use Rattle.report_laws.specs.History.{rows_at, view_of}
 use Rattle.session_language.specs.Language.{alone}
 use Rattle.script_play.specs.Basis.{from_start}
-use Rattle.sql_answer.specs.Language.{sql_language}
+use Rattle.query_laws.specs.Alone.{sql_language}
 use Rattle.report_laws.specs.Lawful.{Lawful}
 use Rattle.report_laws.specs.Outcome.{Ends}
 use Rattle.report_laws.specs.Play.{InPlayOrder, InTurns, opening, opened_behind}
 use Rattle.report_laws.specs.Told.{Along, Numbered, IsTold, IsEntryTold, IsCut, told, numbered, alone_at}
 use Rattle.report_laws.specs.Work.{Transaction, Item, Does, Place, Nowhere, transaction, work, place_after, items_at, open_item, start as place_first}
 use Rattle.cdb_values.specs.declared.items.GenidItem.{GenidItem}
+use Rattle.cdb_values.specs.declared.items.Interval.{Interval}
+use Rattle.cdb_values.specs.declared.rows.Change.{Change}
 use Rattle.report_laws.proofs.NodesLaws.{none_few}
 use Rattle.report_laws.proofs.ToldLaws.{along_append, along_one, along_map}
 use Rattle.script_play.specs.SoFar.{now_of, SoFar, Stored, Standing, IsEnded, IsOpen, IsDoing, at_start, state_of, report_of}
@@ -46,9 +48,9 @@ all_opening P is true = (is, tt)
 all_opening P is false = tt
 
 -- the run as it begins
-pub begins_so : (script : Script) (start : Start) (taken : List (List GenidItem)) (seen : Seen) → Stored script start (opening (from_start script start).origin) taken seen →
-    SoFar script start false [] script.body [] (opening (from_start script start).origin) taken seen (map (λ _. at_start) script.sessions)
-begins_so script start taken seen stored = record {
+pub begins_so : (script : Script) (start : Start) (changed : List (List Change)) (seen : Seen) → Stored script start (opening (from_start script start).origin) changed seen →
+    SoFar script start false [] script.body [] (opening (from_start script start).origin) changed seen (map (λ _. at_start) script.sessions)
+begins_so script start changed seen stored = record {
   body = refl;
   stored = stored;
   standing = λ name. subst (λ (x : SessionAt). Standing script start at_first seen.next name place_first [] x) (sym (starts name script.sessions)) (record { before = []; mine = []; is = refl; past = refl; number = refl; level = refl; doing = refl });
@@ -67,9 +69,9 @@ begins_so script start taken seen stored = record {
     at_first = opening (from_start script start).origin
 
 -- the open transaction, as it was told so far
-open_told : (script : Script) (start : Start) (entries : List EntryLine) (name : List ℕ) (next : ℕ) (texts : List (List ℕ)) (begin : ℕ) (ops : List RowOp) (uses : List GenidItem) (mine : List ReplyLine) (t : Transaction) → t.texts ≡ texts → t.end ≡ Nowhere → IsOpen script start entries next texts begin ops uses mine →
+open_told : (script : Script) (start : Start) (entries : List EntryLine) (name : List ℕ) (next : ℕ) (texts : List (List ℕ)) (begin : ℕ) (ops : List RowOp) (uses : List GenidItem) (ranges : List Interval) (mine : List ReplyLine) (t : Transaction) → t.texts ≡ texts → t.end ≡ Nowhere → IsOpen script start entries next texts begin ops uses ranges mine →
     IsTold (from_start script start) (view_of (from_start script start) entries) name (Does t) mine
-open_told script start entries name next texts begin ops uses mine t same end is = inl (record {
+open_told script start entries name next texts begin ops uses ranges mine t same end is = inl (record {
   begin = begin;
   base = is.first.1;
   within = let w = is.within in omega (arith, w);
@@ -85,23 +87,23 @@ open_told script start entries name next texts begin ops uses mine t same end is
 -- along all that a session did up to a place of its work
 along_place : (P : Item → List ReplyLine → Type 0) (script : Script) (start : Start) (entries : List EntryLine) (next : ℕ) (name : List ℕ) (p : Place) (pending : Option (List (List ℕ))) (d : Doing) (before : List Numbered) (mine : List ReplyLine) →
     ((item : Item) (rs : List ReplyLine) → IsTold (from_start script start) (view_of (from_start script start) entries) name item rs → P item rs) →
-    ((texts : List (List ℕ)) (begin : ℕ) (ops : List RowOp) (uses : List GenidItem) → IsOpen script start entries next texts begin ops uses mine → P (Does (transaction p.number texts p.level Nowhere)) mine) →
+    ((texts : List (List ℕ)) (begin : ℕ) (ops : List RowOp) (uses : List GenidItem) (ranges : List Interval) → IsOpen script start entries next texts begin ops uses ranges mine → P (Does (transaction p.number texts p.level Nowhere)) mine) →
     ((texts : List (List ℕ)) → IsCut (from_start script start) (view_of (from_start script start) entries) (transaction p.number texts p.level Nowhere) mine → P (Does (transaction p.number texts p.level Nowhere)) mine) →
     Along (IsTold (from_start script start) (view_of (from_start script start) entries) name) p.over before → IsDoing script start entries next p pending d mine → Along P (p.over ++ open_item p pending) (before ++ numbered p.number mine)
 along_place P script start entries next name p None doing.No before mine over open_ cut past is =
     subst (λ rs. Along P (p.over ++ []) (before ++ numbered p.number rs)) (sym is)
     (along_append P p.over [] before [] (along_map (IsTold (from_start script start) (view_of (from_start script start) entries) name) P over p.over before past) refl)
-along_place P script start entries next name p None (doing.Open begin ops uses) before mine over open_ cut past is = absurd is
+along_place P script start entries next name p None (doing.Open begin ops uses ranges) before mine over open_ cut past is = absurd is
 along_place P script start entries next name p None doing.Aborted before mine over open_ cut past is = absurd is
 along_place P script start entries next name p (Some texts) doing.No before mine over open_ cut past is = absurd is
-along_place P script start entries next name p (Some texts) (doing.Open begin ops uses) before mine over open_ cut past is =
+along_place P script start entries next name p (Some texts) (doing.Open begin ops uses ranges) before mine over open_ cut past is =
     along_append P p.over (Does (transaction p.number texts p.level Nowhere) ∷ []) before (numbered p.number mine) (along_map (IsTold (from_start script start) (view_of (from_start script start) entries) name) P over p.over before past)
-    (along_one P (Does (transaction p.number texts p.level Nowhere)) mine (open_ texts begin ops uses is))
+    (along_one P (Does (transaction p.number texts p.level Nowhere)) mine (open_ texts begin ops uses ranges is))
 along_place P script start entries next name p (Some texts) doing.Aborted before mine over open_ cut past is =
     along_append P p.over (Does (transaction p.number texts p.level Nowhere) ∷ []) before (numbered p.number mine) (along_map (IsTold (from_start script start) (view_of (from_start script start) entries) name) P over p.over before past)
     (along_one P (Does (transaction p.number texts p.level Nowhere)) mine (cut texts is))
 
-module _ (script : Script) (start : Start) (down : Bool) (done : List BodyLine) (lines : List Line) (entries : List EntryLine) (taken : List (List GenidItem)) (seen : Seen) (states : List SessionAt) (was : SoFar script start down done [] lines entries taken seen states) where
+module _ (script : Script) (start : Start) (down : Bool) (done : List BodyLine) (lines : List Line) (entries : List EntryLine) (changed : List (List Change)) (seen : Seen) (states : List SessionAt) (was : SoFar script start down done [] lines entries changed seen states) where
   all_done : script.body ≡ done
   all_done = was.body ∙ append-nil done
 
@@ -111,7 +113,7 @@ module _ (script : Script) (start : Start) (down : Bool) (done : List BodyLine) 
       (subst (λ ls. Along (IsTold (from_start script start) (view_of (from_start script start) entries) name) (items_at (place_after sql_language name done)) ls) (sym stands.is)
       (along_place (IsTold (from_start script start) (view_of (from_start script start) entries) name) script start entries seen.next name (place_after sql_language name done) (place_after sql_language name done).pending (state_of name script.sessions states).doing stands.before stands.mine
       (λ item rs is. is)
-      (λ texts begin ops uses is. open_told script start entries name seen.next texts begin ops uses stands.mine (transaction (place_after sql_language name done).number texts (place_after sql_language name done).level Nowhere) refl refl is)
+      (λ texts begin ops uses ranges is. open_told script start entries name seen.next texts begin ops uses ranges stands.mine (transaction (place_after sql_language name done).number texts (place_after sql_language name done).level Nowhere) refl refl is)
       (λ texts cut. inr cut) stands.past stands.doing))
     where
       stands : Standing script start entries seen.next name (place_after sql_language name done) (told name lines) (state_of name script.sessions states)

@@ -2,7 +2,7 @@
 use Rattle.report_laws.specs.History.{Basis, Origin, nothing_before}
 use Rattle.script_form.specs.CanRun.{tables_of}
 use Rattle.script_form.specs.declared.scripts.Script.{Script}
-use Rattle.sql_answer.specs.Language.{sql_language}
+use Rattle.query_laws.specs.Alone.{sql_language}
 use Rattle.script_play.specs.Start.{Start, base}
 
 abbrev pub from_origin : Script → Origin → Basis

@@ -39,7 +39,7 @@ behind_cut OtherText = doing.Aborted
 -- what a line does on a node that is down: that its transaction is lost comes first, then that no majority is up, and any
 -- other line is answered as on a node that is up
 abbrev pub turn_down : ℕ → Level → Kind → Doing → Turned
-turn_down number level k (doing.Open begin ops uses) = turned number (reply.Lost 1 1 ∷ []) (state number level (behind_cut k))
+turn_down number level k (doing.Open begin ops uses ranges) = turned number (reply.Lost 1 1 ∷ []) (state number level (behind_cut k))
 turn_down number level k doing.Aborted = turned number [] (state number level (behind_cut k))
 turn_down number level BeginText doing.No = turned (number + 1) (reply.NoMajority 0 1 ∷ []) (state (number + 1) level doing.Aborted)
 turn_down number level OtherText doing.No = turned (number + 1) (reply.NoMajority 0 1 ∷ []) (state (number + 1) level doing.No)

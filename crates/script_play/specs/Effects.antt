@@ -1,15 +1,18 @@
 -- What the code says of a line that is still to be done, and of one that was.
 use Rattle.std.specs.Prelude.{◌≡◌, ℕ, ◌+◌, ◌++◌, ◌∷◌, [], List, Option, Some, None, option_to_list}
-use Rattle.cdb_values.specs.Changes.{taken_by}
+use Rattle.blkseq_table.specs.OfLogs.{HasId, id_of}
+use Rattle.cdb_values.specs.Changes.{changes_of}
 use Rattle.cdb_values.specs.Rows.{apply_all}
 use Rattle.cdb_values.specs.declared.rows.Level.{Level}
 use Rattle.cdb_values.specs.declared.rows.RowOp.{RowOp}
 use Rattle.cdb_values.specs.declared.tables.TableDef.{TableDef}
-use Rattle.log_rows.specs.History.{rows_over, takes_of, IsCommit}
+use Rattle.log_rows.specs.History.{rows_over, IsCommit}
 use Rattle.phys_log.specs.Logs.{pages_of, Fits}
+use Rattle.phys_log.specs.declared.entries.CommitId.{CommitId}
 use Rattle.phys_log.specs.declared.entries.Entry.{Entry}
 use Rattle.phys_log.specs.declared.entries.Entry.TheVariants.{Setup, Commit as EntryCommit}
 use Rattle.osql_session.specs.Sessions.{Session}
+use Rattle.range_validate.specs.Touches.{changes_in}
 use Rattle.report_text.specs.declared.reports.EntryLine.{EntryLine}
 use Rattle.report_text.specs.declared.reports.EntryLine.TheVariants.{Commit}
 use Rattle.report_text.specs.declared.reports.Line.{Line}
@@ -43,7 +46,12 @@ abbrev pub IsOfIts : Named → Entry → Type 0
 IsOfIts named (Setup generation schema records) = ⊥
 IsOfIts named (EntryCommit generation id begin level changes records) = (generation ≡ named.generation) × (id.began ≡ named.began)
 
--- an entry is the next of a log, names that transaction, and makes of the rows what these operations make of them
+-- no entry of a log has the identity of this one
+abbrev pub IsFreshIn : List Entry → Entry → Type 0
+IsFreshIn log entry = (position : ℕ) (id : CommitId) → id_of entry ≡ Some id → HasId log position id → ⊥
+
+-- an entry is the next of a log, names that transaction, which no entry before it names, and makes of the rows what these
+-- operations make of them
 pub record IsEntryOf (start : Start) (tables : List TableDef) (log : List Entry) (entry : Entry) (named : Named) (ops : List RowOp) : Type 0 where
   pub names : (position : ℕ) → line_of position entry ≡ Commit position named.session named.number named.begin named.level
   pub of_its : IsOfIts named entry
@@ -51,7 +59,8 @@ pub record IsEntryOf (start : Start) (tables : List TableDef) (log : List Entry)
   pub commit : IsCommit entry
   pub stands : Stands (pages_of (log ++ entry ∷ [])) tables (rows_over (ground_of start) (log ++ entry ∷ []))
   pub rows : rows_over (ground_of start) (log ++ entry ∷ []) ≡ apply_all (rows_over (ground_of start) log) ops
-  pub takes : takes_of entry ≡ taken_by ops
+  pub changes : changes_in entry ≡ changes_of ops (rows_over (ground_of start) log).next
+  pub fresh : IsFreshIn log entry
 
 -- the entry that is to be appended, where operations are committed
 abbrev pub IsAdded : Start → List TableDef → List Entry → Option Entry → Named → List (List RowOp) → Type 0

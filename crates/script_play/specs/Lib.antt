@@ -1,5 +1,6 @@
 pub mod Start
 pub mod Basis
+pub mod Serial
 pub mod Seen
 pub mod Doing
 pub mod Decisions

@@ -1,10 +1,11 @@
 -- What a script that was played leaves, by where the run began.
 use Rattle.std.specs.Prelude.{◌≡◌, ℕ, ◌-◌, ◌<◌, ◌≤◌, [], List, Bool, true, false, Some, length, slice_get, unwrap_or}
+use Rattle.block_processor.specs.Changed.{changed_in}
 use Rattle.log_replay.specs.Answers.{schema_of}
-use Rattle.log_rows.specs.History.{rows_over_at, takes_in, IsFrom, StandsOver}
+use Rattle.log_rows.specs.History.{rows_over_at, IsFrom, StandsOver}
 use Rattle.node_log.specs.Logged.{Logged}
 use Rattle.phys_log.specs.declared.entries.Entry.{Entry}
-use Rattle.report_laws.specs.History.{rows_at, taken_at}
+use Rattle.report_laws.specs.History.{rows_at, changes_at}
 use Rattle.report_laws.specs.Lawful.{Lawful}
 use Rattle.report_laws.specs.Nodes.{downs}
 use Rattle.report_laws.specs.Play.{InPlayOrder}
@@ -28,7 +29,7 @@ pub record IsTold (script : Script) (start : Start) (generation : ℕ) (report :
   pub in_order : InPlayOrder (from_start script start) report
   pub entries : AreTold start.before generation report.entries history
   pub schema : schema_of history ≡ Some (tables_of script)
-  pub taken : (k : ℕ) → base start < k → k ≤ length history → unwrap_or (slice_get (takes_in history) (k - 1)) [] ≡ taken_at (from_start script start) report.entries k
+  pub changed : (k : ℕ) → base start < k → k ≤ length history → unwrap_or (slice_get (changed_in history) (k - 1)) [] ≡ changes_at (from_start script start) report.entries k
   pub rows : (k : ℕ) → IsFrom (base start) k → k ≤ length history → rows_over_at (ground_of start) history k ≡ rows_at (from_start script start) report.entries k
   pub stands : StandsOver (ground_of start) (tables_of script) history
 

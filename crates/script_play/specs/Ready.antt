@@ -2,6 +2,8 @@
 -- be decided and written.
 use Rattle.std.specs.Prelude.{◌≡◌, ℕ, ◌≤◌, List, [], ◌∷◌, length, drop, Some}
 use Rattle.std.specs.List.{AllByRecursion}
+use Rattle.blkseq_table.specs.Known.{AreApart}
+use Rattle.blkseq_table.specs.OfLogs.{identities_of}
 use Rattle.cdb_values.specs.Rows.{Rows, no_rows}
 use Rattle.cdb_values.specs.declared.rows.RowOp.{RowOp}
 use Rattle.cdb_values.specs.declared.rows.Version.{Version}
@@ -32,10 +34,11 @@ abbrev pub IsAskable : TableDef → Type 0
 IsAskable table = HasDistinctColumns table × HasColumns table
 
 -- a log that has entries can be gone on with over these tables: its first entry is their setup, all others are those of
--- transactions, and its pages stand for these rows, which are sound, with texts of UTF-8
+-- transactions, each once, and its pages stand for these rows, which are sound, with texts of UTF-8
 pub record GoesOn (tables : List TableDef) (log : List Entry) (rows : Rows) : Type 0 where
   pub schema : schema_of log ≡ Some tables
   pub commits : AllByRecursion IsCommit (drop 1 log)
+  pub apart : AreApart (identities_of log)
   pub stands : Stands (pages_of log) tables rows
   pub kept : AreKept tables rows.next rows.tables
 
@@ -68,5 +71,5 @@ pub record IsAble (start : Start) (tables : List TableDef) (now : ℕ) (log : Li
 -- what a session is doing: its open transaction began at a position of the log, and its operations can be done there
 abbrev pub IsReadyToGo : Start → List TableDef → ℕ → List Entry → Doing → Type 0
 IsReadyToGo start tables now log doing.No = Unit {0}
-IsReadyToGo start tables now log (doing.Open begin ops uses) = IsAble start tables now log begin ops
+IsReadyToGo start tables now log (doing.Open begin ops uses ranges) = IsAble start tables now log begin ops
 IsReadyToGo start tables now log doing.Aborted = Unit {0}

@@ -1,8 +1,9 @@
 -- The run so far, as the code keeps it, in the words of the definitions.
 use Rattle.std.specs.Prelude.{◌≡◌, ℕ, ◌≤◌, ◌∷◌, [], List, length, map, true, slice_get, Some}
 use Rattle.std.specs.Str.{is_utf8}
+use Rattle.block_processor.specs.Changed.{changed_in}
 use Rattle.cdb_values.specs.declared.tables.TableDef.{TableDef}
-use Rattle.log_rows.specs.History.{rows_over, rows_over_at, takes_in}
+use Rattle.log_rows.specs.History.{rows_over, rows_over_at}
 use Rattle.cdb_values.specs.Rows.{no_rows}
 use Rattle.phys_log.specs.Logs.{pages_of}
 use Rattle.phys_log.specs.declared.entries.Entry.{Entry}
@@ -37,7 +38,7 @@ use Rattle.script_play.specs.declared.states.SessionState.{SessionState}
 -- what a session is doing, and where it is
 abbrev pub doing_in : InTransaction → Doing
 doing_in No = doing.No
-doing_in (Open session) = doing.Open session.begin session.ops session.genids
+doing_in (Open session) = doing.Open session.begin session.ops session.genids session.ranges
 doing_in Aborted = doing.Aborted
 
 abbrev pub state_in : SessionState → SessionAt
@@ -49,7 +50,7 @@ seen_in start log = record { at = rows_over_at (ground_of start) log; next = (ro
 
 -- what the run is before a line
 abbrev pub world : Start → List TableDef → List Entry → World
-world start tables log = world_of tables (seen_in start log) (takes_in log) (length log)
+world start tables log = world_of tables (seen_in start log) (changed_in log) (length log)
 
 -- the log is ready for a line
 abbrev pub IsReadyFor : Start → List TableDef → List Entry → Type 0
@@ -103,7 +104,7 @@ AreOwn generation sessions states =
 -- the run before a line, with the lines `left` still to do: its log is that of the history, and one entry more where the node
 -- is down
 pub record IsBeforeLine (script : Script) (start : Start) (generation had : ℕ) (left : List BodyLine) (lines : List Line) (entries : List EntryLine) (log : Logged) (states : List SessionState) : Type 0 where
-  pub before : IsBefore script start log.failed left lines entries (takes_in (history_of log)) (seen_in start (history_of log)) (map state_in states)
+  pub before : IsBefore script start log.failed left lines entries (changed_in (history_of log)) (seen_in start (history_of log)) (map state_in states)
   pub logged : IsLogged start (tables_of script) (now_of start entries) (history_of log)
   pub told : AreTold start.before generation entries (history_of log)
   pub own : AreOwn generation script.sessions states
@@ -111,7 +112,7 @@ pub record IsBeforeLine (script : Script) (start : Start) (generation had : ℕ)
 
 -- a line of a session did what it does where the node stood, or was cut short; the log is in order behind it
 pub record IsTakenFrom (start : Start) (generation : ℕ) (tables : List TableDef) (name : List ℕ) (before : SessionState) (text : List ℕ) (after : SessionState) (lines lines' : List Line) (entries entries' : List EntryLine) (log log' : Logged) : Type 0 where
-  pub taken : IsTakenOn log.failed log'.failed (world start tables (history_of log)) name (state_in before) text (state_in after) lines lines' entries entries' (takes_in (history_of log')) (seen_in start (history_of log'))
+  pub taken : IsTakenOn log.failed log'.failed (world start tables (history_of log)) name (state_in before) text (state_in after) lines lines' entries entries' (changed_in (history_of log')) (seen_in start (history_of log'))
   pub logged : IsLogged start tables (length (history_of log')) (history_of log')
   pub told : AreTold start.before generation entries (history_of log) → AreTold start.before generation entries' (history_of log')
   pub own : IsOwn generation name after
@@ -119,7 +120,7 @@ pub record IsTakenFrom (start : Start) (generation : ℕ) (tables : List TableDe
 
 -- a line on a node that was up did what it does, or the node went down at its entry; the log is in order behind it
 pub record IsDoneFrom (start : Start) (generation : ℕ) (tables : List TableDef) (name : List ℕ) (t : Turned) (after : SessionState) (lines lines' : List Line) (entries entries' : List EntryLine) (log log' : Logged) : Type 0 where
-  pub done : IsDoneOn log'.failed (world start tables (history_of log)) name t (state_in after) lines lines' entries entries' (takes_in (history_of log')) (seen_in start (history_of log'))
+  pub done : IsDoneOn log'.failed (world start tables (history_of log)) name t (state_in after) lines lines' entries entries' (changed_in (history_of log')) (seen_in start (history_of log'))
   pub logged : IsLogged start tables (length (history_of log')) (history_of log')
   pub told : AreTold start.before generation entries (history_of log) → AreTold start.before generation entries' (history_of log')
   pub own : IsOwn generation name after

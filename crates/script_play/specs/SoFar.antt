@@ -19,10 +19,10 @@ use Rattle.report_text.specs.declared.reports.Report.{Report}
 use Rattle.report_text.specs.declared.reports.ReplyLine.{ReplyLine}
 use Rattle.report_text.specs.declared.reports.ReplyLine.TheVariants as reply
 use Rattle.session_language.specs.Language.{alone}
-use Rattle.sql_answer.specs.Language.{sql_language}
+use Rattle.query_laws.specs.Alone.{sql_language}
 use Rattle.script_play.specs.Basis.{from_start}
 use Rattle.session_language.specs.Each.{EachAfter}
-use Rattle.report_laws.specs.History.{rows_at, taken_at, IsEntryAfter, view_of}
+use Rattle.report_laws.specs.History.{rows_at, changes_at, IsEntryAfter, view_of}
 use Rattle.report_laws.specs.Lawful.{IsFreshLine, NameUpTo, base_line}
 use Rattle.report_laws.specs.Nodes.{downs, are_few}
 use Rattle.report_laws.specs.Places.{HasItsPlace}
@@ -30,6 +30,8 @@ use Rattle.report_laws.specs.Play.{InTurns, opening}
 use Rattle.report_laws.specs.Told.{Along, Numbered, IsCut, IsTold, IsEntryTold, told, numbered}
 use Rattle.report_laws.specs.Work.{Place, Nowhere, transaction, place_after}
 use Rattle.cdb_values.specs.declared.items.GenidItem.{GenidItem}
+use Rattle.cdb_values.specs.declared.items.Interval.{Interval}
+use Rattle.cdb_values.specs.declared.rows.Change.{Change}
 use Rattle.script_play.specs.Decisions.{HasName}
 use Rattle.script_play.specs.Ready.{AreKept, IsKeptOp}
 use Rattle.script_play.specs.Doing.{SessionAt, Doing}
@@ -51,22 +53,23 @@ state_of name (s ∷ ss) (x ∷ xs) = if bytes_eq s.name name then x else state_
 abbrev pub now_of : Start → List EntryLine → ℕ
 now_of start entries = base start + length entries
 
--- the open transaction was told so far, has these operations, and its texts used these versions
-pub record IsOpen (script : Script) (start : Start) (entries : List EntryLine) (next : ℕ) (texts : List (List ℕ)) (begin : ℕ) (ops : List RowOp) (uses : List GenidItem) (mine : List ReplyLine) : Type 0 where
+-- the open transaction was told so far, has these operations, and its texts used these versions and read these intervals
+pub record IsOpen (script : Script) (start : Start) (entries : List EntryLine) (next : ℕ) (texts : List (List ℕ)) (begin : ℕ) (ops : List RowOp) (uses : List GenidItem) (ranges : List Interval) (mine : List ReplyLine) : Type 0 where
   pub first : IsFrom (base start) begin
   pub within : begin ≤ now_of start entries
   pub says : mine ≡ reply.Begin begin ∷ (alone sql_language (tables_of script) (rows_at (from_start script start) entries begin) texts).replies
   pub ops_are : ops ≡ (alone sql_language (tables_of script) (rows_at (from_start script start) entries begin) texts).ops
   pub uses_are : uses ≡ (alone sql_language (tables_of script) (rows_at (from_start script start) entries begin) texts).uses
+  pub ranges_are : ranges ≡ (alone sql_language (tables_of script) (rows_at (from_start script start) entries begin) texts).ranges
   pub sound : AllByRecursion (IsKeptOp (tables_of script) next) ops
 
 -- what a session is doing, by the transaction that is open in its work
 abbrev pub IsDoing : Script → Start → List EntryLine → ℕ → Place → Option (List (List ℕ)) → Doing → List ReplyLine → Type 0
 IsDoing script start entries next p None doing.No mine = mine ≡ []
-IsDoing script start entries next p None (doing.Open begin ops uses) mine = ⊥
+IsDoing script start entries next p None (doing.Open begin ops uses ranges) mine = ⊥
 IsDoing script start entries next p None doing.Aborted mine = ⊥
 IsDoing script start entries next p (Some texts) doing.No mine = ⊥
-IsDoing script start entries next p (Some texts) (doing.Open begin ops uses) mine = IsOpen script start entries next texts begin ops uses mine
+IsDoing script start entries next p (Some texts) (doing.Open begin ops uses ranges) mine = IsOpen script start entries next texts begin ops uses ranges mine
 IsDoing script start entries next p (Some texts) doing.Aborted mine = IsCut (from_start script start) (view_of (from_start script start) entries) (transaction p.number texts p.level Nowhere) mine
 
 -- a session's lines are those of its work so far, and it is where its work is
@@ -89,24 +92,24 @@ abbrev pub IsEnded : List BodyLine → EntryLine → Type 0
 IsEnded done (Setup position) = Unit {0}
 IsEnded done (Commit position session txn begin level) = IsPast (place_after sql_language session done).number (place_after sql_language session done).pending txn
 
--- the history so far, the versions that each entry took away, and the rows at each position from the start on
-pub record Stored (script : Script) (start : Start) (entries : List EntryLine) (taken : List (List GenidItem)) (seen : Seen) : Type 0 where
+-- the history so far, what each entry changed, and the rows at each position from the start on
+pub record Stored (script : Script) (start : Start) (entries : List EntryLine) (changed : List (List Change)) (seen : Seen) : Type 0 where
   pub opened : IsFrom (base start) (now_of start entries)
   pub history : EachAfter (IsEntryAfter (from_start script start)) [] entries
   pub rows_are : (at : ℕ) → IsFrom (base start) at → at ≤ now_of start entries → seen.at at ≡ rows_at (from_start script start) entries at
   pub now_are : seen.at (now_of start entries) ≡ rows_at (from_start script start) entries (now_of start entries)
   pub next_is : seen.next ≡ (seen.at (now_of start entries)).next
-  pub taken_length : length taken ≡ now_of start entries
-  pub taken_are : (k : ℕ) → base start < k → k ≤ now_of start entries → unwrap_or (slice_get taken (k - 1)) [] ≡ taken_at (from_start script start) entries k
+  pub changed_length : length changed ≡ now_of start entries
+  pub changed_are : (k : ℕ) → base start < k → k ≤ now_of start entries → unwrap_or (slice_get changed (k - 1)) [] ≡ changes_at (from_start script start) entries k
   pub sound : (at : ℕ) → IsFrom (base start) at → at ≤ now_of start entries → AreKept (tables_of script) seen.next (seen.at at).tables
-  -- each version that an entry of the run took away is one of a table that has a name
-  pub named : AllByRecursion (AllByRecursion (HasName (tables_of script))) (drop (base start) taken)
+  -- each change of an entry of the run is of a table that has a name
+  pub named : AllByRecursion (AllByRecursion (HasName (tables_of script))) (drop (base start) changed)
 
 -- a session behind the line that the node went down: where its transaction is open, it began before that line, and the
 -- session was told nothing since
 abbrev pub IsGone : Doing → List Numbered → Type 0
 IsGone doing.No since = Unit {0}
-IsGone (doing.Open begin ops uses) since = since ≡ []
+IsGone (doing.Open begin ops uses ranges) since = since ≡ []
 IsGone doing.Aborted since = Unit {0}
 
 -- the node went down: one line tells it, by a fault, so that no majority is up; each open transaction is to be lost
@@ -125,9 +128,9 @@ IsAtNode false script lines states = downs lines ≡ 0
 IsAtNode true script lines states = IsDown script lines states
 
 -- after the script's lines `done`, with the lines `left` still to do
-pub record SoFar (script : Script) (start : Start) (down : Bool) (done left : List BodyLine) (lines : List Line) (entries : List EntryLine) (taken : List (List GenidItem)) (seen : Seen) (states : List SessionAt) : Type 0 where
+pub record SoFar (script : Script) (start : Start) (down : Bool) (done left : List BodyLine) (lines : List Line) (entries : List EntryLine) (changed : List (List Change)) (seen : Seen) (states : List SessionAt) : Type 0 where
   pub body : script.body ≡ done ++ left
-  pub stored : Stored script start entries taken seen
+  pub stored : Stored script start entries changed seen
   pub standing : (name : List ℕ) → Standing script start entries seen.next name (place_after sql_language name done) (told name lines) (state_of name script.sessions states)
   pub fresh : EachAfter (IsFreshLine (from_start script start).origin) [] lines
   pub later : List EntryLine
@@ -140,12 +143,12 @@ pub record SoFar (script : Script) (start : Start) (down : Bool) (done left : Li
   pub node : IsAtNode down script lines states
 
 -- the run before a line, with the lines `left` still to do: every line of the script can be run
-pub record IsBefore (script : Script) (start : Start) (down : Bool) (left : List BodyLine) (lines : List Line) (entries : List EntryLine) (taken : List (List GenidItem)) (seen : Seen) (states : List SessionAt) : Type 0 where
+pub record IsBefore (script : Script) (start : Start) (down : Bool) (left : List BodyLine) (lines : List Line) (entries : List EntryLine) (changed : List (List Change)) (seen : Seen) (states : List SessionAt) : Type 0 where
   pub can_run : CanRun script
   pub said : AllByRecursion (λ l. IsSaid script.sessions l.act) left
   pub same : length states ≡ length script.sessions
   pub done : List BodyLine
-  pub so_far : SoFar script start down done left lines entries taken seen states
+  pub so_far : SoFar script start down done left lines entries changed seen states
 
 -- the report of lines and of a history behind a base, up to its last position
 abbrev pub report_of : ℕ → ℕ → List Line → List EntryLine → Report

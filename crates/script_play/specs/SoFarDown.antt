@@ -16,7 +16,7 @@ use Rattle.script_form.specs.CanRun.{CanRun, IsSaid}
 use Rattle.script_form.specs.declared.scripts.BodyLine.{BodyLine}
 use Rattle.script_form.specs.declared.scripts.Script.{Script}
 use Rattle.session_language.specs.Each.{EachAfter}
-use Rattle.sql_answer.specs.Language.{sql_language}
+use Rattle.query_laws.specs.Alone.{sql_language}
 use Rattle.script_play.specs.Basis.{from_origin}
 use Rattle.script_play.specs.Doing.{SessionAt, Doing}
 use Rattle.script_play.specs.Doing as doing
@@ -26,10 +26,10 @@ use Rattle.script_play.specs.SoFar.{state_of}
 -- what a session is doing, by the transaction that is open in its work: that one was told that no majority is up, and no more
 abbrev pub IsDoingDown : Option (List (List ℕ)) → Doing → List ReplyLine → Type 0
 IsDoingDown None doing.No mine = mine ≡ []
-IsDoingDown None (doing.Open begin ops uses) mine = ⊥
+IsDoingDown None (doing.Open begin ops uses ranges) mine = ⊥
 IsDoingDown None doing.Aborted mine = ⊥
 IsDoingDown (Some texts) doing.No mine = ⊥
-IsDoingDown (Some texts) (doing.Open begin ops uses) mine = ⊥
+IsDoingDown (Some texts) (doing.Open begin ops uses ranges) mine = ⊥
 IsDoingDown (Some texts) doing.Aborted mine = mine ≡ reply.NoMajority 0 1 ∷ []
 
 -- a session's lines are those of its work so far, and it is where its work is

@@ -21,10 +21,12 @@ use Rattle.sql_answer.specs.Answers.{Meaning}
 use Rattle.sql_answer.specs.Language.{meaning, bound_in}
 use Rattle.sql_answer.specs.Reading.{kind_of_text}
 use Rattle.sql_run.specs.Texts.{answer_to}
-use Rattle.cdb_values.specs.Changes.{taken_by}
+use Rattle.cdb_values.specs.Changes.{changes_of}
 use Rattle.report_laws.specs.Told.{lines_of}
 use Rattle.cdb_values.specs.declared.items.GenidItem.{GenidItem}
-use Rattle.script_play.specs.Decisions.{decision, added_by}
+use Rattle.cdb_values.specs.declared.items.Interval.{Interval}
+use Rattle.cdb_values.specs.declared.rows.Change.{Change}
+use Rattle.script_play.specs.Decisions.{decision, added_by, used_by}
 use Rattle.script_play.specs.Doing.{SessionAt, Doing}
 use Rattle.script_play.specs.Doing as doing
 
@@ -43,21 +45,21 @@ pub record Turned : Type 0 where
 abbrev pub turned : ℕ → List ReplyLine → SessionAt → Turned
 turned number replies after = record { number = number; replies = replies; after = after; begin = 0; added = [] }
 
--- what the run is before a line: the tables, the rows at each position, what each entry took away,
+-- what the run is before a line: the tables, the rows at each position, what each entry changed,
 -- and the last position
 pub record World : Type 0 where
   pub tables : List TableDef
   pub seen : Seen
-  pub taken : List (List GenidItem)
+  pub changed : List (List Change)
   pub now : ℕ
 
-abbrev pub world_of : List TableDef → Seen → List (List GenidItem) → ℕ → World
-world_of tables seen taken now = record { tables = tables; seen = seen; taken = taken; now = now }
+abbrev pub world_of : List TableDef → Seen → List (List Change) → ℕ → World
+world_of tables seen changed now = record { tables = tables; seen = seen; changed = changed; now = now }
 
--- a transaction that began at a position comes to its commit with these operations, its texts having used these
--- versions
-abbrev pub outcome : World → ℕ → List GenidItem → List RowOp → ReplyLine
-outcome w begin uses ops = decision w.tables w.taken (w.seen.at w.now) begin w.now uses ops
+-- a transaction that began at a position comes to its commit at a level with these operations, its texts having used these
+-- versions and read these intervals
+abbrev pub outcome : World → ℕ → Level → List GenidItem → List Interval → List RowOp → ReplyLine
+outcome w begin level uses ranges ops = decision w.tables w.changed (w.seen.at w.now) begin w.now (used_by level ops uses ranges) ops
 
 -- an answer in a transaction that began there, by what the text means
 abbrev pub answer_of : World → ℕ → List RowOp → Meaning → Answered
@@ -71,38 +73,38 @@ answer_at w begin ops text = answer_of w begin ops (meaning bound_in w.tables te
 abbrev pub own_line : World → ℕ → Level → Answered → Turned
 own_line w number level a = record {
   number = number;
-  replies = reply.Begin w.now ∷ (a.replies ++ outcome w w.now a.uses a.ops ∷ []);
+  replies = reply.Begin w.now ∷ (a.replies ++ outcome w w.now level a.uses a.ranges a.ops ∷ []);
   after = state number level doing.No;
   begin = w.now;
-  added = added_by (outcome w w.now a.uses a.ops) a.ops;
+  added = added_by (outcome w w.now level a.uses a.ranges a.ops) a.ops;
 }
 
 -- a transaction comes to its commit
-abbrev pub committed : World → ℕ → Level → ℕ → List GenidItem → List RowOp → Turned
-committed w number level begin uses ops = record {
+abbrev pub committed : World → ℕ → Level → ℕ → List GenidItem → List Interval → List RowOp → Turned
+committed w number level begin uses ranges ops = record {
   number = number;
-  replies = outcome w begin uses ops ∷ [];
+  replies = outcome w begin level uses ranges ops ∷ [];
   after = state number level doing.No;
   begin = begin;
-  added = added_by (outcome w begin uses ops) ops;
+  added = added_by (outcome w begin level uses ranges ops) ops;
 }
 
--- a statement is answered in an open transaction, whose texts used these versions so far
-abbrev pub goes_on : ℕ → Level → ℕ → List GenidItem → Answered → Turned
-goes_on number level begin uses a = turned number a.replies (state number level (doing.Open begin a.ops (uses ++ a.uses)))
+-- a statement is answered in an open transaction, whose texts used these versions and read these intervals so far
+abbrev pub goes_on : ℕ → Level → ℕ → List GenidItem → List Interval → Answered → Turned
+goes_on number level begin uses ranges a = turned number a.replies (state number level (doing.Open begin a.ops (uses ++ a.uses) (ranges ++ a.ranges)))
 
 -- what a line does, by what its text means and is to transactions
 abbrev pub turn_of : World → ℕ → Level → Meaning → Kind → Doing → Turned
-turn_of w number level meant BeginText doing.No = turned (number + 1) (reply.Begin w.now ∷ []) (state (number + 1) level (doing.Open w.now [] []))
+turn_of w number level meant BeginText doing.No = turned (number + 1) (reply.Begin w.now ∷ []) (state (number + 1) level (doing.Open w.now [] [] []))
 turn_of w number level meant CommitText doing.No = turned 0 (reply.Error State ∷ []) (state number level doing.No)
 turn_of w number level meant RollbackText doing.No = turned 0 (reply.Error State ∷ []) (state number level doing.No)
 turn_of w number level meant (LevelText later) doing.No = turned 0 (reply.Level later ∷ []) (state number later doing.No)
 turn_of w number level meant OtherText doing.No = own_line w (number + 1) level (answer_of w w.now [] meant)
-turn_of w number level meant BeginText (doing.Open begin ops uses) = goes_on number level begin uses (answer_of w begin ops meant)
-turn_of w number level meant CommitText (doing.Open begin ops uses) = committed w number level begin uses ops
-turn_of w number level meant RollbackText (doing.Open begin ops uses) = turned number (reply.RolledBack ∷ []) (state number level doing.No)
-turn_of w number level meant (LevelText later) (doing.Open begin ops uses) = goes_on number level begin uses (answer_of w begin ops meant)
-turn_of w number level meant OtherText (doing.Open begin ops uses) = goes_on number level begin uses (answer_of w begin ops meant)
+turn_of w number level meant BeginText (doing.Open begin ops uses ranges) = goes_on number level begin uses ranges (answer_of w begin ops meant)
+turn_of w number level meant CommitText (doing.Open begin ops uses ranges) = committed w number level begin uses ranges ops
+turn_of w number level meant RollbackText (doing.Open begin ops uses ranges) = turned number (reply.RolledBack ∷ []) (state number level doing.No)
+turn_of w number level meant (LevelText later) (doing.Open begin ops uses ranges) = goes_on number level begin uses ranges (answer_of w begin ops meant)
+turn_of w number level meant OtherText (doing.Open begin ops uses ranges) = goes_on number level begin uses ranges (answer_of w begin ops meant)
 turn_of w number level meant BeginText doing.Aborted = turned number [] (state number level doing.Aborted)
 turn_of w number level meant CommitText doing.Aborted = turned number [] (state number level doing.No)
 turn_of w number level meant RollbackText doing.Aborted = turned number [] (state number level doing.No)
@@ -129,10 +131,10 @@ IsKept now seen seen' (ops ∷ _) =
     × (seen'.next ≡ (apply_all (seen.at now) ops).next)
 
 -- a line did what it does
-pub record IsTurned (w : World) (name : List ℕ) (t : Turned) (lines lines' : List Line) (entries entries' : List EntryLine) (taken' : List (List GenidItem)) (seen' : Seen) : Type 0 where
+pub record IsTurned (w : World) (name : List ℕ) (t : Turned) (lines lines' : List Line) (entries entries' : List EntryLine) (changed' : List (List Change)) (seen' : Seen) : Type 0 where
   pub lines_are : lines' ≡ lines ++ lines_of name t.number t.replies
   pub entries_are : entries' ≡ entries ++ entries_added name w.now t
-  pub taken_are : taken' ≡ w.taken ++ map taken_by t.added
+  pub changed_are : changed' ≡ w.changed ++ map (λ ops. changes_of ops w.seen.next) t.added
   pub rows_are : IsKept w.now w.seen seen' t.added
 
 -- the number of a transaction that want of memory ends, and where the session is then: it skips the
@@ -150,26 +152,26 @@ cut_by number level CommitText doing.No = None
 cut_by number level RollbackText doing.No = None
 cut_by number level (LevelText later) doing.No = None
 cut_by number level OtherText doing.No = cut (number + 1) (state (number + 1) level doing.No)
-cut_by number level BeginText (doing.Open begin ops uses) = cut number (state number level doing.Aborted)
-cut_by number level CommitText (doing.Open begin ops uses) = cut number (state number level doing.No)
-cut_by number level RollbackText (doing.Open begin ops uses) = cut number (state number level doing.No)
-cut_by number level (LevelText later) (doing.Open begin ops uses) = cut number (state number level doing.Aborted)
-cut_by number level OtherText (doing.Open begin ops uses) = cut number (state number level doing.Aborted)
+cut_by number level BeginText (doing.Open begin ops uses ranges) = cut number (state number level doing.Aborted)
+cut_by number level CommitText (doing.Open begin ops uses ranges) = cut number (state number level doing.No)
+cut_by number level RollbackText (doing.Open begin ops uses ranges) = cut number (state number level doing.No)
+cut_by number level (LevelText later) (doing.Open begin ops uses ranges) = cut number (state number level doing.Aborted)
+cut_by number level OtherText (doing.Open begin ops uses ranges) = cut number (state number level doing.Aborted)
 cut_by number level _ doing.Aborted = None
 
 -- a line was cut short by want of memory, which is all that was told and done
-pub record IsCutShort (w : World) (name : List ℕ) (c : Cut) (lines lines' : List Line) (entries entries' : List EntryLine) (taken' : List (List GenidItem)) (seen' : Seen) : Type 0 where
+pub record IsCutShort (w : World) (name : List ℕ) (c : Cut) (lines lines' : List Line) (entries entries' : List EntryLine) (changed' : List (List Change)) (seen' : Seen) : Type 0 where
   pub lines_are : lines' ≡ lines ++ lines_of name c.number (reply.NoMemory ∷ [])
   pub entries_are : entries' ≡ entries
-  pub taken_are : taken' ≡ w.taken
+  pub changed_are : changed' ≡ w.changed
   pub rows_are : seen' ≡ w.seen
 
 -- a line did what it does, or was cut short; and the session is there behind it
-abbrev pub IsTakenBy : World → List ℕ → ℕ → Level → List ℕ → Kind → Doing → SessionAt → List Line → List Line → List EntryLine → List EntryLine → List (List GenidItem) → Seen → Type 0
-IsTakenBy w name number level text k what after lines lines' entries entries' taken' seen' =
-    (IsTurned w name (turn_by w number level text k what) lines lines' entries entries' taken' seen' × (after ≡ (turn_by w number level text k what).after))
-    ⊎ ((c : Cut) × (cut_by number level k what ≡ Some c) × IsCutShort w name c lines lines' entries entries' taken' seen' × (after ≡ c.after))
+abbrev pub IsTakenBy : World → List ℕ → ℕ → Level → List ℕ → Kind → Doing → SessionAt → List Line → List Line → List EntryLine → List EntryLine → List (List Change) → Seen → Type 0
+IsTakenBy w name number level text k what after lines lines' entries entries' changed' seen' =
+    (IsTurned w name (turn_by w number level text k what) lines lines' entries entries' changed' seen' × (after ≡ (turn_by w number level text k what).after))
+    ⊎ ((c : Cut) × (cut_by number level k what ≡ Some c) × IsCutShort w name c lines lines' entries entries' changed' seen' × (after ≡ c.after))
 
-abbrev pub IsTaken : World → List ℕ → SessionAt → List ℕ → SessionAt → List Line → List Line → List EntryLine → List EntryLine → List (List GenidItem) → Seen → Type 0
-IsTaken w name before text after lines lines' entries entries' taken' seen' =
-    IsTakenBy w name before.number before.level text (kind_of_text text) before.doing after lines lines' entries entries' taken' seen'
+abbrev pub IsTaken : World → List ℕ → SessionAt → List ℕ → SessionAt → List Line → List Line → List EntryLine → List EntryLine → List (List Change) → Seen → Type 0
+IsTaken w name before text after lines lines' entries entries' changed' seen' =
+    IsTakenBy w name before.number before.level text (kind_of_text text) before.doing after lines lines' entries entries' changed' seen'

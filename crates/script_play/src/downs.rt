@@ -7,6 +7,7 @@
 //! | behind one that was cut short | is skipped | ends it | ends it | is skipped | is skipped |
 ghost use Rattle.std.specs.Prelude.{◌≡◌, ℕ, List, ◌+◌, ◌∷◌, [], IfOk, option_to_list};
 ghost use Rattle.cdb_values.specs.declared.items.GenidItem.{GenidItem};
+ghost use Rattle.cdb_values.specs.declared.items.Interval.{Interval};
 ghost use Rattle.cdb_values.specs.declared.rows.RowOp.{RowOp};
 ghost use Rattle.sql_run.specs.Views.{kind_in};
 ghost use Rattle.script_play.specs.Doing as doing;
@@ -116,7 +117,7 @@ fn misplaced(number: u64, level: Level) -> DownEffect
 
 /// A line of a transaction that is lost: it began before the node went down.
 fn lost(number: u64, level: Level, kind: TextKind) -> DownEffect
-    ensures { (begin : ℕ) (ops : List RowOp) (uses : List GenidItem) → IsEffectDown result (turn_down number level (kind_in kind) (doing.Open begin ops uses)) }
+    ensures { (begin : ℕ) (ops : List RowOp) (uses : List GenidItem) (ranges : List Interval) → IsEffectDown result (turn_down number level (kind_in kind) (doing.Open begin ops uses ranges)) }
 {
     told(
         number,

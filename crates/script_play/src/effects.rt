@@ -1,6 +1,8 @@
 //! What a line of a session is to do on a node that is up, by where the session is: nothing is told or kept yet.
 ghost use Rattle.std.specs.Prelude.{◌≡◌, ℕ, List, ◌+◌, ◌++◌, ◌∷◌, [], length, IfOk, IfSome};
+ghost use Rattle.blkseq_table.specs.OfLogs.{identities_of};
 ghost use Rattle.cdb_values.specs.declared.items.GenidItem.{GenidItem};
+ghost use Rattle.cdb_values.specs.declared.items.Interval.{Interval};
 ghost use Rattle.cdb_values.specs.declared.rows.RowOp.{RowOp};
 ghost use Rattle.phys_log.specs.declared.entries.Entry.{Entry};
 ghost use Rattle.cdb_values.specs.declared.tables.TableDef.{TableDef};
@@ -17,6 +19,7 @@ ghost use Rattle.script_play.specs.Step.{World, answer_of, committed, cut_by, go
 use super::reads::answer_text;
 use super::states::{InTransaction, SessionState};
 use super::verdicts::decided;
+use blkseq_table::BlkSeq;
 use cdb_values::{Level, Name, Schema, StatementError};
 use log_replay::PagedLog;
 use osql_session::OsqlSession;
@@ -43,6 +46,7 @@ pub(crate) fn effect_of(
     schema: &Schema,
     generation: u64,
     log: &PagedLog,
+    known: &BlkSeq,
     name: &Name,
     state: SessionState,
     kind: TextKind,
@@ -50,6 +54,7 @@ pub(crate) fn effect_of(
 ) -> Result<LineEffect, AllocError>
     ghost start: { Start }
     requires ready { IsReadyFor start schema.now log.now }
+    requires known { known.now ≡ identities_of log.now }
     requires ready_to_go { IsReadyToGo start schema.now (length log.now) log.now (doing_in state.doing) }
     requires own { IsOwn generation name.now state }
     requires plan { (text_in prepared.now).plan ≡ plan_by schema.now (text_in prepared.now).meaning }
@@ -64,11 +69,11 @@ pub(crate) fn effect_of(
     } = state;
     match doing {
         InTransaction::No => outside(
-            alloc, schema, generation, log, name, number, level, kind, prepared,
+            alloc, schema, generation, log, known, name, number, level, kind, prepared,
         ),
         InTransaction::Open(session) => {
             inside(
-                alloc, schema, generation, log, number, level, session, kind, prepared,
+                alloc, schema, generation, log, known, number, level, session, kind, prepared,
             )
         }
         InTransaction::Aborted => Ok(skip(alloc, number, level, kind)),
@@ -113,7 +118,7 @@ fn cut_outside(number: u64, level: Level, kind: TextKind) -> Option<SessionState
 
 /// Where a session is behind a line in its transaction that was cut short.
 fn cut_inside(number: u64, level: Level, kind: TextKind) -> SessionState
-    ensures cut { (begin : ℕ) (ops : List RowOp) (uses : List GenidItem) → cut_by number level (kind_in kind) (doing.Open begin ops uses) ≡ cut_in result }
+    ensures cut { (begin : ℕ) (ops : List RowOp) (uses : List GenidItem) (ranges : List Interval) → cut_by number level (kind_in kind) (doing.Open begin ops uses ranges) ≡ cut_in result }
     ensures shut { IsShut result.doing }
 {
     let doing = match kind {
@@ -136,6 +141,7 @@ fn outside(
     schema: &Schema,
     generation: u64,
     log: &PagedLog,
+    known: &BlkSeq,
     name: &Name,
     number: u64,
     level: Level,
@@ -144,6 +150,7 @@ fn outside(
 ) -> Result<LineEffect, AllocError>
     ghost start: { Start }
     requires ready { IsReadyFor start schema.now log.now }
+    requires known { known.now ≡ identities_of log.now }
     requires plan { (text_in prepared.now).plan ≡ plan_by schema.now (text_in prepared.now).meaning }
     requires of_text { IsOfText schema.now (text_in prepared.now).meaning }
     ensures { IfOk result (λ p. IsEffect start generation schema.now log.now name.now p
@@ -155,7 +162,7 @@ fn outside(
         TextKind::Rollback => refused(alloc, number, level),
         TextKind::SetLevel(level) => set_level(alloc, number, level),
         TextKind::Other => own_transaction(
-            alloc, schema, generation, log, name, number, level, prepared,
+            alloc, schema, generation, log, known, name, number, level, prepared,
         ),
     }
 }
@@ -166,6 +173,7 @@ fn inside(
     schema: &Schema,
     generation: u64,
     log: &PagedLog,
+    known: &BlkSeq,
     number: u64,
     level: Level,
     session: OsqlSession,
@@ -174,13 +182,16 @@ fn inside(
 ) -> Result<LineEffect, AllocError>
     ghost start: { Start }
     requires ready { IsReadyFor start schema.now log.now }
+    requires known { known.now ≡ identities_of log.now }
     requires able { IsAble start schema.now (length log.now) log.now session.begin session.ops }
     requires plan { (text_in prepared.now).plan ≡ plan_by schema.now (text_in prepared.now).meaning }
     ensures { (name : List ℕ) → IsOwnDoing generation name number level (InTransaction.Open session) → IfOk result (λ p. IsEffect start generation schema.now log.now name p
-        (turn_of (world start schema.now log.now) number level (text_in prepared.now).meaning (kind_in kind) (doing.Open session.begin session.ops session.genids))) }
+        (turn_of (world start schema.now log.now) number level (text_in prepared.now).meaning (kind_in kind) (doing.Open session.begin session.ops session.genids session.ranges))) }
 {
     match kind {
-        TextKind::Commit => commit(alloc, schema, generation, log, number, level, session),
+        TextKind::Commit => commit(
+            alloc, schema, generation, log, known, number, level, session,
+        ),
         TextKind::Rollback => rolled_back(alloc, number, level),
         TextKind::Begin => go_on(alloc, schema, log, number, level, session, prepared),
         TextKind::SetLevel(_) => go_on(alloc, schema, log, number, level, session, prepared),
@@ -305,6 +316,7 @@ fn opened(
     ensures begin { IfOk result (λ s. s.begin ≡ length log.now) }
     ensures ops { IfOk result (λ s. s.ops ≡ []) }
     ensures genids { IfOk result (λ s. s.genids ≡ []) }
+    ensures ranges { IfOk result (λ s. s.ranges ≡ []) }
 {
     let id = CommitId {
         began: generation,
@@ -324,7 +336,7 @@ fn begin(
     level: Level,
 ) -> Result<LineEffect, AllocError>
     ensures { (start : Start) (tables : List TableDef) → IfOk result (λ p. IsEffect start generation tables log.now name.now p
-        (turned (number + 1) (ReplyLine.Begin (length log.now) ∷ []) (state (number + 1) level (doing.Open (length log.now) [] [])))) }
+        (turned (number + 1) (ReplyLine.Begin (length log.now) ∷ []) (state (number + 1) level (doing.Open (length log.now) [] [] [])))) }
 {
     let number = counted(number)?;
     let session = opened(alloc, generation, log, name, number, level)?;
@@ -352,7 +364,7 @@ fn go_on(
     requires able { IsAble start schema.now (length log.now) log.now session.begin session.ops }
     requires plan { (text_in prepared.now).plan ≡ plan_by schema.now (text_in prepared.now).meaning }
     ensures { (generation : ℕ) (name : List ℕ) → IsOwnDoing generation name number level (InTransaction.Open session) → IfOk result (λ p. IsEffect start generation schema.now log.now name p
-        (goes_on number level session.begin session.genids (answer_of (world start schema.now log.now) session.begin session.ops (text_in prepared.now).meaning))) }
+        (goes_on number level session.begin session.genids session.ranges (answer_of (world start schema.now log.now) session.begin session.ops (text_in prepared.now).meaning))) }
 {
     let mut session = session;
     let replies = answer_text(alloc, schema, log, &mut session, prepared)?;
@@ -374,17 +386,19 @@ fn commit(
     schema: &Schema,
     generation: u64,
     log: &PagedLog,
+    known: &BlkSeq,
     number: u64,
     level: Level,
     session: OsqlSession,
 ) -> Result<LineEffect, AllocError>
     ghost start: { Start }
     requires ready { IsReadyFor start schema.now log.now }
+    requires known { known.now ≡ identities_of log.now }
     requires able { IsAble start schema.now (length log.now) log.now session.begin session.ops }
     ensures { (name : List ℕ) → IsOwnDoing generation name number level (InTransaction.Open session) → IfOk result (λ p. IsEffect start generation schema.now log.now name p
-        (committed (world start schema.now log.now) number level session.begin session.genids session.ops)) }
+        (committed (world start schema.now log.now) number level session.begin session.genids session.ranges session.ops)) }
 {
-    let verdict = decided(alloc, schema, generation, log, &session)?;
+    let verdict = decided(alloc, schema, generation, log, known, &session)?;
     let mut replies = Vec::new(alloc);
     replies.push(verdict.outcome)?;
     Ok(LineEffect {
@@ -401,6 +415,7 @@ fn own_transaction(
     schema: &Schema,
     generation: u64,
     log: &PagedLog,
+    known: &BlkSeq,
     name: &Name,
     number: u64,
     level: Level,
@@ -408,6 +423,7 @@ fn own_transaction(
 ) -> Result<LineEffect, AllocError>
     ghost start: { Start }
     requires ready { IsReadyFor start schema.now log.now }
+    requires known { known.now ≡ identities_of log.now }
     requires plan { (text_in prepared.now).plan ≡ plan_by schema.now (text_in prepared.now).meaning }
     requires of_text { IsOfText schema.now (text_in prepared.now).meaning }
     ensures { IfOk result (λ p. IsEffect start generation schema.now log.now name.now p
@@ -416,7 +432,7 @@ fn own_transaction(
     let number = counted(number)?;
     let mut session = opened(alloc, generation, log, name, number, level)?;
     let told = answer_text(alloc, schema, log, &mut session, prepared)?;
-    let verdict = decided(alloc, schema, generation, log, &session)?;
+    let verdict = decided(alloc, schema, generation, log, known, &session)?;
     let replies = whole(alloc, session.begin(), told.into_vec(), verdict.outcome)?;
     Ok(LineEffect {
         number,

@@ -44,6 +44,7 @@
 //! | what is decided at a commit | `verdicts` | `specs/Decisions.antt` |
 //! | what a line is to do, and what is done of it | `effects`, `run` | `specs/Effects.antt` |
 //! | the run so far, as the code keeps it | `run` | `specs/RunViews.antt` |
+//! | the log of the node, with the identities of its entries | `indexed` | `OfLogs` of `blkseq_table` |
 //! | where a run begins: the log before it, and the rows there | | `specs/Start.antt` |
 //! | the rows at each position | | `specs/Seen.antt` |
 //! | what the log and the rows keep from line to line | | `specs/Ready.antt` |
@@ -57,6 +58,7 @@
 mod downs;
 mod effects;
 mod holding;
+mod indexed;
 mod lines;
 mod playing;
 mod reads;
@@ -64,4 +66,4 @@ mod run;
 mod states;
 mod verdicts;
 
-pub use playing::{Played, play, play_down};
+pub use playing::{Played, play, play_down, schema_of};

@@ -115,6 +115,7 @@ fn run_whole<D: LogStore>(
         schema,
         generation,
         run.log.log(),
+        run.log.known(),
         name,
         state,
         kind,

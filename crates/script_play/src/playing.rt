@@ -1,10 +1,12 @@
 //! The lines of a script, done one after the other on one node.
 ghost use Rattle.std.specs.Prelude.{◌≡◌, ℕ, ◌-◌, ◌<◌, ◌≤◌, ◌++◌, ◌∷◌, [], List, Some, false, true, length, OnOk, OnErr, IfOk, IfErr, MatchResult, map, slice_get, unwrap_or};
+ghost use Rattle.blkseq_table.specs.OfLogs.{identities_of};
+ghost use Rattle.block_processor.specs.Changed.{changed_in};
 ghost use Rattle.cdb_values.specs.Rows.{Rows};
 ghost use Rattle.log_replay.specs.Answers.{schema_of as schema_told};
-ghost use Rattle.log_rows.specs.History.{rows_over_at, takes_in, IsFrom, StandsOver};
+ghost use Rattle.log_rows.specs.History.{rows_over_at, IsFrom, StandsOver};
 ghost use Rattle.node_log.specs.Logged.{Leaves};
-ghost use Rattle.report_laws.specs.History.{rows_at, taken_at};
+ghost use Rattle.report_laws.specs.History.{rows_at, changes_at};
 ghost use Rattle.report_laws.specs.Lawful.{Lawful, base_line};
 ghost use Rattle.report_laws.specs.Nodes.{downs};
 ghost use Rattle.report_laws.specs.Play.{InPlayOrder};
@@ -16,6 +18,7 @@ ghost use Rattle.script_play.specs.EntryLines.{AreTold};
 ghost use Rattle.script_play.specs.Played.{downs_by, IsGivenUp, IsPlayed};
 ghost use Rattle.script_play.specs.Ready.{CanBegin};
 ghost use Rattle.script_play.specs.RunViews.{state_in, IsBeforeLine, IsOpenedBehind, IsSameHistory};
+ghost use Rattle.script_play.specs.Serial.{AreSerial};
 ghost use Rattle.script_play.specs.SoFarDown.{IsBeforeDown};
 ghost use Rattle.script_play.specs.declared.states.SessionState.{SessionState};
 ghost use Rattle.script_play.specs.SoFar.{at_start, report_of, session_at};
@@ -24,9 +27,11 @@ ghost use Rattle.std.specs.Str.{bytes_eq};
 
 use super::downs::run_down;
 use super::holding::let_go;
+use super::indexed::IndexedLog;
 use super::lines::{read_text, run_session_line};
 use super::run::{RunSoFar, add_down, add_line};
 use super::states::{InTransaction, SessionState};
+use blkseq_table::BlkSeq;
 use cdb_outside::LogStore;
 use cdb_values::{Level, List, Name, Schema, TableDef};
 use node_log::NodeLog;
@@ -48,15 +53,17 @@ pub struct Played<D: LogStore> {
 /// are done one after the other, in the generation in which the node stands.
 ///
 /// The run begins behind the log that was opened, at the rows for which its pages stand. A log without entries has got the
-/// setup of the script's tables since. Any other log begins with that setup, and goes on with transactions; what its entries
-/// say that they change is not looked at.
+/// setup of the script's tables since. Any other log begins with that setup, and goes on with transactions, each once; what its
+/// entries say that they change is not looked at.
 ///
-/// The report is lawful and in the order of play, over the history from there. The node may go down in it, once, where its
-/// store fails: then it stays down. The log's entries are those before the run and exactly those of the history, each with the
-/// session, number, begin and level that are printed, of the node's generation, in which their transactions began; and one
-/// more, which no one was told of, where the node went down. Each entry of the history takes away what it does there, and
-/// from the last position of the opened log on the pages of the log stand for the rows of the history. As long as the node is
-/// up its store stands for the log; else what a stop leaves of it stands for the log of the history, or for one entry more.
+/// The report is lawful and in the order of play, over the history from there. Each of its entries at level serializable is
+/// serial: its transaction, run alone on the rows right before it and without the texts that failed, has the same operations,
+/// and the replies that the other texts had. The node may go down in it, once, where its store fails: then it stays down. The
+/// log's entries are those before the run and exactly those of the history, each with the session, number, begin and level that
+/// are printed, of the node's generation, in which their transactions began; and one more, which no one was told of, where the
+/// node went down. Each entry of the history changes what it does there, and from the last position of the opened log on the
+/// pages of the log stand for the rows of the history. As long as the node is up its store stands for the log; else what a stop
+/// leaves of it stands for the log of the history, or for one entry more.
 ///
 /// The error is want of memory, with the log: it has the entries before the run and such as a history would tell, and is held
 /// as the log of a run that is done.
@@ -74,10 +81,11 @@ pub fn play<D: LogStore + Drop>(
     requires behind { CanBegin (tables_of script.now) start.before start.rows }
     ensures lawful { IfOk result (λ p. Lawful (from_start script.now start) p.report) }
     ensures in_order { IfOk result (λ p. InPlayOrder (from_start script.now start) p.report) }
+    ensures serial { IfOk result (λ p. AreSerial (from_start script.now start) p.report.entries) }
     ensures entries { IfOk result (λ p. AreTold start.before log.accepted p.report.entries (history_of p.log)) }
     ensures schema { IfOk result (λ p. schema_told (history_of p.log) ≡ Some (tables_of script.now)) }
-    ensures taken { IfOk result (λ p. (k : ℕ) → base < k → k ≤ length (history_of p.log)
-        → unwrap_or (slice_get (takes_in (history_of p.log)) (k - 1)) [] ≡ taken_at (from_start script.now start) p.report.entries k) }
+    ensures changed { IfOk result (λ p. (k : ℕ) → base < k → k ≤ length (history_of p.log)
+        → unwrap_or (slice_get (changed_in (history_of p.log)) (k - 1)) [] ≡ changes_at (from_start script.now start) p.report.entries k) }
     ensures rows { IfOk result (λ p. (k : ℕ) → IsFrom base k → k ≤ length (history_of p.log)
         → rows_over_at (ground_of start) (history_of p.log) k ≡ rows_at (from_start script.now start) p.report.entries k) }
     ensures stands { IfOk result (λ p. StandsOver (ground_of start) (tables_of script.now) (history_of p.log)) }
@@ -108,7 +116,10 @@ fn play_behind<D: LogStore + Drop>(
     ensures given_up { IfErr result (λ l. IsGivenUp start log l) }
     ensures owner { MatchResult result (λ p. owner_of p.log ≡ owner_of log) (λ l. owner_of l ≡ owner_of log) }
 {
-    let mut so_far = opened(alloc, log);
+    let Ok(known) = BlkSeq::of_entries(alloc, log.log().entries()) else {
+        return Err(log);
+    };
+    let mut so_far = opened(alloc, log, known);
     match play_on(alloc, script, base, &mut so_far) {
         Ok(()) => Ok(reported(alloc, base, so_far)),
         Err(_) => Err(let_run_go(so_far)),
@@ -120,7 +131,7 @@ fn let_run_go<D: LogStore + Drop>(run: RunSoFar<D>) -> NodeLog<D>
     ensures { result ≡ run.log }
 {
     let RunSoFar { log, .. } = run;
-    log
+    log.into_log()
 }
 
 /// Does the lines of a script in a run at its opening.
@@ -166,8 +177,9 @@ fn open_history(base: u64, entries: &mut Vec<EntryLine>) -> Result<(), AllocErro
     Ok(())
 }
 
-/// The run at its opening, behind a log.
-fn opened<D: LogStore>(alloc: Global, log: NodeLog<D>) -> RunSoFar<D>
+/// The run at its opening, behind a log, whose identities are known.
+fn opened<D: LogStore>(alloc: Global, log: NodeLog<D>, known: BlkSeq) -> RunSoFar<D>
+    requires { known ≡ identities_of log.entries }
     ensures lines { result.lines.items ≡ [] }
     ensures entries { result.entries.items ≡ [] }
     ensures log { result.log ≡ log }
@@ -175,12 +187,12 @@ fn opened<D: LogStore>(alloc: Global, log: NodeLog<D>) -> RunSoFar<D>
     RunSoFar {
         lines: Vec::new(alloc),
         entries: Vec::new(alloc),
-        log,
+        log: IndexedLog::over(log, known),
     }
 }
 
 /// The tables of a script, in order.
-fn schema_of(alloc: Global, tables: &[TableLine]) -> Result<Schema, AllocError>
+pub fn schema_of(alloc: Global, tables: &[TableLine]) -> Result<Schema, AllocError>
     ensures { IfOk result (λ schema. schema ≡ map (λ t. t.table) tables.now) }
 {
     let mut schema = Schema::new(alloc);
@@ -301,12 +313,15 @@ fn reported<D: LogStore>(alloc: Global, base: u64, run: RunSoFar<D>) -> Played<D
         log,
     } = run;
     let report = report_with(alloc, base, lines, entries, end);
-    Played { report, log }
+    Played {
+        report,
+        log: log.into_log(),
+    }
 }
 
 /// The last position of the history of a log: where the store failed, the log has one entry more.
 #[tactic(auto, using(crate::proofs::PlayLaws::told_up, crate::proofs::PlayLaws::told_down))]
-fn last_told<D: LogStore>(log: &NodeLog<D>) -> u64
+fn last_told<D: LogStore>(log: &IndexedLog<D>) -> u64
     requires some { log.now.failed ≡ true → 1 ≤ length log.now.entries }
     ensures { result ≡ length (history_of log.now) }
 {

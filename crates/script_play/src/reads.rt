@@ -1,5 +1,5 @@
 //! What a text is answered in a transaction: its rows are read from the pages of the log at its begin position.
-ghost use Rattle.std.specs.Prelude.{◌≡◌, ℕ, ◌≤◌, ◌++◌, length, IfOk, OnOk, OnErr};
+ghost use Rattle.std.specs.Prelude.{◌≡◌, ◌≤◌, ◌++◌, length, IfOk, OnOk, OnErr};
 ghost use Rattle.cdb_values.specs.Rows.{Rows};
 ghost use Rattle.phys_log.specs.Logs.{page_at};
 ghost use Rattle.sql_run.specs.Texts.{plan_by, answer_to};
@@ -37,6 +37,8 @@ pub(crate) fn answer_text(
         ≡ (answer_to schema.now rows.tables session.old.ops (text_in prepared.now).meaning).ops) }
     ensures genids { OnOk result (session.new.genids ≡ session.old.genids
         ++ (answer_to schema.now rows.tables session.old.ops (text_in prepared.now).meaning).uses) }
+    ensures ranges { OnOk result (session.new.ranges ≡ session.old.ranges
+        ++ (answer_to schema.now rows.tables session.old.ops (text_in prepared.now).meaning).ranges) }
     ensures id { session.new.id ≡ session.old.id }
     ensures begin { session.new.begin ≡ session.old.begin }
     ensures level { session.new.level ≡ session.old.level }
@@ -68,6 +70,8 @@ fn answer_over<P: PageSource + Drop>(
         ≡ (answer_to schema.now rows.tables session.old.ops (text_in prepared.now).meaning).ops) }
     ensures genids { (rows : Rows) → Stands (P.pages pages) schema.now rows → OnOk result (session.new.genids ≡ session.old.genids
         ++ (answer_to schema.now rows.tables session.old.ops (text_in prepared.now).meaning).uses) }
+    ensures ranges { (rows : Rows) → Stands (P.pages pages) schema.now rows → OnOk result (session.new.ranges ≡ session.old.ranges
+        ++ (answer_to schema.now rows.tables session.old.ops (text_in prepared.now).meaning).ranges) }
     ensures id { session.new.id ≡ session.old.id }
     ensures begin { session.new.begin ≡ session.old.begin }
     ensures level { session.new.level ≡ session.old.level }

@@ -5,18 +5,19 @@ ghost use Rattle.phys_log.specs.Logs.{Fits};
 ghost use Rattle.report_laws.specs.Told.{lines_of};
 ghost use Rattle.report_text.specs.declared.reports.Line.{Line};
 ghost use Rattle.script_play.specs.Down.{down_line, owner_of, IsEntered, IsFallenAt, IsKeptSo, TellsOutcome};
-ghost use Rattle.script_play.specs.Effects.{Grown};
+ghost use Rattle.script_play.specs.Effects.{Grown, IsFreshIn};
 ghost use Rattle.script_play.specs.EntryLines.{line_of as line_of_entry};
 ghost use Rattle.script_play.specs.RunViews.{IsSameHistory};
 ghost use Rattle.store_log.specs.Held.{generation_of};
 
 use super::effects::LineEffect;
 use super::holding::{beside, let_go};
+use super::indexed::IndexedLog;
 use super::states::SessionState;
 use cdb_outside::LogStore;
 use cdb_values::Name;
 use entry_spelling::has_spelling;
-use node_log::{KeepFault, NodeLog};
+use node_log::KeepFault;
 use phys_log::Entry;
 use report_text::{EntryLine, Line, ReplyLine};
 use std::alloc::{AllocError, Global};
@@ -28,7 +29,7 @@ use std::alloc::{AllocError, Global};
 pub(crate) struct RunSoFar<D: LogStore> {
     pub lines: Vec<Line>,
     pub entries: Vec<EntryLine>,
-    pub log: NodeLog<D>,
+    pub log: IndexedLog<D>,
 }
 
 /// What came of an append.
@@ -85,6 +86,7 @@ pub(crate) fn apply_effect<D: LogStore>(
 ) -> Result<SessionState, AllocError>
     requires running { run.old.log.failed ≡ false }
     requires fits { IfSome effect.added (Fits run.old.log.entries) }
+    requires fresh { IfSome effect.added (IsFreshIn run.old.log.entries) }
     requires commit { IfSome effect.added IsCommit }
     requires made { IfSome effect.added (λ e. generation_of e ≡ run.old.log.accepted) }
     requires told { TellsOutcome effect.replies.items effect.added }
@@ -122,6 +124,7 @@ fn append_committed<D: LogStore>(
 ) -> Result<(), AllocError>
     requires running { run.old.log.failed ≡ false }
     requires fits { Fits run.old.log.entries entry }
+    requires fresh { IsFreshIn run.old.log.entries entry }
     requires commit { IsCommit entry }
     requires made { generation_of entry ≡ run.old.log.accepted }
     requires told { (front : List Line) × (outcome : Line) × (run.old.lines.items ≡ front ++ outcome ∷ []) }
@@ -188,6 +191,7 @@ fn append_entry<D: LogStore>(
 ) -> Result<Appended, AllocError>
     requires running { run.old.log.failed ≡ false }
     requires fits { Fits run.old.log.entries entry }
+    requires fresh { IsFreshIn run.old.log.entries entry }
     requires commit { IsCommit entry }
     requires made { generation_of entry ≡ run.old.log.accepted }
     ensures kept { IfOk result (λ a. a ≡ Appended.Kept → IsEntered entry run.old.entries.items run.new.entries.items run.old.log run.new.log) }

@@ -1,18 +1,21 @@
 //! What is decided on a transaction at its commit, and how it is told.
 ghost use Rattle.std.specs.Prelude.{◌≡◌, [], length, None, Some, IfOk, unwrap_or};
+ghost use Rattle.blkseq_table.specs.OfLogs.{identities_of};
 ghost use Rattle.cdb_values.specs.Good.{KeyName};
 ghost use Rattle.osql_session.specs.Requests.{request_of};
-ghost use Rattle.report_laws.specs.Outcome.{name_of_table};
-ghost use Rattle.script_play.specs.Decisions.{conflict_told, touched, key_place, by_key};
+ghost use Rattle.report_laws.specs.Outcome.{name_of_key, name_of_table};
+ghost use Rattle.script_play.specs.Decisions.{item_told, key_place, by_key};
 ghost use Rattle.script_play.specs.Effects.{IsVerdict, named_by};
 ghost use Rattle.script_play.specs.Ready.{IsAble};
 ghost use Rattle.script_play.specs.RunViews.{world, IsReadyFor};
 ghost use Rattle.script_play.specs.Start.{Start};
 ghost use Rattle.script_play.specs.Step.{outcome};
+ghost use Rattle.session_language.specs.Intervals.{keys_at};
 ghost use Rattle.table_edits.specs.Broken.{named};
 
+use blkseq_table::BlkSeq;
 use block_processor::decide;
-use cdb_values::{GenidItem, Item, Name, Schema};
+use cdb_values::{Item, Name, Schema};
 use log_replay::PagedLog;
 use osql_session::OsqlSession;
 use phys_log::{CommitRequest, Decision, Entry};
@@ -36,20 +39,22 @@ pub(crate) fn decided(
     schema: &Schema,
     generation: u64,
     log: &PagedLog,
+    known: &BlkSeq,
     session: &OsqlSession,
 ) -> Result<Verdict, AllocError>
     ghost start: { Start }
     requires ready { IsReadyFor start schema.now log.now }
+    requires known { known.now ≡ identities_of log.now }
     requires able { IsAble start schema.now (length log.now) log.now session.now.begin session.now.ops }
     ensures { IfOk result (λ v. IsVerdict start schema.now log.now v
-        (outcome (world start schema.now log.now) session.now.begin session.now.genids session.now.ops) (named_by generation session.now) session.now.ops) }
+        (outcome (world start schema.now log.now) session.now.begin session.now.level session.now.genids session.now.ranges session.now.ops) (named_by generation session.now) session.now.ops) }
 {
     match session.request(alloc)? {
         None => Ok(Verdict {
             outcome: ReplyLine::Committed(session.begin()),
             added: None,
         }),
-        Some(request) => judged(alloc, schema, generation, log, session, &request),
+        Some(request) => judged(alloc, schema, generation, log, known, session, &request),
     }
 }
 
@@ -59,31 +64,26 @@ fn judged(
     schema: &Schema,
     generation: u64,
     log: &PagedLog,
+    known: &BlkSeq,
     session: &OsqlSession,
     request: &CommitRequest,
 ) -> Result<Verdict, AllocError>
     ghost start: { Start }
     requires ready { IsReadyFor start schema.now log.now }
+    requires known { known.now ≡ identities_of log.now }
     requires able { IsAble start schema.now (length log.now) log.now session.now.begin session.now.ops }
     requires asked { request_of session.now ≡ Some request.now }
     ensures { IfOk result (λ v. IsVerdict start schema.now log.now v
-        (outcome (world start schema.now log.now) session.now.begin session.now.genids session.now.ops) (named_by generation session.now) session.now.ops) }
+        (outcome (world start schema.now log.now) session.now.begin session.now.level session.now.genids session.now.ranges session.now.ops) (named_by generation session.now) session.now.ops) }
 {
     let now = log.entries().len() as u64;
     if LAST_POSITION <= now {
         return Err(AllocError);
     }
     the_first_broken_key_has_its_name();
-    match decide(alloc, request, log, generation)? {
+    match decide(alloc, request, log, known, generation)? {
         Decision::Repeat(_) => Err(AllocError),
-        Decision::Conflict {
-            position,
-            item: Item::Genid(item),
-        } => conflict(alloc, schema, position, item),
-        Decision::Conflict {
-            item: Item::Range { .. },
-            ..
-        } => Err(AllocError),
+        Decision::Conflict { position, item } => conflict(alloc, schema, position, item),
         Decision::Duplicate {
             position,
             table,
@@ -96,23 +96,30 @@ fn judged(
     }
 }
 
-/// Tells that an entry took a version away.
+/// Tells that an entry touches what was used.
 fn conflict(
     alloc: Global,
     schema: &Schema,
     position: u64,
-    item: GenidItem,
+    item: Item,
 ) -> Result<Verdict, AllocError>
-    ensures told { IfOk result (λ v. v.outcome ≡ conflict_told schema.now (touched position item)) }
+    ensures told { IfOk result (λ v. v.outcome ≡ item_told schema.now position item) }
     ensures added { IfOk result (λ v. v.added ≡ None) }
 {
-    let table = name_at(alloc, schema, item.table)?;
-    Ok(Verdict {
-        outcome: ReplyLine::ConflictGenid {
+    let outcome = match item {
+        Item::Genid(item) => ReplyLine::ConflictGenid {
             position,
-            table,
+            table: name_at(alloc, schema, item.table)?,
             genid: item.genid,
         },
+        Item::Range { table, key } => ReplyLine::ConflictRange {
+            position,
+            table: name_at(alloc, schema, table)?,
+            key: key_name_at(alloc, schema, table, key)?,
+        },
+    };
+    Ok(Verdict {
+        outcome,
         added: None,
     })
 }
@@ -124,6 +131,27 @@ fn name_at(alloc: Global, schema: &Schema, table: u16) -> Result<Name, AllocErro
     match schema.at(table) {
         None => Name::copied(alloc, b""),
         Some(table) => Name::copied(alloc, table.name.as_bytes()),
+    }
+}
+
+/// The name of a key of the table at a place, `all` where no key is named; the empty one where there is no such key.
+fn key_name_at(
+    alloc: Global,
+    schema: &Schema,
+    table: u16,
+    key: Option<u8>,
+) -> Result<Name, AllocError>
+    ensures { IfOk result (λ name. name ≡ unwrap_or (name_of_key (keys_at schema.now table) key) []) }
+{
+    let Some(key) = key else {
+        return Name::copied(alloc, b"all");
+    };
+    let Some(table) = schema.at(table) else {
+        return Name::copied(alloc, b"");
+    };
+    match table.keys.as_slice().get(key as usize) {
+        None => Name::copied(alloc, b""),
+        Some(key) => Name::copied(alloc, key.name.as_bytes()),
     }
 }
 

@@ -9,7 +9,7 @@ use Rattle.script_play.proofs.downs.down_effect.Goals as goal
 pub returns-in-Open : goal.returns-in-Open
 returns-in-Open c =
     subst (λ (d : InTransaction). IsEffectDown c.lost.result (turn_down c.args.state.number c.args.state.level (kind_in c.args.kind) (doing_in d))) (sym c.in-Open.is)
-    (c.lost.ensures c.in-Open.session.begin c.in-Open.session.ops c.in-Open.session.genids)
+    (c.lost.ensures c.in-Open.session.begin c.in-Open.session.ops c.in-Open.session.genids c.in-Open.session.ranges)
 
 pub returns-in-Aborted : goal.returns-in-Aborted
 returns-in-Aborted c =

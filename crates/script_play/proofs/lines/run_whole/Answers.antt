@@ -1,23 +1,29 @@
-use Rattle.std.proofs.Common.{List, length, subst, sym}
+use Rattle.std.proofs.Common.{List, length, ◌∙◌, ap, subst, sym}
+use Rattle.blkseq_table.specs.OfLogs.{identities_of}
 use Rattle.phys_log.specs.declared.entries.Entry.{Entry}
 use Rattle.sql_run.specs.Views.{kind_in, text_in}
 use Rattle.script_play.specs.Effects.{IsEffect}
 use Rattle.script_play.specs.Ready.{IsReadyToGo}
 use Rattle.script_play.specs.RunViews.{doing_in, world, IsReadyFor}
 use Rattle.script_play.specs.Step.{turn_of}
-use Rattle.script_play.proofs.TakeLemmas.{effect_commits, effect_fits, effect_made, effect_taken, effect_tells, told_outcome}
+use Rattle.script_play.proofs.TakeLemmas.{effect_commits, effect_fits, effect_fresh, effect_made, effect_taken, effect_tells, told_outcome}
 use Rattle.script_play.proofs.lines.run_whole.Goals as goal
 
 pub effect_of-requires : goal.effect_of-requires
 effect_of-requires g c = (
-  subst (λ (es : List Entry). IsReadyFor g.start c.args.schema.now es) (sym c.log.ensures.entries) c.requires.1.1.1.0,
-  (subst (λ (es : List Entry). IsReadyToGo g.start c.args.schema.now (length es) es (doing_in c.args.state.doing)) (sym c.log.ensures.entries) c.requires.1.1.1.1.0, c.requires.1.1.1.1.1),
+  subst (λ (es : List Entry). IsReadyFor g.start c.args.schema.now es) (sym c.log.ensures) c.requires.1.1.1.0,
+  (
+    c.known.ensures ∙ ap identities_of (sym c.log.ensures),
+    (subst (λ (es : List Entry). IsReadyToGo g.start c.args.schema.now (length es) es (doing_in c.args.state.doing)) (sym c.log.ensures) c.requires.1.1.1.1.0, c.requires.1.1.1.1.1),
+  ),
 )
 
 pub apply_effect-requires : goal.apply_effect-requires
 apply_effect-requires g c = record {
   running = c.requires.1.0;
   fits = effect_fits g.start c.args.generation c.args.schema.now c.args.run.now.log.entries c.args.name.now c.in_ok-effect.effect
+      (turn_of (world g.start c.args.schema.now c.args.run.now.log.entries) c.args.state.number c.args.state.level (text_in c.args.prepared.now).meaning (kind_in c.args.kind) (doing_in c.args.state.doing)) its;
+  fresh = effect_fresh g.start c.args.generation c.args.schema.now c.args.run.now.log.entries c.args.name.now c.in_ok-effect.effect
       (turn_of (world g.start c.args.schema.now c.args.run.now.log.entries) c.args.state.number c.args.state.level (text_in c.args.prepared.now).meaning (kind_in c.args.kind) (doing_in c.args.state.doing)) its;
   commit = effect_commits g.start c.args.generation c.args.schema.now c.args.run.now.log.entries c.args.name.now c.in_ok-effect.effect
       (turn_of (world g.start c.args.schema.now c.args.run.now.log.entries) c.args.state.number c.args.state.level (text_in c.args.prepared.now).meaning (kind_in c.args.kind) (doing_in c.args.state.doing)) its;
@@ -32,7 +38,7 @@ apply_effect-requires g c = record {
     its : IsEffect g.start c.args.generation c.args.schema.now c.args.run.now.log.entries c.args.name.now c.in_ok-effect.effect
         (turn_of (world g.start c.args.schema.now c.args.run.now.log.entries) c.args.state.number c.args.state.level (text_in c.args.prepared.now).meaning (kind_in c.args.kind) (doing_in c.args.state.doing))
     its = subst (λ (es : List Entry). IsEffect g.start c.args.generation c.args.schema.now es c.args.name.now c.in_ok-effect.effect
-        (turn_of (world g.start c.args.schema.now es) c.args.state.number c.args.state.level (text_in c.args.prepared.now).meaning (kind_in c.args.kind) (doing_in c.args.state.doing))) c.log.ensures.entries c.in_ok-effect.ensures
+        (turn_of (world g.start c.args.schema.now es) c.args.state.number c.args.state.level (text_in c.args.prepared.now).meaning (kind_in c.args.kind) (doing_in c.args.state.doing))) c.log.ensures c.in_ok-effect.ensures
 
 pub returns-clause-ok : goal.returns-clause-ok
 returns-clause-ok g c =
@@ -41,5 +47,5 @@ returns-clause-ok g c =
     c.args.run.now.lines.items c.apply_effect.new.run.lines.items c.args.run.now.entries.items c.apply_effect.new.run.entries.items c.args.run.now.log c.apply_effect.new.run.log
     c.requires.1.0 c.requires.1.1.1.0.logged c.requires.1.1.1.0.opened
     (subst (λ (es : List Entry). IsEffect g.start c.args.generation c.args.schema.now es c.args.name.now c.in_ok-effect.effect
-    (turn_of (world g.start c.args.schema.now es) c.args.state.number c.args.state.level (text_in c.args.prepared.now).meaning (kind_in c.args.kind) (doing_in c.args.state.doing))) c.log.ensures.entries c.in_ok-effect.ensures)
+    (turn_of (world g.start c.args.schema.now es) c.args.state.number c.args.state.level (text_in c.args.prepared.now).meaning (kind_in c.args.kind) (doing_in c.args.state.doing))) c.log.ensures c.in_ok-effect.ensures)
     c.apply_effect.ensures.state c.apply_effect.ensures.done

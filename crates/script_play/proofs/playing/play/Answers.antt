@@ -1,5 +1,6 @@
 use Rattle.std.proofs.Common.{arith}
 use Rattle.script_play.proofs.PlayLaws.{held_left, held_made, if_ok}
+use Rattle.script_play.proofs.SerialLemmas.{run_serial}
 use Rattle.script_play.proofs.playing.play.Goals as goal
 
 pub returns-clause-lawful : goal.returns-clause-lawful
@@ -8,15 +9,19 @@ returns-clause-lawful g c = if_ok c.play_behind.result (λ p played. played.told
 pub returns-clause-in_order : goal.returns-clause-in_order
 returns-clause-in_order g c = if_ok c.play_behind.result (λ p played. played.told.in_order) c.play_behind.ensures.played
 
+pub returns-clause-serial : goal.returns-clause-serial
+returns-clause-serial g c =
+    if_ok c.play_behind.result (λ p played. run_serial c.args.script.now g.start p.report c.requires.1.1.1.1.1 played.told.lawful) c.play_behind.ensures.played
+
 pub returns-clause-entries : goal.returns-clause-entries
 returns-clause-entries g c = if_ok c.play_behind.result (λ p played. played.told.entries) c.play_behind.ensures.played
 
 pub returns-clause-schema : goal.returns-clause-schema
 returns-clause-schema g c = if_ok c.play_behind.result (λ p played. played.told.schema) c.play_behind.ensures.played
 
-pub returns-clause-taken : goal.returns-clause-taken
-returns-clause-taken g c =
-    if_ok c.play_behind.result (λ p played k first within. played.told.taken k (let b = c.requires.1.1.1.0 in omega (arith, b, first)) within) c.play_behind.ensures.played
+pub returns-clause-changed : goal.returns-clause-changed
+returns-clause-changed g c =
+    if_ok c.play_behind.result (λ p played k first within. played.told.changed k (let b = c.requires.1.1.1.0 in omega (arith, b, first)) within) c.play_behind.ensures.played
 
 pub returns-clause-rows : goal.returns-clause-rows
 returns-clause-rows g c =

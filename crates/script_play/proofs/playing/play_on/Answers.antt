@@ -12,11 +12,11 @@ lines-init g c =
     let are = c.in_ok-schema.ensures ∙ ap (λ ts. map (λ t. t.table) ts) c.as_slice.ensures in
     let starts = c.in_ok-states.ensures ∙ ap (λ ss. map (λ _. at_start) ss) c.as_slice-2.ensures in (
       subst (λ (bs : List BodyLine). IsBeforeLine c.args.script.now g.start c.accepted-generation.result c.args.run.now.log.store.faults bs c.args.run.now.lines.items c.open_history.new.entries.items c.args.run.now.log c.in_ok-states.states) (sym c.as_slice-rest.ensures)
-          (subst (λ (n : ℕ). IsBeforeLine c.args.script.now g.start n c.args.run.now.log.store.faults c.args.script.now.body c.args.run.now.lines.items c.open_history.new.entries.items c.args.run.now.log c.in_ok-states.states) (sym c.accepted-generation.ensures.accepted)
+          (subst (λ (n : ℕ). IsBeforeLine c.args.script.now g.start n c.args.run.now.log.store.faults c.args.script.now.body c.args.run.now.lines.items c.open_history.new.entries.items c.args.run.now.log c.in_ok-states.states) (sym c.accepted-generation.ensures)
           (begins_at c.args.script.now g.start c.args.run.now.log c.args.run.now.lines.items c.open_history.new.entries.items c.in_ok-states.states c.requires.1.0 c.requires.1.1.0 c.requires.1.1.1.1.1.1.0
           (opening_is (tables_of c.args.script.now) c.args.run.now.log.accepted c.args.base g.start.before c.open_history.new.entries.items c.args.run.now.log.entries c.requires.1.1.1.0 c.in_ok-open_history.ensures.first c.in_ok-open_history.ensures.later c.requires.1.1.1.1.0)
           c.requires.1.1.1.1.1.0 starts)),
-      c.accepted-generation.ensures.accepted,
+      c.accepted-generation.ensures,
       c.schema.view_is ∙ are,
       refl,
     )

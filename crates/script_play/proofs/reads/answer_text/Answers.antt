@@ -27,6 +27,9 @@ returns-in_ok-pages-clause-ops g c = c.answer_over.ensures.ops g.rows (at_end g 
 pub returns-in_ok-pages-clause-genids : goal.returns-in_ok-pages-clause-genids
 returns-in_ok-pages-clause-genids g c = c.answer_over.ensures.genids g.rows (at_end g c)
 
+pub returns-in_ok-pages-clause-ranges : goal.returns-in_ok-pages-clause-ranges
+returns-in_ok-pages-clause-ranges g c = c.answer_over.ensures.ranges g.rows (at_end g c)
+
 pub returns-in_ok-pages-2-clause-replies : goal.returns-in_ok-pages-2-clause-replies
 returns-in_ok-pages-2-clause-replies g c = c.answer_over-else-begin-entries.ensures.replies g.rows (undone g c)
 
@@ -35,3 +38,6 @@ returns-in_ok-pages-2-clause-ops g c = c.answer_over-else-begin-entries.ensures.
 
 pub returns-in_ok-pages-2-clause-genids : goal.returns-in_ok-pages-2-clause-genids
 returns-in_ok-pages-2-clause-genids g c = c.answer_over-else-begin-entries.ensures.genids g.rows (undone g c)
+
+pub returns-in_ok-pages-2-clause-ranges : goal.returns-in_ok-pages-2-clause-ranges
+returns-in_ok-pages-2-clause-ranges g c = c.answer_over-else-begin-entries.ensures.ranges g.rows (undone g c)

@@ -1,6 +1,11 @@
-use Rattle.std.proofs.Common.{◌≡◌, ◌∙◌, ◌++◌, ◌∷◌, [], OnOk, Err, ap, subst}
+use Rattle.std.proofs.Common.{◌≡◌, ◌∙◌, ◌++◌, ◌∷◌, [], OnOk, Err, ap, subst, sym}
+use Rattle.phys_log.specs.declared.entries.Entry.{Entry}
+use Rattle.script_play.specs.Effects.{IsFreshIn}
 use Rattle.script_play.proofs.AppendLemmas.{fallen_at, popped}
 use Rattle.script_play.proofs.run.append_entry.Goals as goal
+
+pub append-requires-clause-fresh : goal.append-requires-clause-fresh
+append-requires-clause-fresh g c = subst (λ (e : Entry). IsFreshIn c.args.run.now.log.entries e) (sym (c.in_ok-entry-2.ensures.0 ∙ c.in_ok-entry.ensures.0)) c.requires.fresh
 
 pub returns-in-Err-StoreFault-clause-fallen : goal.returns-in-Err-StoreFault-clause-fallen
 returns-in-Err-StoreFault-clause-fallen g c = λ _.

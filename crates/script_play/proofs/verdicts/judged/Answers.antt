@@ -1,6 +1,5 @@
 use Rattle.std.proofs.Common.{length, ◌≡◌, List, ap, subst, refl}
-use Rattle.block_processor.specs.Decided.{Decides, IsConflict, conflict_of}
-use Rattle.cdb_values.specs.declared.items.Item.{Item}
+use Rattle.block_processor.specs.Decided.{Decides}
 use Rattle.phys_log.specs.declared.requests.Decision.{Decision}
 use Rattle.phys_log.specs.declared.entries.Entry.{Entry}
 use Rattle.script_play.specs.Start.{ground_of}
@@ -9,22 +8,23 @@ use Rattle.script_play.proofs.VerdictLemmas.{committed_at, on_both, conflict_ver
 use Rattle.script_play.proofs.verdicts.judged.Goals as goal
 
 pub decide-requires : goal.decide-requires
-decide-requires g c =
-    is_asked g.start c.args.schema.now (length c.args.log.now) c.args.log.now c.args.session.now c.args.request.now c.requires.0 c.requires.1.0 c.requires.1.1
+decide-requires g c = (
+  is_asked g.start c.args.schema.now (length c.args.log.now) c.args.log.now c.args.session.now c.args.request.now c.requires.0 c.requires.1.1.0 c.requires.1.1.1,
+  c.requires.1.0,
+)
 
-pub returns-in-Conflict-default-Genid : goal.returns-in-Conflict-default-Genid
-returns-in-Conflict-default-Genid g c =
+pub returns-in-Conflict : goal.returns-in-Conflict
+returns-in-Conflict g c =
     on_both c.conflict.result
-    (λ v told added. conflict_verdict g.start c.args.generation c.args.schema.now (length c.args.log.now) c.args.log.now c.args.session.now c.args.request.now c.requires.0 c.requires.1.1 (c.the_first_broken_key_has_its_name.ensures.named, c.the_first_broken_key_has_its_name.ensures.told) v
-    c.in-Conflict-default-Genid.position c.in-Conflict-default-Genid.item
-    (subst (λ (i : Item). IsConflict c.in-Conflict-default-Genid.position i (conflict_of c.args.request.now c.args.log.now)) c.in-Conflict-default-Genid.item-is
-    (subst (λ (d : Decision). Decides (ground_of g.start) c.args.request.now c.args.log.now c.args.generation d) c.in-Conflict-default-Genid.is c.in_ok-decide.ensures)) told added)
+    (λ v told added. conflict_verdict g.start c.args.generation c.args.schema.now (length c.args.log.now) c.args.log.now c.args.session.now c.args.request.now c.requires.0 c.requires.1.1.1 (c.the_first_broken_key_has_its_name.ensures.named, c.the_first_broken_key_has_its_name.ensures.told) v
+    c.in-Conflict.position c.in-Conflict.item
+    (subst (λ (d : Decision). Decides (ground_of g.start) c.args.request.now c.args.log.now c.args.generation d) c.in-Conflict.is c.in_ok-decide.ensures) told added)
     c.conflict.ensures.told c.conflict.ensures.added
 
 pub returns-in-Duplicate : goal.returns-in-Duplicate
 returns-in-Duplicate g c =
     on_both c.duplicate.result
-    (λ v told added. duplicate_verdict g.start c.args.generation c.args.schema.now (length c.args.log.now) c.args.log.now c.args.session.now c.args.request.now c.requires.0 c.requires.1.1 (c.the_first_broken_key_has_its_name.ensures.named, c.the_first_broken_key_has_its_name.ensures.told) v
+    (λ v told added. duplicate_verdict g.start c.args.generation c.args.schema.now (length c.args.log.now) c.args.log.now c.args.session.now c.args.request.now c.requires.0 c.requires.1.1.1 (c.the_first_broken_key_has_its_name.ensures.named, c.the_first_broken_key_has_its_name.ensures.told) v
     c.in-Duplicate.position c.in-Duplicate.table c.in-Duplicate.key
     (subst (λ (d : Decision). Decides (ground_of g.start) c.args.request.now c.args.log.now c.args.generation d) c.in-Duplicate.is c.in_ok-decide.ensures) told added)
     c.duplicate.ensures.told c.duplicate.ensures.added
@@ -32,5 +32,5 @@ returns-in-Duplicate g c =
 pub returns-in-Commit : goal.returns-in-Commit
 returns-in-Commit g c =
     let now : length c.entries.result.now ≡ length c.args.log.now = ap (λ (es : List Entry). length es) c.entries.ensures in
-    commit_verdict g.start c.args.generation c.args.schema.now (length c.args.log.now) c.args.log.now c.args.session.now c.args.request.now c.requires.0 c.requires.1.1 (c.the_first_broken_key_has_its_name.ensures.named, c.the_first_broken_key_has_its_name.ensures.told) _ c.in-Commit.entry
+    commit_verdict g.start c.args.generation c.args.schema.now (length c.args.log.now) c.args.log.now c.args.session.now c.args.request.now c.requires.0 c.requires.1.1.1 (c.the_first_broken_key_has_its_name.ensures.named, c.the_first_broken_key_has_its_name.ensures.told) _ c.in-Commit.entry
     (subst (λ (d : Decision). Decides (ground_of g.start) c.args.request.now c.args.log.now c.args.generation d) c.in-Commit.is c.in_ok-decide.ensures) (committed_at (length c.entries.result.now) (length c.args.log.now) now) refl
