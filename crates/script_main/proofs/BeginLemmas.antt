@@ -1,8 +1,10 @@
 -- A run can begin behind a log that was taken up: its rows fit their tables, have genids below the next one, and are rows
 -- that can be told.
-use Rattle.std.proofs.Common.{◌≡◌, ◌≢◌, ◌≤◌, inl, inr, ℕ, List, [], ◌∷◌, length, refl, sym, ap, ◌∙◌, subst, arith}
+use Rattle.std.proofs.Common.{◌≡◌, ◌≢◌, ◌≤◌, ◌+◌, inl, inr, ℕ, List, [], ◌∷◌, length, refl, sym, ap, ◌∙◌, subst, arith}
 use Rattle.std.proofs.lemmas.Str.{is_utf8-from_IsUtf8}
 use Rattle.std.specs.List.{AllByRecursion}
+use Rattle.blkseq_table.specs.Known.{AreApart, IsAbsent}
+use Rattle.blkseq_table.specs.OfLogs.{identities_from}
 use Rattle.cdb_values.specs.Good.{AllFit, FitsColumns, FitsTable}
 use Rattle.cdb_values.specs.Rows.{Rows, no_rows}
 use Rattle.cdb_values.specs.declared.rows.Version.{Version}
@@ -14,15 +16,20 @@ use Rattle.key_code.specs.Codes.{IsRowValue, IsText}
 use Rattle.log_rows.specs.History.{tables_of}
 use Rattle.node_opening.specs.Up.{GoesOn}
 use Rattle.phys_log.specs.Logs.{pages_of}
+use Rattle.phys_log.specs.declared.entries.CommitId.{CommitId}
 use Rattle.phys_log.specs.declared.entries.Entry.{Entry}
+use Rattle.phys_log.specs.declared.entries.Entry.TheVariants.{Setup, Commit}
 use Rattle.script_play.specs.Ready.{CanBegin}
 use Rattle.script_play.specs.RunViews.{IsOpenedBehind, IsOpenedLog}
 use Rattle.session_language.specs.Spelled.{IsToldValue, IsToldRow, HaveRows}
 use Rattle.sound_log.specs.Bytes.{IsOfBytes, RowIsOfBytes, RowsAreOfBytes, AreOfBytes}
 use Rattle.sound_log.specs.Columns.{HasColumns}
+use Rattle.sound_log.specs.Identities.{ids_in}
+use Rattle.sound_log.specs.Identities as ids
 use Rattle.sound_log.specs.Sound.{IsSoundHistory, IsSound}
 use Rattle.sql_run.specs.Sound.{AreSound, IsSoundVersion}
 use Rattle.table_state.specs.States.{HasState}
+use Rattle.table_store.specs.Listings.{IsAmong}
 use Rattle.table_store.specs.States.{Rise, AreVersions}
 use Rattle.table_store.specs.Stored.{Stands}
 
@@ -73,12 +80,27 @@ told_rows (table ∷ tables) next [] some fit are bytes = absurd fit
 told_rows (table ∷ tables) next (vs ∷ others) some fit are bytes =
     (told_versions table vs some.0 fit.0 are.0.coded bytes.0, told_rows tables next others some.1 fit.1 are.1 bytes.1)
 
+-- an identity that is not among those of entries is absent from what a table has of them
+absent : (position : ℕ) (es : List Entry) (id : CommitId) → (IsAmong id (ids_in es) → ⊥) → IsAbsent (identities_from position es) id
+absent position [] id not = tt
+absent position (Setup generation schema records ∷ es) id not = absent (position + 1) es id not
+absent position (Commit generation own begin level changes records ∷ es) id not =
+    (λ is. not (inl (sym is)), absent (position + 1) es id (λ among. not (inr among)))
+
+-- identities that are apart are so with their positions
+known_apart : (position : ℕ) (es : List Entry) → ids.AreApart (ids_in es) → AreApart (identities_from position es)
+known_apart position [] apart = tt
+known_apart position (Setup generation schema records ∷ es) apart = known_apart (position + 1) es apart
+known_apart position (Commit generation id begin level changes records ∷ es) apart =
+    (absent (position + 1) es id apart.0, known_apart (position + 1) es apart.1)
+
 -- a run can begin behind a sound log, at the rows for which its pages stand
 pub can_begin : (accepted : ℕ) (e : Entry) (es : List Entry) (sound : IsSoundHistory accepted (e ∷ es)) → AreOfBytes (e ∷ es)
     → CanBegin (tables_of (e ∷ es)) (e ∷ es) sound.rows
 can_begin accepted e es sound bytes = record {
   schema = sound.setup;
   commits = sound.commits;
+  apart = known_apart 1 (e ∷ es) sound.apart;
   stands = state.stands;
   kept = (
     sound_rows (tables_of (e ∷ es)) sound.rows.next sound.rows.tables state.good.rows_fit state.stands.state.versions,

@@ -1,11 +1,12 @@
 -- What a run leaves, and what is told of it, from what its steps tell.
 use Rattle.std.proofs.Common.{◌⊎◌, ◌≡◌, ℕ, ◌+◌, ◌-◌, ◌<◌, ◌≤◌, List, [], ◌∷◌, ◌++◌, length, take, Bool, true, false, Some, slice_get, unwrap_or, refl, sym, subst, ap, ◌∙◌, inl, inr, arith}
 use Rattle.std.proofs.Math.Logic.{∥∥₁_map}
+use Rattle.block_processor.specs.Changed.{changed_in}
 use Rattle.cdb_outside.specs.Faults.{Rose}
 use Rattle.cdb_values.specs.Rows.{Rows}
 use Rattle.cdb_values.specs.declared.tables.TableDef.{TableDef}
 use Rattle.log_replay.specs.Answers.{schema_of}
-use Rattle.log_rows.specs.History.{rows_over_at, takes_in, IsFrom, StandsOver}
+use Rattle.log_rows.specs.History.{rows_over_at, IsFrom, StandsOver}
 use Rattle.node_log.specs.Logged.{Logged, Leaves, Stand, StandForOne}
 use Rattle.node_opening.specs.declared.up.WhyNotUp.{WhyNotUp}
 use Rattle.node_opening.specs.declared.up.WhyNotUp.TheVariants as why
@@ -14,7 +15,7 @@ use Rattle.node_opening.specs.Left.{IsLeft}
 use Rattle.node_opening.specs.Why.{HasRisen, IsWhy}
 use Rattle.page_store.specs.Image.{Image}
 use Rattle.phys_log.specs.declared.entries.Entry.{Entry}
-use Rattle.report_laws.specs.History.{rows_at, taken_at}
+use Rattle.report_laws.specs.History.{changes_at, rows_at}
 use Rattle.report_laws.specs.Lawful.{Lawful}
 use Rattle.report_laws.specs.Nodes.{downs}
 use Rattle.report_laws.specs.Play.{InPlayOrder}
@@ -28,6 +29,7 @@ use Rattle.script_play.specs.Down.{history_of, history_by, owner_of, with_entrie
 use Rattle.script_play.specs.EntryLines.{AreTold}
 use Rattle.script_play.specs.Played.{downs_by, IsTold}
 use Rattle.script_play.specs.Played.{IsGivenUp as IsGivenUpIn}
+use Rattle.script_play.specs.Serial.{AreSerial}
 use Rattle.script_play.specs.Start.{Start, base, ground_of}
 use Rattle.script_play.proofs.PlayLaws.{given_first}
 use Rattle.store_log.specs.declared.standings.Standing.TheVariants.{Log}
@@ -182,15 +184,15 @@ given_left start old log new owns node stood given left =
 -- what is told of a run
 pub played_text : (script : Script) (start : Start) (opened log : Logged) (report : Report) (new : Stored) (s : Status) (text : List ℕ) (b : ℕ) → b ≡ base start →
     owner_of log ≡ owner_of opened → opened.node ≡ 1 → opened.promised ≡ opened.accepted →
-    Lawful (from_start script start) report → InPlayOrder (from_start script start) report → AreTold start.before opened.accepted report.entries (history_of log) →
-    schema_of (history_of log) ≡ Some (tables_of script) →
-    ((k : ℕ) → b < k → k ≤ length (history_of log) → unwrap_or (slice_get (takes_in (history_of log)) (k - 1)) [] ≡ taken_at (from_start script start) report.entries k) →
+    Lawful (from_start script start) report → InPlayOrder (from_start script start) report → AreSerial (from_start script start) report.entries →
+    AreTold start.before opened.accepted report.entries (history_of log) → schema_of (history_of log) ≡ Some (tables_of script) →
+    ((k : ℕ) → b < k → k ≤ length (history_of log) → unwrap_or (slice_get (changed_in (history_of log)) (k - 1)) [] ≡ changes_at (from_start script start) report.entries k) →
     ((k : ℕ) → IsFrom b k → k ≤ length (history_of log) → rows_over_at (ground_of start) (history_of log) k ≡ rows_at (from_start script start) report.entries k) →
     StandsOver (ground_of start) (tables_of script) (history_of log) →
     downs report.lines ≡ downs_by log.failed → IsCaused log.failed opened.store.faults log.store.faults →
     (log.failed ≡ true → Leaves log.store (with_entries log (history_of log) ∷ log ∷ [])) →
     IsLeftOf log new → IsReportText report s text → IsPlayedText script start opened new s text
-played_text script start opened log report new s text b at same node stood lawful in_order entries schema taken rows stands counted caused leaves left is_text = record {
+played_text script start opened log report new s text b at same node stood lawful in_order serial entries schema changed rows stands counted caused leaves left is_text = record {
   report = report;
   history = history_of log;
   told = record {
@@ -198,10 +200,11 @@ played_text script start opened log report new s text b at same node stood lawfu
     in_order = in_order;
     entries = entries;
     schema = schema;
-    taken = λ k first within. taken k (let e = at in omega (arith, e, first)) within;
+    changed = λ k first within. changed k (let e = at in omega (arith, e, first)) within;
     rows = λ k from within. rows k (from.0, let e = at in let f = from.1 in omega (arith, e, f)) within;
     stands = stands;
   };
+  serial = serial;
   is_text = is_text;
   left = left_by log.failed opened log new (downs report.lines) refl same node stood counted caused left (has_fallen log (tables_of script) schema leaves);
 }
@@ -229,6 +232,7 @@ is_run law script old new base log before s text can names o same rows begun pla
       report = played.report;
       history = played.history;
       told = subst (λ (g : ℕ). IsTold whole (start_at before rows) g played.report played.history) o.taken.accepted p;
+      serial = played.serial;
       one = one_such whole (start_at before rows) played.report p.lawful p.in_order;
       is_report = λ called. told_in_grammar basis played.report (spelled_over script before rows can names begun.behind called) p.lawful p.in_order played.is_text.fits;
       is_text = played.is_text.is_text;

@@ -17,6 +17,7 @@ use Rattle.script_form.specs.declared.scripts.BodyLine.{BodyLine}
 use Rattle.script_form.specs.declared.scripts.Script.{Script}
 use Rattle.script_form.specs.declared.scripts.TableLine.{TableLine}
 use Rattle.phys_log.specs.declared.entries.Entry.{Entry}
+use Rattle.query_laws.specs.Alone.{reads_of, sql_language}
 use Rattle.report_laws.specs.History.{Basis}
 use Rattle.report_laws.specs.Lawful.{Lawful}
 use Rattle.report_laws.specs.Nodes.{downs}
@@ -35,13 +36,13 @@ use Rattle.session_language.specs.Answers.{Answers}
 use Rattle.session_language.specs.Language.{Language}
 use Rattle.session_language.specs.Spelled.{HaveRows, KeepsRows}
 use Rattle.sql_answer.proofs.LanguageLemmas.{sql_answers}
-use Rattle.sql_answer.specs.Language.{bound_in, sql_language}
+use Rattle.sql_answer.specs.Language.{bound_in}
 use Rattle.script_main.proofs.ScriptLemmas.{own_tables}
 use Rattle.script_main.specs.Runs.{AreCalled, IsDownText, IsOne}
 use Rattle.script_main.specs.Stores.{start_at, with_tables}
 
 sql_is_answered : Answers sql_language
-sql_is_answered = sql_answers bound_in
+sql_is_answered = sql_answers bound_in reads_of
 
 sql_keeps : (tables : List TableDef) → AllByRecursion HasColumns tables → KeepsRows sql_language tables
 sql_keeps tables columns = record {

@@ -28,6 +28,7 @@ use Rattle.script_form.specs.declared.scripts.Script.{Script}
 use Rattle.script_play.specs.Basis.{from_nothing, from_start}
 use Rattle.script_play.specs.EntryLines.{AreTold}
 use Rattle.script_play.specs.Played.{IsTold}
+use Rattle.script_play.specs.Serial.{AreSerial}
 use Rattle.script_play.specs.Start.{ground_of}
 use Rattle.sound_log.specs.Sound.{IsSound}
 use Rattle.store_log.specs.declared.standings.Standing.TheVariants.{Log}
@@ -60,7 +61,8 @@ IsLeftBy count cluster old new generation history =
     ⊎ ((count ≡ 1) × HasRisen old.faults new.faults × KeepsOrMore cluster new.synced generation history)
 
 -- the text of a report of a run behind the log for which the store stood, which is sound and has the script's tables; and what
--- is left of the store. The history is sound again, as long as the next genid and the number of pages are below 2^62.
+-- is left of the store. The entries at level serializable are serial. The history is sound again, as long as the next genid and
+-- the number of pages are below 2^62.
 pub record IsRun (script : Script) (old new : Stored) (text : List ℕ) : Type 0 where
   pub promised : ℕ
   pub accepted : ℕ
@@ -71,6 +73,7 @@ pub record IsRun (script : Script) (old new : Stored) (text : List ℕ) : Type 0
   pub report : Report
   pub history : List Entry
   pub told : IsTold (with_tables script before) (start_at before rows) (promised + 1) report history
+  pub serial : AreSerial (from_start (with_tables script before) (start_at before rows)) report.entries
   pub one : IsOne (from_start (with_tables script before) (start_at before rows)) report
   pub is_report : AreCalled script (with_tables script before) → IsReport report
   pub is_text : text ≡ report_text report

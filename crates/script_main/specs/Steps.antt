@@ -16,10 +16,12 @@ use Rattle.report_text.specs.declared.reports.Report.{Report}
 use Rattle.script_form.specs.CanRun.{tables_of}
 use Rattle.script_form.specs.declared.scripts.Script.{Script}
 use Rattle.script_form.specs.declared.scripts.TableLine.{TableLine}
+use Rattle.script_play.specs.Basis.{from_start}
 use Rattle.script_play.specs.EntryLines.{AreTold}
 use Rattle.script_play.specs.Played.{IsTold}
 use Rattle.script_play.specs.Ready.{CanBegin}
 use Rattle.script_play.specs.RunViews.{IsOpenedBehind}
+use Rattle.script_play.specs.Serial.{AreSerial}
 use Rattle.script_play.specs.Start.{Start}
 use Rattle.store_log.specs.Keeps.{Stored}
 use Rattle.script_main.specs.Runs.{IsDownText, IsLeftBy, IsRun}
@@ -90,6 +92,7 @@ pub record IsPlayedText (script : Script) (start : Start) (log : Logged) (new : 
   pub report : Report
   pub history : List Entry
   pub told : IsTold script start log.accepted report history
+  pub serial : AreSerial (from_start script start) report.entries
   pub is_text : IsReportText report s text
   pub left : IsLeftBy (downs report.lines) log.cluster log.store new log.accepted history
 

@@ -1,5 +1,5 @@
 //! A script is played over the store of its node.
-ghost use Rattle.std.specs.Prelude.{◌≡◌, ◌≢◌, ◌⊎◌, ◌++◌, ◌∷◌, [], false, map, IfOk, OnOk, IsErr};
+ghost use Rattle.std.specs.Prelude.{◌≡◌, ◌≢◌, ◌⊎◌, ◌++◌, ◌∷◌, [], map, IfOk, OnOk, IsErr};
 ghost use Rattle.cdb_values.specs.Rows.{Rows};
 ghost use Rattle.log_rows.specs.History.{tables_of as tables_of_log};
 ghost use Rattle.script_form.specs.CanRun.{tables_of, CanRun};
@@ -27,7 +27,7 @@ use node_log::NodeLog;
 use node_opening::{NotUp, UpNode, WhyNotUp, open_node};
 use report_text::{Report, print};
 use script_form::{Script, TableLine};
-use script_play::{Played, play, play_down};
+use script_play::{Played, play, play_down, schema_of};
 use std::alloc::{AllocError, Global};
 use table_store::{pages_stand_for_one_state, pages_that_stand_keep_their_keys};
 
@@ -93,29 +93,6 @@ fn no_memory<D: LogStore>(store: D) -> Ended<D>
     Ended {
         store,
         answer: Err(AllocError),
-    }
-}
-
-/// The tables of a script, in order.
-fn schema_of(alloc: Global, tables: &[TableLine]) -> Result<Schema, AllocError>
-    ensures { IfOk result (λ schema. schema ≡ map (λ t. t.table) tables.now) }
-{
-    let mut schema = Schema::new(alloc);
-    let mut rest = tables;
-    'tables: while let Some((line, after)) = rest.split_first() {
-        add_copy(&mut schema, &line.table)?;
-        rest = after;
-    }
-    Ok(schema)
-}
-
-/// Adds a copy of a table. A script that is read has lawful tables, so that memory is all that can be wanting here.
-fn add_copy(schema: &mut Schema, table: &TableDef) -> Result<(), AllocError>
-    ensures { OnOk result (schema.new ≡ schema.old ++ table.now ∷ []) }
-{
-    match schema.add(table.clone()?) {
-        Ok(()) => Ok(()),
-        Err(_) => Err(AllocError),
     }
 }
 

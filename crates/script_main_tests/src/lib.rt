@@ -2,7 +2,11 @@
 #![tactic(auto)]
 
 #[cfg(test)]
+mod alone;
+#[cfg(test)]
 mod drawn;
+#[cfg(test)]
+mod levels;
 #[cfg(test)]
 mod resumed;
 #[cfg(test)]
@@ -15,3 +19,5 @@ mod snapshots;
 mod stored;
 #[cfg(test)]
 mod tests;
+#[cfg(test)]
+mod touched;

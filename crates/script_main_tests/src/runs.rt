@@ -411,6 +411,10 @@ a:
 a 9 begin 1
 a 9 error syntax 0
 a 9 committed 1
+a: SELECTV v from nowhere limit 1;
+a 10 begin 1
+a 10 error table
+a 10 committed 1
 entry 1 schema
 end 1",
 ];
@@ -480,15 +484,21 @@ fn told(alloc: Global, story: &str) -> Result<(String, String), AllocError> {
     Ok((script, report))
 }
 
+/// Asserts that the script of a story has the story's report.
+pub(crate) fn is_told<R: Abort>(rt: &R, alloc: Global, story: &str) -> Result<(), AllocError> {
+    let (script, report) = told(alloc, story)?;
+    let (status, text) = played(alloc, &["play"], script.as_bytes())?;
+    has_status(rt, status, Status::Done);
+    has_written(rt, text.as_slice(), report.as_bytes(), script.as_str());
+    let read = read_report(alloc, text.as_slice())?;
+    is_so(rt, read.is_some(), "what is written is a report");
+    Ok(())
+}
+
 #[test]
 fn stories_have_their_reports(rt: HostRuntime) -> Result<(), Fail> {
     for story in &STORIES {
-        let (script, report) = told(rt.alloc(), *story)?;
-        let (status, text) = played(rt.alloc(), &["play"], script.as_bytes())?;
-        has_status(&rt, status, Status::Done);
-        has_written(&rt, text.as_slice(), report.as_bytes(), script.as_str());
-        let read = read_report(rt.alloc(), text.as_slice())?;
-        is_so(&rt, read.is_some(), "what is written is a report");
+        is_told(&rt, rt.alloc(), *story)?;
     }
     Ok(())
 }
@@ -533,16 +543,13 @@ fn scripts_are_refused_at_their_lines(rt: HostRuntime) -> Result<(), Fail> {
 }
 
 /// Lines behind the head that are refused, with the reason.
-static REFUSED_LINES: [(&str, u8); 11] = [
+static REFUSED_LINES: [(&str, u8); 8] = [
     ("a : select * from t", 3),
     ("arm a row 0", 3),
     ("c: select * from t", 5),
     ("arm c ship", 5),
     ("stop 2", 6),
     ("watch t", 8),
-    ("a: selectv * from t", 10),
-    ("a: SELECTV v from nowhere limit 1;", 10),
-    ("a: set transaction serializable", 10),
     ("stop 1", 10),
     ("barrier", 10),
 ];

@@ -1,42 +1,16 @@
 //! What a script's report has to be, computed slowly: the rows at each position are kept whole, each
-//! transaction is run from its begin again at each of its lines, and what an entry took away is found by
+//! transaction is run from its begin again at each of its lines, and what an entry touched is found by
 //! comparing the rows before it with those after it.
 
-use super::drawn::{Said, Turn, text_of};
+use super::alone::{Alone, Seen};
+use super::drawn::{Level, Said, Turn, level_name, text_of};
+use super::touched::{Kept, Used, are_alike, first_touched, key_of};
 use std::alloc::{AllocError, Global};
 
-/// A row of a table.
-#[derive(Clone, Copy)]
-struct Kept {
-    table: u64,
-    genid: u64,
-    key: u64,
-    value: u64,
-}
-
-/// A row that a transaction sees: its own or not, and the genid of the version for which it stands, 0
-/// where it stands for none. Those of the begin come before its own.
-#[derive(Clone, Copy)]
-struct Seen {
-    table: u64,
-    own: bool,
-    genid: u64,
-    key: u64,
-    value: u64,
-}
-
-/// A transaction run alone: what it sees at its end, the genids that it took away in the order of its
-/// last touch of them, and what its last statement is told, each line without its front.
-#[derive(Drop)]
-struct Alone {
-    seen: Vec<Seen>,
-    used: Vec<u64>,
-    told: Vec<String>,
-}
-
-/// A transaction that is open: its begin, and what it said, each about a table.
+/// A transaction that is open: its level, its begin, and what it said, each about a table.
 #[derive(Drop)]
 struct Open {
+    level: Level,
     begin: usize,
     said: Vec<(u64, Said)>,
 }
@@ -59,150 +33,10 @@ pub(crate) struct Expected {
     states: Vec<Vec<Kept>>,
     next_genid: u64,
     sessions: Vec<Session>,
-}
-
-/// The rows of a table, those of one key or all.
-#[derive(Clone, Copy)]
-struct Those {
-    table: u64,
-    of: Option<u64>,
-}
-
-/// Whether a row is one of those.
-fn is_among(those: Those, row: Seen) -> bool {
-    row.table == those.table && is_of(those.of, row.key)
-}
-
-fn is_of(of: Option<u64>, key: u64) -> bool {
-    match of {
-        None => true,
-        Some(wanted) => wanted == key,
-    }
-}
-
-impl Alone {
-    fn at(alloc: Global, rows: &[Kept]) -> Result<Alone, AllocError> {
-        let mut seen = Vec::new(alloc);
-        for row in rows {
-            seen.push(Seen {
-                table: row.table,
-                own: false,
-                genid: row.genid,
-                key: row.key,
-                value: row.value,
-            })?;
-        }
-        Ok(Alone {
-            seen,
-            used: Vec::new(alloc),
-            told: Vec::new(alloc),
-        })
-    }
-
-    /// Takes the chosen rows out of what is seen, and their versions away.
-    fn take_out(&mut self, alloc: Global, those: Those) -> Result<Vec<Seen>, AllocError> {
-        let mut stay = Vec::new(alloc);
-        let mut out = Vec::new(alloc);
-        for row in self.seen.as_slice() {
-            if is_among(those, *row) {
-                out.push(*row)?;
-            } else {
-                stay.push(*row)?;
-            }
-        }
-        self.seen = stay;
-        for row in out.as_slice() {
-            if row.genid != 0 {
-                self.touch(alloc, row.genid)?;
-            }
-        }
-        let count = out.len();
-        self.told.push(format!(in alloc; "changed {count}")?)?;
-        Ok(out)
-    }
-
-    fn touch(&mut self, alloc: Global, genid: u64) -> Result<(), AllocError> {
-        let mut used = Vec::new(alloc);
-        for other in self.used.as_slice() {
-            if *other != genid {
-                used.push(*other)?;
-            }
-        }
-        used.push(genid)?;
-        self.used = used;
-        Ok(())
-    }
-
-    fn put(&mut self, row: Seen) -> Result<(), AllocError> {
-        self.seen.push(Seen { own: true, ..row })?;
-        Ok(())
-    }
-
-    fn select(&mut self, alloc: Global, those: Those) -> Result<(), AllocError> {
-        let mut count = 0u64;
-        for row in self.seen.as_slice() {
-            let key = row.key;
-            let value = row.value;
-            if is_among(those, *row) {
-                count = count.saturating_add(1);
-                self.told.push(format!(in alloc; "row {key}|{value}")?)?;
-            }
-        }
-        self.told.push(format!(in alloc; "done {count}")?)?;
-        Ok(())
-    }
-
-    fn say(&mut self, alloc: Global, table: u64, said: Said) -> Result<(), AllocError> {
-        self.told = Vec::new(alloc);
-        match said {
-            Said::Begin | Said::Commit | Said::Rollback | Said::Level => Ok(()),
-            Said::Insert { key, value } => {
-                self.put(Seen {
-                    table,
-                    own: true,
-                    genid: 0,
-                    key,
-                    value,
-                })?;
-                self.told.push(String::from_str(alloc, "changed 1")?)?;
-                Ok(())
-            }
-            Said::SetValue { value, of } => {
-                for row in self.take_out(alloc, Those { table, of })? {
-                    self.put(Seen { value, ..row })?;
-                }
-                Ok(())
-            }
-            Said::SetKey { key, of } => {
-                for row in self.take_out(alloc, Those { table, of })? {
-                    self.put(Seen { key, ..row })?;
-                }
-                Ok(())
-            }
-            Said::Delete { of } => {
-                let _gone = self.take_out(alloc, Those { table, of })?;
-                Ok(())
-            }
-            Said::Select { of } => self.select(alloc, Those { table, of }),
-        }
-    }
-
-    fn changes_nothing(&self) -> bool {
-        let mut own = false;
-        for row in self.seen.as_slice() {
-            own = own || row.own;
-        }
-        self.used.is_empty() && !own
-    }
-}
-
-fn has_genid(rows: &[Kept], genid: u64) -> bool {
-    for row in rows {
-        if row.genid == genid {
-            return true;
-        }
-    }
-    false
+    /// The levels of the sessions' next transactions.
+    levels: Vec<Level>,
+    /// The transactions of this run that have an entry, with its position.
+    committed: Vec<(usize, Open)>,
 }
 
 fn has_genid_among(genids: &[u64], genid: u64) -> bool {
@@ -263,6 +97,15 @@ fn new_sessions(alloc: Global) -> Result<Vec<Session>, AllocError> {
     Ok(sessions)
 }
 
+/// The levels of three sessions that set none.
+fn first_levels(alloc: Global) -> Result<Vec<Level>, AllocError> {
+    let mut levels = Vec::new(alloc);
+    for _ in 0..3 {
+        levels.push(Level::Snapshot)?;
+    }
+    Ok(levels)
+}
+
 impl Expected {
     pub(crate) fn new(alloc: Global) -> Result<Expected, AllocError> {
         let mut states = Vec::new(alloc);
@@ -275,6 +118,8 @@ impl Expected {
             states,
             next_genid: 1,
             sessions: new_sessions(alloc)?,
+            levels: first_levels(alloc)?,
+            committed: Vec::new(alloc),
         })
     }
 
@@ -283,6 +128,8 @@ impl Expected {
         self.script = String::from_str(alloc, HEAD)?;
         self.told = String::new(alloc);
         self.sessions = new_sessions(alloc)?;
+        self.levels = first_levels(alloc)?;
+        self.committed = Vec::new(alloc);
         self.base = self.states.len();
         let base = self.base;
         self.history = format!(in alloc; "base {base}\n")?;
@@ -304,6 +151,14 @@ impl Expected {
         }
     }
 
+    /// The level of a session's next transaction.
+    fn level_of(&self, session: usize) -> Level {
+        match self.levels.get(session) {
+            Some(level) => *level,
+            None => Level::Snapshot,
+        }
+    }
+
     fn alone(&self, alloc: Global, open: &Open) -> Result<Alone, AllocError> {
         let mut alone = Alone::at(alloc, self.rows_at(open.begin))?;
         for (table, said) in open.said.as_slice() {
@@ -322,23 +177,11 @@ impl Expected {
         self.told.push_str(format!(in alloc; "s{session} {number} {reply}\n")?.as_str())
     }
 
-    /// The first used genid that the entry at a position took away, 0 where it took none.
-    fn taken_at(&self, position: usize, used: &[u64]) -> u64 {
-        let before = self.rows_at(position.saturating_sub(1));
-        let after = self.rows_at(position);
-        for genid in used {
-            if has_genid(before, *genid) && !has_genid(after, *genid) {
-                return *genid;
-            }
-        }
-        0
-    }
-
-    /// The rows at the end with what a transaction did.
-    fn with(&self, alloc: Global, alone: &Alone) -> Result<Vec<Kept>, AllocError> {
+    /// The rows at a position with what a transaction did.
+    fn with(&self, alloc: Global, position: usize, alone: &Alone) -> Result<Vec<Kept>, AllocError> {
         let mut rows = Vec::new(alloc);
-        for row in self.rows_at(self.states.len()) {
-            if !has_genid_among(alone.used.as_slice(), row.genid) {
+        for row in self.rows_at(position) {
+            if !has_genid_among(alone.taken.as_slice(), row.genid) {
                 rows.push(*row)?;
             }
         }
@@ -368,11 +211,42 @@ impl Expected {
         alloc: Global,
         session: usize,
         number: u64,
-        open: &Open,
+        open: Open,
     ) -> Result<(), AllocError> {
-        let alone = self.alone(alloc, open)?;
-        let outcome = self.outcome(alloc, session, number, open.begin, &alone)?;
+        let alone = self.alone(alloc, &open)?;
+        let last = self.states.len();
+        let outcome = self.outcome(alloc, session, number, &open, &alone)?;
+        if self.states.len() > last {
+            self.committed.push((self.states.len(), open))?;
+        }
         self.tell(alloc, session, number, outcome.as_str())
+    }
+
+    /// The conflict of a transaction that began there and used this, where an entry behind its begin touched any of it.
+    fn conflict(
+        &self,
+        alloc: Global,
+        begin: usize,
+        used: &[Used],
+    ) -> Result<Option<String>, AllocError> {
+        for position in begin..self.states.len() {
+            let before = self.rows_at(position);
+            let position = position.saturating_add(1);
+            let item = match first_touched(before, self.rows_at(position), used) {
+                None => continue,
+                Some(Used::Version(genid)) => {
+                    let table = table_of(before, genid);
+                    format!(in alloc; "genid t{table} {genid}")?
+                }
+                Some(Used::Range(those)) => {
+                    let (table, key) = (those.table, key_of(those));
+                    format!(in alloc; "range t{table} {key}")?
+                }
+            };
+            let item = item.as_str();
+            return Ok(Some(format!(in alloc; "conflict {position} {item}")?));
+        }
+        Ok(None)
     }
 
     fn outcome(
@@ -380,26 +254,23 @@ impl Expected {
         alloc: Global,
         session: usize,
         number: u64,
-        begin: usize,
+        open: &Open,
         alone: &Alone,
     ) -> Result<String, AllocError> {
+        let begin = open.begin;
         if alone.changes_nothing() {
             return format!(in alloc; "committed {begin}");
         }
-        let last = self.states.len();
-        for position in begin..last {
-            let position = position.saturating_add(1);
-            let genid = self.taken_at(position, alone.used.as_slice());
-            if genid != 0 {
-                let table = table_of(self.rows_at(begin), genid);
-                return format!(in alloc; "conflict {position} genid t{table} {genid}");
-            }
+        let used = alone.used(alloc, open.level)?;
+        if let Some(conflict) = self.conflict(alloc, begin, used.as_slice())? {
+            return Ok(conflict);
         }
-        let rows = self.with(alloc, alone)?;
+        let last = self.states.len();
+        let rows = self.with(alloc, last, alone)?;
         if let Some(table) = table_with_twice(rows.as_slice()) {
             return format!(in alloc; "duplicate {last} t{table} pk");
         }
-        self.keep(alloc, session, number, begin, rows)
+        self.keep(alloc, session, number, open, rows)
     }
 
     fn keep(
@@ -407,7 +278,7 @@ impl Expected {
         alloc: Global,
         session: usize,
         number: u64,
-        begin: usize,
+        open: &Open,
         rows: Vec<Kept>,
     ) -> Result<String, AllocError> {
         for row in rows.as_slice() {
@@ -415,8 +286,9 @@ impl Expected {
         }
         self.states.push(rows)?;
         let position = self.states.len();
+        let (begin, level) = (open.begin, level_name(open.level));
         self.history.push_str(format!(in alloc;
-            "entry {position} s{session} {number} {begin} snapshot\n"
+            "entry {position} s{session} {number} {begin} {level}\n"
         )?.as_str())?;
         format!(in alloc; "committed {position}")
     }
@@ -435,6 +307,7 @@ impl Expected {
         Ok((
             number,
             Open {
+                level: self.level_of(session),
                 begin,
                 said: Vec::new(alloc),
             },
@@ -458,6 +331,16 @@ impl Expected {
         Ok(())
     }
 
+    /// A line that sets the level of a session.
+    fn set_level(&mut self, alloc: Global, session: usize, level: Level) -> Result<(), AllocError> {
+        if let Some(place) = self.levels.get_mut(session) {
+            *place = level;
+        }
+        let name = level_name(level);
+        let reply = format!(in alloc; "level {name}")?;
+        self.tell(alloc, session, 0, reply.as_str())
+    }
+
     /// A line outside a transaction; gives the session after it.
     fn outside(
         &mut self,
@@ -479,14 +362,14 @@ impl Expected {
                 self.tell(alloc, session, 0, "error state")?;
                 Ok(closed)
             }
-            Said::Level => {
-                self.tell(alloc, session, 0, "level snapshot")?;
+            Said::Level(level) => {
+                self.set_level(alloc, session, level)?;
                 Ok(closed)
             }
             _ => {
                 let (number, mut open) = self.begin(alloc, session, number)?;
                 self.answer(alloc, session, number, &mut open, said)?;
-                self.end(alloc, session, number, &open)?;
+                self.end(alloc, session, number, open)?;
                 Ok(Session { number, open: None })
             }
         }
@@ -504,14 +387,14 @@ impl Expected {
         let mut open = open;
         match said.1 {
             Said::Commit => {
-                self.end(alloc, session, number, &open)?;
+                self.end(alloc, session, number, open)?;
                 return Ok(Session { number, open: None });
             }
             Said::Rollback => {
                 self.tell(alloc, session, number, "rolledback")?;
                 return Ok(Session { number, open: None });
             }
-            Said::Begin | Said::Level => self.tell(alloc, session, number, "error state")?,
+            Said::Begin | Said::Level(_) => self.tell(alloc, session, number, "error state")?,
             _ => self.answer(alloc, session, number, &mut open, said)?,
         }
         Ok(Session {
@@ -543,5 +426,51 @@ impl Expected {
             *place = after;
         }
         Ok(())
+    }
+
+    /// What a transaction is told where it is run alone on the rows at a position, and the rows with what it did.
+    fn run_at(
+        &self,
+        alloc: Global,
+        position: usize,
+        open: &Open,
+    ) -> Result<(String, Vec<Kept>), AllocError> {
+        let mut told = String::new(alloc);
+        let mut alone = Alone::at(alloc, self.rows_at(position))?;
+        for (table, said) in open.said.as_slice() {
+            alone.say(alloc, *table, *said)?;
+            for reply in alone.told.as_slice() {
+                told.push_str(reply.as_str())?;
+                told.push_str("\n")?;
+            }
+        }
+        let rows = self.with(alloc, position, &alone)?;
+        Ok((told, rows))
+    }
+
+    /// Whether the transaction of the entry at a position might have been run alone there.
+    fn is_serial(&self, alloc: Global, position: usize, open: &Open) -> Result<bool, AllocError> {
+        let (was, _) = self.run_at(alloc, open.begin, open)?;
+        let (told, rows) = self.run_at(alloc, position.saturating_sub(1), open)?;
+        let same = are_alike(rows.as_slice(), self.rows_at(position));
+        Ok(same && told.as_str() == was.as_str())
+    }
+
+    /// How many transactions of a level have an entry, and how many of them might have been run alone there.
+    pub(crate) fn count_serial(
+        &self,
+        alloc: Global,
+        level: Level,
+    ) -> Result<(u64, u64), AllocError> {
+        let (mut all, mut serial) = (0u64, 0u64);
+        for (position, open) in self.committed.as_slice() {
+            if open.level == level {
+                all = all.saturating_add(1);
+                if self.is_serial(alloc, *position, open)? {
+                    serial = serial.saturating_add(1);
+                }
+            }
+        }
+        Ok((all, serial))
     }
 }

@@ -1,6 +1,6 @@
 //! Drawn scripts have the reports that the slow computation gives.
 
-use super::drawn::turn_of;
+use super::drawn::{Level, turn_of};
 use super::runs::{alone, has_status, has_written, is_so};
 use super::slow::Expected;
 use cdb_outside::{MemSink, MemSource, MemStore};
@@ -52,13 +52,36 @@ fn drawn_scripts_have_the_reports_of_a_slower_computation(rt: HostRuntime) -> Re
         all.push_str(want.as_str())?;
     }
     for kind in [
-        "conflict",
+        " genid t",
+        " range t",
+        " all",
         "duplicate",
         "rolledback",
         "error state",
-        "level",
+        "level snapshot",
+        "level serializable",
     ] {
         is_so(&rt, all.as_str().contains(kind), kind);
     }
+    Ok(())
+}
+
+/// Each transaction of an entry at level serializable is run again on the rows right before its entry. So are those at level
+/// snapshot, of which some are told something else there.
+#[test]
+fn serializable_transactions_might_have_run_alone(rt: HostRuntime) -> Result<(), Fail> {
+    let alloc = rt.alloc();
+    let mut strict = 0u64;
+    let mut skewed = false;
+    for seed in 0..24 {
+        let expected = drawn(alloc, seed)?;
+        let (entries, serial) = expected.count_serial(alloc, Level::Serializable)?;
+        is_so(&rt, serial == entries, "each might have run alone");
+        strict = strict.saturating_add(entries);
+        let (entries, serial) = expected.count_serial(alloc, Level::Snapshot)?;
+        skewed = skewed || serial < entries;
+    }
+    is_so(&rt, strict > 24, "there are many at level serializable");
+    is_so(&rt, skewed, "one at level snapshot is told something else");
     Ok(())
 }
