@@ -8,16 +8,19 @@
 //! | `inserts` | how long rows take to be inserted by one transaction each, and how many edits they have |
 //! | `updates` | how long rows take to be found by their keys and updated by one transaction each, and how many edits they have |
 //! | `reads` | how long rows take to be found to be a state, to be read whole, and to be read by 1,000 intervals |
+//! | `decide` | how long a request with 10 operations, versions and intervals takes to be decided, so many entries behind the setup and 1,000 entries since its begin |
 //! | `selects others` | how long selects of a row by its primary key take at a position so many commits back that updated the other table, and how many pages were granted |
 //! | `selects same` | the same, of a row that each of the commits updated |
 #![tactic(auto)]
 
+mod decides;
 mod logs;
 mod reads;
 mod selects;
 mod stores;
 mod updates;
 
+use crate::decides::measure_decides;
 use crate::logs::Updated;
 use crate::reads::{count_between, count_rows, standing_rows};
 use crate::selects::measure_selects;
@@ -35,7 +38,7 @@ fn main(rt: HostRuntime) -> io::Result<()> {
     let mut words = env::args(&rt)?.skip(1);
     let (Some(work), Some(second)) = (words.next(), words.next()) else {
         return println!(rt;
-            "usage: bench_tables counts|inserts|updates|reads|selects others|selects same COUNT"
+            "usage: bench_tables counts|inserts|updates|reads|decide|selects others|selects same COUNT"
         );
     };
     if work.as_str() == "selects" {
@@ -47,6 +50,7 @@ fn main(rt: HostRuntime) -> io::Result<()> {
         "inserts" => measure_inserts(&rt, &schema, count),
         "updates" => measure_updates(&rt, &schema, count),
         "reads" => measure_reads(&rt, &schema, count),
+        "decide" => measure_decides(&rt, count),
         _ => count_all(&rt, &schema, count),
     }
 }

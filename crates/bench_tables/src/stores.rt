@@ -1,4 +1,7 @@
 //! Stores in memory that grow by inserts.
+ghost use Rattle.std.specs.Prelude.{IfOk};
+ghost use Rattle.std.specs.List.{AllByRecursion};
+ghost use Rattle.key_code.specs.Codes.{IsText};
 
 use cdb_values::{List, Row, RowOp, Schema, Value};
 use page_store::{Edit, MemPages, Page, apply};
@@ -70,7 +73,9 @@ fn insert_of(alloc: Global, number: u32) -> Result<RowOp, AllocError> {
 }
 
 /// The row of a number, with an integer drawn from a seed.
-pub(crate) fn row_of(alloc: Global, number: u32, seed: u64) -> Result<Row, AllocError> {
+pub(crate) fn row_of(alloc: Global, number: u32, seed: u64) -> Result<Row, AllocError>
+    ensures { IfOk result (AllByRecursion IsText) }
+{
     let mut row = List::new(alloc);
     row.push(Value::Int(i64::from(number)))?;
     let drawn = (next_number(seed) >> 20) % 1_000_000;
