@@ -4,7 +4,7 @@
 //!
 //! | Step | Code | Definition |
 //! |---|---|---|
-//! | what a tree has of a version | `pairs` | `pair_of_version` of `table_store` |
+//! | what a tree has of a version | `pair_for`, `key_for` of `table_store` | `pair_of_version` there |
 //! | all that goes is taken out | `takes` | `gone`, `removed` of `table_store` |
 //! | all that comes is put in | `puts` | `born`, `put_all` of `table_store` |
 //! | both | `changes` | `IsPut` |
@@ -14,7 +14,6 @@
 #![tactic(auto)]
 
 mod changes;
-mod pairs;
 mod puts;
 mod takes;
 

@@ -9,12 +9,12 @@ ghost use Rattle.table_store.specs.Forests.{Pair};
 ghost use Rattle.table_store.specs.Operations.{born, put_all as put_all_of};
 ghost use Rattle.table_changes.specs.Changed.{IsPut, IsPuttable, born_by, born_if, next_by, next_of};
 
-use crate::pairs::pair_for;
 use btree_index::{InsertFault, insert};
 use cdb_values::{KeyDef, Row, RowOp, RowRef};
 use page_store::PageSource;
 use page_workspace::Workspace;
 use std::alloc::Global;
+use table_store::pair_for;
 
 /// Puts what a tree has of all versions that operations write to its table into it, from a next genid on.
 pub(crate) fn put_all<P: PageSource>(

@@ -9,12 +9,12 @@ ghost use Rattle.table_store.specs.Forests.{Pair};
 ghost use Rattle.table_store.specs.Operations.{gone, removed};
 ghost use Rattle.table_changes.specs.Changed.{born_if, gone_by};
 
-use crate::pairs::key_for;
 use btree_index::remove;
 use cdb_values::{KeyDef, Row, RowOp, RowRef};
 use page_store::{PageFault, PageSource};
 use page_workspace::Workspace;
 use std::alloc::Global;
+use table_store::key_for;
 
 /// Takes what a tree has of all versions that operations take from its table out of it.
 pub(crate) fn take_all<P: PageSource>(

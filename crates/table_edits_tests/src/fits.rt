@@ -1,14 +1,15 @@
 //! Whether operations write rows that fit the trees of their tables.
-ghost use Rattle.std.specs.Prelude.{◌≡◌, ◌≤◌, true, IfOk, slice_get, unwrap_or};
+ghost use Rattle.std.specs.Prelude.{◌≡◌, ◌≤◌, true, IfOk};
 ghost use Rattle.std.specs.List.{AllByRecursion};
 ghost use Rattle.cdb_values.specs.Good.{bytes_of_key, key_of};
 ghost use Rattle.cdb_values.specs.declared.limits.TheConstants.{MOST_KEY_BYTES};
 ghost use Rattle.table_edits.specs.Fits.{FitsAt, WritesFitting};
 
 use cdb_values::limits::{MOST_KEY_BYTES, MOST_ROW_BYTES};
-use cdb_values::{KeyDef, List, Row, RowOp, Schema, Value};
+use cdb_values::{KeyDef, Row, RowOp, Schema};
 use key_code::{key_size, row_size};
 use std::alloc::{AllocError, Global};
+use table_store::key_values;
 
 /// Whether all rows that operations write fit the trees of their tables.
 pub fn all_fit(alloc: Global, schema: &Schema, ops: &[RowOp]) -> Result<bool, AllocError>
@@ -63,27 +64,4 @@ fn keys_fit(alloc: Global, keys: &[KeyDef], row: &Row) -> Result<bool, AllocErro
         rest = others;
     }
     Ok(true)
-}
-
-/// The values of a row at the columns of a key.
-fn key_values(alloc: Global, key: &KeyDef, row: &Row) -> Result<Row, AllocError>
-    ensures { IfOk result (λ values. values ≡ key_of key.now row.now) }
-{
-    let mut values = List::new(alloc);
-    let mut rest = key.columns.as_slice();
-    'columns: while let Some((column, others)) = rest.split_first() {
-        values.push(value_at(row, *column)?)?;
-        rest = others;
-    }
-    Ok(values)
-}
-
-/// The value in a column, NULL where there is none.
-fn value_at(row: &Row, column: u8) -> Result<Value, AllocError>
-    ensures { IfOk result (λ value. value ≡ unwrap_or (slice_get row.now column) Value.Null) }
-{
-    match row.as_slice().get(column as usize) {
-        Some(value) => value.clone(),
-        None => Ok(Value::Null),
-    }
 }

@@ -4,11 +4,11 @@ ghost use Rattle.cdb_values.specs.Good.{bytes_of_key};
 ghost use Rattle.cdb_values.specs.declared.limits.TheConstants.{MOST_KEY_BYTES};
 ghost use Rattle.table_state.specs.Fits.{is_integer, is_text, is_blob, fits_column, fits_columns, is_long_row, is_long_key, has_long_key as has_long_key_of, fits_table};
 
-use crate::pairs::key_values;
 use cdb_values::limits::{MOST_KEY_BYTES, MOST_ROW_BYTES};
 use cdb_values::{ColumnDef, ColumnType, KeyDef, Row, TableDef, Value};
 use key_code::{key_size, row_size};
 use std::alloc::{AllocError, Global};
+use table_store::key_values;
 
 /// Whether a row may stand in a table. `Err` is want of memory.
 pub(crate) fn is_fitting(alloc: Global, table: &TableDef, row: &Row) -> Result<bool, AllocError>

@@ -8,11 +8,11 @@ ghost use Rattle.table_store.specs.States.{Rise};
 ghost use Rattle.table_state.specs.Grown.{lists_of};
 ghost use Rattle.table_state.specs.Listed.{Climb, AreKeyLists, AllClimb, IsPlaceOf};
 
-use crate::pairs::key_pair;
 use btree_index::{is_before, key_in, value_in};
 use cdb_values::{KeyDef, Version};
 use page_store::Cell;
 use std::alloc::{AllocError, Global};
+use table_store::key_pair;
 use tree_walk::Walked;
 
 /// Whether these trees, one for each key, list these versions. `Err` is want of memory.

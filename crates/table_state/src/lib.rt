@@ -14,7 +14,7 @@
 //! | all of it | `forests` | `Found` |
 //! | the versions that the cells of a rows' tree have, by rising genid below the next one | `rows` | `Listed` |
 //! | each row may stand in its table: types, NULLs and sizes | `fits` | `Fits` |
-//! | each key's tree has as many pairs as there are versions, and that of each version | `keys`, `pairs` | `Listed` |
+//! | each key's tree has as many pairs as there are versions, and that of each version | `keys`, `key_pair` of `table_store` | `Listed` |
 //! | table after table, and all together | `tables`, `states` | `Listed`, `States` |
 //!
 //! Why these decide it:
@@ -46,7 +46,6 @@ mod forests;
 mod grown;
 mod keys;
 mod numbers;
-mod pairs;
 mod reserves;
 mod rows;
 mod states;

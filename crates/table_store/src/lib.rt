@@ -46,6 +46,7 @@
 
 mod creates;
 mod laws;
+mod pairs;
 mod reads;
 mod worked;
 
@@ -54,5 +55,6 @@ pub use laws::{
     a_change_of_one_tree_keeps_the_others, a_tree_after_operations, pages_hold_one_forest,
     pages_stand_for_one_state, pages_that_stand_keep_their_keys,
 };
+pub use pairs::{key_for, key_pair, key_values, pair_for};
 pub use reads::read_table;
 pub use worked::two_rows_stand;

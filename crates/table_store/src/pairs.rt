@@ -1,17 +1,54 @@
-//! What a key's tree has of a version.
+//! What a tree has of a version, computed.
 ghost use Rattle.std.specs.Prelude.{◌≡◌, ◌++◌, IfOk, Some, slice_get, unwrap_or};
+ghost use Rattle.std.specs.List.{AllByRecursion};
+ghost use Rattle.std.specs.Option.{option_copied};
 ghost use Rattle.byteorder.specs.Endian.{big_bytes};
 ghost use Rattle.cdb_values.specs.Good.{key_of as key_of_def};
 ghost use Rattle.cdb_values.specs.Rows.{version};
+ghost use Rattle.key_code.specs.Codes.{IsShort};
 ghost use Rattle.table_store.specs.Listings.{keyed as keyed_of, pair_of_version};
 
 use byte_words::put_u64;
 use cdb_values::{Bytes, KeyDef, List, Row, Value};
-use key_code::encode_key;
+use key_code::{encode_key, encode_row};
 use std::alloc::{AllocError, Global};
 
-/// What the tree of a key has of a version.
-pub(crate) fn key_pair(
+/// The key and the value that a tree has of a version: the rows' tree where no key is given. `Err` is want of memory.
+pub fn pair_for(
+    alloc: Global,
+    key: Option<&KeyDef>,
+    genid: u64,
+    row: &Row,
+) -> Result<(Bytes, Bytes), AllocError>
+    requires { AllByRecursion IsShort row.now }
+    ensures { IfOk result (λ p. p ≡ pair_of_version (option_copied key.entry) (version genid row.now)) }
+{
+    match key {
+        None => Ok((genid_bytes(alloc, genid)?, encode_row(alloc, row)?)),
+        Some(key) => key_pair(alloc, key, genid, row),
+    }
+}
+
+/// The key alone that a tree has of a version. `Err` is want of memory.
+pub fn key_for(
+    alloc: Global,
+    key: Option<&KeyDef>,
+    genid: u64,
+    row: &Row,
+) -> Result<Bytes, AllocError>
+    ensures { IfOk result (λ bytes. bytes ≡ (pair_of_version (option_copied key.entry) (version genid row.now)).0) }
+{
+    match key {
+        None => genid_bytes(alloc, genid),
+        Some(key) => {
+            let (bytes, _) = key_pair(alloc, key, genid, row)?;
+            Ok(bytes)
+        }
+    }
+}
+
+/// The key and the value that the tree of a key has of a version. `Err` is want of memory.
+pub fn key_pair(
     alloc: Global,
     key: &KeyDef,
     genid: u64,
@@ -63,8 +100,8 @@ fn genid_bytes(alloc: Global, genid: u64) -> Result<Bytes, AllocError>
     Ok(Bytes::from_vec(bytes))
 }
 
-/// The values of a row at the columns of a key. A row without one of them has NULL there.
-pub(crate) fn key_values(alloc: Global, key: &KeyDef, row: &Row) -> Result<Row, AllocError>
+/// The values of a row at the columns of a key. A row without one of them has NULL there. `Err` is want of memory.
+pub fn key_values(alloc: Global, key: &KeyDef, row: &Row) -> Result<Row, AllocError>
     ensures { IfOk result (λ values. values ≡ key_of_def key.now row.now) }
 {
     let mut values = List::new(alloc);
