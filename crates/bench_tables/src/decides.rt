@@ -1,10 +1,12 @@
-//! A request that is decided against the entries since its begin.
+//! A request that is decided against the entries since its begin. The entries before it are of another table, so that the table
+//! of the request has as many rows behind many of them as behind few.
 ghost use Rattle.std.specs.Prelude.{◌≡◌, ◌+◌, ◌≤◌, IfOk, OnOk, length};
 ghost use Rattle.std.specs.List.{AllByRecursion};
 ghost use Rattle.blkseq_table.specs.OfLogs.{identities_of};
 ghost use Rattle.block_processor_tests.specs.Begun.{AsksInserts, IsBegun, IsInsert};
 
-use crate::stores::{row_of, schema_of_bench};
+use crate::logs::schema_of_two;
+use crate::stores::row_of;
 use crate::updates::interval_of;
 use blkseq_table::BlkSeq;
 use block_processor_tests::{begun_log, commit, decided};
@@ -27,21 +29,26 @@ const TIMES: u32 = 100;
 /// A number of a row that no entry inserts.
 const FAR: u32 = 1_000_000_000;
 
-/// The inserts of so many rows, from a number on.
+/// The inserts of so many rows into a table, from a number on.
 #[tactic(auto, using(block_processor_tests::proofs::BegunLemmas::inserts_more))]
-fn inserts_from(alloc: Global, first: u32, count: u32) -> Result<List<RowOp>, AllocError>
+fn inserts_from(
+    alloc: Global,
+    table: u16,
+    first: u32,
+    count: u32,
+) -> Result<List<RowOp>, AllocError>
     ensures { IfOk result (AllByRecursion IsInsert) }
 {
     let mut ops = List::new(alloc);
     'rows: for before in 0..count {
         let number = first.saturating_add(before);
         let row = row_of(alloc, number, u64::from(number))?;
-        ops.push(RowOp::Insert { table: 0, row })?;
+        ops.push(RowOp::Insert { table, row })?;
     }
     Ok(ops)
 }
 
-/// So many versions of the table, from the genid 1 on.
+/// So many versions of the first table, from the genid 1 on.
 fn versions(alloc: Global, count: u32) -> Result<List<GenidItem>, AllocError> {
     let mut genids = List::new(alloc);
     for before in 0..count {
@@ -53,7 +60,7 @@ fn versions(alloc: Global, count: u32) -> Result<List<GenidItem>, AllocError> {
     Ok(genids)
 }
 
-/// The intervals of so many rows that no entry inserts, by the primary key.
+/// The intervals of so many rows of the first table that no entry inserts, by the primary key.
 fn intervals(alloc: Global, count: u32) -> Result<List<Interval>, AllocError> {
     let mut ranges = List::new(alloc);
     for before in 0..count {
@@ -62,9 +69,15 @@ fn intervals(alloc: Global, count: u32) -> Result<List<Interval>, AllocError> {
     Ok(ranges)
 }
 
-/// What a transaction asks that has a number, began at a position, inserts so many rows from this number on, and used as many
-/// versions and intervals.
-fn asked(alloc: Global, number: u32, begin: u64, count: u32) -> Result<CommitRequest, AllocError>
+/// What a transaction asks that has a number, began at a position, inserts so many rows from this number on into a table, and
+/// used as many versions and intervals of the first one.
+fn asked(
+    alloc: Global,
+    number: u32,
+    begin: u64,
+    table: u16,
+    count: u32,
+) -> Result<CommitRequest, AllocError>
     ensures ops { IfOk result (λ request. AllByRecursion IsInsert request.ops) }
     ensures begin { IfOk result (λ request. request.begin ≡ begin) }
 {
@@ -76,18 +89,19 @@ fn asked(alloc: Global, number: u32, begin: u64, count: u32) -> Result<CommitReq
         },
         begin,
         level: Level::Serializable,
-        ops: inserts_from(alloc, number, count)?,
+        ops: inserts_from(alloc, table, number, count)?,
         genids: versions(alloc, count)?,
         ranges: intervals(alloc, count)?,
     })
 }
 
-/// Commits the insert of a row, which began at the end of the log.
+/// Commits the insert of a row into a table, which began at the end of the log.
 fn commit_row(
     alloc: Global,
     schema: &Schema,
     log: &mut PagedLog,
     known: &mut BlkSeq,
+    table: u16,
     number: u32,
 ) -> Result<(), AllocError>
     requires begun { IsBegun schema.now log.old }
@@ -96,16 +110,17 @@ fn commit_row(
     ensures known { OnOk result (known.new ≡ identities_of log.new) }
     ensures longer { OnOk result (length log.new ≡ length log.old + 1) }
 {
-    let request = asked(alloc, number, log.entries().len() as u64, 1)?;
+    let request = asked(alloc, number, log.entries().len() as u64, table, 1)?;
     commit(alloc, schema, log, known, &request)
 }
 
-/// Commits so many rows, from a number on, by one transaction each.
+/// Commits so many rows of a table, from a number on, by one transaction each.
 fn commit_rows(
     alloc: Global,
     schema: &Schema,
     log: &mut PagedLog,
     known: &mut BlkSeq,
+    table: u16,
     first: u32,
     count: u32,
 ) -> Result<(), AllocError>
@@ -116,7 +131,14 @@ fn commit_rows(
     ensures longer { OnOk result (length log.old ≤ length log.new) }
 {
     'rows: for before in 0..count {
-        commit_row(alloc, schema, log, known, first.saturating_add(before))?;
+        commit_row(
+            alloc,
+            schema,
+            log,
+            known,
+            table,
+            first.saturating_add(before),
+        )?;
     }
     Ok(())
 }
@@ -156,13 +178,13 @@ fn time_decides(
     requires some { 1 ≤ begin }
     requires within { begin ≤ length log.now }
 {
-    let request = asked(alloc, FAR, begin, MANY)?;
+    let request = asked(alloc, FAR, begin, 0, MANY)?;
     let started = Instant::now(clock)?;
     decide_often(alloc, schema, log, known, &request)?;
     started.elapsed(clock)
 }
 
-/// The same, where it began behind so many commits, and before 1,000 more.
+/// The same, where it began behind so many commits of the other table, and before 1,000 of the first one.
 fn time_behind(
     clock: &impl Clock,
     alloc: Global,
@@ -174,15 +196,15 @@ fn time_behind(
     requires begun { IsBegun schema.now log.old }
     requires known { known.old ≡ identities_of log.old }
 {
-    commit_rows(alloc, schema, log, known, 0, count)?;
+    commit_rows(alloc, schema, log, known, 1, 0, count)?;
     let begin = log.entries().len() as u64;
-    commit_rows(alloc, schema, log, known, count, SINCE)?;
+    commit_rows(alloc, schema, log, known, 0, count, SINCE)?;
     time_decides(clock, alloc, schema, log, known, begin)
 }
 
 /// Prints how long a request takes to be decided that began behind so many commits, and before 1,000 more.
 pub(crate) fn measure_decides(rt: &HostRuntime, count: u32) -> io::Result<()> {
-    let schema = schema_of_bench(rt.alloc())?;
+    let schema = schema_of_two(rt.alloc())?;
     let mut log = begun_log(rt.alloc(), &schema)?;
     let mut known = BlkSeq::of_entries(rt.alloc(), log.entries())?;
     let took = time_behind(rt, rt.alloc(), &schema, &mut log, &mut known, count)?;
