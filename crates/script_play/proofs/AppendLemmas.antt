@@ -1,5 +1,5 @@
 -- The lines that are told before an entry is appended, and what becomes of them.
-use Rattle.std.proofs.Common.{◌≡◌, ℕ, ◌+◌, ◌-◌, List, [], ◌∷◌, ◌++◌, length, get_or, take, set, ap, arith, subst, sym, ◌∙◌, append_assoc, Some, ◌⊎◌, inl, inr, true}
+use Rattle.std.proofs.Common.{◌≡◌, ℕ, ◌+◌, ◌-◌, List, [], ◌∷◌, ◌++◌, length, get_or, take, set, ap, arith, subst, sym, ◌∙◌, append_assoc, Some, inl, inr, true}
 use Rattle.std.specs.Prelude.{swap_remove}
 use Rattle.std.proofs.Math.Seq.{set-append_seam, take-append_seam, take-append-add}
 use Rattle.std.proofs.lemmas.List.{length-append, get_or-append-add, map-append}
@@ -15,7 +15,8 @@ use Rattle.report_text.specs.declared.reports.Line.{Line}
 use Rattle.report_text.specs.declared.reports.Line.TheVariants as line
 use Rattle.report_text.specs.declared.reports.ReplyLine.{ReplyLine}
 use Rattle.report_text.specs.declared.reports.ReplyLine.TheVariants as reply
-use Rattle.script_play.specs.Down.{down_line, HasOutcome, IsEntered, IsFallenAt, IsKeptSo}
+use Rattle.script_play.specs.Run.{run_of}
+use Rattle.script_play.specs.Down.{down_line, HasOutcome, IsAppendedSo, IsEntered, IsFallenAt, IsKeptSo}
 
 -- the last of three takes the place of the first
 swapped : {X : Type 0} (front : List X) (a b c d : X) → swap_remove (front ++ a ∷ b ∷ c ∷ []) (length front) d ≡ front ++ c ∷ b ∷ []
@@ -53,10 +54,10 @@ popped old mid new x n is count rest =
     ∙ take-append_seam old (x ∷ [])
 
 -- an entry is in the log alone, by what the store's log did
-pub fallen_at : (entry mine : Entry) (entries entries' : List EntryLine) (log log' : Logged) → mine ≡ entry → entries' ≡ entries → log' ≡ record (with_entry log mine) { store = log'.store; failed = true } →
-    Rose log.store.faults log'.store.faults → Leaves log'.store (log ∷ with_entry log mine ∷ []) → IsFallenAt entry entries entries' log log'
-fallen_at entry mine entries entries' log log' same es is rose left =
-    subst (λ (e : Entry). IsFallenAt e entries entries' log log') same (record { entries_are = es; log_is = is; rose = rose; left = left })
+pub fallen_at : (entry mine : Entry) (lines lines' : List Line) (entries entries' : List EntryLine) (log log' : Logged) → mine ≡ entry → entries' ≡ entries → log' ≡ record (with_entry log mine) { store = log'.store; failed = true } →
+    Rose log.store.faults log'.store.faults → Leaves log'.store (log ∷ with_entry log mine ∷ []) → IsFallenAt entry (run_of lines entries log) (run_of lines' entries' log')
+fallen_at entry mine lines lines' entries entries' log log' same es is rose left =
+    subst (λ (e : Entry). IsFallenAt e (run_of lines entries log) (run_of lines' entries' log')) same (record { entries_are = es; log_is = is; rose = rose; left = left })
 
 -- the line of an outcome stands behind all others
 pub told_last : (name : List ℕ) (number : ℕ) (replies : List ReplyLine) (lines mid : List Line) (told : HasOutcome replies) → mid ≡ lines ++ lines_of name number replies →
@@ -65,15 +66,37 @@ told_last name number replies lines mid told is =
     is ∙ ap (λ rs. lines ++ lines_of name number rs) told.is ∙ ap (λ ls. lines ++ ls) (map-append (line.Session name number) told.front (told.outcome ∷ []))
     ∙ sym (append_assoc lines (lines_of name number told.front) (line.Session name number told.outcome ∷ []))
 
+-- an entry is appended whatever the lines are
+pub entered_so : (entry : Entry) (lines more lines' more' : List Line) (entries entries' : List EntryLine) (log log' : Logged) →
+    IsEntered entry (run_of lines entries log) (run_of lines' entries' log') → IsEntered entry (run_of more entries log) (run_of more' entries' log')
+entered_so entry lines more lines' more' entries entries' log log' is = record { entries_are = is.entries_are; log_is = is.log_is; later = is.later }
+
+pub fallen_so : (entry : Entry) (lines more lines' more' : List Line) (entries entries' : List EntryLine) (log log' : Logged) →
+    IsFallenAt entry (run_of lines entries log) (run_of lines' entries' log') → IsFallenAt entry (run_of more entries log) (run_of more' entries' log')
+fallen_so entry lines more lines' more' entries entries' log log' is = record { entries_are = is.entries_are; log_is = is.log_is; rose = is.rose; left = is.left }
+
+-- the store fails at the entry of a transaction whose outcome is the last line
+pub fell_so : (entry mine : Entry) (name : List ℕ) (number : ℕ) (lines more mid last : List Line) (entries entries' : List EntryLine) (log log' : Logged) →
+    more ≡ lines ++ (lines_of name number (reply.Lost 1 1 ∷ []) ++ down_line ∷ []) → mid ≡ more →
+    ((front : List Line) (outcome lost down : Line) → mid ≡ front ++ outcome ∷ lost ∷ down ∷ [] → last ≡ front ++ down ∷ lost ∷ []) →
+    mine ≡ entry → IsFallenAt mine (run_of more entries log) (run_of mid entries' log') →
+    IsAppendedSo name number entry (run_of lines entries log) (run_of last entries' log')
+fell_so entry mine name number lines more mid last entries entries' log log' told still put same fell = inr (
+  (λ front outcome is.
+      put front outcome (line.Session name number (reply.Lost 1 1)) down_line
+      (still ∙ told ∙ ap (λ ls. ls ++ (line.Session name number (reply.Lost 1 1) ∷ down_line ∷ [])) is
+      ∙ append_assoc front (outcome ∷ []) (line.Session name number (reply.Lost 1 1) ∷ down_line ∷ []))),
+  fallen_so entry more lines mid last entries entries' log log' (subst (λ (e : Entry). IsFallenAt e (run_of more entries log) (run_of mid entries' log')) same fell),
+)
+
 -- what a line is told and keeps that appends an entry
 pub kept_so : (name : List ℕ) (number : ℕ) (replies : List ReplyLine) (entry : Entry) (lines mid lines' : List Line) (entries entries' : List EntryLine) (log log' : Logged) → HasOutcome replies → mid ≡ lines ++ lines_of name number replies →
-    ((lines' ≡ mid) × IsEntered entry entries entries' log log')
-    ⊎ (((front : List Line) (outcome : Line) → mid ≡ front ++ outcome ∷ [] → lines' ≡ front ++ down_line ∷ lines_of name number (reply.Lost 1 1 ∷ [])) × IsFallenAt entry entries entries' log log') →
-    IsKeptSo name number replies (Some entry) lines lines' entries entries' log log'
-kept_so name number replies entry lines mid lines' entries entries' log log' told is (inl (same, entered)) = inl (same ∙ is, entered)
+    IsAppendedSo name number entry (run_of mid entries log) (run_of lines' entries' log') →
+    IsKeptSo name number replies (Some entry) (run_of lines entries log) (run_of lines' entries' log')
+kept_so name number replies entry lines mid lines' entries entries' log log' told is (inl (same, entered)) = inl (same ∙ is, entered_so entry mid lines lines' lines' entries entries' log log' entered)
 kept_so name number replies entry lines mid lines' entries entries' log log' told is (inr (falls, fell)) = inr (
   told,
   falls (lines ++ lines_of name number told.front) (line.Session name number told.outcome) (told_last name number replies lines mid told is)
       ∙ append_assoc lines (lines_of name number told.front) (down_line ∷ lines_of name number (reply.Lost 1 1 ∷ [])),
-  fell,
+  fallen_so entry mid lines lines' lines' entries entries' log log' fell,
 )

@@ -27,6 +27,7 @@ pub mod WholeLemmas
 pub mod StartLemmas
 pub mod CourseLemmas
 pub mod KnownLemmas
+pub mod OverLemmas
 pub mod SiteLemmas
 pub mod SqlLaws
 pub mod PlayLaws

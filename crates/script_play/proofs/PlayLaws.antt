@@ -17,9 +17,10 @@ use Rattle.script_form.specs.declared.scripts.SessionLine.{SessionLine}
 use Rattle.script_play.specs.Doing.{SessionAt}
 use Rattle.script_play.specs.Doing as doing
 use Rattle.script_play.specs.Played.{downs_by, IsGivenUp, IsPlayed}
+use Rattle.script_play.specs.Run.{run_of}
 use Rattle.script_play.specs.RunViews.{doing_in, seen_in, state_in, AreOwn, IsBeforeLine, IsOpenedBehind, IsOpening, IsOwn, IsOwnDoing}
 use Rattle.script_play.specs.EntryLines.{AreTold}
-use Rattle.script_play.specs.Ready.{CanBegin, IsLogged}
+use Rattle.script_play.specs.Ready.{AreEarlier, CanBegin, IsLogged}
 use Rattle.script_play.specs.SoFar.{now_of, at_start, report_of, IsAtNode, IsBefore}
 use Rattle.script_play.specs.Down.{down_line, history_by, history_of, with_entries, IsCaused, IsHeld, IsHeldBy}
 use Rattle.script_play.specs.Start.{Start, base}
@@ -68,15 +69,16 @@ held_first log up = record {
 }
 
 -- the run before the first line of the script
-pub begins_at : (script : Script) (start : Start) (log : Logged) (lines : List Line) (entries : List EntryLine) (states : List SessionState) → CanRun script → log.failed ≡ false → lines ≡ [] →
+pub begins_at : (script : Script) (start : Start) (log : Logged) (lines : List Line) (entries : List EntryLine) (states : List SessionState) → CanRun script → log.failed ≡ false → AreEarlier log.accepted start.before → lines ≡ [] →
     IsOpening (tables_of script) log.accepted start.before entries log.entries → CanBegin (tables_of script) start.before start.rows → map state_in states ≡ map (λ _. at_start) script.sessions →
-    IsBeforeLine script start log.accepted log.store.faults script.body lines entries log states
-begins_at script start log lines entries states can up none opening begin starts = record {
+    IsBeforeLine script start log.accepted log.store.faults script.body (run_of lines entries log) states
+begins_at script start log lines entries states can up earlier none opening begin starts = record {
   before = subst (λ (ls : List Line). IsBefore script start log.failed script.body ls entries (changed_in (history_of log)) (seen_in start (history_of log)) (map state_in states)) (sym none)
       (subst (λ (b : Bool). IsBefore script start b script.body [] entries (changed_in (history_by b log.entries)) (seen_in start (history_by b log.entries)) (map state_in states)) (sym up) first.before_line);
   logged = subst (λ (b : Bool). IsLogged start (tables_of script) (now_of start entries) (history_by b log.entries)) (sym up) first.logged_so;
   told = subst (λ (b : Bool). AreTold start.before log.accepted entries (history_by b log.entries)) (sym up) first.told;
   own = opens_own log.accepted script.sessions states starts;
+  earlier = earlier;
   held = held_first log up;
 }
   where
@@ -85,7 +87,7 @@ begins_at script start log lines entries states can up none opening begin starts
 
 -- what a run that is done leaves
 done_so : (script : Script) (start : Start) (opened : Logged) (lines : List Line) (entries : List EntryLine) (log : Logged) (states : List SessionState) →
-    IsBeforeLine script start opened.accepted opened.store.faults [] lines entries log states →
+    IsBeforeLine script start opened.accepted opened.store.faults [] (run_of lines entries log) states →
     IsPlayed script start opened (report_of (base start) (now_of start entries) lines entries) log
 done_so script start opened lines entries log states now = record {
   told = record {
@@ -102,7 +104,7 @@ done_so script start opened lines entries log states now = record {
 }
 
 pub done_at : (script : Script) (start : Start) (opened : Logged) (lines : List Line) (entries : List EntryLine) (log : Logged) (states : List SessionState) (told : ℕ) (report : Report) →
-    IsBeforeLine script start opened.accepted opened.store.faults [] lines entries log states → told ≡ base start → report ≡ report_of told (length (history_of log)) lines entries →
+    IsBeforeLine script start opened.accepted opened.store.faults [] (run_of lines entries log) states → told ≡ base start → report ≡ report_of told (length (history_of log)) lines entries →
     IsPlayed script start opened report log
 done_at script start opened lines entries log states told report now base_is is =
     subst (λ (r : Report). IsPlayed script start opened r log) (sym report_is) (done_so script start opened lines entries log states now)
@@ -123,7 +125,7 @@ given_first tables start log up is = record {
 
 -- and at a line, which leaves the log as it was
 pub given_at : (script : Script) (start : Start) (opened log log' : Logged) (generation : ℕ) (left : List BodyLine) (lines : List Line) (entries : List EntryLine) (states : List SessionState) →
-    IsBeforeLine script start generation opened.store.faults left lines entries log states → generation ≡ opened.accepted → log' ≡ log → IsGivenUp start opened log'
+    IsBeforeLine script start generation opened.store.faults left (run_of lines entries log) states → generation ≡ opened.accepted → log' ≡ log → IsGivenUp start opened log'
 given_at script start opened log log' generation left lines entries states now made same = subst (λ (l : Logged). IsGivenUp start opened l) (sym same) (record {
   entries = entries;
   told = subst (λ (n : ℕ). AreTold start.before n entries (history_of log)) made now.told;

@@ -42,6 +42,7 @@ use Rattle.script_play.proofs.SqlLaws.{kept_answer}
 use Rattle.script_play.specs.Effects.{IsEffect, IsAdded, IsEntryOf, IsFreshIn, IsOfIts, Named, cut_in, lines_added, named_so}
 use Rattle.script_play.specs.Doing.{Doing}
 use Rattle.script_play.specs.Doing as doing
+use Rattle.script_play.specs.Run.{run_of}
 use Rattle.script_play.specs.Down.{fallen_lines, with_entries, HasOutcome, IsFallenAt, IsKeptSo, TellsOutcome}
 use Rattle.script_play.specs.EntryLines.{AreTold, IsMadeIn, line_of, lines_from}
 use Rattle.script_play.specs.Ready.{AreKept, IsAble, IsKeptOp, IsLogged, IsReady}
@@ -252,10 +253,10 @@ is_up log up = ap (λ (b : Bool). record log { failed = b }) up
 -- a node that was up is up behind a line
 done_up : (start : Start) (generation : ℕ) (tables : List TableDef) (name : List ℕ) (t : Turned) (after : SessionState) (lines lines' : List Line) (entries entries' : List EntryLine) (log log' : Logged) →
     log.failed ≡ false → log'.failed ≡ log.failed → log'.accepted ≡ log.accepted → log.store.faults ≤ log'.store.faults →
-    WasDone start generation tables name t after lines lines' entries entries' log.entries log'.entries → IsDoneFrom start generation tables name t after lines lines' entries entries' log log'
+    WasDone start generation tables name t after lines lines' entries entries' log.entries log'.entries → IsDoneFrom start generation tables name t after (run_of lines entries log) (run_of lines' entries' log')
 done_up start generation tables name t after lines lines' entries entries' log log' up stays accepted later was =
-    subst (λ (l : Logged). IsDoneFrom start generation tables name t after lines lines' entries entries' l log') (sym (is_up log up))
-    (subst (λ (l : Logged). IsDoneFrom start generation tables name t after lines lines' entries entries' (up_log log) l) (sym (is_up log' (stays ∙ up))) (record {
+    subst (λ (l : Logged). IsDoneFrom start generation tables name t after (run_of lines entries l) (run_of lines' entries' log')) (sym (is_up log up))
+    (subst (λ (l : Logged). IsDoneFrom start generation tables name t after (run_of lines entries (up_log log)) (run_of lines' entries' l)) (sym (is_up log' (stays ∙ up))) (record {
       done = (was.0, was.1);
       logged = was.2;
       told = was.3;
@@ -287,10 +288,10 @@ left_so log entry store es is left = subst (λ (x : List Entry). Leaves store (w
 -- a node that was up goes down at the entry of a line
 done_fallen : (start : Start) (generation : ℕ) (tables : List TableDef) (name : List ℕ) (t : Turned) (after : SessionState) (lines lines' : List Line) (entries entries' : List EntryLine) (log log' : Logged) (entry : Entry) (outcome : HasOutcome t.replies) →
     log.failed ≡ false → IsLogged start tables (length log.entries) log.entries → t.added ≢ [] → lines' ≡ lines ++ fallen_lines name t.number outcome.front → state_in after ≡ t.after → IsOwn generation name after →
-    IsFallenAt entry entries entries' log log' → IsDoneFrom start generation tables name t after lines lines' entries entries' log log'
+    IsFallenAt entry (run_of lines entries log) (run_of lines' entries' log') → IsDoneFrom start generation tables name t after (run_of lines entries log) (run_of lines' entries' log')
 done_fallen start generation tables name t after lines lines' entries entries' log log' entry outcome up logged commits told there own fell =
-    subst (λ (l : Logged). IsDoneFrom start generation tables name t after lines lines' entries entries' l log') (sym (is_up log up))
-    (subst (λ (l : Logged). IsDoneFrom start generation tables name t after lines lines' entries entries' (up_log log) l) (sym fell.log_is) (record {
+    subst (λ (l : Logged). IsDoneFrom start generation tables name t after (run_of lines entries l) (run_of lines' entries' log')) (sym (is_up log up))
+    (subst (λ (l : Logged). IsDoneFrom start generation tables name t after (run_of lines entries (up_log log)) (run_of lines' entries' l)) (sym fell.log_is) (record {
       done = record {
         commits = commits;
         outcome = outcome;
@@ -319,14 +320,14 @@ adds_some start tables log entry named (ops ∷ more) is = λ none. cc
 -- what was told and kept of a plan is what the line does
 effect_kept : (start : Start) (generation : ℕ) (tables : List TableDef) (name : List ℕ) (p : LineEffect) (t : Turned) (after : SessionState) (lines lines' : List Line) (entries entries' : List EntryLine) (log log' : Logged) →
     log.failed ≡ false → IsLogged start tables (length log.entries) log.entries → IsFrom (base start) (length log.entries) → IsEffect start generation tables log.entries name p t → after ≡ p.after →
-    IsKeptSo name p.number p.replies.items p.added lines lines' entries entries' log log' → IsDoneFrom start generation tables name t after lines lines' entries entries' log log'
+    IsKeptSo name p.number p.replies.items p.added (run_of lines entries log) (run_of lines' entries' log') → IsDoneFrom start generation tables name t after (run_of lines entries log) (run_of lines' entries' log')
 effect_kept start generation tables name p t after lines lines' entries entries' log log' up logged opened is there kept = go p.added refl kept
   where
     done : entries' ≡ entries ++ lines_added (length log.entries) p.added → log'.entries ≡ log.entries ++ option_to_list p.added → lines' ≡ lines ++ lines_of name p.number p.replies.items →
         WasDone start generation tables name t after lines lines' entries entries' log.entries log'.entries
     done es grows told = effect_done start generation tables log.entries log'.entries name p t after lines lines' entries entries' logged opened is there told es grows
 
-    go : (added : Option Entry) → p.added ≡ added → IsKeptSo name p.number p.replies.items added lines lines' entries entries' log log' → IsDoneFrom start generation tables name t after lines lines' entries entries' log log'
+    go : (added : Option Entry) → p.added ≡ added → IsKeptSo name p.number p.replies.items added (run_of lines entries log) (run_of lines' entries' log') → IsDoneFrom start generation tables name t after (run_of lines entries log) (run_of lines' entries' log')
     go None none (told, es, same) =
         done_up start generation tables name t after lines lines' entries entries' log log' up (ap (λ (l : Logged). l.failed) same) (ap (λ (l : Logged). l.accepted) same)
         (let n = ap (λ (l : Logged). l.store.faults) same in omega (arith, n))
@@ -345,7 +346,7 @@ effect_kept start generation tables name p t after lines lines' entries entries'
 -- the same of what the code answers
 pub effect_taken : {E : Type 0} (result : Result SessionState E) (start : Start) (generation : ℕ) (tables : List TableDef) (name : List ℕ) (p : LineEffect) (t : Turned) (lines lines' : List Line) (entries entries' : List EntryLine) (log log' : Logged) →
     log.failed ≡ false → IsLogged start tables (length log.entries) log.entries → IsFrom (base start) (length log.entries) → IsEffect start generation tables log.entries name p t → IfOk result (λ after. after ≡ p.after) →
-    OnOk result (IsKeptSo name p.number p.replies.items p.added lines lines' entries entries' log log') → IfOk result (λ after. IsDoneFrom start generation tables name t after lines lines' entries entries' log log')
+    OnOk result (IsKeptSo name p.number p.replies.items p.added (run_of lines entries log) (run_of lines' entries' log')) → IfOk result (λ after. IsDoneFrom start generation tables name t after (run_of lines entries log) (run_of lines' entries' log'))
 effect_taken (Err e) start generation tables name p t lines lines' entries entries' log log' up logged opened is there kept = tt
 effect_taken (Ok after) start generation tables name p t lines lines' entries entries' log log' up logged opened is there kept =
     effect_kept start generation tables name p t after lines lines' entries entries' log log' up logged opened is there kept
@@ -423,9 +424,9 @@ shut_own generation name s shut = shut_doing generation name s.number s.level s.
 -- a line that was cut short, by the entries of the log
 cut_done : (start : Start) (generation : ℕ) (tables : List TableDef) (log : Logged) (name : List ℕ) (before after : SessionState) (text : List ℕ) (lines lines' : List Line) (entries entries' : List EntryLine) →
     log.failed ≡ false → IsLogged start tables (length log.entries) log.entries → IsShut after.doing → cut_by before.number before.level (kind_of_text text) (state_in before).doing ≡ cut_in after →
-    lines' ≡ lines ++ lines_of name after.number (reply.NoMemory ∷ []) → entries' ≡ entries → IsTakenFrom start generation tables name before text after lines lines' entries entries' log log
+    lines' ≡ lines ++ lines_of name after.number (reply.NoMemory ∷ []) → entries' ≡ entries → IsTakenFrom start generation tables name before text after (run_of lines entries log) (run_of lines' entries' log)
 cut_done start generation tables log name before after text lines lines' entries entries' up logged shut its told es =
-    subst (λ (l : Logged). IsTakenFrom start generation tables name before text after lines lines' entries entries' l l) (sym (is_up log up)) (record {
+    subst (λ (l : Logged). IsTakenFrom start generation tables name before text after (run_of lines entries l) (run_of lines' entries' l)) (sym (is_up log up)) (record {
       taken = inr (record { number = after.number; after = state_in after }, its, record { lines_are = told; entries_are = es; changed_are = refl; rows_are = refl }, refl);
       logged = logged;
       told = told_same start.before generation log.entries log.entries entries entries' es refl;
@@ -437,10 +438,10 @@ cut_done start generation tables log name before after text lines lines' entries
 pub cut_taken : {E : Type 0} (start : Start) (generation : ℕ) (tables : List TableDef) (log log' : Logged) (name : List ℕ) (before : SessionState) (text : List ℕ) (k : Kind) (cut : Option SessionState) (result : Result SessionState E) (lines lines' : List Line) (entries entries' : List EntryLine) →
     log.failed ≡ false → IsLogged start tables (length log.entries) log.entries → IfSome cut (λ after. IsShut after.doing) →
     k ≡ kind_of_text text → IfSome cut (λ after. cut_by before.number before.level k (state_in before).doing ≡ cut_in after) → IfOk result (λ after. cut ≡ Some after) → IfOk result (λ after. lines' ≡ lines ++ lines_of name after.number (reply.NoMemory ∷ [])) →
-    entries' ≡ entries → log' ≡ log → IfOk result (λ after. IsTakenFrom start generation tables name before text after lines lines' entries entries' log log')
+    entries' ≡ entries → log' ≡ log → IfOk result (λ after. IsTakenFrom start generation tables name before text after (run_of lines entries log) (run_of lines' entries' log'))
 cut_taken start generation tables log log' name before text k cut (Err e) lines lines' entries entries' up logged shut is its there told es same = tt
 cut_taken start generation tables log log' name before text k cut (Ok after) lines lines' entries entries' up logged shut is its there told es same =
-    subst (λ (l : Logged). IsTakenFrom start generation tables name before text after lines lines' entries entries' log l) (sym same)
+    subst (λ (l : Logged). IsTakenFrom start generation tables name before text after (run_of lines entries log) (run_of lines' entries' l)) (sym same)
     (cut_done start generation tables log name before after text lines lines' entries entries' up logged
     (subst (λ (o : Option SessionState). IfSome o (λ (x : SessionState). IsShut x.doing)) there shut)
     (ap (λ (x : Kind). cut_by before.number before.level x (state_in before).doing) (sym is)

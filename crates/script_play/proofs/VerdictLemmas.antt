@@ -29,7 +29,7 @@ use Rattle.report_text.specs.declared.reports.ReplyLine.{ReplyLine}
 use Rattle.report_text.specs.declared.reports.ReplyLine.TheVariants as reply
 use Rattle.script_play.proofs.RequestLemmas.{conflict_once, its_request, log_tables}
 use Rattle.script_play.specs.Decisions.{item_told, by_key, decision, judged, added_by, used_by, key_place}
-use Rattle.script_play.specs.Effects.{IsVerdict, IsEntryOf, IsFreshIn, IsOfIts, named_by}
+use Rattle.script_play.specs.Effects.{IsVerdict, IsEntryOf, IsFreshIn, IsOfIts, IsUnusedIn, named_by}
 use Rattle.script_play.specs.EntryLines.{line_of}
 use Rattle.report_text.specs.declared.reports.EntryLine.{EntryLine}
 use Rattle.script_play.specs.Ready.{IsReady}
@@ -81,6 +81,10 @@ none_verdict start generation tables now log s v none told added = go s.ops none
     go : (ops : List RowOp) → request_if s ops ≡ None → IsVerdict start tables log v (outcome (world_of tables (seen_in start log) (changed_in log) now) s.begin s.level s.genids s.ranges ops) (named_by generation s) ops
     go [] is = record { told = told; added = rw added tt }
     go (op ∷ ops) is = absurd cc
+
+-- a request whose identity no entry has is no repeat
+pub never_again : (log : List Entry) (s : Session) (request : CommitRequest) (position : ℕ) → request_of s ≡ Some request → IsUnusedIn log s.id → HasId log position request.id → ⊥
+never_again log s request position asked fresh has = fresh position (subst (λ (r : CommitRequest). HasId log position r.id) (its_request s s.ops request asked).0 has)
 
 -- the first broken key has its name, and one is told exactly where the other is
 abbrev pub NamesBroken : Type 0

@@ -1,4 +1,6 @@
 -- What a report of a run is judged by: the language of SQL, the script, and where the run begins.
+use Rattle.std.specs.Prelude.{ℕ}
+use Rattle.cdb_values.specs.Rows.{Rows}
 use Rattle.report_laws.specs.History.{Basis, Origin, nothing_before}
 use Rattle.script_form.specs.CanRun.{tables_of}
 use Rattle.script_form.specs.declared.scripts.Script.{Script}
@@ -12,6 +14,10 @@ from_origin script origin = record { language = sql_language; script = script; o
 abbrev pub from_nothing : Script → Basis
 from_nothing script = from_origin script (nothing_before (tables_of script))
 
+-- a history that begins behind a position, at these rows
+abbrev pub from_base : Script → ℕ → Rows → Basis
+from_base script at rows = from_origin script (record { position = at; tables = tables_of script; rows = rows })
+
 -- a run that goes on behind a log
 abbrev pub from_start : Script → Start → Basis
-from_start script start = from_origin script (record { position = base start; tables = tables_of script; rows = start.rows })
+from_start script start = from_base script (base start) start.rows

@@ -13,7 +13,6 @@ use Rattle.cdb_values.specs.declared.rows.StatementError.TheVariants.{State}
 use Rattle.node_log.specs.Logged.{Logged, Leaves, with_entry}
 use Rattle.phys_log.specs.declared.entries.Entry.{Entry}
 use Rattle.report_laws.specs.Told.{lines_of}
-use Rattle.report_text.specs.declared.reports.EntryLine.{EntryLine}
 use Rattle.report_text.specs.declared.reports.Line.{Line}
 use Rattle.report_text.specs.declared.reports.Line.TheVariants as line
 use Rattle.report_text.specs.declared.reports.ReplyLine.{ReplyLine}
@@ -22,6 +21,7 @@ use Rattle.session_language.specs.Language.{Kind, BeginText, CommitText, Rollbac
 use Rattle.script_play.specs.Doing.{SessionAt, Doing}
 use Rattle.script_play.specs.Doing as doing
 use Rattle.script_play.specs.EntryLines.{line_of}
+use Rattle.script_play.specs.Run.{Run}
 use Rattle.script_play.specs.Step.{Turned, state, turned}
 
 -- the line that the node went down
@@ -80,18 +80,26 @@ abbrev pub owner_of : Logged → Owner
 owner_of l = record { node = l.node; cluster = l.cluster; promised = l.promised; accepted = l.accepted }
 
 -- an entry was appended and kept, and stands in the history
-pub record IsEntered (entry : Entry) (entries entries' : List EntryLine) (log log' : Logged) : Type 0 where
-  pub entries_are : entries' ≡ entries ++ line_of (length log.entries + 1) entry ∷ []
-  pub log_is : log' ≡ record (with_entry log entry) { store = log'.store }
-  pub later : log.store.faults ≤ log'.store.faults
+pub record IsEntered (entry : Entry) (r r' : Run) : Type 0 where
+  pub entries_are : r'.entries ≡ r.entries ++ line_of (length r.log.entries + 1) entry ∷ []
+  pub log_is : r'.log ≡ record (with_entry r.log entry) { store = r'.log.store }
+  pub later : r.log.store.faults ≤ r'.log.store.faults
 
 -- an entry was appended, but the store failed at it: it stands in the log alone, and what a stop leaves of the store stands
 -- for the log without it, or with it
-pub record IsFallenAt (entry : Entry) (entries entries' : List EntryLine) (log log' : Logged) : Type 0 where
-  pub entries_are : entries' ≡ entries
-  pub log_is : log' ≡ record (with_entry log entry) { store = log'.store; failed = true }
-  pub rose : Rose log.store.faults log'.store.faults
-  pub left : Leaves log'.store (log ∷ with_entry log entry ∷ [])
+pub record IsFallenAt (entry : Entry) (r r' : Run) : Type 0 where
+  pub entries_are : r'.entries ≡ r.entries
+  pub log_is : r'.log ≡ record (with_entry r.log entry) { store = r'.log.store; failed = true }
+  pub rose : Rose r.log.store.faults r'.log.store.faults
+  pub left : Leaves r'.log.store (r.log ∷ with_entry r.log entry ∷ [])
+
+-- the entry of a transaction whose outcome is the last line: it was kept; or the store failed at it, and that line became
+-- those that the node went down and that the transaction is lost
+abbrev pub IsAppendedSo : List ℕ → ℕ → Entry → Run → Run → Type 0
+IsAppendedSo name number entry r r' =
+    ((r'.lines ≡ r.lines) × IsEntered entry r r')
+    ⊎ (((front : List Line) (outcome : Line) → r.lines ≡ front ++ outcome ∷ [] → r'.lines ≡ front ++ down_line ∷ lines_of name number (reply.Lost 1 1 ∷ []))
+    × IsFallenAt entry r r')
 
 -- the replies to a line that commits an entry: their last is its outcome
 pub record HasOutcome (replies : List ReplyLine) : Type 0 where
@@ -106,11 +114,11 @@ TellsOutcome replies (Some entry) = HasOutcome replies
 
 -- what is told and kept of a line that appends no entry, and of one that does: its replies, and the entry; or, where the
 -- store fails at it, the lines above
-abbrev pub IsKeptSo : List ℕ → ℕ → List ReplyLine → Option Entry → List Line → List Line → List EntryLine → List EntryLine → Logged → Logged → Type 0
-IsKeptSo name number replies None lines lines' entries entries' log log' = (lines' ≡ lines ++ lines_of name number replies) × (entries' ≡ entries) × (log' ≡ log)
-IsKeptSo name number replies (Some entry) lines lines' entries entries' log log' =
-    ((lines' ≡ lines ++ lines_of name number replies) × IsEntered entry entries entries' log log')
-    ⊎ ((told : HasOutcome replies) × (lines' ≡ lines ++ fallen_lines name number told.front) × IsFallenAt entry entries entries' log log')
+abbrev pub IsKeptSo : List ℕ → ℕ → List ReplyLine → Option Entry → Run → Run → Type 0
+IsKeptSo name number replies None r r' = (r'.lines ≡ r.lines ++ lines_of name number replies) × (r'.entries ≡ r.entries) × (r'.log ≡ r.log)
+IsKeptSo name number replies (Some entry) r r' =
+    ((r'.lines ≡ r.lines ++ lines_of name number replies) × IsEntered entry r r')
+    ⊎ ((told : HasOutcome replies) × (r'.lines ≡ r.lines ++ fallen_lines name number told.front) × IsFallenAt entry r r')
 
 -- how the log of a node is held: as long as the node is up, in a generation, and its store stands for it as its type says;
 -- where it is down, what a stop leaves of the store stands for the history, or for the log, which has one entry more

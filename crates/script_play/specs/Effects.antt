@@ -1,5 +1,5 @@
 -- What the code says of a line that is still to be done, and of one that was.
-use Rattle.std.specs.Prelude.{◌≡◌, ℕ, ◌+◌, ◌++◌, ◌∷◌, [], List, Option, Some, None, option_to_list}
+use Rattle.std.specs.Prelude.{◌≡◌, ℕ, ◌+◌, ◌++◌, ◌∷◌, [], List, Option, Some, None, IfOk, Result, option_to_list}
 use Rattle.blkseq_table.specs.OfLogs.{HasId, id_of}
 use Rattle.cdb_values.specs.Changes.{changes_of}
 use Rattle.cdb_values.specs.Rows.{apply_all}
@@ -20,9 +20,9 @@ use Rattle.report_text.specs.declared.reports.ReplyLine.{ReplyLine}
 use Rattle.table_store.specs.Stored.{Stands}
 use Rattle.script_play.specs.Decisions.{added_by}
 use Rattle.script_play.specs.EntryLines.{line_of}
-use Rattle.script_play.specs.RunViews.{state_in, IsOwn}
+use Rattle.script_play.specs.RunViews.{state_in, world, IsOwn}
 use Rattle.script_play.specs.Start.{Start, ground_of}
-use Rattle.script_play.specs.Step.{Turned, Cut}
+use Rattle.script_play.specs.Step.{outcome, Turned, Cut}
 use Rattle.script_play.specs.declared.downs.DownEffect.{DownEffect}
 use Rattle.script_play.specs.declared.effects.LineEffect.{LineEffect}
 use Rattle.script_play.specs.declared.verdicts.Verdict.{Verdict}
@@ -75,9 +75,18 @@ pub record IsVerdict (start : Start) (tables : List TableDef) (log : List Entry)
   pub told : v.outcome ≡ outcome
   pub added : IsAdded start tables log v.added named (added_by outcome ops)
 
+-- no entry of a log has an identity
+abbrev pub IsUnusedIn : List Entry → CommitId → Type 0
+IsUnusedIn log id = (position : ℕ) → HasId log position id → ⊥
+
 -- the transaction of a session, decided in a generation
 abbrev pub named_by : ℕ → Session → Named
 named_by generation s = record { generation = generation; began = s.id.began; session = s.id.session; number = s.id.txn; begin = s.begin; level = s.level }
+
+-- what is decided on the transaction of a session behind a log, and the entry of a generation that it appends
+abbrev pub IsVerdictOn : Start → ℕ → List TableDef → List Entry → Session → Verdict → Type 0
+IsVerdictOn start generation tables log s v =
+    IsVerdict start tables log v (outcome (world start tables log) s.begin s.level s.genids s.ranges s.ops) (named_by generation s) s.ops
 
 -- an effect is what a line of a session does
 pub record IsEffect (start : Start) (generation : ℕ) (tables : List TableDef) (log : List Entry) (name : List ℕ) (p : LineEffect) (t : Turned) : Type 0 where
@@ -86,6 +95,15 @@ pub record IsEffect (start : Start) (generation : ℕ) (tables : List TableDef) 
   pub after : state_in p.after ≡ t.after
   pub own : IsOwn generation name p.after
   pub added : IsAdded start tables log p.added (named_so generation name t.number t.begin t.after.level) t.added
+
+-- the same wherever the line is done, and of an answer
+abbrev pub IsEffectAnywhere : LineEffect → Turned → Type 0
+IsEffectAnywhere p t =
+    (start : Start) (generation : ℕ) (tables : List TableDef) (log : List Entry) (name : List ℕ) → IsEffect start generation tables log name p t
+
+abbrev pub AnswersAnywhere : {E : Type 0} → Result LineEffect E → Turned → Type 0
+AnswersAnywhere result t =
+    (start : Start) (generation : ℕ) (tables : List TableDef) (log : List Entry) (name : List ℕ) → IfOk result (λ p. IsEffect start generation tables log name p t)
 
 -- what a line of a session does on a node that is down
 pub record IsEffectDown (p : DownEffect) (t : Turned) : Type 0 where

@@ -5,6 +5,7 @@ pub mod Seen
 pub mod Doing
 pub mod Decisions
 pub mod EntryLines
+pub mod Run
 pub mod RunViews
 pub mod Effects
 pub mod Ready

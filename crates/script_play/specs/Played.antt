@@ -1,6 +1,7 @@
 -- What a script that was played leaves, by where the run began.
 use Rattle.std.specs.Prelude.{◌≡◌, ℕ, ◌-◌, ◌<◌, ◌≤◌, [], List, Bool, true, false, Some, length, slice_get, unwrap_or}
 use Rattle.block_processor.specs.Changed.{changed_in}
+use Rattle.cdb_values.specs.declared.rows.Change.{Change}
 use Rattle.log_replay.specs.Answers.{schema_of}
 use Rattle.log_rows.specs.History.{rows_over_at, IsFrom, StandsOver}
 use Rattle.node_log.specs.Logged.{Logged}
@@ -23,13 +24,17 @@ abbrev pub downs_by : Bool → ℕ
 downs_by false = 0
 downs_by true = 1
 
+-- what the entry at a position of a log changes
+abbrev pub changed_at : List Entry → ℕ → List Change
+changed_at log k = unwrap_or (slice_get (changed_in log) (k - 1)) []
+
 -- what a report tells of a history: that of a log from where the run began
 pub record IsTold (script : Script) (start : Start) (generation : ℕ) (report : Report) (history : List Entry) : Type 0 where
   pub lawful : Lawful (from_start script start) report
   pub in_order : InPlayOrder (from_start script start) report
   pub entries : AreTold start.before generation report.entries history
   pub schema : schema_of history ≡ Some (tables_of script)
-  pub changed : (k : ℕ) → base start < k → k ≤ length history → unwrap_or (slice_get (changed_in history) (k - 1)) [] ≡ changes_at (from_start script start) report.entries k
+  pub changed : (k : ℕ) → base start < k → k ≤ length history → changed_at history k ≡ changes_at (from_start script start) report.entries k
   pub rows : (k : ℕ) → IsFrom (base start) k → k ≤ length history → rows_over_at (ground_of start) history k ≡ rows_at (from_start script start) report.entries k
   pub stands : StandsOver (ground_of start) (tables_of script) history
 

@@ -1,9 +1,9 @@
 -- What the log, the rows and the operations of open transactions keep from line to line, so that a commit can
 -- be decided and written.
-use Rattle.std.specs.Prelude.{◌≡◌, ℕ, ◌≤◌, List, [], ◌∷◌, length, drop, Some}
+use Rattle.std.specs.Prelude.{◌≡◌, ℕ, ◌<◌, ◌≤◌, List, [], ◌∷◌, length, drop, Some}
 use Rattle.std.specs.List.{AllByRecursion}
 use Rattle.blkseq_table.specs.Known.{AreApart}
-use Rattle.blkseq_table.specs.OfLogs.{identities_of}
+use Rattle.blkseq_table.specs.OfLogs.{identities_of, HasId}
 use Rattle.cdb_values.specs.Rows.{Rows, no_rows}
 use Rattle.cdb_values.specs.declared.rows.RowOp.{RowOp}
 use Rattle.cdb_values.specs.declared.rows.Version.{Version}
@@ -12,6 +12,7 @@ use Rattle.live_operations.specs.Live.{AreLive}
 use Rattle.log_replay.specs.Answers.{schema_of}
 use Rattle.log_rows.specs.History.{rows_over, rows_over_at, IsFrom, StandsOver, IsCommit}
 use Rattle.phys_log.specs.Logs.{pages_of}
+use Rattle.phys_log.specs.declared.entries.CommitId.{CommitId}
 use Rattle.phys_log.specs.declared.entries.Entry.{Entry}
 use Rattle.session_language.specs.Spelled.{WritesRow, HaveRows}
 use Rattle.sql_run.specs.Sound.{AreSound, HasDistinctColumns, IsSoundOp}
@@ -46,6 +47,10 @@ pub record GoesOn (tables : List TableDef) (log : List Entry) (rows : Rows) : Ty
 abbrev pub CanBegin : List TableDef → List Entry → Rows → Type 0
 CanBegin tables [] rows = rows ≡ no_rows []
 CanBegin tables (e ∷ es) rows = GoesOn tables (e ∷ es) rows
+
+-- the transactions of a log began in generations before this one
+abbrev pub AreEarlier : ℕ → List Entry → Type 0
+AreEarlier generation log = (position : ℕ) (id : CommitId) → HasId log position id → id.began < generation
 
 -- a log begins with the schema, goes on with commits, and its pages stand for its rows at each position from the start on
 pub record IsLogged (start : Start) (tables : List TableDef) (now : ℕ) (log : List Entry) : Type 0 where

@@ -1,48 +1,59 @@
 -- The run so far, as the code keeps it, in the words of the definitions.
-use Rattle.std.specs.Prelude.{◌≡◌, ℕ, ◌≤◌, ◌∷◌, [], List, length, map, true, slice_get, Some}
+use Rattle.std.specs.Prelude.{◌≡◌, ℕ, ◌<◌, ◌≤◌, ◌∷◌, [], List, length, map, true, slice_get, Some}
 use Rattle.std.specs.Str.{is_utf8}
+use Rattle.blkseq_table.specs.OfLogs.{HasId}
 use Rattle.block_processor.specs.Changed.{changed_in}
 use Rattle.cdb_values.specs.declared.tables.TableDef.{TableDef}
 use Rattle.log_rows.specs.History.{rows_over, rows_over_at}
 use Rattle.cdb_values.specs.Rows.{no_rows}
 use Rattle.phys_log.specs.Logs.{pages_of}
+use Rattle.phys_log.specs.declared.entries.CommitId.{CommitId}
 use Rattle.phys_log.specs.declared.entries.Entry.{Entry}
 use Rattle.phys_log.specs.declared.entries.Entry.TheVariants.{Setup}
 use Rattle.phys_log.specs.declared.entries.LogRecord.{LogRecord}
 use Rattle.table_store.specs.Stored.{Stands}
 use Rattle.report_text.specs.declared.reports.EntryLine.{EntryLine}
 use Rattle.report_text.specs.declared.reports.EntryLine.TheVariants.{Setup as EntrySetup}
+use Rattle.osql_session.specs.Sessions.{Session}
 use Rattle.script_form.specs.CanRun.{tables_of}
 use Rattle.script_form.specs.declared.scripts.BodyLine.{BodyLine}
 use Rattle.script_form.specs.declared.scripts.Script.{Script}
 use Rattle.script_form.specs.declared.scripts.SessionLine.{SessionLine}
 use Rattle.cdb_values.specs.declared.rows.Level.{Level}
+use Rattle.session_language.specs.Language.{Kind}
 use Rattle.sql_answer.specs.Answers.{Meaning}
 use Rattle.sql_answer.specs.Language.{meaning, bound_in}
 use Rattle.script_play.specs.Start.{Start, ground_of}
-use Rattle.node_log.specs.Logged.{Logged}
-use Rattle.report_text.specs.declared.reports.Line.{Line}
 use Rattle.script_play.specs.Down.{history_of, IsHeld}
 use Rattle.script_play.specs.Falls.{IsDoneOn, IsTakenOn}
 use Rattle.script_play.specs.Doing.{Doing, SessionAt}
 use Rattle.script_play.specs.Doing as doing
 use Rattle.script_play.specs.EntryLines.{AreTold}
-use Rattle.script_play.specs.Ready.{IsReady, IsLogged}
+use Rattle.script_play.specs.Ready.{AreEarlier, IsReady, IsReadyToGo, IsLogged}
+use Rattle.script_play.specs.Run.{Run, run_of}
 use Rattle.script_play.specs.Seen.{Seen}
 use Rattle.script_play.specs.SoFar.{IsBefore, now_of}
-use Rattle.script_play.specs.Step.{World, Turned, world_of}
+use Rattle.script_play.specs.Step.{World, Turned, turn_of, world_of}
+use Rattle.script_play.specs.declared.run.RunSoFar.{RunSoFar}
 use Rattle.script_play.specs.declared.states.InTransaction.{InTransaction}
 use Rattle.script_play.specs.declared.states.InTransaction.TheVariants.{No, Open, Aborted}
 use Rattle.script_play.specs.declared.states.SessionState.{SessionState}
 
 -- what a session is doing, and where it is
+abbrev pub doing_of : Session → Doing
+doing_of s = doing.Open s.begin s.ops s.genids s.ranges
+
 abbrev pub doing_in : InTransaction → Doing
 doing_in No = doing.No
-doing_in (Open session) = doing.Open session.begin session.ops session.genids session.ranges
+doing_in (Open session) = doing_of session
 doing_in Aborted = doing.Aborted
 
 abbrev pub state_in : SessionState → SessionAt
 state_in s = record { number = s.number; level = s.level; doing = doing_in s.doing }
+
+-- the run so far
+abbrev pub run_in : {D : Type 0} → RunSoFar D → Run
+run_in r = run_of r.lines.items r.entries.items r.log
 
 -- the rows at each position of a log
 abbrev pub seen_in : Start → List Entry → Seen
@@ -61,8 +72,8 @@ abbrev pub IsOfText : List TableDef → Meaning → Type 0
 IsOfText tables meant = (text : List ℕ) × (is_utf8 text ≡ true) × (meant ≡ meaning bound_in tables text)
 
 -- the history and the log are the same
-abbrev pub IsSameHistory : List EntryLine → List EntryLine → Logged → Logged → Type 0
-IsSameHistory entries entries' log log' = (entries' ≡ entries) × (log' ≡ log)
+abbrev pub IsSameHistory : Run → Run → Type 0
+IsSameHistory r r' = (r'.entries ≡ r.entries) × (r'.log ≡ r.log)
 
 -- a log that has the setup of a schema alone, in a generation; its pages stand for tables without rows
 pub record IsOpenedLog (tables : List TableDef) (generation : ℕ) (log : List Entry) : Type 0 where
@@ -81,14 +92,31 @@ pub record IsOpening (tables : List TableDef) (generation : ℕ) (before : List 
   pub first : before ≡ [] → (entries ≡ EntrySetup 1 ∷ []) × IsOpenedLog tables generation log
   pub later : 1 ≤ length before → (entries ≡ []) × (log ≡ before)
 
+-- the identity of a transaction of a session, begun in a generation
+abbrev pub id_so : ℕ → List ℕ → ℕ → CommitId
+id_so generation name number = record { began = generation; session = name; txn = number }
+
 -- an open transaction is that of a session of this name, under its number and at its level, begun in a generation
 abbrev pub IsOwnDoing : ℕ → List ℕ → ℕ → Level → InTransaction → Type 0
 IsOwnDoing generation name number level No = Unit {0}
-IsOwnDoing generation name number level (Open session) = (session.id ≡ record { began = generation; session = name; txn = number }) × (session.level ≡ level)
+IsOwnDoing generation name number level (Open session) = (session.id ≡ id_so generation name number) × (session.level ≡ level)
 IsOwnDoing generation name number level Aborted = Unit {0}
 
 abbrev pub IsOwn : ℕ → List ℕ → SessionState → Type 0
 IsOwn generation name s = IsOwnDoing generation name s.number s.level s.doing
+
+-- the number of a transaction that is over, by how many the session has begun
+abbrev pub IsOverBy : InTransaction → ℕ → ℕ → Type 0
+IsOverBy No number txn = txn ≤ number
+IsOverBy (Open session) number txn = txn < number
+IsOverBy Aborted number txn = Unit {0}
+
+-- the transactions of a session that have entries in a log are over
+abbrev pub AreOverIn : ℕ → List ℕ → ℕ → InTransaction → List Entry → Type 0
+AreOverIn generation name number d log = (position txn : ℕ) → HasId log position (id_so generation name txn) → IsOverBy d number txn
+
+abbrev pub AreOver : ℕ → List ℕ → SessionState → List Entry → Type 0
+AreOver generation name s log = AreOverIn generation name s.number s.doing log
 
 -- no transaction is open
 abbrev pub IsShut : InTransaction → Type 0
@@ -101,27 +129,47 @@ abbrev pub AreOwn : ℕ → List SessionLine → List SessionState → Type 0
 AreOwn generation sessions states =
     (at : ℕ) (s : SessionLine) (x : SessionState) → slice_get sessions at ≡ Some s → slice_get states at ≡ Some x → IsOwn generation s.name x
 
+-- what a line of a session is to do, behind a log
+abbrev pub turn_in : Start → List TableDef → List Entry → SessionState → Meaning → Kind → Turned
+turn_in start tables log s meant kind = turn_of (world start tables log) s.number s.level meant kind (doing_in s.doing)
+
+-- what a session is doing can go on behind a log
+abbrev pub CanGoOn : Start → List TableDef → List Entry → InTransaction → Type 0
+CanGoOn start tables log d = IsReadyToGo start tables (length log) log (doing_in d)
+
 -- the run before a line, with the lines `left` still to do: its log is that of the history, and one entry more where the node
 -- is down
-pub record IsBeforeLine (script : Script) (start : Start) (generation had : ℕ) (left : List BodyLine) (lines : List Line) (entries : List EntryLine) (log : Logged) (states : List SessionState) : Type 0 where
-  pub before : IsBefore script start log.failed left lines entries (changed_in (history_of log)) (seen_in start (history_of log)) (map state_in states)
-  pub logged : IsLogged start (tables_of script) (now_of start entries) (history_of log)
-  pub told : AreTold start.before generation entries (history_of log)
+pub record IsBeforeLine (script : Script) (start : Start) (generation had : ℕ) (left : List BodyLine) (r : Run) (states : List SessionState) : Type 0 where
+  pub before : IsBefore script start r.log.failed left r.lines r.entries (changed_in (history_of r.log)) (seen_in start (history_of r.log)) (map state_in states)
+  pub logged : IsLogged start (tables_of script) (now_of start r.entries) (history_of r.log)
+  pub told : AreTold start.before generation r.entries (history_of r.log)
   pub own : AreOwn generation script.sessions states
-  pub held : IsHeld generation had log
+  pub earlier : AreEarlier generation start.before
+  pub held : IsHeld generation had r.log
 
--- a line of a session did what it does where the node stood, or was cut short; the log is in order behind it
-pub record IsTakenFrom (start : Start) (generation : ℕ) (tables : List TableDef) (name : List ℕ) (before : SessionState) (text : List ℕ) (after : SessionState) (lines lines' : List Line) (entries entries' : List EntryLine) (log log' : Logged) : Type 0 where
-  pub taken : IsTakenOn log.failed log'.failed (world start tables (history_of log)) name (state_in before) text (state_in after) lines lines' entries entries' (changed_in (history_of log')) (seen_in start (history_of log'))
-  pub logged : IsLogged start tables (length (history_of log')) (history_of log')
-  pub told : AreTold start.before generation entries (history_of log) → AreTold start.before generation entries' (history_of log')
-  pub own : IsOwn generation name after
-  pub held : (had : ℕ) → IsHeld generation had log → IsHeld generation had log'
+-- a line of a session did what it does where the node stood, or was cut short
+abbrev pub IsTakenAt : Start → List TableDef → List ℕ → SessionState → List ℕ → SessionState → Run → Run → Type 0
+IsTakenAt start tables name before text after r r' =
+    IsTakenOn r.log.failed r'.log.failed (world start tables (history_of r.log)) name (state_in before) text (state_in after)
+    r.lines r'.lines r.entries r'.entries (changed_in (history_of r'.log)) (seen_in start (history_of r'.log))
 
--- a line on a node that was up did what it does, or the node went down at its entry; the log is in order behind it
-pub record IsDoneFrom (start : Start) (generation : ℕ) (tables : List TableDef) (name : List ℕ) (t : Turned) (after : SessionState) (lines lines' : List Line) (entries entries' : List EntryLine) (log log' : Logged) : Type 0 where
-  pub done : IsDoneOn log'.failed (world start tables (history_of log)) name t (state_in after) lines lines' entries entries' (changed_in (history_of log')) (seen_in start (history_of log'))
-  pub logged : IsLogged start tables (length (history_of log')) (history_of log')
-  pub told : AreTold start.before generation entries (history_of log) → AreTold start.before generation entries' (history_of log')
+-- a line on a node that was up did what it does, or the node went down at its entry
+abbrev pub IsDoneAt : Start → List TableDef → List ℕ → Turned → SessionState → Run → Run → Type 0
+IsDoneAt start tables name t after r r' =
+    IsDoneOn r'.log.failed (world start tables (history_of r.log)) name t (state_in after)
+    r.lines r'.lines r.entries r'.entries (changed_in (history_of r'.log)) (seen_in start (history_of r'.log))
+
+-- the same, and the log is in order behind it
+pub record IsTakenFrom (start : Start) (generation : ℕ) (tables : List TableDef) (name : List ℕ) (before : SessionState) (text : List ℕ) (after : SessionState) (r r' : Run) : Type 0 where
+  pub taken : IsTakenAt start tables name before text after r r'
+  pub logged : IsLogged start tables (length (history_of r'.log)) (history_of r'.log)
+  pub told : AreTold start.before generation r.entries (history_of r.log) → AreTold start.before generation r'.entries (history_of r'.log)
   pub own : IsOwn generation name after
-  pub held : (had : ℕ) → IsHeld generation had log → IsHeld generation had log'
+  pub held : (had : ℕ) → IsHeld generation had r.log → IsHeld generation had r'.log
+
+pub record IsDoneFrom (start : Start) (generation : ℕ) (tables : List TableDef) (name : List ℕ) (t : Turned) (after : SessionState) (r r' : Run) : Type 0 where
+  pub done : IsDoneAt start tables name t after r r'
+  pub logged : IsLogged start tables (length (history_of r'.log)) (history_of r'.log)
+  pub told : AreTold start.before generation r.entries (history_of r.log) → AreTold start.before generation r'.entries (history_of r'.log)
+  pub own : IsOwn generation name after
+  pub held : (had : ℕ) → IsHeld generation had r.log → IsHeld generation had r'.log

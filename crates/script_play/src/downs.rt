@@ -16,7 +16,6 @@ ghost use Rattle.script_play.specs.Effects.{IsEffectDown};
 ghost use Rattle.script_play.specs.RunViews.{doing_in, state_in};
 ghost use Rattle.script_play.specs.Step.{state, turned};
 
-use super::holding::let_go;
 use super::run::add_reply;
 use super::states::{InTransaction, SessionState};
 use cdb_values::{Level, Name, StatementError};
@@ -40,7 +39,9 @@ pub(crate) fn run_down(
     kind: TextKind,
     lines: &mut Vec<Line>,
 ) -> Result<SessionState, AllocError>
-    ensures { IfOk result (λ after. IsToldDown name.now (turn_down state.number state.level (kind_in kind) (doing_in state.doing)) (state_in after) lines.old.items lines.new.items) }
+    ensures { IfOk result (λ after. IsToldDown name.now
+        (turn_down state.number state.level (kind_in kind) (doing_in state.doing))
+        (state_in after) lines.old.items lines.new.items) }
 {
     let DownEffect {
         number,
@@ -56,7 +57,8 @@ pub(crate) fn run_down(
 
 /// What a line of that kind is to do on a node that is down.
 fn down_effect(state: SessionState, kind: TextKind) -> Result<DownEffect, AllocError>
-    ensures { IfOk result (λ p. IsEffectDown p (turn_down state.number state.level (kind_in kind) (doing_in state.doing))) }
+    ensures { IfOk result (λ p. IsEffectDown p
+        (turn_down state.number state.level (kind_in kind) (doing_in state.doing))) }
 {
     let SessionState {
         number,
@@ -66,7 +68,7 @@ fn down_effect(state: SessionState, kind: TextKind) -> Result<DownEffect, AllocE
     match doing {
         InTransaction::No => outside_down(number, level, kind),
         InTransaction::Open(session) => {
-            let_go(session);
+            drop(session);
             Ok(lost(number, level, kind))
         }
         InTransaction::Aborted => Ok(skipped(number, level, kind)),
@@ -92,7 +94,8 @@ fn outside_down(number: u64, level: Level, kind: TextKind) -> Result<DownEffect,
 
 /// A transaction is asked for while no majority is up.
 fn no_majority(number: u64, level: Level, doing: InTransaction) -> Result<DownEffect, AllocError>
-    ensures { IfOk result (λ p. IsEffectDown p (turned (number + 1) (ReplyLine.NoMajority 0 1 ∷ []) (state (number + 1) level (doing_in doing)))) }
+    ensures { IfOk result (λ p. IsEffectDown p
+        (turned (number + 1) (ReplyLine.NoMajority 0 1 ∷ []) (state (number + 1) level (doing_in doing)))) }
 {
     let Some(next) = number.checked_add(1) else {
         return Err(AllocError);
@@ -117,7 +120,8 @@ fn misplaced(number: u64, level: Level) -> DownEffect
 
 /// A line of a transaction that is lost: it began before the node went down.
 fn lost(number: u64, level: Level, kind: TextKind) -> DownEffect
-    ensures { (begin : ℕ) (ops : List RowOp) (uses : List GenidItem) (ranges : List Interval) → IsEffectDown result (turn_down number level (kind_in kind) (doing.Open begin ops uses ranges)) }
+    ensures { (begin : ℕ) (ops : List RowOp) (uses : List GenidItem) (ranges : List Interval)
+        → IsEffectDown result (turn_down number level (kind_in kind) (doing.Open begin ops uses ranges)) }
 {
     told(
         number,

@@ -10,11 +10,13 @@ ghost use Rattle.sql_answer.specs.Answers.{Meaning};
 ghost use Rattle.sql_run.specs.Texts.{plan_by};
 ghost use Rattle.sql_run.specs.Views.{kind_in, text_in};
 ghost use Rattle.script_play.specs.Doing as doing;
-ghost use Rattle.script_play.specs.RunViews.{world, doing_in, state_in, IsReadyFor, IsOfText, IsOwn, IsOwnDoing, IsShut};
-ghost use Rattle.script_play.specs.Effects.{IsEffect, cut_in};
+ghost use Rattle.script_play.specs.RunViews.{doing_in, doing_of, state_in, turn_in, world};
+ghost use Rattle.script_play.specs.RunViews.{AreOver, AreOverIn, CanGoOn, IsOfText, IsOwn, IsOwnDoing, IsReadyFor, IsShut};
+ghost use Rattle.script_play.specs.Effects.{cut_in, AnswersAnywhere, IsEffect, IsEffectAnywhere, IsUnusedIn};
 ghost use Rattle.script_play.specs.Start.{Start};
-ghost use Rattle.script_play.specs.Ready.{IsAble, IsReadyToGo};
-ghost use Rattle.script_play.specs.Step.{World, answer_of, committed, cut_by, goes_on, own_line, state, turn_of, turned};
+ghost use Rattle.script_play.specs.Ready.{IsAble};
+ghost use Rattle.script_play.specs.Step.{World, answer_of, committed, cut_by, goes_on, own_line, state};
+ghost use Rattle.script_play.specs.Step.{turn_of, turned};
 
 use super::reads::answer_text;
 use super::states::{InTransaction, SessionState};
@@ -55,12 +57,13 @@ pub(crate) fn effect_of(
     ghost start: { Start }
     requires ready { IsReadyFor start schema.now log.now }
     requires known { known.now ≡ identities_of log.now }
-    requires ready_to_go { IsReadyToGo start schema.now (length log.now) log.now (doing_in state.doing) }
+    requires going { CanGoOn start schema.now log.now state.doing }
+    requires over { AreOver generation name.now state log.now }
     requires own { IsOwn generation name.now state }
     requires plan { (text_in prepared.now).plan ≡ plan_by schema.now (text_in prepared.now).meaning }
     requires of_text { IsOfText schema.now (text_in prepared.now).meaning }
     ensures { IfOk result (λ p. IsEffect start generation schema.now log.now name.now p
-        (turn_of (world start schema.now log.now) state.number state.level (text_in prepared.now).meaning (kind_in kind) (doing_in state.doing))) }
+        (turn_in start schema.now log.now state (text_in prepared.now).meaning (kind_in kind))) }
 {
     let SessionState {
         number,
@@ -83,7 +86,8 @@ pub(crate) fn effect_of(
 /// Where the session is if want of memory cuts the line short; `None` where the line is in no
 /// transaction, or its number can't be counted.
 pub(crate) fn cut_state(state: &SessionState, kind: TextKind) -> Option<SessionState>
-    ensures cut { IfSome result (λ after. cut_by state.now.number state.now.level (kind_in kind) (doing_in state.now.doing) ≡ cut_in after) }
+    ensures cut { IfSome result (λ after.
+        cut_by state.now.number state.now.level (kind_in kind) (doing_in state.now.doing) ≡ cut_in after) }
     ensures shut { IfSome result (λ after. IsShut after.doing) }
 {
     match state.doing {
@@ -118,7 +122,8 @@ fn cut_outside(number: u64, level: Level, kind: TextKind) -> Option<SessionState
 
 /// Where a session is behind a line in its transaction that was cut short.
 fn cut_inside(number: u64, level: Level, kind: TextKind) -> SessionState
-    ensures cut { (begin : ℕ) (ops : List RowOp) (uses : List GenidItem) (ranges : List Interval) → cut_by number level (kind_in kind) (doing.Open begin ops uses ranges) ≡ cut_in result }
+    ensures cut { (begin : ℕ) (ops : List RowOp) (uses : List GenidItem) (ranges : List Interval)
+        → cut_by number level (kind_in kind) (doing.Open begin ops uses ranges) ≡ cut_in result }
     ensures shut { IsShut result.doing }
 {
     let doing = match kind {
@@ -151,10 +156,12 @@ fn outside(
     ghost start: { Start }
     requires ready { IsReadyFor start schema.now log.now }
     requires known { known.now ≡ identities_of log.now }
+    requires over { AreOverIn generation name.now number InTransaction.No log.now }
     requires plan { (text_in prepared.now).plan ≡ plan_by schema.now (text_in prepared.now).meaning }
     requires of_text { IsOfText schema.now (text_in prepared.now).meaning }
     ensures { IfOk result (λ p. IsEffect start generation schema.now log.now name.now p
-        (turn_of (world start schema.now log.now) number level (text_in prepared.now).meaning (kind_in kind) doing.No)) }
+        (turn_of (world start schema.now log.now) number level
+        (text_in prepared.now).meaning (kind_in kind) doing.No)) }
 {
     match kind {
         TextKind::Begin => begin(alloc, generation, log, name, number, level),
@@ -184,9 +191,12 @@ fn inside(
     requires ready { IsReadyFor start schema.now log.now }
     requires known { known.now ≡ identities_of log.now }
     requires able { IsAble start schema.now (length log.now) log.now session.begin session.ops }
+    requires fresh { IsUnusedIn log.now session.id }
     requires plan { (text_in prepared.now).plan ≡ plan_by schema.now (text_in prepared.now).meaning }
-    ensures { (name : List ℕ) → IsOwnDoing generation name number level (InTransaction.Open session) → IfOk result (λ p. IsEffect start generation schema.now log.now name p
-        (turn_of (world start schema.now log.now) number level (text_in prepared.now).meaning (kind_in kind) (doing.Open session.begin session.ops session.genids session.ranges))) }
+    ensures { (name : List ℕ) → IsOwnDoing generation name number level (InTransaction.Open session)
+        → IfOk result (λ p. IsEffect start generation schema.now log.now name p
+        (turn_of (world start schema.now log.now) number level
+        (text_in prepared.now).meaning (kind_in kind) (doing_of session))) }
 {
     match kind {
         TextKind::Commit => commit(
@@ -201,7 +211,8 @@ fn inside(
 
 /// What a line of a transaction that want of memory ended is to do: it is skipped.
 fn skip(alloc: Global, number: u64, level: Level, kind: TextKind) -> LineEffect
-    ensures { (start : Start) (generation : ℕ) (tables : List TableDef) (log : List Entry) (name : List ℕ) (w : World) (meaning : Meaning) → IsEffect start generation tables log name result (turn_of w number level meaning (kind_in kind) doing.Aborted) }
+    ensures { (w : World) (meaning : Meaning)
+        → IsEffectAnywhere result (turn_of w number level meaning (kind_in kind) doing.Aborted) }
 {
     match kind {
         TextKind::Commit => quiet(alloc, number, idle(number, level)),
@@ -238,7 +249,9 @@ fn idle(number: u64, level: Level) -> SessionState
 
 /// The line is skipped: it is told nothing, and the session is then at `after`.
 fn quiet(alloc: Global, number: u64, after: SessionState) -> LineEffect
-    ensures { (start : Start) (generation : ℕ) (tables : List TableDef) (log : List Entry) (name : List ℕ) → IsOwn generation name after → IsEffect start generation tables log name result (turned number [] (state_in after)) }
+    ensures { (start : Start) (generation : ℕ) (tables : List TableDef) (log : List Entry) (name : List ℕ)
+        → IsOwn generation name after
+        → IsEffect start generation tables log name result (turned number [] (state_in after)) }
 {
     LineEffect {
         number,
@@ -255,7 +268,9 @@ fn one(
     reply: ReplyLine,
     after: SessionState,
 ) -> Result<LineEffect, AllocError>
-    ensures { (start : Start) (generation : ℕ) (tables : List TableDef) (log : List Entry) (name : List ℕ) → IsOwn generation name after → IfOk result (λ p. IsEffect start generation tables log name p (turned number (reply ∷ []) (state_in after))) }
+    ensures { (start : Start) (generation : ℕ) (tables : List TableDef) (log : List Entry) (name : List ℕ)
+        → IsOwn generation name after
+        → IfOk result (λ p. IsEffect start generation tables log name p (turned number (reply ∷ []) (state_in after))) }
 {
     let mut replies = Vec::new(alloc);
     replies.push(reply)?;
@@ -269,7 +284,8 @@ fn one(
 
 /// A line that does not fit outside a transaction.
 fn refused(alloc: Global, number: u64, level: Level) -> Result<LineEffect, AllocError>
-    ensures { (start : Start) (generation : ℕ) (tables : List TableDef) (log : List Entry) (name : List ℕ) → IfOk result (λ p. IsEffect start generation tables log name p (turned 0 (ReplyLine.Error StatementError.State ∷ []) (state number level doing.No))) }
+    ensures { AnswersAnywhere result
+        (turned 0 (ReplyLine.Error StatementError.State ∷ []) (state number level doing.No)) }
 {
     one(
         alloc,
@@ -281,14 +297,14 @@ fn refused(alloc: Global, number: u64, level: Level) -> Result<LineEffect, Alloc
 
 /// A line that rolls its transaction back.
 fn rolled_back(alloc: Global, number: u64, level: Level) -> Result<LineEffect, AllocError>
-    ensures { (start : Start) (generation : ℕ) (tables : List TableDef) (log : List Entry) (name : List ℕ) → IfOk result (λ p. IsEffect start generation tables log name p (turned number (ReplyLine.RolledBack ∷ []) (state number level doing.No))) }
+    ensures { AnswersAnywhere result (turned number (ReplyLine.RolledBack ∷ []) (state number level doing.No)) }
 {
     one(alloc, number, ReplyLine::RolledBack, idle(number, level))
 }
 
 /// A line that sets the level of later transactions.
 fn set_level(alloc: Global, number: u64, level: Level) -> Result<LineEffect, AllocError>
-    ensures { (start : Start) (generation : ℕ) (tables : List TableDef) (log : List Entry) (name : List ℕ) → IfOk result (λ p. IsEffect start generation tables log name p (turned 0 (ReplyLine.Level level ∷ []) (state number level doing.No))) }
+    ensures { AnswersAnywhere result (turned 0 (ReplyLine.Level level ∷ []) (state number level doing.No)) }
 {
     one(alloc, 0, ReplyLine::Level(level), idle(number, level))
 }
@@ -335,8 +351,10 @@ fn begin(
     number: u64,
     level: Level,
 ) -> Result<LineEffect, AllocError>
-    ensures { (start : Start) (tables : List TableDef) → IfOk result (λ p. IsEffect start generation tables log.now name.now p
-        (turned (number + 1) (ReplyLine.Begin (length log.now) ∷ []) (state (number + 1) level (doing.Open (length log.now) [] [] [])))) }
+    ensures { (start : Start) (tables : List TableDef)
+        → IfOk result (λ p. IsEffect start generation tables log.now name.now p
+        (turned (number + 1) (ReplyLine.Begin (length log.now) ∷ [])
+        (state (number + 1) level (doing.Open (length log.now) [] [] [])))) }
 {
     let number = counted(number)?;
     let session = opened(alloc, generation, log, name, number, level)?;
@@ -363,8 +381,10 @@ fn go_on(
     requires ready { IsReadyFor start schema.now log.now }
     requires able { IsAble start schema.now (length log.now) log.now session.begin session.ops }
     requires plan { (text_in prepared.now).plan ≡ plan_by schema.now (text_in prepared.now).meaning }
-    ensures { (generation : ℕ) (name : List ℕ) → IsOwnDoing generation name number level (InTransaction.Open session) → IfOk result (λ p. IsEffect start generation schema.now log.now name p
-        (goes_on number level session.begin session.genids session.ranges (answer_of (world start schema.now log.now) session.begin session.ops (text_in prepared.now).meaning))) }
+    ensures { (generation : ℕ) (name : List ℕ) → IsOwnDoing generation name number level (InTransaction.Open session)
+        → IfOk result (λ p. IsEffect start generation schema.now log.now name p
+        (goes_on number level session.begin session.genids session.ranges
+        (answer_of (world start schema.now log.now) session.begin session.ops (text_in prepared.now).meaning))) }
 {
     let mut session = session;
     let replies = answer_text(alloc, schema, log, &mut session, prepared)?;
@@ -395,8 +415,11 @@ fn commit(
     requires ready { IsReadyFor start schema.now log.now }
     requires known { known.now ≡ identities_of log.now }
     requires able { IsAble start schema.now (length log.now) log.now session.begin session.ops }
-    ensures { (name : List ℕ) → IsOwnDoing generation name number level (InTransaction.Open session) → IfOk result (λ p. IsEffect start generation schema.now log.now name p
-        (committed (world start schema.now log.now) number level session.begin session.genids session.ranges session.ops)) }
+    requires fresh { IsUnusedIn log.now session.id }
+    ensures { (name : List ℕ) → IsOwnDoing generation name number level (InTransaction.Open session)
+        → IfOk result (λ p. IsEffect start generation schema.now log.now name p
+        (committed (world start schema.now log.now) number level
+        session.begin session.genids session.ranges session.ops)) }
 {
     let verdict = decided(alloc, schema, generation, log, known, &session)?;
     let mut replies = Vec::new(alloc);
@@ -424,10 +447,12 @@ fn own_transaction(
     ghost start: { Start }
     requires ready { IsReadyFor start schema.now log.now }
     requires known { known.now ≡ identities_of log.now }
+    requires over { AreOverIn generation name.now number InTransaction.No log.now }
     requires plan { (text_in prepared.now).plan ≡ plan_by schema.now (text_in prepared.now).meaning }
     requires of_text { IsOfText schema.now (text_in prepared.now).meaning }
     ensures { IfOk result (λ p. IsEffect start generation schema.now log.now name.now p
-        (own_line (world start schema.now log.now) (number + 1) level (answer_of (world start schema.now log.now) (length log.now) [] (text_in prepared.now).meaning))) }
+        (own_line (world start schema.now log.now) (number + 1) level
+        (answer_of (world start schema.now log.now) (length log.now) [] (text_in prepared.now).meaning))) }
 {
     let number = counted(number)?;
     let mut session = opened(alloc, generation, log, name, number, level)?;

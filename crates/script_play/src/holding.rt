@@ -1,5 +1,4 @@
-//! Values that are held over a step that may fail. The steps of a value's destructor are no part of the function that holds it
-//! where it is let go here.
+//! Values that are held over a step that may fail.
 ghost use Rattle.std.specs.Prelude.{◌≡◌, Ok, Err, MatchResult};
 
 use std::alloc::AllocError;
@@ -16,6 +15,3 @@ pub(crate) fn beside<T: Drop, U>(
         Err(stop) => Err(stop),
     }
 }
-
-/// Lets a value go.
-pub(crate) fn let_go<T: Drop>(_value: T) {}

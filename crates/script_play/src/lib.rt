@@ -43,7 +43,8 @@
 //! | what a text is answered | `reads` | `Texts` of `sql_run` |
 //! | what is decided at a commit | `verdicts` | `specs/Decisions.antt` |
 //! | what a line is to do, and what is done of it | `effects`, `run` | `specs/Effects.antt` |
-//! | the run so far, as the code keeps it | `run` | `specs/RunViews.antt` |
+//! | the run so far, as the code keeps it | `run` | `specs/Run.antt`, `specs/RunViews.antt` |
+//! | which transactions of a session are over | `verdicts` | `AreOver` in `specs/RunViews.antt` |
 //! | the log of the node, with the identities of its entries | `indexed` | `OfLogs` of `blkseq_table` |
 //! | where a run begins: the log before it, and the rows there | | `specs/Start.antt` |
 //! | the rows at each position | | `specs/Seen.antt` |

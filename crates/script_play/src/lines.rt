@@ -7,16 +7,15 @@ ghost use Rattle.sql_answer.specs.Language.{meaning, bound_in};
 ghost use Rattle.sql_answer.specs.Reading.{kind_of_text};
 ghost use Rattle.sql_run.specs.Texts.{plan_by};
 ghost use Rattle.sql_run.specs.Views.{kind_in, text_in};
-ghost use Rattle.script_play.specs.RunViews.{world, doing_in, IsReadyFor, IsSameHistory, IsTakenFrom, IsDoneFrom, IsOfText, IsOwn};
+ghost use Rattle.script_play.specs.RunViews.{run_in, turn_in, AreOver, CanGoOn, IsDoneFrom, IsOfText, IsOwn, IsReadyFor};
+ghost use Rattle.script_play.specs.RunViews.{IsSameHistory, IsTakenFrom};
 ghost use Rattle.script_play.specs.Down.{history_of, owner_of, IsHeldBy};
 ghost use Rattle.script_play.specs.Effects.{Grown};
-ghost use Rattle.script_play.specs.Ready.{IsReadyToGo};
 ghost use Rattle.script_play.specs.Start.{Start};
-ghost use Rattle.script_play.specs.Step.{turn_of};
 
 use super::downs::run_down;
 use super::effects::{cut_state, effect_of};
-use super::holding::{beside, let_go};
+use super::holding::beside;
 use super::run::{RunSoFar, add_reply, apply_effect};
 use super::states::SessionState;
 use cdb_outside::LogStore;
@@ -42,26 +41,28 @@ pub(crate) fn run_session_line<D: LogStore>(
 ) -> Result<SessionState, AllocError>
     ghost start: { Start }
     requires ready { IsReadyFor start schema.now (history_of run.old.log) }
-    requires ready_to_go { IsReadyToGo start schema.now (length (history_of run.old.log)) (history_of run.old.log) (doing_in state.doing) }
+    requires going { CanGoOn start schema.now (history_of run.old.log) state.doing }
+    requires over { AreOver generation name.now state (history_of run.old.log) }
     requires own { IsOwn generation name.now state }
     requires held { IsHeldBy run.old.log.failed generation run.old.log }
-    ensures taken { IfOk result (λ after. IsTakenFrom start generation schema.now name.now state text.now after run.old.lines.items run.new.lines.items run.old.entries.items run.new.entries.items run.old.log run.new.log) }
-    ensures err_same { OnErr result (IsSameHistory run.old.entries.items run.new.entries.items run.old.log run.new.log) }
+    ensures taken { IfOk result (λ after. IsTakenFrom start generation schema.now name.now state text.now after
+        (run_in run.old) (run_in run.new)) }
+    ensures err_same { OnErr result (IsSameHistory (run_in run.old) (run_in run.new)) }
     ensures owner { owner_of run.new.log ≡ owner_of run.old.log }
 {
     let (state, prepared) = beside(state, read_text(alloc, schema, text))?;
     let kind = prepared.kind();
     if run.log.has_failed() {
-        let_go(prepared);
+        drop(prepared);
         return run_down(name, state, kind, &mut run.lines);
     }
     let cut = cut_state(&state, kind);
     let had = run.lines.len();
     let done = run_whole(alloc, schema, generation, name, state, kind, &prepared, run);
-    let_go(prepared);
+    drop(prepared);
     match done {
         Ok(after) => {
-            let_go(cut);
+            drop(cut);
             Ok(after)
         }
         Err(_) => cut_short(name, had, cut, run),
@@ -101,13 +102,16 @@ fn run_whole<D: LogStore>(
     requires running { run.old.log.failed ≡ false }
     requires made { run.old.log.accepted ≡ generation }
     requires ready { IsReadyFor start schema.now run.old.log.entries }
-    requires ready_to_go { IsReadyToGo start schema.now (length run.old.log.entries) run.old.log.entries (doing_in state.doing) }
+    requires going { CanGoOn start schema.now run.old.log.entries state.doing }
+    requires over { AreOver generation name.now state run.old.log.entries }
     requires own { IsOwn generation name.now state }
     requires plan { (text_in prepared.now).plan ≡ plan_by schema.now (text_in prepared.now).meaning }
     requires of_text { IsOfText schema.now (text_in prepared.now).meaning }
-    ensures ok { IfOk result (λ after. IsDoneFrom start generation schema.now name.now (turn_of (world start schema.now run.old.log.entries) state.number state.level (text_in prepared.now).meaning (kind_in kind) (doing_in state.doing)) after run.old.lines.items run.new.lines.items run.old.entries.items run.new.entries.items run.old.log run.new.log) }
+    ensures ok { IfOk result (λ after. IsDoneFrom start generation schema.now name.now
+        (turn_in start schema.now run.old.log.entries state (text_in prepared.now).meaning (kind_in kind)) after
+        (run_in run.old) (run_in run.new)) }
     ensures err_lines { OnErr result (Grown run.old.lines.items run.new.lines.items) }
-    ensures err_same { OnErr result (IsSameHistory run.old.entries.items run.new.entries.items run.old.log run.new.log) }
+    ensures err_same { OnErr result (IsSameHistory (run_in run.old) (run_in run.new)) }
     ensures owner { owner_of run.new.log ≡ owner_of run.old.log }
 {
     let effect = effect_of(
@@ -132,8 +136,9 @@ fn cut_short<D: LogStore>(
     run: &mut RunSoFar<D>,
 ) -> Result<SessionState, AllocError>
     ensures state { IfOk result (λ after. cut ≡ Some after) }
-    ensures lines { IfOk result (λ after. (kept : List Line) → length kept ≡ had → Grown kept run.old.lines.items → run.new.lines.items ≡ kept ++ lines_of name.now after.number (ReplyLine.NoMemory ∷ [])) }
-    ensures same { IsSameHistory run.old.entries.items run.new.entries.items run.old.log run.new.log }
+    ensures lines { IfOk result (λ after. (kept : List Line) → length kept ≡ had → Grown kept run.old.lines.items
+        → run.new.lines.items ≡ kept ++ lines_of name.now after.number (ReplyLine.NoMemory ∷ [])) }
+    ensures same { IsSameHistory (run_in run.old) (run_in run.new) }
 {
     run.lines.truncate(had);
     let Some(after) = cut else {

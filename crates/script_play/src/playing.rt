@@ -1,7 +1,7 @@
 //! The lines of a script, done one after the other on one node.
-ghost use Rattle.std.specs.Prelude.{◌≡◌, ℕ, ◌-◌, ◌<◌, ◌≤◌, ◌++◌, ◌∷◌, [], List, Some, false, true, length, OnOk, OnErr, IfOk, IfErr, MatchResult, map, slice_get, unwrap_or};
+ghost use Rattle.std.specs.Prelude.{◌≡◌, ℕ, ◌<◌, ◌≤◌, ◌++◌, ◌∷◌, [], List, Some, false, true, length, map};
+ghost use Rattle.std.specs.Prelude.{OnOk, OnErr, IfOk, IfErr, MatchResult};
 ghost use Rattle.blkseq_table.specs.OfLogs.{identities_of};
-ghost use Rattle.block_processor.specs.Changed.{changed_in};
 ghost use Rattle.cdb_values.specs.Rows.{Rows};
 ghost use Rattle.log_replay.specs.Answers.{schema_of as schema_told};
 ghost use Rattle.log_rows.specs.History.{rows_over_at, IsFrom, StandsOver};
@@ -12,12 +12,12 @@ ghost use Rattle.report_laws.specs.Nodes.{downs};
 ghost use Rattle.report_laws.specs.Play.{InPlayOrder};
 ghost use Rattle.script_form.specs.CanRun.{CanRun, tables_of};
 ghost use Rattle.script_form.specs.declared.scripts.BodyLine.{BodyLine};
-ghost use Rattle.script_play.specs.Basis.{from_origin, from_start};
+ghost use Rattle.script_play.specs.Basis.{from_base, from_start};
 ghost use Rattle.script_play.specs.Down.{history_of, owner_of, with_entries, IsCaused};
 ghost use Rattle.script_play.specs.EntryLines.{AreTold};
-ghost use Rattle.script_play.specs.Played.{downs_by, IsGivenUp, IsPlayed};
-ghost use Rattle.script_play.specs.Ready.{CanBegin};
-ghost use Rattle.script_play.specs.RunViews.{state_in, IsBeforeLine, IsOpenedBehind, IsSameHistory};
+ghost use Rattle.script_play.specs.Played.{changed_at, downs_by, IsGivenUp, IsPlayed};
+ghost use Rattle.script_play.specs.Ready.{AreEarlier, CanBegin};
+ghost use Rattle.script_play.specs.RunViews.{run_in, state_in, IsBeforeLine, IsOpenedBehind, IsSameHistory};
 ghost use Rattle.script_play.specs.Serial.{AreSerial};
 ghost use Rattle.script_play.specs.SoFarDown.{IsBeforeDown};
 ghost use Rattle.script_play.specs.declared.states.SessionState.{SessionState};
@@ -26,7 +26,6 @@ ghost use Rattle.script_play.specs.Start.{Start, ground_of};
 ghost use Rattle.std.specs.Str.{bytes_eq};
 
 use super::downs::run_down;
-use super::holding::let_go;
 use super::indexed::IndexedLog;
 use super::lines::{read_text, run_session_line};
 use super::run::{RunSoFar, add_down, add_line};
@@ -53,8 +52,8 @@ pub struct Played<D: LogStore> {
 /// are done one after the other, in the generation in which the node stands.
 ///
 /// The run begins behind the log that was opened, at the rows for which its pages stand. A log without entries has got the
-/// setup of the script's tables since. Any other log begins with that setup, and goes on with transactions, each once; what its
-/// entries say that they change is not looked at.
+/// setup of the script's tables since. Any other log begins with that setup, and goes on with transactions, each once, that
+/// began in generations before the one in which the node stands; what its entries say that they change is not looked at.
 ///
 /// The report is lawful and in the order of play, over the history from there. Each of its entries at level serializable is
 /// serial: its transaction, run alone on the rows right before it and without the texts that failed, has the same operations,
@@ -78,6 +77,7 @@ pub fn play<D: LogStore + Drop>(
     requires running { log.failed ≡ false }
     requires place { base ≡ length start.before }
     requires opened { IsOpenedBehind (tables_of script.now) log.accepted start.before log.entries }
+    requires earlier { AreEarlier log.accepted start.before }
     requires behind { CanBegin (tables_of script.now) start.before start.rows }
     ensures lawful { IfOk result (λ p. Lawful (from_start script.now start) p.report) }
     ensures in_order { IfOk result (λ p. InPlayOrder (from_start script.now start) p.report) }
@@ -85,14 +85,16 @@ pub fn play<D: LogStore + Drop>(
     ensures entries { IfOk result (λ p. AreTold start.before log.accepted p.report.entries (history_of p.log)) }
     ensures schema { IfOk result (λ p. schema_told (history_of p.log) ≡ Some (tables_of script.now)) }
     ensures changed { IfOk result (λ p. (k : ℕ) → base < k → k ≤ length (history_of p.log)
-        → unwrap_or (slice_get (changed_in (history_of p.log)) (k - 1)) [] ≡ changes_at (from_start script.now start) p.report.entries k) }
+        → changed_at (history_of p.log) k ≡ changes_at (from_start script.now start) p.report.entries k) }
     ensures rows { IfOk result (λ p. (k : ℕ) → IsFrom base k → k ≤ length (history_of p.log)
-        → rows_over_at (ground_of start) (history_of p.log) k ≡ rows_at (from_start script.now start) p.report.entries k) }
+        → rows_over_at (ground_of start) (history_of p.log) k
+        ≡ rows_at (from_start script.now start) p.report.entries k) }
     ensures stands { IfOk result (λ p. StandsOver (ground_of start) (tables_of script.now) (history_of p.log)) }
     ensures faults { IfOk result (λ p. downs p.report.lines ≡ downs_by p.log.failed) }
     ensures cause { IfOk result (λ p. IsCaused p.log.failed log.store.faults p.log.store.faults) }
     ensures made { IfOk result (λ p. p.log.failed ≡ false → p.log.accepted ≡ log.accepted) }
-    ensures kept { IfOk result (λ p. p.log.failed ≡ true → Leaves p.log.store (with_entries p.log (history_of p.log) ∷ p.log ∷ [])) }
+    ensures kept { IfOk result (λ p. p.log.failed ≡ true
+        → Leaves p.log.store (with_entries p.log (history_of p.log) ∷ p.log ∷ [])) }
     ensures given_up { IfErr result (λ l. IsGivenUp start log l) }
     ensures owner { MatchResult result (λ p. owner_of p.log ≡ owner_of log) (λ l. owner_of l ≡ owner_of log) }
 {
@@ -111,6 +113,7 @@ fn play_behind<D: LogStore + Drop>(
     requires running { log.failed ≡ false }
     requires place { base ≡ length start.before }
     requires opened { IsOpenedBehind (tables_of script.now) log.accepted start.before log.entries }
+    requires earlier { AreEarlier log.accepted start.before }
     requires behind { CanBegin (tables_of script.now) start.before start.rows }
     ensures played { IfOk result (λ p. IsPlayed script.now start log p.report p.log) }
     ensures given_up { IfErr result (λ l. IsGivenUp start log l) }
@@ -146,10 +149,12 @@ fn play_on<D: LogStore>(
     requires running { run.old.log.failed ≡ false }
     requires place { base ≡ length start.before }
     requires opened { IsOpenedBehind (tables_of script.now) run.old.log.accepted start.before run.old.log.entries }
+    requires earlier { AreEarlier run.old.log.accepted start.before }
     requires behind { CanBegin (tables_of script.now) start.before start.rows }
     requires lines { run.old.lines.items ≡ [] }
     requires entries { run.old.entries.items ≡ [] }
-    ensures done { OnOk result ((states : List SessionState) × IsBeforeLine script.now start run.old.log.accepted run.old.log.store.faults [] run.new.lines.items run.new.entries.items run.new.log states) }
+    ensures done { OnOk result ((states : List SessionState)
+        × IsBeforeLine script.now start run.old.log.accepted run.old.log.store.faults [] (run_in run.new) states) }
     ensures given_up { OnErr result (IsGivenUp start run.old.log run.new.log) }
     ensures owner { owner_of run.new.log ≡ owner_of run.old.log }
 {
@@ -251,10 +256,12 @@ fn run_line<D: LogStore>(
 ) -> Result<(), AllocError>
     ghost start: { Start }
     requires tables { schema.now ≡ tables_of script.now }
-    requires before { (left : List BodyLine) × (had : ℕ) × IsBeforeLine script.now start generation had (line.now ∷ left) run.old.lines.items run.old.entries.items run.old.log states.old }
-    ensures done { OnOk result ((left : List BodyLine) (had : ℕ) → IsBeforeLine script.now start generation had (line.now ∷ left) run.old.lines.items run.old.entries.items run.old.log states.old
-        → IsBeforeLine script.now start generation had left run.new.lines.items run.new.entries.items run.new.log states.new) }
-    ensures same { OnErr result (IsSameHistory run.old.entries.items run.new.entries.items run.old.log run.new.log) }
+    requires before { (left : List BodyLine) × (had : ℕ)
+        × IsBeforeLine script.now start generation had (line.now ∷ left) (run_in run.old) states.old }
+    ensures done { OnOk result ((left : List BodyLine) (had : ℕ)
+        → IsBeforeLine script.now start generation had (line.now ∷ left) (run_in run.old) states.old
+        → IsBeforeLine script.now start generation had left (run_in run.new) states.new) }
+    ensures same { OnErr result (IsSameHistory (run_in run.old) (run_in run.new)) }
     ensures owner { owner_of run.new.log ≡ owner_of run.old.log }
 {
     let Act::Say { session, text } = &line.act else {
@@ -363,8 +370,8 @@ fn base_told(base: u64) -> Option<u64>
 pub fn play_down(alloc: Global, script: &Script, base: u64) -> Result<Report, AllocError>
     ghost rows: { Rows }
     requires can_run { CanRun script.now }
-    ensures lawful { IfOk result (λ r. Lawful (from_origin script.now (record { position = base; tables = tables_of script.now; rows = rows })) r) }
-    ensures in_order { IfOk result (λ r. InPlayOrder (from_origin script.now (record { position = base; tables = tables_of script.now; rows = rows })) r) }
+    ensures lawful { IfOk result (λ r. Lawful (from_base script.now base rows) r) }
+    ensures in_order { IfOk result (λ r. InPlayOrder (from_base script.now base rows) r) }
     ensures down { IfOk result (λ r. downs r.lines ≡ 1) }
     ensures none { IfOk result (λ r. r.entries ≡ []) }
 {
@@ -390,8 +397,10 @@ fn run_line_down(
     lines: &mut Vec<Line>,
 ) -> Result<(), AllocError>
     requires tables { schema.now ≡ tables_of script.now }
-    requires before { (left : List BodyLine) × IsBeforeDown script.now (line.now ∷ left) lines.old.items (map state_in states.old) }
-    ensures { OnOk result ((left : List BodyLine) → IsBeforeDown script.now (line.now ∷ left) lines.old.items (map state_in states.old)
+    requires before { (left : List BodyLine)
+        × IsBeforeDown script.now (line.now ∷ left) lines.old.items (map state_in states.old) }
+    ensures { OnOk result ((left : List BodyLine)
+        → IsBeforeDown script.now (line.now ∷ left) lines.old.items (map state_in states.old)
         → IsBeforeDown script.now left lines.new.items (map state_in states.new)) }
 {
     let Act::Say { session, text } = &line.act else {
@@ -402,7 +411,7 @@ fn run_line_down(
     };
     let prepared = read_text(alloc, schema, text.as_bytes())?;
     let kind = prepared.kind();
-    let_go(prepared);
+    drop(prepared);
     let state = states.replace_at(at, at_rest());
     let after = run_down(session, state, kind, lines)?;
     let _at_rest = states.replace_at(at, after);

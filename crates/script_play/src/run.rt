@@ -4,14 +4,15 @@ ghost use Rattle.log_rows.specs.History.{IsCommit};
 ghost use Rattle.phys_log.specs.Logs.{Fits};
 ghost use Rattle.report_laws.specs.Told.{lines_of};
 ghost use Rattle.report_text.specs.declared.reports.Line.{Line};
-ghost use Rattle.script_play.specs.Down.{down_line, owner_of, IsEntered, IsFallenAt, IsKeptSo, TellsOutcome};
+ghost use Rattle.script_play.specs.Down.{down_line, owner_of, IsAppendedSo, IsEntered, IsFallenAt, IsKeptSo};
+ghost use Rattle.script_play.specs.Down.{TellsOutcome};
 ghost use Rattle.script_play.specs.Effects.{Grown, IsFreshIn};
 ghost use Rattle.script_play.specs.EntryLines.{line_of as line_of_entry};
-ghost use Rattle.script_play.specs.RunViews.{IsSameHistory};
+ghost use Rattle.script_play.specs.RunViews.{run_in, IsSameHistory};
 ghost use Rattle.store_log.specs.Held.{generation_of};
 
 use super::effects::LineEffect;
-use super::holding::{beside, let_go};
+use super::holding::beside;
 use super::indexed::IndexedLog;
 use super::states::SessionState;
 use cdb_outside::LogStore;
@@ -24,7 +25,7 @@ use std::alloc::{AllocError, Global};
 
 /// The run so far: the lines and the history of its report, and the log of the node, whose pages have the rows at each
 /// position from where the run began. Where the store failed the node is down, and the log has one entry more than the
-/// history.
+/// history. Clauses speak of it by `run_in`.
 #[derive(Drop)]
 pub(crate) struct RunSoFar<D: LogStore> {
     pub lines: Vec<Line>,
@@ -91,9 +92,10 @@ pub(crate) fn apply_effect<D: LogStore>(
     requires made { IfSome effect.added (λ e. generation_of e ≡ run.old.log.accepted) }
     requires told { TellsOutcome effect.replies.items effect.added }
     ensures state { IfOk result (λ after. after ≡ effect.after) }
-    ensures done { OnOk result (IsKeptSo name.now effect.number effect.replies.items effect.added run.old.lines.items run.new.lines.items run.old.entries.items run.new.entries.items run.old.log run.new.log) }
+    ensures done { OnOk result (IsKeptSo name.now effect.number effect.replies.items effect.added
+        (run_in run.old) (run_in run.new)) }
     ensures err_lines { OnErr result (Grown run.old.lines.items run.new.lines.items) }
-    ensures err_same { OnErr result (IsSameHistory run.old.entries.items run.new.entries.items run.old.log run.new.log) }
+    ensures err_same { OnErr result (IsSameHistory (run_in run.old) (run_in run.new)) }
     ensures owner { owner_of run.new.log ≡ owner_of run.old.log }
 {
     let LineEffect {
@@ -128,12 +130,9 @@ fn append_committed<D: LogStore>(
     requires commit { IsCommit entry }
     requires made { generation_of entry ≡ run.old.log.accepted }
     requires told { (front : List Line) × (outcome : Line) × (run.old.lines.items ≡ front ++ outcome ∷ []) }
-    ensures done { OnOk result (
-        ((run.new.lines.items ≡ run.old.lines.items) × IsEntered entry run.old.entries.items run.new.entries.items run.old.log run.new.log)
-        ⊎ (((front : List Line) (outcome : Line) → run.old.lines.items ≡ front ++ outcome ∷ [] → run.new.lines.items ≡ front ++ down_line ∷ lines_of name.now number (ReplyLine.Lost 1 1 ∷ []))
-        × IsFallenAt entry run.old.entries.items run.new.entries.items run.old.log run.new.log)) }
+    ensures done { OnOk result (IsAppendedSo name.now number entry (run_in run.old) (run_in run.new)) }
     ensures err_lines { OnErr result (Grown run.old.lines.items run.new.lines.items) }
-    ensures err_same { OnErr result (IsSameHistory run.old.entries.items run.new.entries.items run.old.log run.new.log) }
+    ensures err_same { OnErr result (IsSameHistory (run_in run.old) (run_in run.new)) }
     ensures owner { owner_of run.new.log ≡ owner_of run.old.log }
 {
     let had = run.lines.len();
@@ -154,15 +153,17 @@ fn append_committed<D: LogStore>(
 /// Puts the last line, that the node went down, in the place of the outcome of the transaction that is lost.
 fn put_down(lines: &mut Vec<Line>)
     requires { 3 ≤ length lines.old.items }
-    ensures { (front : List Line) (outcome lost down : Line) → lines.old.items ≡ front ++ outcome ∷ lost ∷ down ∷ [] → lines.new.items ≡ front ++ down ∷ lost ∷ [] }
+    ensures { (front : List Line) (outcome lost down : Line) → lines.old.items ≡ front ++ outcome ∷ lost ∷ down ∷ []
+        → lines.new.items ≡ front ++ down ∷ lost ∷ [] }
 {
     let place = lines.len() - 3;
-    let_go(lines.swap_remove(place));
+    drop(lines.swap_remove(place));
 }
 
 /// Adds the lines that a transaction is lost, and that the node went down, in this order.
 fn add_fall(lines: &mut Vec<Line>, name: &Name, number: u64) -> Result<(), AllocError>
-    ensures ok { OnOk result (lines.new.items ≡ lines.old.items ++ (lines_of name.now number (ReplyLine.Lost 1 1 ∷ []) ++ down_line ∷ [])) }
+    ensures ok { OnOk result (lines.new.items ≡
+        lines.old.items ++ (lines_of name.now number (ReplyLine.Lost 1 1 ∷ []) ++ down_line ∷ [])) }
     ensures err { OnErr result (Grown lines.old.items lines.new.items) }
 {
     add_reply(lines, name, number, ReplyLine::Lost { node: 1, down: 1 })?;
@@ -194,10 +195,10 @@ fn append_entry<D: LogStore>(
     requires fresh { IsFreshIn run.old.log.entries entry }
     requires commit { IsCommit entry }
     requires made { generation_of entry ≡ run.old.log.accepted }
-    ensures kept { IfOk result (λ a. a ≡ Appended.Kept → IsEntered entry run.old.entries.items run.new.entries.items run.old.log run.new.log) }
-    ensures fallen { IfOk result (λ a. a ≡ Appended.Down → IsFallenAt entry run.old.entries.items run.new.entries.items run.old.log run.new.log) }
+    ensures kept { IfOk result (λ a. a ≡ Appended.Kept → IsEntered entry (run_in run.old) (run_in run.new)) }
+    ensures fallen { IfOk result (λ a. a ≡ Appended.Down → IsFallenAt entry (run_in run.old) (run_in run.new)) }
     ensures lines { run.new.lines.items ≡ run.old.lines.items }
-    ensures err_same { OnErr result (IsSameHistory run.old.entries.items run.new.entries.items run.old.log run.new.log) }
+    ensures err_same { OnErr result (IsSameHistory (run_in run.old) (run_in run.new)) }
     ensures owner { owner_of run.new.log ≡ owner_of run.old.log }
 {
     let position = run.log.log().entries().len() as u64 + 1;
@@ -205,17 +206,17 @@ fn append_entry<D: LogStore>(
     let (entry, line) = beside(entry, line)?;
     let (entry, ()) = beside(entry, add_line(&mut run.entries, line))?;
     if !has_spelling(&entry) {
-        let_go(run.entries.pop());
+        drop(run.entries.pop());
         return Err(AllocError);
     }
     match run.log.append(alloc, entry) {
         Ok(()) => Ok(Appended::Kept),
         Err(KeepFault::StoreFault) => {
-            let_go(run.entries.pop());
+            drop(run.entries.pop());
             Ok(Appended::Down)
         }
         Err(KeepFault::NoMemory) => {
-            let_go(run.entries.pop());
+            drop(run.entries.pop());
             Err(AllocError)
         }
     }

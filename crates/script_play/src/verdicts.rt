@@ -5,11 +5,10 @@ ghost use Rattle.cdb_values.specs.Good.{KeyName};
 ghost use Rattle.osql_session.specs.Requests.{request_of};
 ghost use Rattle.report_laws.specs.Outcome.{name_of_key, name_of_table};
 ghost use Rattle.script_play.specs.Decisions.{item_told, key_place, by_key};
-ghost use Rattle.script_play.specs.Effects.{IsVerdict, named_by};
+ghost use Rattle.script_play.specs.Effects.{IsUnusedIn, IsVerdictOn};
 ghost use Rattle.script_play.specs.Ready.{IsAble};
-ghost use Rattle.script_play.specs.RunViews.{world, IsReadyFor};
+ghost use Rattle.script_play.specs.RunViews.{IsReadyFor};
 ghost use Rattle.script_play.specs.Start.{Start};
-ghost use Rattle.script_play.specs.Step.{outcome};
 ghost use Rattle.session_language.specs.Intervals.{keys_at};
 ghost use Rattle.table_edits.specs.Broken.{named};
 
@@ -46,8 +45,8 @@ pub(crate) fn decided(
     requires ready { IsReadyFor start schema.now log.now }
     requires known { known.now ≡ identities_of log.now }
     requires able { IsAble start schema.now (length log.now) log.now session.now.begin session.now.ops }
-    ensures { IfOk result (λ v. IsVerdict start schema.now log.now v
-        (outcome (world start schema.now log.now) session.now.begin session.now.level session.now.genids session.now.ranges session.now.ops) (named_by generation session.now) session.now.ops) }
+    requires fresh { IsUnusedIn log.now session.now.id }
+    ensures { IfOk result (IsVerdictOn start generation schema.now log.now session.now) }
 {
     match session.request(alloc)? {
         None => Ok(Verdict {
@@ -72,9 +71,9 @@ fn judged(
     requires ready { IsReadyFor start schema.now log.now }
     requires known { known.now ≡ identities_of log.now }
     requires able { IsAble start schema.now (length log.now) log.now session.now.begin session.now.ops }
+    requires fresh { IsUnusedIn log.now session.now.id }
     requires asked { request_of session.now ≡ Some request.now }
-    ensures { IfOk result (λ v. IsVerdict start schema.now log.now v
-        (outcome (world start schema.now log.now) session.now.begin session.now.level session.now.genids session.now.ranges session.now.ops) (named_by generation session.now) session.now.ops) }
+    ensures { IfOk result (IsVerdictOn start generation schema.now log.now session.now) }
 {
     let now = log.entries().len() as u64;
     if LAST_POSITION <= now {
@@ -82,7 +81,8 @@ fn judged(
     }
     the_first_broken_key_has_its_name();
     match decide(alloc, request, log, known, generation)? {
-        Decision::Repeat(_) => Err(AllocError),
+        // no entry has its identity
+        Decision::Repeat(_) => unreachable!(),
         Decision::Conflict { position, item } => conflict(alloc, schema, position, item),
         Decision::Duplicate {
             position,

@@ -5,6 +5,7 @@ use Rattle.cdb_values.specs.declared.rows.RowOp.{RowOp}
 use Rattle.report_text.specs.declared.reports.ReplyLine.{ReplyLine}
 use Rattle.report_text.specs.declared.reports.ReplyLine.TheVariants as reply
 use Rattle.sql_run.specs.Views.{text_in}
+use Rattle.script_play.proofs.OverLemmas.{next_unused}
 use Rattle.script_play.proofs.TakeLemmas.{stands_now, own_able, own_told, own_added}
 use Rattle.script_play.specs.Decisions.{added_by}
 use Rattle.phys_log.specs.declared.entries.CommitId.{CommitId}
@@ -20,7 +21,7 @@ use Rattle.script_play.proofs.effects.own_transaction.Goals as goal
 pub answer_text-requires : goal.answer_text-requires
 answer_text-requires g c = (
   (let at = c.in_ok-session.ensures.begin in omega (arith, at)),
-  (stands_now g.start c.args.schema.now (length c.args.log.now) c.in_ok-session.session.begin c.args.log.now c.requires.0 c.in_ok-session.ensures.begin, c.requires.1.1.0),
+  (stands_now g.start c.args.schema.now (length c.args.log.now) c.in_ok-session.session.begin c.args.log.now c.requires.0 c.in_ok-session.ensures.begin, c.requires.1.1.1.0),
 )
 
 pub decided-requires : goal.decided-requires
@@ -28,9 +29,12 @@ decided-requires g c = (
   c.requires.0,
   (
     c.requires.1.0,
-    subst (λ (b : ℕ). IsAble g.start c.args.schema.now (length c.args.log.now) c.args.log.now b c.answer_text.new.session.ops) (sym c.answer_text.ensures.begin)
-        (own_able g.start c.args.schema.now (length c.args.log.now) c.in_ok-session.session.begin c.args.log.now (text_in c.args.prepared.now).meaning c.answer_text.new.session.ops c.in_ok-session.session.ops
-        c.requires.0 c.requires.1.1.1 c.in_ok-session.ensures.begin c.in_ok-session.ensures.ops c.in_ok-told.ensures.ops),
+    (
+      subst (λ (b : ℕ). IsAble g.start c.args.schema.now (length c.args.log.now) c.args.log.now b c.answer_text.new.session.ops) (sym c.answer_text.ensures.begin)
+          (own_able g.start c.args.schema.now (length c.args.log.now) c.in_ok-session.session.begin c.args.log.now (text_in c.args.prepared.now).meaning c.answer_text.new.session.ops c.in_ok-session.session.ops
+          c.requires.0 c.requires.1.1.1.1 c.in_ok-session.ensures.begin c.in_ok-session.ensures.ops c.in_ok-told.ensures.ops),
+      next_unused c.args.generation c.args.name.now c.args.number c.in_ok-number.number c.args.log.now c.answer_text.new.session.id c.requires.1.1.0 c.in_ok-number.ensures (c.answer_text.ensures.id ∙ c.in_ok-session.ensures.own.0),
+    ),
   ),
 )
 

@@ -1,10 +1,9 @@
-use Rattle.std.proofs.Common.{List, length, ◌∙◌, ap, subst, sym}
+use Rattle.std.proofs.Common.{List, ◌∙◌, ap, subst, sym}
 use Rattle.blkseq_table.specs.OfLogs.{identities_of}
 use Rattle.phys_log.specs.declared.entries.Entry.{Entry}
 use Rattle.sql_run.specs.Views.{kind_in, text_in}
 use Rattle.script_play.specs.Effects.{IsEffect}
-use Rattle.script_play.specs.Ready.{IsReadyToGo}
-use Rattle.script_play.specs.RunViews.{doing_in, world, IsReadyFor}
+use Rattle.script_play.specs.RunViews.{doing_in, world, AreOver, CanGoOn, IsReadyFor}
 use Rattle.script_play.specs.Step.{turn_of}
 use Rattle.script_play.proofs.TakeLemmas.{effect_commits, effect_fits, effect_fresh, effect_made, effect_taken, effect_tells, told_outcome}
 use Rattle.script_play.proofs.lines.run_whole.Goals as goal
@@ -14,7 +13,10 @@ effect_of-requires g c = (
   subst (λ (es : List Entry). IsReadyFor g.start c.args.schema.now es) (sym c.log.ensures) c.requires.1.1.1.0,
   (
     c.known.ensures ∙ ap identities_of (sym c.log.ensures),
-    (subst (λ (es : List Entry). IsReadyToGo g.start c.args.schema.now (length es) es (doing_in c.args.state.doing)) (sym c.log.ensures) c.requires.1.1.1.1.0, c.requires.1.1.1.1.1),
+    (
+      subst (λ (es : List Entry). CanGoOn g.start c.args.schema.now es c.args.state.doing) (sym c.log.ensures) c.requires.1.1.1.1.0,
+      (subst (λ (es : List Entry). AreOver c.args.generation c.args.name.now c.args.state es) (sym c.log.ensures) c.requires.1.1.1.1.1.0, c.requires.1.1.1.1.1.1),
+    ),
   ),
 )
 

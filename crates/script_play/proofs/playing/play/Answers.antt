@@ -11,7 +11,7 @@ returns-clause-in_order g c = if_ok c.play_behind.result (λ p played. played.to
 
 pub returns-clause-serial : goal.returns-clause-serial
 returns-clause-serial g c =
-    if_ok c.play_behind.result (λ p played. run_serial c.args.script.now g.start p.report c.requires.1.1.1.1.1 played.told.lawful) c.play_behind.ensures.played
+    if_ok c.play_behind.result (λ p played. run_serial c.args.script.now g.start p.report c.requires.1.1.1.1.1.1 played.told.lawful) c.play_behind.ensures.played
 
 pub returns-clause-entries : goal.returns-clause-entries
 returns-clause-entries g c = if_ok c.play_behind.result (λ p played. played.told.entries) c.play_behind.ensures.played

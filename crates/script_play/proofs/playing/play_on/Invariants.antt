@@ -1,7 +1,7 @@
 use Rattle.std.proofs.Common.{◌≡◌, length}
 use Rattle.script_form.specs.CanRun.{tables_of}
 use Rattle.script_play.specs.Down.{owner_of}
-use Rattle.script_play.specs.RunViews.{IsBeforeLine}
+use Rattle.script_play.specs.RunViews.{run_in, IsBeforeLine}
 use Rattle.script_play.proofs.playing.play_on.Given as goal
 
 -- the same start
@@ -10,7 +10,7 @@ ghost-run_line g a = g.start
 
 abbrev pub invariant-lines : goal.invariant-lines
 invariant-lines g l =
-    IsBeforeLine l.script g.start l.generation l.fn.run.log.store.faults l.rest l.run.lines.items l.run.entries.items l.run.log l.states
+    IsBeforeLine l.script g.start l.generation l.fn.run.log.store.faults l.rest (run_in l.run) l.states
     × (l.generation ≡ l.fn.run.log.accepted)
     × (l.schema-inside.tables ≡ tables_of l.script)
     × (owner_of l.run.log ≡ owner_of l.fn.run.log)

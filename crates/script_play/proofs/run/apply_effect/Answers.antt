@@ -3,6 +3,7 @@ use Rattle.phys_log.specs.declared.entries.Entry.{Entry}
 use Rattle.report_laws.specs.Told.{lines_of}
 use Rattle.report_text.specs.declared.reports.Line.TheVariants as line
 use Rattle.script_play.specs.Down.{HasOutcome, IsKeptSo, TellsOutcome}
+use Rattle.script_play.specs.RunViews.{run_in}
 use Rattle.script_play.proofs.AppendLemmas.{kept_so, told_last}
 use Rattle.script_play.proofs.run.apply_effect.Goals as goal
 
@@ -18,8 +19,7 @@ append_committed-requires-clause-told g c = (
 
 pub returns-in_ok-append_committed-in-Some-clause-done : goal.returns-in_ok-append_committed-in-Some-clause-done
 returns-in_ok-append_committed-in-Some-clause-done g c =
-    subst (λ (o : Option Entry). IsKeptSo c.args.name.now c.args.effect.number c.args.effect.replies.items o c.args.run.now.lines.items c.append_committed.new.run.lines.items
-    c.args.run.now.entries.items c.append_committed.new.run.entries.items c.args.run.now.log c.append_committed.new.run.log) (sym c.in-Some.is)
+    subst (λ (o : Option Entry). IsKeptSo c.args.name.now c.args.effect.number c.args.effect.replies.items o (run_in c.args.run.now) (run_in c.append_committed.new.run)) (sym c.in-Some.is)
     (kept_so c.args.name.now c.args.effect.number c.args.effect.replies.items c.in-Some.entry c.args.run.now.lines.items c.add_replies.new.lines.items c.append_committed.new.run.lines.items
     c.args.run.now.entries.items c.append_committed.new.run.entries.items c.args.run.now.log c.append_committed.new.run.log
     (subst (λ (o : Option Entry). TellsOutcome c.args.effect.replies.items o) c.in-Some.is c.requires.told)
