@@ -45,7 +45,7 @@ frames_within : (h : Held) (fs : List Frame) → AllMay h fs → h.accepted ≤ 
 frames_within h [] may l = l
 frames_within h (f ∷ fs) may l = frames_within (after h f) fs may.1 (frame_within h f may.0 l)
 
-accepted_within : (c : ℕ) (bytes : List ℕ) (p a : ℕ) (es : List Entry) → StandsFor 1 c bytes (Log p a es) → a ≤ p
+pub accepted_within : (c : ℕ) (bytes : List ℕ) (p a : ℕ) (es : List Entry) → StandsFor 1 c bytes (Log p a es) → a ≤ p
 accepted_within c bytes p a es (inl begun) = let e : a ≡ 0 = begun.2 in omega arith
 accepted_within c bytes p a es (inr s) =
     let l : (after_all at_first s.frames).accepted ≤ (after_all at_first s.frames).promised = frames_within at_first s.frames s.held.rules (omega arith) in

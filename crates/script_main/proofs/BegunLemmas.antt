@@ -1,7 +1,9 @@
 -- A node that is up can begin a run behind the log that its store stood for.
-use Rattle.std.proofs.Common.{◌⊎◌, ◌≡◌, ◌≢◌, ℕ, zero, suc, ◌+◌, ◌≤◌, List, [], ◌∷◌, length, take, map, false, refl, sym, subst, ap, ◌∙◌, inl, inr, arith}
+use Rattle.std.proofs.Common.{◌⊎◌, ◌≡◌, ◌≢◌, ℕ, zero, suc, ◌+◌, ◌-◌, ◌<◌, ◌≤◌, None, Some, List, [], ◌∷◌, length, take, map, false, refl, sym, subst, ap, ◌∙◌, inl, inr, arith}
 use Rattle.std.proofs.Math.Seq.{take-length}
 use Rattle.std.specs.List.{AllByRecursion}
+use Rattle.std.specs.Prelude.{slice_get}
+use Rattle.blkseq_table.specs.OfLogs.{id_of}
 use Rattle.cdb_values.specs.Rows.{Rows}
 use Rattle.cdb_values.specs.declared.tables.TableDef.{TableDef}
 use Rattle.log_rows.specs.History as history
@@ -9,14 +11,19 @@ use Rattle.node_log.specs.Logged.{Logged, AreSpelled}
 use Rattle.node_opening.specs.Goods.{HasTables}
 use Rattle.node_opening.specs.Up.{GoesOn, IsTakenUp}
 use Rattle.phys_log.specs.Logs.{pages_of}
+use Rattle.phys_log.specs.declared.entries.CommitId.{CommitId}
 use Rattle.phys_log.specs.declared.entries.Entry.{Entry}
+use Rattle.phys_log.specs.declared.entries.Entry.TheVariants.{Setup, Commit}
 use Rattle.script_form.specs.CanRun.{tables_of, CanRun}
 use Rattle.script_form.specs.declared.scripts.Script.{Script}
+use Rattle.script_play.specs.Ready.{AreEarlier}
 use Rattle.script_play.specs.RunViews.{IsOpenedBehind}
 use Rattle.sound_log.specs.Columns.{HasColumns}
-use Rattle.sound_log.specs.Sound.{IsSound}
+use Rattle.sound_log.specs.Identities.{ids_in}
+use Rattle.sound_log.specs.Sound.{IsBegunBy, IsSound}
 use Rattle.store_log.specs.Keeps.{Stored}
 use Rattle.table_state.specs.States.{HasState}
+use Rattle.script_main.proofs.AgainLemmas.{accepted_within}
 use Rattle.script_main.proofs.BeginLemmas.{begins, opened_behind, Begins}
 use Rattle.script_main.proofs.ScriptLemmas.{can_run_unsaid, log_tables, log_taken, own_tables, tables_with}
 use Rattle.script_main.specs.Steps.{log_before, IsBegunAt, IsOpened}
@@ -54,6 +61,26 @@ has_rows script [] has b = b.none refl
 has_rows script (e ∷ es) has b =
     subst (λ (ts : List TableDef). HasState (pages_of (e ∷ es)) ts b.rows) (tables_with script (e ∷ es) has (omega arith)) (b.state (omega arith))
 
+-- each transaction of a sound log began in no later generation than the accepted one
+id_within : (accepted : ℕ) (es : List Entry) (i : ℕ) (e : Entry) (id : CommitId) → AllByRecursion (IsBegunBy accepted) (ids_in es) → slice_get es i ≡ Some e → id_of e ≡ Some id → id.began ≤ accepted
+id_within accepted [] i e id all at its = absurd cc
+id_within accepted (Setup generation schema records ∷ es) zero e id all at its =
+    let same : Setup generation schema records ≡ e = cc in
+    let none : None ≡ Some id = ap (λ (x : Entry). id_of x) same ∙ its in absurd cc
+id_within accepted (Setup generation schema records ∷ es) (suc i) e id all at its = id_within accepted es i e id all at its
+id_within accepted (Commit generation own begin level changes records ∷ es) zero e id all at its =
+    let same : Commit generation own begin level changes records ≡ e = cc in
+    let some : Some own ≡ Some id = ap (λ (x : Entry). id_of x) same ∙ its in
+    let is : own ≡ id = cc in
+    subst (λ (x : CommitId). x.began ≤ accepted) is all.0
+id_within accepted (Commit generation own begin level changes records ∷ es) (suc i) e id all at its = id_within accepted es i e id all.1 at its
+
+begun_earlier : (accepted generation : ℕ) (es : List Entry) → IsSound accepted es → accepted < generation → AreEarlier generation es
+begun_earlier accepted generation es (inl none) below position id has =
+    let nothing : slice_get [] (position - 1) ≡ Some has.1.0 = ap (λ (l : List Entry). slice_get l (position - 1)) (sym none) ∙ has.1.1 in absurd cc
+begun_earlier accepted generation es (inr sound) below position id has =
+    let within = id_within accepted es (position - 1) has.1.0 id sound.begun has.1.1 has.1.2 in omega (arith, within, below)
+
 -- a run begins there
 pub begun_at : (script : Script) (old : Stored) (base : ℕ) (log : Logged) (o : IsOpened script old base log) →
     IsBegunAt (with_tables script (log_before base log)) base (log_before base log) log (begins_at script old base log o).rows
@@ -65,6 +92,9 @@ begun_at script old base log o =
       place = o.taken.had;
       opened = subst (λ (g : ℕ). IsOpenedBehind tables g before log.entries) (sym o.taken.accepted)
           (opened_behind (tables_of script) tables (o.taken.old_promise + 1) before log.entries given o.taken.entries);
+      earlier = subst (λ (g : ℕ). AreEarlier g before) (sym o.taken.accepted)
+          (begun_earlier o.taken.old_accepted (o.taken.old_promise + 1) before o.taken.stood.good.sound
+          (let l = accepted_within (cluster_of script) old.synced o.taken.old_promise o.taken.old_accepted before o.taken.stood.stands in omega (arith, l)));
       has_rows = has_rows script before o.taken.stood.good.tables b;
       behind = b.can;
     })

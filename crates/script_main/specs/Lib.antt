@@ -4,5 +4,6 @@ pub mod Stores
 pub mod Runs
 pub mod Exit
 pub mod Run
+pub mod World
 pub mod Steps
 pub mod Known

@@ -19,7 +19,7 @@ use Rattle.script_form.specs.declared.scripts.TableLine.{TableLine}
 use Rattle.script_play.specs.Basis.{from_start}
 use Rattle.script_play.specs.EntryLines.{AreTold}
 use Rattle.script_play.specs.Played.{IsTold}
-use Rattle.script_play.specs.Ready.{CanBegin}
+use Rattle.script_play.specs.Ready.{AreEarlier, CanBegin}
 use Rattle.script_play.specs.RunViews.{IsOpenedBehind}
 use Rattle.script_play.specs.Serial.{AreSerial}
 use Rattle.script_play.specs.Start.{Start}
@@ -78,6 +78,7 @@ pub record IsBegunAt (script : Script) (base : ℕ) (before : List Entry) (log :
   pub same : log.promised ≡ log.accepted
   pub place : base ≡ length before
   pub opened : IsOpenedBehind (tables_of script) log.accepted before log.entries
+  pub earlier : AreEarlier log.accepted before
   pub has_rows : HasRows before rows
   pub behind : CanBegin (tables_of script) before rows
 

@@ -1,11 +1,11 @@
 //! What a script's bytes are answered: a status and the text that belongs to it.
-ghost use Rattle.std.specs.Prelude.{◌≡◌, ◌<◌, [], map, length, vec_len, IfOk, OnErr};
+ghost use Rattle.std.specs.Prelude.{◌≡◌, ◌<◌, [], length, vec_len, IfOk, OnErr};
 ghost use Rattle.std.specs.List.{AllByRecursion};
 ghost use Rattle.script_read.specs.Answers.{refusal};
 ghost use Rattle.script_read.specs.ScriptText.{script_of};
 ghost use Rattle.script_main.specs.Run.{AreLeft, IsRefusalText, IsScriptText, LeavesStores};
 ghost use Rattle.script_main.specs.Steps.{IsDifferText, IsReportText};
-ghost use Rattle.script_main.specs.Stores.{kept_by, IsFirstAlone};
+ghost use Rattle.script_main.specs.Stores.{kept_all, IsFirstAlone};
 ghost use Rattle.script_main.specs.Texts.{store_text, unsound_text};
 
 use super::statuses::Status;
@@ -34,9 +34,13 @@ pub(crate) fn answer_script<D: LogStore + Drop>(
     consumers: u64,
 ) -> Result<Answer, AllocError>
     requires settled { AllByRecursion (λ d. D.pending d ≡ []) stores.old.items }
-    ensures text { IfOk result (λ a. IsScriptText (script_of (vec_len stores.old) consumers bytes.now) (map (kept_by D.synced D.pending D.faults) stores.old.items) (map (kept_by D.synced D.pending D.faults) stores.new.items) a.status a.text) }
+    ensures text { IfOk result (λ a. IsScriptText (script_of (vec_len stores.old) consumers bytes.now)
+        (kept_all D.synced D.pending D.faults stores.old.items)
+        (kept_all D.synced D.pending D.faults stores.new.items) a.status a.text) }
     ensures unchanged { IfOk result (λ a. LeavesStores a.status → stores.new.items ≡ stores.old.items) }
-    ensures left { OnErr result (AreLeft (script_of (vec_len stores.old) consumers bytes.now) (map (kept_by D.synced D.pending D.faults) stores.old.items) (map (kept_by D.synced D.pending D.faults) stores.new.items)) }
+    ensures left { OnErr result (AreLeft (script_of (vec_len stores.old) consumers bytes.now)
+        (kept_all D.synced D.pending D.faults stores.old.items)
+        (kept_all D.synced D.pending D.faults stores.new.items)) }
     ensures others { IsFirstAlone stores.old.items stores.new.items }
     ensures settled { AllByRecursion (λ d. D.pending d ≡ []) stores.new.items }
 {
@@ -47,16 +51,13 @@ pub(crate) fn answer_script<D: LogStore + Drop>(
             scripts_have_names();
             scripts_have_stores();
             let answer = play_first(alloc, &script, stores);
-            let_go(script);
+            drop(script);
             answer
         }
         Err(ScriptStop::Refused { line, why }) => refused(alloc, line, why),
         Err(ScriptStop::NoMemory) => Err(AllocError),
     }
 }
-
-/// A value's end, so that the steps of its destructor are no part of the function that had it.
-pub(crate) fn let_go<T: Drop>(_value: T) {}
 
 /// The answer to a script by the report of its play.
 pub(crate) fn reported(alloc: Global, report: &Report) -> Result<Answer, AllocError>

@@ -13,10 +13,11 @@ ghost use Rattle.script_play.specs.Start.{Start};
 ghost use Rattle.store_log.specs.Keeps.{Stored};
 ghost use Rattle.script_main.specs.Run.{IsTextOver};
 ghost use Rattle.script_main.specs.Runs.{IsCutOff, IsDownText};
-ghost use Rattle.script_main.specs.Steps.{log_before, IsBegunAt, IsLeftFrom, IsLeftOf, IsNotUpText, IsOpened, IsPlaceIn, IsPlayedText, IsReportText, IsRunText};
+ghost use Rattle.script_main.specs.Steps.{log_before, IsBegunAt, IsLeftFrom, IsLeftOf, IsNotUpText, IsOpened};
+ghost use Rattle.script_main.specs.Steps.{IsPlaceIn, IsPlayedText, IsReportText, IsRunText};
 ghost use Rattle.script_main.specs.Stores.{cluster_of, kept_by, start_at, unsaid, HasId};
 
-use super::answers::{Answer, differs, let_go, reported, store_refused, unsound};
+use super::answers::{Answer, differs, reported, store_refused, unsound};
 use super::begun::Begun;
 use super::statuses::Status;
 use cdb_outside::LogStore;
@@ -46,9 +47,11 @@ pub(crate) fn play_over<D: LogStore + Drop>(alloc: Global, script: &Script, stor
     requires runs { CanRun script.now }
     requires names { IsNamed script.now }
     requires settled { D.pending store ≡ [] }
-    ensures text { IfOk result.answer (λ a. IsTextOver script.now (kept_by D.synced D.pending D.faults store) (kept_by D.synced D.pending D.faults result.store) a.status a.text) }
+    ensures text { IfOk result.answer (λ a. IsTextOver script.now (kept_by D.synced D.pending D.faults store)
+        (kept_by D.synced D.pending D.faults result.store) a.status a.text) }
     ensures id { IfOk result.answer (λ _. HasId script.now) }
-    ensures left { IsCutOff script.now (kept_by D.synced D.pending D.faults store) (kept_by D.synced D.pending D.faults result.store) }
+    ensures left { IsCutOff script.now (kept_by D.synced D.pending D.faults store)
+        (kept_by D.synced D.pending D.faults result.store) }
     ensures settled { D.pending result.store ≡ [] }
 {
     let Ok(schema) = schema_of(alloc, script.tables.as_slice()) else {
@@ -58,7 +61,7 @@ pub(crate) fn play_over<D: LogStore + Drop>(alloc: Global, script: &Script, stor
         return no_memory(store);
     };
     let ended = open_and_play(alloc, script, store, cluster, &schema);
-    let_go(schema);
+    drop(schema);
     ended
 }
 
@@ -75,8 +78,10 @@ fn open_and_play<D: LogStore + Drop>(
     requires settled { D.pending store ≡ [] }
     requires cluster { cluster ≡ cluster_of script.now }
     requires schema { schema.now ≡ tables_of script.now }
-    ensures text { IfOk result.answer (λ a. IsTextOver script.now (kept_by D.synced D.pending D.faults store) (kept_by D.synced D.pending D.faults result.store) a.status a.text) }
-    ensures left { IsCutOff script.now (kept_by D.synced D.pending D.faults store) (kept_by D.synced D.pending D.faults result.store) }
+    ensures text { IfOk result.answer (λ a. IsTextOver script.now (kept_by D.synced D.pending D.faults store)
+        (kept_by D.synced D.pending D.faults result.store) a.status a.text) }
+    ensures left { IsCutOff script.now (kept_by D.synced D.pending D.faults store)
+        (kept_by D.synced D.pending D.faults result.store) }
     ensures settled { D.pending result.store ≡ [] }
 {
     match open_node(alloc, store, NODE, cluster, schema) {
@@ -134,7 +139,7 @@ fn down(alloc: Global, script: &Script) -> Result<Answer, AllocError>
 {
     let report = play_down(alloc, script, 0)?;
     let answer = down_told(alloc, script, &report);
-    let_go(report);
+    drop(report);
     answer
 }
 
@@ -195,7 +200,8 @@ fn play_own<D: LogStore + Drop>(alloc: Global, script: &Script, begun: Begun<D>)
     requires own { (begun.base ≡ 0) ⊎ (script.now.tables ≢ []) }
     ensures text { IfOk result.answer (λ a. (old : Stored) → IsOpened script.now old begun.base begun.log
         → IsRunText script.now old (kept_by D.synced D.pending D.faults result.store) a.status a.text) }
-    ensures left { IsLeftFrom (log_before begun.base begun.log) begun.log (kept_by D.synced D.pending D.faults result.store) }
+    ensures left { IsLeftFrom (log_before begun.base begun.log) begun.log
+        (kept_by D.synced D.pending D.faults result.store) }
     ensures settled { D.pending result.store ≡ [] }
 {
     pages_that_stand_keep_their_keys();
@@ -211,14 +217,15 @@ fn play_logged<D: LogStore + Drop>(alloc: Global, script: &Script, begun: Begun<
     requires none { script.now.tables ≡ [] }
     ensures text { IfOk result.answer (λ a. (old : Stored) → IsOpened script.now old begun.base begun.log
         → IsRunText script.now old (kept_by D.synced D.pending D.faults result.store) a.status a.text) }
-    ensures left { IsLeftFrom (log_before begun.base begun.log) begun.log (kept_by D.synced D.pending D.faults result.store) }
+    ensures left { IsLeftFrom (log_before begun.base begun.log) begun.log
+        (kept_by D.synced D.pending D.faults result.store) }
     ensures settled { D.pending result.store ≡ [] }
 {
     pages_that_stand_keep_their_keys();
     match with_tables(alloc, script, begun.log.log()) {
         Ok(whole) => {
             let ended = play_begun(alloc, &whole, begun);
-            let_go(whole);
+            drop(whole);
             ended
         }
         Err(_) => no_memory(begun.log.give_back()),
@@ -278,10 +285,14 @@ fn add_unsaid(lines: &mut List<TableLine>, table: &TableDef) -> Result<(), Alloc
 /// The answer to a script whose tables are those of the log that was opened.
 fn play_begun<D: LogStore + Drop>(alloc: Global, script: &Script, begun: Begun<D>) -> Ended<D>
     requires runs { CanRun script.now }
-    requires begun { (rows : Rows) × IsBegunAt script.now begun.base (log_before begun.base begun.log) begun.log rows }
-    ensures text { IfOk result.answer (λ a. (rows : Rows) → IsBegunAt script.now begun.base (log_before begun.base begun.log) begun.log rows
-        → IsPlayedText script.now (start_at (log_before begun.base begun.log) rows) begun.log (kept_by D.synced D.pending D.faults result.store) a.status a.text) }
-    ensures left { IsLeftFrom (log_before begun.base begun.log) begun.log (kept_by D.synced D.pending D.faults result.store) }
+    requires begun { (rows : Rows)
+        × IsBegunAt script.now begun.base (log_before begun.base begun.log) begun.log rows }
+    ensures text { IfOk result.answer (λ a. (rows : Rows)
+        → IsBegunAt script.now begun.base (log_before begun.base begun.log) begun.log rows
+        → IsPlayedText script.now (start_at (log_before begun.base begun.log) rows) begun.log
+        (kept_by D.synced D.pending D.faults result.store) a.status a.text) }
+    ensures left { IsLeftFrom (log_before begun.base begun.log) begun.log
+        (kept_by D.synced D.pending D.faults result.store) }
     ensures settled { D.pending result.store ≡ [] }
 {
     pages_stand_for_one_state();
@@ -294,7 +305,8 @@ fn play_from<D: LogStore + Drop>(alloc: Global, script: &Script, begun: Begun<D>
     requires runs { CanRun script.now }
     requires before { start.before ≡ log_before begun.base begun.log }
     requires begun { IsBegunAt script.now begun.base (log_before begun.base begun.log) begun.log start.rows }
-    ensures text { IfOk result.answer (λ a. IsPlayedText script.now start begun.log (kept_by D.synced D.pending D.faults result.store) a.status a.text) }
+    ensures text { IfOk result.answer (λ a. IsPlayedText script.now start begun.log
+        (kept_by D.synced D.pending D.faults result.store) a.status a.text) }
     ensures left { IsLeftFrom start.before begun.log (kept_by D.synced D.pending D.faults result.store) }
     ensures settled { D.pending result.store ≡ [] }
 {
@@ -313,7 +325,7 @@ fn told<D: LogStore + Drop>(alloc: Global, played: Played<D>) -> Ended<D>
 {
     let Played { report, log } = played;
     let answer = reported(alloc, &report);
-    let_go(report);
+    drop(report);
     Ended {
         store: log.give_back(),
         answer,

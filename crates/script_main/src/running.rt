@@ -1,11 +1,12 @@
 //! The top call.
-ghost use Rattle.std.specs.Prelude.{◌≡◌, [], map, vec_len, true, IfOk, IfErr, IfSome};
+ghost use Rattle.std.specs.Prelude.{◌≡◌, [], vec_len, true, IfOk, IfErr};
 ghost use Rattle.std.specs.Io.KnownBytes.{IsAtEnd};
 ghost use Rattle.std.specs.List.{AllByRecursion};
 ghost use Rattle.cdb_outside.specs.Faults.{Rose};
 ghost use Rattle.script_read.specs.ScriptText.{script_of};
-ghost use Rattle.script_main.specs.Run.{AnswersSource, AreLeft, Finishes, IsText, LeavesStores, StopsAt, TellsRefusal, TellsStoreRefused, TellsUnsound, TellsUsage, Writes};
-ghost use Rattle.script_main.specs.Stores.{kept_by, IsFirstAlone};
+ghost use Rattle.script_main.specs.Run.{AnswersSource, AreLeft, Finishes, IsText, LeavesStores, StopsAt, TellsUsage};
+ghost use Rattle.script_main.specs.Stores.{kept_all, IsFirstAlone};
+ghost use Rattle.script_main.specs.World.{world, FindsUnsoundSo, RefusesSo, RefusesStoreSo, WritesSo};
 ghost use Rattle.script_main.specs.Words.{is_play};
 
 use super::answers::{Answer, answer_script};
@@ -27,11 +28,16 @@ pub fn run<S: Source, K: Sink, D: LogStore + Send + Drop>(
     outside: &mut Outside<S, K, D>,
 ) -> Status
     requires settled { AllByRecursion (λ d. D.pending d ≡ []) outside.old.stores.items }
-    ensures says { Writes (is_play words.now) (vec_len outside.old.stores) (vec_len outside.old.consumers) (map (kept_by D.synced D.pending D.faults) outside.old.stores.items) (map (kept_by D.synced D.pending D.faults) outside.new.stores.items) (S.left outside.old.source) (K.taken outside.old.sink) (K.taken outside.new.sink) result }
+    ensures says { WritesSo (is_play words.now) (world S.left K.taken D.synced D.pending D.faults outside.old)
+        (world S.left K.taken D.synced D.pending D.faults outside.new) result }
     ensures usage { TellsUsage (is_play words.now) result }
-    ensures refusal { IfSome (S.left outside.old.source) (λ bytes. TellsRefusal (is_play words.now) (script_of (vec_len outside.old.stores) (vec_len outside.old.consumers) bytes) (map (kept_by D.synced D.pending D.faults) outside.old.stores.items) (map (kept_by D.synced D.pending D.faults) outside.new.stores.items) result) }
-    ensures store_refused { IfSome (S.left outside.old.source) (λ bytes. TellsStoreRefused (is_play words.now) (script_of (vec_len outside.old.stores) (vec_len outside.old.consumers) bytes) (map (kept_by D.synced D.pending D.faults) outside.old.stores.items) (map (kept_by D.synced D.pending D.faults) outside.new.stores.items) result) }
-    ensures unsound { IfSome (S.left outside.old.source) (λ bytes. TellsUnsound (is_play words.now) (script_of (vec_len outside.old.stores) (vec_len outside.old.consumers) bytes) (map (kept_by D.synced D.pending D.faults) outside.old.stores.items) (map (kept_by D.synced D.pending D.faults) outside.new.stores.items) result) }
+    ensures refusal { RefusesSo (is_play words.now) (world S.left K.taken D.synced D.pending D.faults outside.old)
+        (world S.left K.taken D.synced D.pending D.faults outside.new) result }
+    ensures store_refused { RefusesStoreSo (is_play words.now)
+        (world S.left K.taken D.synced D.pending D.faults outside.old)
+        (world S.left K.taken D.synced D.pending D.faults outside.new) result }
+    ensures unsound { FindsUnsoundSo (is_play words.now) (world S.left K.taken D.synced D.pending D.faults outside.old)
+        (world S.left K.taken D.synced D.pending D.faults outside.new) result }
     ensures read { result ≡ Status.ReadFault → Rose (S.faults outside.old.source) (S.faults outside.new.source) }
     ensures write { result ≡ Status.WriteFault → Rose (K.faults outside.old.sink) (K.faults outside.new.sink) }
     ensures whole { result ≡ Status.Done → IsAtEnd (S.left outside.new.source) }
@@ -58,8 +64,13 @@ fn answer_source<S: Source, D: LogStore + Drop>(
     consumers: u64,
 ) -> Result<Answer, Status>
     requires settled { AllByRecursion (λ d. D.pending d ≡ []) stores.old.items }
-    ensures answers { IfOk result (λ a. AnswersSource (vec_len stores.old) consumers (map (kept_by D.synced D.pending D.faults) stores.old.items) (map (kept_by D.synced D.pending D.faults) stores.new.items) (S.left source.old) (S.left source.new) a.status a.text) }
-    ensures stops { IfErr result (λ stop. StopsAt (vec_len stores.old) consumers (map (kept_by D.synced D.pending D.faults) stores.old.items) (map (kept_by D.synced D.pending D.faults) stores.new.items) (S.left source.old) stop) }
+    ensures answers { IfOk result (λ a. AnswersSource (vec_len stores.old) consumers
+        (kept_all D.synced D.pending D.faults stores.old.items)
+        (kept_all D.synced D.pending D.faults stores.new.items)
+        (S.left source.old) (S.left source.new) a.status a.text) }
+    ensures stops { IfErr result (λ stop. StopsAt (vec_len stores.old) consumers
+        (kept_all D.synced D.pending D.faults stores.old.items)
+        (kept_all D.synced D.pending D.faults stores.new.items) (S.left source.old) stop) }
     ensures unchanged { IfOk result (λ a. LeavesStores a.status → stores.new.items ≡ stores.old.items) }
     ensures stopped { IfErr result (λ stop. LeavesStores stop → stores.new.items ≡ stores.old.items) }
     ensures others { IsFirstAlone stores.old.items stores.new.items }
@@ -82,8 +93,13 @@ fn answer_bytes<D: LogStore + Drop>(
     consumers: u64,
 ) -> Result<Answer, Status>
     requires settled { AllByRecursion (λ d. D.pending d ≡ []) stores.old.items }
-    ensures answers { IfOk result (λ a. IsText true (script_of (vec_len stores.old) consumers bytes.now) (map (kept_by D.synced D.pending D.faults) stores.old.items) (map (kept_by D.synced D.pending D.faults) stores.new.items) a.status a.text) }
-    ensures stops { IfErr result (λ stop. (stop ≡ Status.NoMemory) × AreLeft (script_of (vec_len stores.old) consumers bytes.now) (map (kept_by D.synced D.pending D.faults) stores.old.items) (map (kept_by D.synced D.pending D.faults) stores.new.items)) }
+    ensures answers { IfOk result (λ a. IsText true (script_of (vec_len stores.old) consumers bytes.now)
+        (kept_all D.synced D.pending D.faults stores.old.items)
+        (kept_all D.synced D.pending D.faults stores.new.items) a.status a.text) }
+    ensures stops { IfErr result (λ stop. (stop ≡ Status.NoMemory)
+        × AreLeft (script_of (vec_len stores.old) consumers bytes.now)
+        (kept_all D.synced D.pending D.faults stores.old.items)
+        (kept_all D.synced D.pending D.faults stores.new.items)) }
     ensures unchanged { IfOk result (λ a. LeavesStores a.status → stores.new.items ≡ stores.old.items) }
     ensures others { IsFirstAlone stores.old.items stores.new.items }
     ensures settled { AllByRecursion (λ d. D.pending d ≡ []) stores.new.items }
@@ -96,7 +112,8 @@ fn answer_bytes<D: LogStore + Drop>(
 
 /// Writes the text, and gives the status if that went well.
 fn finish<K: Sink>(sink: &mut K, text: &[u8], status: Status) -> Status
-    ensures { Finishes status result text.now (K.taken sink.old) (K.taken sink.new) (K.faults sink.old) (K.faults sink.new) }
+    ensures { Finishes status result text.now (K.taken sink.old) (K.taken sink.new)
+        (K.faults sink.old) (K.faults sink.new) }
 {
     match write_whole(sink, text) {
         Ok(()) => status,

@@ -1,10 +1,10 @@
 //! The stores of a run stand in their places: the first one is taken out for the node, and put back.
-ghost use Rattle.std.specs.Prelude.{◌≡◌, ◌<◌, ◌≤◌, ◌∷◌, [], map, vec_len, vec_capacity, IfOk, Ok};
+ghost use Rattle.std.specs.Prelude.{◌≡◌, ◌<◌, ◌≤◌, ◌∷◌, [], vec_len, vec_capacity, IfOk, Ok};
 ghost use Rattle.std.specs.List.{AllByRecursion};
 ghost use Rattle.script_form.specs.CanRun.{CanRun};
 ghost use Rattle.script_form.specs.Named.{IsNamed};
 ghost use Rattle.script_main.specs.Run.{AreCutOff, IsScriptText};
-ghost use Rattle.script_main.specs.Stores.{kept_by, IsFirstAlone};
+ghost use Rattle.script_main.specs.Stores.{kept_all, IsFirstAlone};
 
 use super::answers::Answer;
 use super::opening::{Ended, play_over};
@@ -22,8 +22,12 @@ pub(crate) fn play_first<D: LogStore + Drop>(
     requires names { IsNamed script.now }
     requires some { 1 ≤ vec_len stores.old }
     requires settled { AllByRecursion (λ d. D.pending d ≡ []) stores.old.items }
-    ensures text { IfOk result (λ a. IsScriptText (Ok script.now) (map (kept_by D.synced D.pending D.faults) stores.old.items) (map (kept_by D.synced D.pending D.faults) stores.new.items) a.status a.text) }
-    ensures left { AreCutOff script.now (map (kept_by D.synced D.pending D.faults) stores.old.items) (map (kept_by D.synced D.pending D.faults) stores.new.items) }
+    ensures text { IfOk result (λ a. IsScriptText (Ok script.now)
+        (kept_all D.synced D.pending D.faults stores.old.items)
+        (kept_all D.synced D.pending D.faults stores.new.items) a.status a.text) }
+    ensures left { AreCutOff script.now
+        (kept_all D.synced D.pending D.faults stores.old.items)
+        (kept_all D.synced D.pending D.faults stores.new.items) }
     ensures others { IsFirstAlone stores.old.items stores.new.items }
     ensures settled { AllByRecursion (λ d. D.pending d ≡ []) stores.new.items }
 {

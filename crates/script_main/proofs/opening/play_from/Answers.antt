@@ -1,10 +1,36 @@
 use Rattle.std.proofs.Common.{sym, subst, ap, ◌∙◌, length, List}
 use Rattle.std.proofs.lemmas.Result.{IfOk-weaker}
 use Rattle.phys_log.specs.declared.entries.Entry.{Entry}
+use Rattle.script_form.specs.CanRun.{tables_of}
+use Rattle.script_play.specs.Ready.{AreEarlier, CanBegin}
+use Rattle.script_play.specs.RunViews.{IsOpenedBehind}
 use Rattle.script_main.proofs.RanLemmas.{given_left, played_text, told_left}
 use Rattle.script_main.specs.Steps.{IsLeftFrom, IsPlayedText, IsReportText}
 use Rattle.script_main.specs.Stores.{kept_by}
 use Rattle.script_main.proofs.opening.play_from.Goals as goal
+
+pub play-requires : goal.play-requires
+play-requires g c κs within =
+    let b = c.requires.1.1.1 in
+    let same = c.requires.1.1.0 in (
+      within,
+      (
+        c.requires.1.0,
+        (
+          b.running,
+          (
+            b.place ∙ ap (λ (es : List Entry). length es) (sym same),
+            (
+              subst (λ (es : List Entry). IsOpenedBehind (tables_of c.args.script.now) c.args.begun.log.accepted es c.args.begun.log.entries) (sym same) b.opened,
+              (
+                subst (λ (es : List Entry). AreEarlier c.args.begun.log.accepted es) (sym same) b.earlier,
+                subst (λ (es : List Entry). CanBegin (tables_of c.args.script.now) es g.start.rows) (sym same) b.behind,
+              ),
+            ),
+          ),
+        ),
+      ),
+    )
 
 pub returns-in-Ok-clause-text : goal.returns-in-Ok-clause-text
 returns-in-Ok-clause-text g c =
