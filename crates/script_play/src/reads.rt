@@ -69,9 +69,11 @@ fn answer_over<P: PageSource + Drop>(
     ensures ops { (rows : Rows) → Stands (P.pages pages) schema.now rows → OnOk result (session.new.ops
         ≡ (answer_to schema.now rows.tables session.old.ops (text_in prepared.now).meaning).ops) }
     ensures genids { (rows : Rows) → Stands (P.pages pages) schema.now rows → OnOk result (session.new.genids
-        ≡ session.old.genids ++ (answer_to schema.now rows.tables session.old.ops (text_in prepared.now).meaning).uses) }
+        ≡ session.old.genids
+        ++ (answer_to schema.now rows.tables session.old.ops (text_in prepared.now).meaning).uses) }
     ensures ranges { (rows : Rows) → Stands (P.pages pages) schema.now rows → OnOk result (session.new.ranges
-        ≡ session.old.ranges ++ (answer_to schema.now rows.tables session.old.ops (text_in prepared.now).meaning).ranges) }
+        ≡ session.old.ranges
+        ++ (answer_to schema.now rows.tables session.old.ops (text_in prepared.now).meaning).ranges) }
     ensures id { session.new.id ≡ session.old.id }
     ensures begin { session.new.begin ≡ session.old.begin }
     ensures level { session.new.level ≡ session.old.level }
