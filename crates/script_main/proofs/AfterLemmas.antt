@@ -23,14 +23,13 @@ use Rattle.phys_log.specs.declared.entries.Entry.TheVariants as entry
 use Rattle.report_laws.specs.History.{Basis, ops_alone, ops_of, rows_after, rows_at, states_of, last_position, is_entry_of, IsEntryAfter}
 use Rattle.report_laws.specs.Work.{Transaction}
 use Rattle.report_laws.proofs.HistoryLaws.{last_more, rows_new}
-use Rattle.report_text.specs.declared.reports.Report.{Report}
 use Rattle.report_text.specs.declared.reports.EntryLine.{EntryLine}
 use Rattle.report_text.specs.declared.reports.EntryLine.TheVariants.{Setup, Commit}
 use Rattle.script_form.specs.declared.scripts.Script.{Script}
 use Rattle.script_form.specs.CanRun.{tables_of}
 use Rattle.script_play.specs.Basis.{from_start}
 use Rattle.script_play.specs.EntryLines.{lines_from, IsMadeIn}
-use Rattle.script_play.specs.Played.{IsTold}
+use Rattle.script_play.specs.Played.{IsHistory}
 use Rattle.script_play.specs.Start.{Start, base, ground_of}
 use Rattle.session_language.specs.Each.{EachAfter}
 use Rattle.session_language.specs.Language.{Answered}
@@ -183,7 +182,7 @@ fit_before : (before : List Entry) (tables : List TableDef) (rows : Rows) → 1 
     → (1 ≤ length before → HasState (pages_of before) tables rows) → AllFit tables rows.tables
 fit_before before tables rows some state = (state some).good.rows_fit
 
-module _ (script : Script) (start : Start) (generation : ℕ) (report : Report) (history : List Entry) (told : IsTold script start generation report history) where
+module _ (script : Script) (start : Start) (generation : ℕ) (entries : List EntryLine) (history : List Entry) (told : IsHistory script start generation entries history) where
   abbrev basis : Basis
   basis = from_start script start
 
@@ -193,42 +192,42 @@ module _ (script : Script) (start : Start) (generation : ℕ) (report : Report) 
   some : 1 ≤ length history
   some = some_entries history tables told.schema
 
-  behind : length history ≡ length start.before + length told.entries.made
-  behind = ap length told.entries.behind ∙ length-append start.before told.entries.made
+  behind : length history ≡ length start.before + length told.told.made
+  behind = ap length told.told.behind ∙ length-append start.before told.told.made
 
-  count : length report.entries ≡ length told.entries.made
-  count = ap length told.entries.told ∙ lines_length (length start.before + 1) told.entries.made
+  count : length entries ≡ length told.told.made
+  count = ap length told.told.told ∙ lines_length (length start.before + 1) told.told.made
 
-  last : last_position basis.origin report.entries ≡ length history
-  last = let b : length history ≡ length start.before + length told.entries.made = behind in
-      let c : length report.entries ≡ length told.entries.made = count in
+  last : last_position basis.origin entries ≡ length history
+  last = let b : length history ≡ length start.before + length told.told.made = behind in
+      let c : length entries ≡ length told.told.made = count in
       omega arith
 
-  each : EachAfter (IsEntryAfter basis) [] (lines_from (length start.before + 1) told.entries.made)
-  each = subst (λ (es : List EntryLine). EachAfter (IsEntryAfter basis) [] es) told.entries.told told.lawful.history
+  each : EachAfter (IsEntryAfter basis) [] (lines_from (length start.before + 1) told.told.made)
+  each = subst (λ (es : List EntryLine). EachAfter (IsEntryAfter basis) [] es) told.told.told told.lawful
 
   -- the rows of the log are those of the history
-  rows_are : rows_over (ground_of start) history ≡ rows_at basis report.entries (last_position basis.origin report.entries)
+  rows_are : rows_over (ground_of start) history ≡ rows_at basis entries (last_position basis.origin entries)
   rows_are =
       ap (λ (es : List Entry). rows_over (ground_of start) es) (sym (take-length history))
       ∙ told.rows (length history) (some, within) (omega arith)
-      ∙ ap (λ k. rows_at basis report.entries k) (sym last)
+      ∙ ap (λ k. rows_at basis entries k) (sym last)
     where
       within : base start ≤ length history
-      within = let b : length history ≡ length start.before + length told.entries.made = behind in omega arith
+      within = let b : length history ≡ length start.before + length told.told.made = behind in omega arith
 
   module _ (state : 1 ≤ length start.before → HasState (pages_of start.before) tables start.rows) where
     fit : AllFit tables (rows_over (ground_of start) history).tables
-    fit = subst (λ (r : Rows). AllFit tables r.tables) (sym rows_are) (fit_whole basis report.entries first told.lawful.history)
+    fit = subst (λ (r : Rows). AllFit tables r.tables) (sym rows_are) (fit_whole basis entries first told.lawful)
       where
         none_made : (made : List Entry) → lines_from (length start.before + 1) made ≡ [] → length made ≡ 0
         none_made [] e = refl
         none_made (e ∷ es) is = absurd (cc)
 
-        first : report.entries ≡ [] → AllFit tables start.rows.tables
+        first : entries ≡ [] → AllFit tables start.rows.tables
         first none =
-            let no : length told.entries.made ≡ 0 = none_made told.entries.made (sym told.entries.told ∙ none) in
-            let b : length history ≡ length start.before + length told.entries.made = behind in
+            let no : length told.told.made ≡ 0 = none_made told.told.made (sym told.told.told ∙ none) in
+            let b : length history ≡ length start.before + length told.told.made = behind in
             let s : 1 ≤ length history = some in
             fit_before start.before tables start.rows (omega arith) state
 
@@ -238,7 +237,7 @@ module _ (script : Script) (start : Start) (generation : ℕ) (report : Report) 
         (told.stands (length history) (some, within) (omega arith))
       where
         within : base start ≤ length history
-        within = let b : length history ≡ length start.before + length told.entries.made = behind in omega arith
+        within = let b : length history ≡ length start.before + length told.told.made = behind in omega arith
 
     -- where a run began behind a sound log, in a later generation, its log is sound in this generation, as long as the next
     -- genid and the number of pages are below 2^62
@@ -247,13 +246,13 @@ module _ (script : Script) (start : Start) (generation : ℕ) (report : Report) 
         → IsGood tables (rows_over (ground_of start) history).tables)
         → (rows_over (ground_of start) history).next < 2 ^ 62 → count_of (pages_of history) < 2 ^ 62 → IsSound generation history
     sound_again accepted later sound columns good next few =
-        subst (λ (es : List Entry). IsSound generation es) (sym told.entries.behind)
-        (sound_on accepted generation start.before told.entries.made tables (rows_over (ground_of start) history) later sound
-        (subst (λ (es : List Entry). schema_of es ≡ Some tables) told.entries.behind told.schema) columns
-        (all_commits basis accepted (length start.before + 1) start.before told.entries.made refl sound each)
-        (begun_in generation told.entries.made told.entries.in_it)
-        (apart_made basis [] (length start.before + 1) told.entries.made each)
-        (subst (λ (es : List Entry). HasState (pages_of es) tables (rows_over (ground_of start) history)) told.entries.behind (record {
+        subst (λ (es : List Entry). IsSound generation es) (sym told.told.behind)
+        (sound_on accepted generation start.before told.told.made tables (rows_over (ground_of start) history) later sound
+        (subst (λ (es : List Entry). schema_of es ≡ Some tables) told.told.behind told.schema) columns
+        (all_commits basis accepted (length start.before + 1) start.before told.told.made refl sound each)
+        (begun_in generation told.told.made told.told.in_it)
+        (apart_made basis [] (length start.before + 1) told.told.made each)
+        (subst (λ (es : List Entry). HasState (pages_of es) tables (rows_over (ground_of start) history)) told.told.behind (record {
           stands = stands;
           good = good stands fit;
           next = next;

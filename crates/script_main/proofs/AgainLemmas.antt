@@ -12,11 +12,11 @@ use Rattle.page_store.specs.Image.{Image}
 use Rattle.page_workspace.specs.Spare.{count_of}
 use Rattle.phys_log.specs.Logs.{pages_of}
 use Rattle.phys_log.specs.declared.entries.Entry.{Entry}
-use Rattle.report_text.specs.declared.reports.Report.{Report}
+use Rattle.report_text.specs.declared.reports.EntryLine.{EntryLine}
 use Rattle.script_form.specs.CanRun.{tables_of, CanRun}
 use Rattle.script_form.specs.declared.scripts.Script.{Script}
 use Rattle.script_form.specs.declared.scripts.TableLine.{TableLine}
-use Rattle.script_play.specs.Played.{IsTold}
+use Rattle.script_play.specs.Played.{IsHistory}
 use Rattle.script_play.specs.Start.{ground_of}
 use Rattle.sound_log.specs.Columns.{HasColumns}
 use Rattle.sound_log.specs.Sound.{IsSound}
@@ -26,6 +26,7 @@ use Rattle.table_state.specs.States.{HasState}
 use Rattle.table_store.specs.Stored.{Stands}
 use Rattle.script_main.proofs.AfterLemmas.{sound_again}
 use Rattle.script_main.proofs.ScriptLemmas.{tables_with}
+use Rattle.script_main.specs.Runs.{IsSoundBelow}
 use Rattle.script_main.specs.Stores.{start_at, with_tables, HasRows}
 
 -- no generation is accepted above the promised one
@@ -67,12 +68,12 @@ state_of script (e ∷ es) rows tables has some = subst (λ (ts : List TableDef)
 abbrev pub KeepTheirKeys : Type 0
 KeepTheirKeys = (pages : ℕ → Image) (tables : List TableDef) (rows : Rows) → Stands pages tables rows → AllFit tables rows.tables → IsGood tables rows.tables
 
-pub sound_behind : (script : Script) (c : ℕ) (bytes : List ℕ) (p a : ℕ) (before : List Entry) (rows : Rows) (report : Report) (made : List Entry) → KeepTheirKeys → CanRun (with_tables script before) →
-    StandsForGood 1 c bytes (tables_of script) p a before → HasRows before rows → IsTold (with_tables script before) (start_at before rows) (p + 1) report made →
-    (history.rows_over (ground_of (start_at before rows)) made).next < 2 ^ 62 → count_of (pages_of made) < 2 ^ 62 → IsSound (p + 1) made
-sound_behind script c bytes p a before rows report made law can stood has told next few =
+pub sound_behind : (script : Script) (c : ℕ) (bytes : List ℕ) (p a : ℕ) (before : List Entry) (rows : Rows) (entries : List EntryLine) (made : List Entry) → KeepTheirKeys → CanRun (with_tables script before) →
+    StandsForGood 1 c bytes (tables_of script) p a before → HasRows before rows → IsHistory (with_tables script before) (start_at before rows) (p + 1) entries made →
+    IsSoundBelow (start_at before rows) (p + 1) made
+sound_behind script c bytes p a before rows entries made law can stood has told next few =
     let whole = with_tables script before in
     let start = start_at before rows in
     let l : a ≤ p = accepted_within c bytes p a before stood.stands in
-    sound_again whole start (p + 1) report made told (state_of script before rows stood.good.tables has) a (omega arith) stood.good.sound (all_columns whole.tables can.columns)
+    sound_again whole start (p + 1) entries made told (state_of script before rows stood.good.tables has) a (omega arith) stood.good.sound (all_columns whole.tables can.columns)
     (λ stands fit. law (pages_of made) (tables_of whole) (history.rows_over (ground_of start) made) stands fit) next few

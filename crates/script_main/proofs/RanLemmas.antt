@@ -27,7 +27,7 @@ use Rattle.script_form.specs.declared.scripts.Script.{Script}
 use Rattle.script_play.specs.Basis.{from_start}
 use Rattle.script_play.specs.Down.{history_of, history_by, owner_of, with_entries, IsCaused, IsHeld, IsHeldBy, Owner}
 use Rattle.script_play.specs.EntryLines.{AreTold}
-use Rattle.script_play.specs.Played.{downs_by, IsTold}
+use Rattle.script_play.specs.Played.{downs_by, IsFurther, IsHistory, IsTold}
 use Rattle.script_play.specs.Played.{IsGivenUp as IsGivenUpIn}
 use Rattle.script_play.specs.Serial.{AreSerial}
 use Rattle.script_play.specs.Start.{Start, base, ground_of}
@@ -42,7 +42,7 @@ use Rattle.script_main.proofs.KnownLemmas.{only_state}
 use Rattle.script_main.proofs.ReportedLemmas.{one_such, spelled_over, told_in_grammar}
 use Rattle.script_main.specs.Known.{IsKnown}
 use Rattle.script_main.specs.Run.{IsTextOver}
-use Rattle.script_main.specs.Runs.{IsCutOff, IsLeftBy, IsRun, Keeps}
+use Rattle.script_main.specs.Runs.{AnyLog, IsCutOff, IsLeftBy, IsRun, IsSoundBelow, IsSoundFurther, Keeps}
 use Rattle.script_main.specs.Steps.{log_before, IsBegunAt, IsLeftFrom, IsLeftOf, IsNotUpText, IsOpened, IsPlaceIn, IsPlayedText, IsReportText, IsRunText}
 use Rattle.script_main.specs.Stores.{cluster_of, start_at, with_tables}
 use Rattle.script_main.specs.declared.statuses.Status.{Status}
@@ -113,21 +113,22 @@ or_more old log bytes e same node stood last (inr (inl s)) =
     inr (subst (λ (es : List Entry). Keeps old.cluster bytes old.accepted es) last (keeps_of old log bytes log.entries same node stood s))
 or_more old log bytes e same node stood last (inr (inr none)) = absurd none
 
-left_up : (old log : Logged) (new : Stored) (count : ℕ) → owner_of log ≡ owner_of old → old.node ≡ 1 → old.promised ≡ old.accepted → count ≡ 0 → ∥ Stand new.synced log ∥₁
-    → IsLeftBy count old.cluster old.store new old.accepted log.entries
-left_up old log new count same node stood none stands =
+left_up : (IsMore : List Entry → Type 0) (old log : Logged) (new : Stored) (count : ℕ) → owner_of log ≡ owner_of old → old.node ≡ 1 → old.promised ≡ old.accepted → count ≡ 0 → ∥ Stand new.synced log ∥₁
+    → IsLeftBy count old.cluster old.store new old.accepted log.entries IsMore
+left_up IsMore old log new count same node stood none stands =
     inl (none, ∥∥₁_map stands (λ (s : Stand new.synced log). keeps_of old log new.synced log.entries same node stood s))
 
-left_down : (old log : Logged) (new : Stored) (count : ℕ) → owner_of log ≡ owner_of old → old.node ≡ 1 → old.promised ≡ old.accepted → count ≡ 1 → Rose old.store.faults log.store.faults
-    → IsLeftOf log new → 1 ≤ length log.entries → Leaves log.store (with_entries log (history_by true log.entries) ∷ log ∷ [])
-    → IsLeftBy count old.cluster old.store new old.accepted (history_by true log.entries)
-left_down old log new count owns node stood one rose left some leaves =
+left_down : (IsMore : List Entry → Type 0) (old log : Logged) (new : Stored) (count : ℕ) → owner_of log ≡ owner_of old → old.node ≡ 1 → old.promised ≡ old.accepted → count ≡ 1 → Rose old.store.faults log.store.faults
+    → IsLeftOf log new → 1 ≤ length log.entries → Leaves log.store (with_entries log (history_by true log.entries) ∷ log ∷ []) → IsMore log.entries
+    → IsLeftBy count old.cluster old.store new old.accepted (history_by true log.entries) IsMore
+left_down IsMore old log new count owns node stood one rose left some leaves more =
     let last = last_of log.entries some in
     inr (
       one,
       rose_later old.store.faults log.store.faults new.faults rose left.later,
       record {
         entry = last.0;
+        is_more = subst IsMore last.1 more;
         stands = ∥∥₁_map (leaves new.synced left.joined) (or_more old log new.synced last.0 owns node stood last.1);
       },
     )
@@ -137,17 +138,17 @@ abbrev pub HasFallen : Logged → Type 0
 HasFallen log = log.failed ≡ true → (1 ≤ length log.entries) × Leaves log.store (with_entries log (history_of log) ∷ log ∷ [])
 
 -- what a run leaves of its store, by whether its node is down
-left_by : (failed : Bool) (old log : Logged) (new : Stored) (count : ℕ) → log.failed ≡ failed → owner_of log ≡ owner_of old → old.node ≡ 1 → old.promised ≡ old.accepted
-    → count ≡ downs_by log.failed → IsCaused log.failed old.store.faults log.store.faults → IsLeftOf log new → HasFallen log
-    → IsLeftBy count old.cluster old.store new old.accepted (history_of log)
-left_by false old log new count is owns node stood counted caused left fallen =
-    subst (λ (b : Bool). IsLeftBy count old.cluster old.store new old.accepted (history_by b log.entries)) (sym is)
-    (left_up old log new count owns node stood (counted ∙ ap downs_by is) (left.stands is))
-left_by true old log new count is owns node stood counted caused left fallen =
-    subst (λ (b : Bool). IsLeftBy count old.cluster old.store new old.accepted (history_by b log.entries)) (sym is)
-    (left_down old log new count owns node stood (counted ∙ ap downs_by is)
+left_by : (IsMore : List Entry → Type 0) (failed : Bool) (old log : Logged) (new : Stored) (count : ℕ) → log.failed ≡ failed → owner_of log ≡ owner_of old → old.node ≡ 1 → old.promised ≡ old.accepted
+    → count ≡ downs_by log.failed → IsCaused log.failed old.store.faults log.store.faults → IsLeftOf log new → HasFallen log → (log.failed ≡ true → IsMore log.entries)
+    → IsLeftBy count old.cluster old.store new old.accepted (history_of log) IsMore
+left_by IsMore false old log new count is owns node stood counted caused left fallen more =
+    subst (λ (b : Bool). IsLeftBy count old.cluster old.store new old.accepted (history_by b log.entries) IsMore) (sym is)
+    (left_up IsMore old log new count owns node stood (counted ∙ ap downs_by is) (left.stands is))
+left_by IsMore true old log new count is owns node stood counted caused left fallen more =
+    subst (λ (b : Bool). IsLeftBy count old.cluster old.store new old.accepted (history_by b log.entries) IsMore) (sym is)
+    (left_down IsMore old log new count owns node stood (counted ∙ ap downs_by is)
     (subst (λ (b : Bool). IsCaused b old.store.faults log.store.faults) is caused) left (fallen is).0
-    (subst (λ (b : Bool). Leaves log.store (with_entries log (history_by b log.entries) ∷ log ∷ [])) is (fallen is).1))
+    (subst (λ (b : Bool). Leaves log.store (with_entries log (history_by b log.entries) ∷ log ∷ [])) is (fallen is).1) (more is))
 
 -- the log of a run that is told has a schema, and so an entry
 pub has_fallen : (log : Logged) (tables : List TableDef) → schema_of (history_of log) ≡ Some tables
@@ -166,7 +167,7 @@ left_from before old log new entries owns node stood told caused fallen left = r
   history = history_of log;
   told = told;
   count = downs_by log.failed;
-  left = left_by log.failed old log new (downs_by log.failed) refl owns node stood refl caused left fallen;
+  left = left_by AnyLog log.failed old log new (downs_by log.failed) refl owns node stood refl caused left fallen (λ down. tt);
 }
 
 -- of a run that is told
@@ -190,9 +191,9 @@ pub played_text : (script : Script) (start : Start) (opened log : Logged) (repor
     ((k : ℕ) → IsFrom b k → k ≤ length (history_of log) → rows_over_at (ground_of start) (history_of log) k ≡ rows_at (from_start script start) report.entries k) →
     StandsOver (ground_of start) (tables_of script) (history_of log) →
     downs report.lines ≡ downs_by log.failed → IsCaused log.failed opened.store.faults log.store.faults →
-    (log.failed ≡ true → Leaves log.store (with_entries log (history_of log) ∷ log ∷ [])) →
+    (log.failed ≡ true → Leaves log.store (with_entries log (history_of log) ∷ log ∷ [])) → (log.failed ≡ true → IsFurther script start opened.accepted report log.entries) →
     IsLeftOf log new → IsReportText report s text → IsPlayedText script start opened new s text
-played_text script start opened log report new s text b at same node stood lawful in_order serial entries schema changed rows stands counted caused leaves left is_text = record {
+played_text script start opened log report new s text b at same node stood lawful in_order serial entries schema changed rows stands counted caused leaves further left is_text = record {
   report = report;
   history = history_of log;
   told = record {
@@ -206,20 +207,42 @@ played_text script start opened log report new s text b at same node stood lawfu
   };
   serial = serial;
   is_text = is_text;
-  left = left_by log.failed opened log new (downs report.lines) refl same node stood counted caused left (has_fallen log (tables_of script) schema leaves);
+  left = left_by (IsFurther script start opened.accepted report) log.failed opened log new (downs report.lines) refl same node stood counted caused left (has_fallen log (tables_of script) schema leaves) further;
 }
 
 -- a run over a store
 
-left_older : (count cluster : ℕ) (old mid new : Stored) (generation : ℕ) (history : List Entry) → old.faults ≤ mid.faults → IsLeftBy count cluster mid new generation history → IsLeftBy count cluster old new generation history
-left_older count cluster old mid new generation history l (inl up) = inl up
-left_older count cluster old mid new generation history l (inr down) = inr (down.0, risen_from old.faults mid.faults new.faults l down.1, down.2)
+left_older : (IsMore : List Entry → Type 0) (count cluster : ℕ) (old mid new : Stored) (generation : ℕ) (history : List Entry) → old.faults ≤ mid.faults → IsLeftBy count cluster mid new generation history IsMore → IsLeftBy count cluster old new generation history IsMore
+left_older IsMore count cluster old mid new generation history l (inl up) = inl up
+left_older IsMore count cluster old mid new generation history l (inr down) = inr (down.0, risen_from old.faults mid.faults new.faults l down.1, down.2)
+
+-- what is known of the log with one entry more
+left_known : (IsMore IsKnown : List Entry → Type 0) (count cluster : ℕ) (old new : Stored) (generation : ℕ) (history : List Entry) → ((log : List Entry) → IsMore log → IsKnown log) → IsLeftBy count cluster old new generation history IsMore → IsLeftBy count cluster old new generation history IsKnown
+left_known IsMore IsKnown count cluster old new generation history knows (inl up) = inl up
+left_known IsMore IsKnown count cluster old new generation history knows (inr down) =
+    inr (down.0, down.1, record { entry = down.2.entry; is_more = knows (history ++ down.2.entry ∷ []) down.2.is_more; stands = down.2.stands })
+
+-- a report tells a history
+its_history : (script : Script) (start : Start) (generation : ℕ) (report : Report) (history : List Entry) → IsTold script start generation report history → IsHistory script start generation report.entries history
+its_history script start generation report history told = record {
+  lawful = told.lawful.history;
+  told = told.entries;
+  schema = told.schema;
+  changed = told.changed;
+  rows = told.rows;
+  stands = told.stands;
+}
 
 pub is_run : KeepTheirKeys → (script : Script) (old new : Stored) (base : ℕ) (log : Logged) (before : List Entry) (s : Status) (text : List ℕ) → CanRun (with_tables script before) → IsNamed script →
     (o : IsOpened script old base log) → before ≡ o.taken.old_entries → (rows : Rows) → IsBegunAt (with_tables script before) base before log rows →
     IsPlayedText (with_tables script before) (start_at before rows) log new s text → IsRun script old new text
 is_run law script old new base log before s text can names o same rows begun played =
     let whole = with_tables script before in
+    let start = start_at before rows in
+    let sound_further = IsSoundFurther whole start (o.taken.old_promise + 1) played.report in
+    let sound : (entries : List EntryLine) (made : List Entry) → IsHistory whole start (o.taken.old_promise + 1) entries made → IsSoundBelow start (o.taken.old_promise + 1) made = λ entries made told.
+        sound_behind script (cluster_of script) old.synced o.taken.old_promise o.taken.old_accepted before rows entries made law can
+        (subst (λ (es : List Entry). StandsForGood 1 (cluster_of script) old.synced (tables_of script) o.taken.old_promise o.taken.old_accepted es) (sym same) o.taken.stood) begun.has_rows told in
     let basis = from_start whole (start_at before rows) in
     let p = played.told in
     record {
@@ -236,12 +259,13 @@ is_run law script old new base log before s text can names o same rows begun pla
       one = one_such whole (start_at before rows) played.report p.lawful p.in_order;
       is_report = λ called. told_in_grammar basis played.report (spelled_over script before rows can names begun.behind called) p.lawful p.in_order played.is_text.fits;
       is_text = played.is_text.is_text;
-      left = left_older (downs played.report.lines) (cluster_of script) old log.store new (o.taken.old_promise + 1) played.history o.later
-          (subst (λ (g : ℕ). IsLeftBy (downs played.report.lines) (cluster_of script) log.store new g played.history) o.taken.accepted
-          (subst (λ (c : ℕ). IsLeftBy (downs played.report.lines) c log.store new log.accepted played.history) o.cluster played.left));
-      sound = λ next few. sound_behind script (cluster_of script) old.synced o.taken.old_promise o.taken.old_accepted before rows played.report played.history law can
-          (subst (λ (es : List Entry). StandsForGood 1 (cluster_of script) old.synced (tables_of script) o.taken.old_promise o.taken.old_accepted es) (sym same) o.taken.stood) begun.has_rows
-          (subst (λ (g : ℕ). IsTold whole (start_at before rows) g played.report played.history) o.taken.accepted p) next few;
+      left = left_older sound_further (downs played.report.lines) (cluster_of script) old log.store new (o.taken.old_promise + 1) played.history o.later
+          (left_known (IsFurther whole start (o.taken.old_promise + 1) played.report) sound_further (downs played.report.lines) (cluster_of script) log.store new (o.taken.old_promise + 1) played.history
+          (λ more further. record { further = further; sound = sound (played.report.entries ++ further.line ∷ []) more further.history })
+          (subst (λ (g : ℕ). IsLeftBy (downs played.report.lines) (cluster_of script) log.store new g played.history (IsFurther whole start g played.report)) o.taken.accepted
+          (subst (λ (c : ℕ). IsLeftBy (downs played.report.lines) c log.store new log.accepted played.history (IsFurther whole start log.accepted played.report)) o.cluster played.left)));
+      sound = sound played.report.entries played.history
+          (its_history whole start (o.taken.old_promise + 1) played.report played.history (subst (λ (g : ℕ). IsTold whole start g played.report played.history) o.taken.accepted p));
     }
 
 -- the same of a script that is the one with the tables of the log
@@ -330,9 +354,9 @@ run_cut script old new base log o l = inr (inr (record {
   history = l.history;
   told = subst (λ (g : ℕ). AreTold (log_before base log) g l.entries l.history) o.taken.accepted l.told;
   count = l.count;
-  left = left_older l.count (cluster_of script) old log.store new (o.taken.old_promise + 1) l.history o.later
-      (subst (λ (g : ℕ). IsLeftBy l.count (cluster_of script) log.store new g l.history) o.taken.accepted
-      (subst (λ (c : ℕ). IsLeftBy l.count c log.store new log.accepted l.history) o.cluster l.left));
+  left = left_older AnyLog l.count (cluster_of script) old log.store new (o.taken.old_promise + 1) l.history o.later
+      (subst (λ (g : ℕ). IsLeftBy l.count (cluster_of script) log.store new g l.history AnyLog) o.taken.accepted
+      (subst (λ (c : ℕ). IsLeftBy l.count c log.store new log.accepted l.history AnyLog) o.cluster l.left));
 }))
 
 -- a run is given up before it begins

@@ -27,9 +27,9 @@ use Rattle.script_form.specs.CanRun.{tables_of}
 use Rattle.script_form.specs.declared.scripts.Script.{Script}
 use Rattle.script_play.specs.Basis.{from_nothing, from_start}
 use Rattle.script_play.specs.EntryLines.{AreTold}
-use Rattle.script_play.specs.Played.{IsTold}
+use Rattle.script_play.specs.Played.{IsFurther, IsTold}
 use Rattle.script_play.specs.Serial.{AreSerial}
-use Rattle.script_play.specs.Start.{ground_of}
+use Rattle.script_play.specs.Start.{Start, ground_of}
 use Rattle.sound_log.specs.Sound.{IsSound}
 use Rattle.store_log.specs.declared.standings.Standing.TheVariants.{Log}
 use Rattle.store_log.specs.Held.{StandsFor}
@@ -49,20 +49,35 @@ AreCalled script whole = (script.tables ≢ []) ⊎ AllByRecursion IsNamedTable 
 abbrev pub Keeps : ℕ → List ℕ → ℕ → List Entry → Type 0
 Keeps cluster bytes generation history = StandsFor 1 cluster bytes (Log generation generation history)
 
--- what is left where the node went down: the history, or one entry more
-pub record KeepsOrMore (cluster : ℕ) (bytes : List ℕ) (generation : ℕ) (history : List Entry) : Type 0 where
+-- a log is sound, as long as the next genid and the number of its pages are below 2^62
+abbrev pub IsSoundBelow : Start → ℕ → List Entry → Type 0
+IsSoundBelow start generation log =
+    (rows_over (ground_of start) log).next < 2 ^ 62 → count_of (pages_of log) < 2 ^ 62 → IsSound generation log
+
+-- a log with one entry more than the history of a report, that of the transaction that was lost as the node went down; it is
+-- sound
+pub record IsSoundFurther (script : Script) (start : Start) (generation : ℕ) (report : Report) (log : List Entry) : Type 0 where
+  pub further : IsFurther script start generation report log
+  pub sound : IsSoundBelow start generation log
+
+-- any log
+abbrev pub AnyLog : List Entry → Type 0
+AnyLog log = Unit {0}
+
+-- what is left where the node went down: the history, or such a log, which has one entry more
+pub record KeepsOrMore (cluster : ℕ) (bytes : List ℕ) (generation : ℕ) (history : List Entry) (IsMore : List Entry → Type 0) : Type 0 where
   pub entry : Entry
+  pub is_more : IsMore (history ++ entry ∷ [])
   pub stands : ∥ Keeps cluster bytes generation history ⊎ Keeps cluster bytes generation (history ++ entry ∷ []) ∥₁
 
 -- what is left of the store, by how many down lines are told: none, or one, where its count of faults rose
-abbrev pub IsLeftBy : ℕ → ℕ → Stored → Stored → ℕ → List Entry → Type 0
-IsLeftBy count cluster old new generation history =
+abbrev pub IsLeftBy : ℕ → ℕ → Stored → Stored → ℕ → List Entry → (List Entry → Type 0) → Type 0
+IsLeftBy count cluster old new generation history IsMore =
     ((count ≡ 0) × ∥ Keeps cluster new.synced generation history ∥₁)
-    ⊎ ((count ≡ 1) × HasRisen old.faults new.faults × KeepsOrMore cluster new.synced generation history)
+    ⊎ ((count ≡ 1) × HasRisen old.faults new.faults × KeepsOrMore cluster new.synced generation history IsMore)
 
 -- the text of a report of a run behind the log for which the store stood, which is sound and has the script's tables; and what
--- is left of the store. The entries at level serializable are serial. The history is sound again, as long as the next genid and
--- the number of pages are below 2^62.
+-- is left of the store. The entries at level serializable are serial. The history is sound again.
 pub record IsRun (script : Script) (old new : Stored) (text : List ℕ) : Type 0 where
   pub promised : ℕ
   pub accepted : ℕ
@@ -78,7 +93,8 @@ pub record IsRun (script : Script) (old new : Stored) (text : List ℕ) : Type 0
   pub is_report : AreCalled script (with_tables script before) → IsReport report
   pub is_text : text ≡ report_text report
   pub left : IsLeftBy (downs report.lines) (cluster_of script) old new (promised + 1) history
-  pub sound : (rows_over (ground_of (start_at before rows)) history).next < 2 ^ 62 → count_of (pages_of history) < 2 ^ 62 → IsSound (promised + 1) history
+      (IsSoundFurther (with_tables script before) (start_at before rows) (promised + 1) report)
+  pub sound : IsSoundBelow (start_at before rows) (promised + 1) history
 
 -- the text of a report that tells of no entry, and that the node went down
 pub record IsDownText (script : Script) (text : List ℕ) : Type 0 where
@@ -108,7 +124,7 @@ pub record IsGivenUp (script : Script) (old new : Stored) : Type 0 where
   pub history : List Entry
   pub told : AreTold before (promised + 1) entries history
   pub count : ℕ
-  pub left : IsLeftBy count (cluster_of script) old new (promised + 1) history
+  pub left : IsLeftBy count (cluster_of script) old new (promised + 1) history AnyLog
 
 -- what is left of the store whatever is answered: what it stood for; that with some of what the opening appends; or what a run
 -- behind the opening leaves

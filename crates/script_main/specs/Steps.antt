@@ -18,13 +18,13 @@ use Rattle.script_form.specs.declared.scripts.Script.{Script}
 use Rattle.script_form.specs.declared.scripts.TableLine.{TableLine}
 use Rattle.script_play.specs.Basis.{from_start}
 use Rattle.script_play.specs.EntryLines.{AreTold}
-use Rattle.script_play.specs.Played.{IsTold}
+use Rattle.script_play.specs.Played.{IsFurther, IsTold}
 use Rattle.script_play.specs.Ready.{AreEarlier, CanBegin}
 use Rattle.script_play.specs.RunViews.{IsOpenedBehind}
 use Rattle.script_play.specs.Serial.{AreSerial}
 use Rattle.script_play.specs.Start.{Start}
 use Rattle.store_log.specs.Keeps.{Stored}
-use Rattle.script_main.specs.Runs.{IsDownText, IsLeftBy, IsRun}
+use Rattle.script_main.specs.Runs.{AnyLog, IsDownText, IsLeftBy, IsRun}
 use Rattle.script_main.specs.Stores.{cluster_of, HasRows}
 use Rattle.script_main.specs.Texts.{refused_text, store_text, unsound_text}
 use Rattle.script_main.specs.declared.statuses.Status.{Status}
@@ -95,7 +95,7 @@ pub record IsPlayedText (script : Script) (start : Start) (log : Logged) (new : 
   pub told : IsTold script start log.accepted report history
   pub serial : AreSerial (from_start script start) report.entries
   pub is_text : IsReportText report s text
-  pub left : IsLeftBy (downs report.lines) log.cluster log.store new log.accepted history
+  pub left : IsLeftBy (downs report.lines) log.cluster log.store new log.accepted history (IsFurther script start log.accepted report)
 
 -- what is left of the store of a run behind a log, whatever is told of it
 pub record IsLeftFrom (before : List Entry) (log : Logged) (new : Stored) : Type 0 where
@@ -103,7 +103,7 @@ pub record IsLeftFrom (before : List Entry) (log : Logged) (new : Stored) : Type
   pub history : List Entry
   pub told : AreTold before log.accepted entries history
   pub count : ℕ
-  pub left : IsLeftBy count log.cluster log.store new log.accepted history
+  pub left : IsLeftBy count log.cluster log.store new log.accepted history AnyLog
 
 -- the text of a run over a store
 pub record IsRunText (script : Script) (old new : Stored) (s : Status) (text : List ℕ) : Type 0 where

@@ -1,5 +1,6 @@
 pub mod AppliedLaws
 pub mod FitLaws
+pub mod FurtherLemmas
 pub mod SoundLaws
 pub mod ConflictLaws
 pub mod LiveLemmas

@@ -1,5 +1,5 @@
 -- A line of a session, as the code keeps the run: what is known before it, and that the run is kept behind it.
-use Rattle.std.proofs.Common.{◌≡◌, ℕ, ◌<◌, List, ◌∷◌, length, map, sym, subst, arith, Some, None, slice_set}
+use Rattle.std.proofs.Common.{◌≡◌, ℕ, ◌<◌, List, ◌∷◌, length, map, refl, sym, subst, arith, Some, None, slice_set}
 use Rattle.std.specs.List.{slice_get}
 use Rattle.block_processor.specs.Changed.{changed_in}
 use Rattle.node_log.specs.Logged.{Logged}
@@ -22,6 +22,7 @@ use Rattle.script_play.specs.SoFar.{now_of, session_at, IsBefore, Standing}
 use Rattle.script_play.specs.Start.{Start}
 use Rattle.script_play.specs.Step.{world_of}
 use Rattle.script_play.specs.declared.states.SessionState.{SessionState}
+use Rattle.script_play.proofs.FurtherLemmas.{further_there}
 use Rattle.script_play.proofs.KeepLemmas.{taken_on}
 use Rattle.script_play.proofs.OverLemmas.{are_over}
 use Rattle.script_play.proofs.SiteLemmas.{Turn, found_state, map_get, map_length, map_set, own_after, own_there, told_count, turn_is}
@@ -85,4 +86,5 @@ module _ (script : Script) (start : Start) (generation had : ℕ) (left : List B
     own = own_after generation script.sessions states name at after before.own found run.own;
     earlier = before.earlier;
     held = run.held had before.held;
+    further = further_there script start generation had left line lines lines' entries entries' log log' states (map state_in states) name text at (state_in x) (state_in after) before refl is_act found (map_get state_in states at x has) run.taken run.further;
   }

@@ -27,6 +27,7 @@ use Rattle.script_play.specs.Start.{Start, base}
 use Rattle.script_play.specs.declared.states.InTransaction.{InTransaction}
 use Rattle.script_play.specs.declared.states.InTransaction.TheVariants.{No, Open, Aborted}
 use Rattle.script_play.specs.declared.states.SessionState.{SessionState}
+use Rattle.script_play.proofs.FurtherLemmas.{further_told}
 use Rattle.script_play.proofs.StartLemmas.{begun, opens, Opens}
 use Rattle.script_play.proofs.WholeLemmas.{ends_lawful, ends_in_order}
 
@@ -80,6 +81,7 @@ begins_at script start log lines entries states can up earlier none opening begi
   own = opens_own log.accepted script.sessions states starts;
   earlier = earlier;
   held = held_first log up;
+  further = λ down. let never : false ≡ true = sym up ∙ down in absurd cc;
 }
   where
     first : Opens script start log.accepted entries log.entries (map state_in states)
@@ -101,6 +103,7 @@ done_so script start opened lines entries log states now = record {
   };
   faults = downs_at log.failed script lines (map state_in states) now.before.so_far.node;
   held = now.held;
+  further = λ down. further_told script start opened.accepted lines entries log (report_of (base start) (now_of start entries) lines entries) refl refl (now.further down);
 }
 
 pub done_at : (script : Script) (start : Start) (opened : Logged) (lines : List Line) (entries : List EntryLine) (log : Logged) (states : List SessionState) (told : ℕ) (report : Report) →

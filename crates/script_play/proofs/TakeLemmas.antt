@@ -50,7 +50,7 @@ use Rattle.script_play.specs.RunViews.{state_in, seen_in, world, IsDoneFrom, IsO
 use Rattle.script_play.specs.declared.states.InTransaction.{InTransaction}
 use Rattle.script_play.specs.declared.states.InTransaction.TheVariants.{No, Open, Aborted}
 use Rattle.script_play.specs.Start.{Start, base, ground_of}
-use Rattle.script_play.specs.Step.{World, Turned, IsTurned, IsKept, answer_of, outcome, turn_of, cut_by}
+use Rattle.script_play.specs.Step.{World, Turned, IsTurned, IsKept, answer_of, entries_added, outcome, turn_of, cut_by}
 use Rattle.script_play.specs.declared.effects.LineEffect.{LineEffect}
 use Rattle.script_play.specs.declared.states.SessionState.{SessionState}
 
@@ -265,6 +265,7 @@ done_up start generation tables name t after lines lines' entries entries' log l
         held = accepted ∙ is.held;
         caused = let c : had ≤ log.store.faults = is.caused in omega (arith, c, later);
       };
+      further = tt;
     }))
 
 -- a log with an entry at which its store failed
@@ -287,13 +288,14 @@ left_so log entry store es is left = subst (λ (x : List Entry). Leaves store (w
 
 -- a node that was up goes down at the entry of a line
 done_fallen : (start : Start) (generation : ℕ) (tables : List TableDef) (name : List ℕ) (t : Turned) (after : SessionState) (lines lines' : List Line) (entries entries' : List EntryLine) (log log' : Logged) (entry : Entry) (outcome : HasOutcome t.replies) →
-    log.failed ≡ false → IsLogged start tables (length log.entries) log.entries → t.added ≢ [] → lines' ≡ lines ++ fallen_lines name t.number outcome.front → state_in after ≡ t.after → IsOwn generation name after →
+    log.failed ≡ false → IsLogged start tables (length log.entries) log.entries → (ops : List RowOp) → t.added ≡ ops ∷ [] → lines' ≡ lines ++ fallen_lines name t.number outcome.front → state_in after ≡ t.after → IsOwn generation name after →
+    WasDone start generation tables name t after lines (lines ++ lines_of name t.number t.replies) entries (entries ++ entries_added name (length log.entries) t) log.entries (log.entries ++ entry ∷ []) →
     IsFallenAt entry (run_of lines entries log) (run_of lines' entries' log') → IsDoneFrom start generation tables name t after (run_of lines entries log) (run_of lines' entries' log')
-done_fallen start generation tables name t after lines lines' entries entries' log log' entry outcome up logged commits told there own fell =
+done_fallen start generation tables name t after lines lines' entries entries' log log' entry outcome up logged ops commits told there own was fell =
     subst (λ (l : Logged). IsDoneFrom start generation tables name t after (run_of lines entries l) (run_of lines' entries' log')) (sym (is_up log up))
     (subst (λ (l : Logged). IsDoneFrom start generation tables name t after (run_of lines entries (up_log log)) (run_of lines' entries' l)) (sym fell.log_is) (record {
       done = record {
-        commits = commits;
+        commits = subst (λ (all : List (List RowOp)). all ≢ []) (sym commits) (λ none. cc);
         outcome = outcome;
         lines_are = told;
         after_is = there;
@@ -310,12 +312,18 @@ done_fallen start generation tables name t after lines lines' entries entries' l
         held = (omega (arith, length-append log.entries (entry ∷ [])), left_so log entry log'.store (take (length (log.entries ++ entry ∷ []) - 1) (log.entries ++ entry ∷ [])) (without_last log.entries entry) fell.left);
         caused = rose_since had log.store.faults log'.store.faults is.caused fell.rose;
       };
+      further = record { ops = ops; commits = commits; turned = was.0; logged = was.2; told = was.3 };
     }))
 
 -- where an entry is appended, operations are committed
 adds_some : (start : Start) (tables : List TableDef) (log : List Entry) (entry : Entry) (named : Named) (all : List (List RowOp)) → IsAdded start tables log (Some entry) named all → all ≢ []
 adds_some start tables log entry named [] is = absurd is
 adds_some start tables log entry named (ops ∷ more) is = λ none. cc
+
+adds_one : (start : Start) (tables : List TableDef) (log : List Entry) (entry : Entry) (named : Named) (all : List (List RowOp)) → IsAdded start tables log (Some entry) named all → (ops : List RowOp) × (all ≡ ops ∷ [])
+adds_one start tables log entry named [] is = absurd is
+adds_one start tables log entry named (ops ∷ []) is = (ops, refl)
+adds_one start tables log entry named (ops ∷ more ∷ others) is = absurd is
 
 -- what was told and kept of a plan is what the line does
 effect_kept : (start : Start) (generation : ℕ) (tables : List TableDef) (name : List ℕ) (p : LineEffect) (t : Turned) (after : SessionState) (lines lines' : List Line) (entries entries' : List EntryLine) (log log' : Logged) →
@@ -338,10 +346,17 @@ effect_kept start generation tables name p t after lines lines' entries entries'
         (done (entered.entries_are ∙ ap (λ (o : Option Entry). entries ++ lines_added (length log.entries) o) (sym some))
         (ap (λ (l : Logged). l.entries) entered.log_is ∙ ap (λ (o : Option Entry). log.entries ++ option_to_list o) (sym some)) told)
     go (Some entry) some (inr (told, falls, fell)) =
-        done_fallen start generation tables name t after lines lines' entries entries' log log' entry (record { front = told.front; outcome = told.outcome; is = sym is.replies ∙ told.is }) up logged
-        (adds_some start tables log.entries entry (named_so generation name t.number t.begin t.after.level) t.added
-        (subst (λ (o : Option Entry). IsAdded start tables log.entries o (named_so generation name t.number t.begin t.after.level) t.added) some is.added))
-        (falls ∙ ap (λ n. lines ++ fallen_lines name n told.front) is.number) (ap (λ (s : SessionState). state_in s) there ∙ is.after) (subst (λ (s : SessionState). IsOwn generation name s) (sym there) is.own) fell
+        done_fallen start generation tables name t after lines lines' entries entries' log log' entry (record { front = told.front; outcome = told.outcome; is = sym is.replies ∙ told.is }) up logged one.0 one.1
+        (falls ∙ ap (λ n. lines ++ fallen_lines name n told.front) is.number) (ap (λ (s : SessionState). state_in s) there ∙ is.after) (subst (λ (s : SessionState). IsOwn generation name s) (sym there) is.own)
+        (effect_done start generation tables log.entries (log.entries ++ entry ∷ []) name p t after lines (lines ++ lines_of name t.number t.replies) entries (entries ++ entries_added name (length log.entries) t) logged opened is there
+        (sym (ap (λ n. lines ++ lines_of name n p.replies.items) is.number ∙ ap (λ rs. lines ++ lines_of name t.number rs) is.replies))
+        (ap (λ (es : List EntryLine). entries ++ es) (sym (added_line start tables log.entries (named_so generation name t.number t.begin t.after.level) (length log.entries) p.added t.added is.added)))
+        (ap (λ (o : Option Entry). log.entries ++ option_to_list o) (sym some)))
+        fell
+      where
+        one : (ops : List RowOp) × (t.added ≡ ops ∷ [])
+        one = adds_one start tables log.entries entry (named_so generation name t.number t.begin t.after.level) t.added
+            (subst (λ (o : Option Entry). IsAdded start tables log.entries o (named_so generation name t.number t.begin t.after.level) t.added) some is.added)
 
 -- the same of what the code answers
 pub effect_taken : {E : Type 0} (result : Result SessionState E) (start : Start) (generation : ℕ) (tables : List TableDef) (name : List ℕ) (p : LineEffect) (t : Turned) (lines lines' : List Line) (entries entries' : List EntryLine) (log log' : Logged) →
@@ -432,6 +447,7 @@ cut_done start generation tables log name before after text lines lines' entries
       told = told_same start.before generation log.entries log.entries entries entries' es refl;
       own = shut_own generation name after shut;
       held = λ had is. is;
+      further = tt;
     })
 
 -- a line that was cut short

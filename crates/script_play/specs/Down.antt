@@ -13,6 +13,8 @@ use Rattle.cdb_values.specs.declared.rows.StatementError.TheVariants.{State}
 use Rattle.node_log.specs.Logged.{Logged, Leaves, with_entry}
 use Rattle.phys_log.specs.declared.entries.Entry.{Entry}
 use Rattle.report_laws.specs.Told.{lines_of}
+use Rattle.report_text.specs.declared.reports.EntryLine.{EntryLine}
+use Rattle.report_text.specs.declared.reports.EntryLine.TheVariants.{Commit}
 use Rattle.report_text.specs.declared.reports.Line.{Line}
 use Rattle.report_text.specs.declared.reports.Line.TheVariants as line
 use Rattle.report_text.specs.declared.reports.ReplyLine.{ReplyLine}
@@ -119,6 +121,18 @@ IsKeptSo name number replies None r r' = (r'.lines ≡ r.lines ++ lines_of name 
 IsKeptSo name number replies (Some entry) r r' =
     ((r'.lines ≡ r.lines ++ lines_of name number replies) × IsEntered entry r r')
     ⊎ ((told : HasOutcome replies) × (r'.lines ≡ r.lines ++ fallen_lines name number told.front) × IsFallenAt entry r r')
+
+-- the line of an entry is that of the transaction that is lost by the line that the node went down
+pub record IsLostBy (lines : List Line) (entry : EntryLine) : Type 0 where
+  pub front : List Line
+  pub back : List Line
+  pub position : ℕ
+  pub session : List ℕ
+  pub number : ℕ
+  pub begin : ℕ
+  pub level : Level
+  pub entry_is : entry ≡ Commit position session number begin level
+  pub told : lines ≡ front ++ down_line ∷ line.Session session number (reply.Lost 1 1) ∷ back
 
 -- how the log of a node is held: as long as the node is up, in a generation, and its store stands for it as its type says;
 -- where it is down, what a stop leaves of the store stands for the history, or for the log, which has one entry more

@@ -1,12 +1,12 @@
 -- What a script that was played leaves, by where the run began.
-use Rattle.std.specs.Prelude.{◌≡◌, ℕ, ◌-◌, ◌<◌, ◌≤◌, [], List, Bool, true, false, Some, length, slice_get, unwrap_or}
+use Rattle.std.specs.Prelude.{◌≡◌, ℕ, ◌-◌, ◌<◌, ◌≤◌, ◌++◌, ◌∷◌, [], List, Bool, true, false, Some, length, slice_get, unwrap_or}
 use Rattle.block_processor.specs.Changed.{changed_in}
 use Rattle.cdb_values.specs.declared.rows.Change.{Change}
 use Rattle.log_replay.specs.Answers.{schema_of}
 use Rattle.log_rows.specs.History.{rows_over_at, IsFrom, StandsOver}
 use Rattle.node_log.specs.Logged.{Logged}
 use Rattle.phys_log.specs.declared.entries.Entry.{Entry}
-use Rattle.report_laws.specs.History.{rows_at, changes_at}
+use Rattle.report_laws.specs.History.{rows_at, changes_at, IsEntryAfter}
 use Rattle.report_laws.specs.Lawful.{Lawful}
 use Rattle.report_laws.specs.Nodes.{downs}
 use Rattle.report_laws.specs.Play.{InPlayOrder}
@@ -14,8 +14,9 @@ use Rattle.report_text.specs.declared.reports.EntryLine.{EntryLine}
 use Rattle.report_text.specs.declared.reports.Report.{Report}
 use Rattle.script_form.specs.CanRun.{tables_of}
 use Rattle.script_form.specs.declared.scripts.Script.{Script}
+use Rattle.session_language.specs.Each.{EachAfter}
 use Rattle.script_play.specs.Basis.{from_start}
-use Rattle.script_play.specs.Down.{history_of, IsHeld}
+use Rattle.script_play.specs.Down.{history_of, IsHeld, IsLostBy}
 use Rattle.script_play.specs.EntryLines.{AreTold}
 use Rattle.script_play.specs.Start.{Start, base, ground_of}
 
@@ -38,11 +39,28 @@ pub record IsTold (script : Script) (start : Start) (generation : ℕ) (report :
   pub rows : (k : ℕ) → IsFrom (base start) k → k ≤ length history → rows_over_at (ground_of start) history k ≡ rows_at (from_start script start) report.entries k
   pub stands : StandsOver (ground_of start) (tables_of script) history
 
+-- lines tell the history of a log from where the run began
+pub record IsHistory (script : Script) (start : Start) (generation : ℕ) (entries : List EntryLine) (log : List Entry) : Type 0 where
+  pub lawful : EachAfter (IsEntryAfter (from_start script start)) [] entries
+  pub told : AreTold start.before generation entries log
+  pub schema : schema_of log ≡ Some (tables_of script)
+  pub changed : (k : ℕ) → base start < k → k ≤ length log → changed_at log k ≡ changes_at (from_start script start) entries k
+  pub rows : (k : ℕ) → IsFrom (base start) k → k ≤ length log → rows_over_at (ground_of start) log k ≡ rows_at (from_start script start) entries k
+  pub stands : StandsOver (ground_of start) (tables_of script) log
+
+-- a log with one entry more than the history of a report: that of the transaction that is lost by the line that the node went
+-- down. No one was told of it; with its line, the history would be that of the log
+pub record IsFurther (script : Script) (start : Start) (generation : ℕ) (report : Report) (log : List Entry) : Type 0 where
+  pub line : EntryLine
+  pub lost : IsLostBy report.lines line
+  pub history : IsHistory script start generation (report.entries ++ line ∷ []) log
+
 -- a report and the log of its node, which was opened so
 pub record IsPlayed (script : Script) (start : Start) (opened : Logged) (report : Report) (log : Logged) : Type 0 where
   pub told : IsTold script start opened.accepted report (history_of log)
   pub faults : downs report.lines ≡ downs_by log.failed
   pub held : IsHeld opened.accepted opened.store.faults log
+  pub further : log.failed ≡ true → IsFurther script start opened.accepted report log.entries
 
 -- the log of a run that was given up, and that was opened so: it is the one before the run with entries of the run, as a history
 -- tells them, and it is held as that of a run that is done

@@ -1,8 +1,9 @@
 -- The run so far, as the code keeps it, in the words of the definitions.
-use Rattle.std.specs.Prelude.{◌≡◌, ℕ, ◌<◌, ◌≤◌, ◌∷◌, [], List, length, map, true, slice_get, Some}
+use Rattle.std.specs.Prelude.{◌≡◌, ℕ, ◌<◌, ◌≤◌, ◌++◌, ◌∷◌, [], List, length, map, Bool, false, true, slice_get, Some}
 use Rattle.std.specs.Str.{is_utf8}
 use Rattle.blkseq_table.specs.OfLogs.{HasId}
 use Rattle.block_processor.specs.Changed.{changed_in}
+use Rattle.cdb_values.specs.declared.rows.RowOp.{RowOp}
 use Rattle.cdb_values.specs.declared.tables.TableDef.{TableDef}
 use Rattle.log_rows.specs.History.{rows_over, rows_over_at}
 use Rattle.cdb_values.specs.Rows.{no_rows}
@@ -12,6 +13,7 @@ use Rattle.phys_log.specs.declared.entries.Entry.{Entry}
 use Rattle.phys_log.specs.declared.entries.Entry.TheVariants.{Setup}
 use Rattle.phys_log.specs.declared.entries.LogRecord.{LogRecord}
 use Rattle.table_store.specs.Stored.{Stands}
+use Rattle.report_laws.specs.Told.{lines_of}
 use Rattle.report_text.specs.declared.reports.EntryLine.{EntryLine}
 use Rattle.report_text.specs.declared.reports.EntryLine.TheVariants.{Setup as EntrySetup}
 use Rattle.osql_session.specs.Sessions.{Session}
@@ -24,7 +26,7 @@ use Rattle.session_language.specs.Language.{Kind}
 use Rattle.sql_answer.specs.Answers.{Meaning}
 use Rattle.sql_answer.specs.Language.{meaning, bound_in}
 use Rattle.script_play.specs.Start.{Start, ground_of}
-use Rattle.script_play.specs.Down.{history_of, IsHeld}
+use Rattle.script_play.specs.Down.{history_of, IsHeld, IsLostBy}
 use Rattle.script_play.specs.Falls.{IsDoneOn, IsTakenOn}
 use Rattle.script_play.specs.Doing.{Doing, SessionAt}
 use Rattle.script_play.specs.Doing as doing
@@ -32,8 +34,8 @@ use Rattle.script_play.specs.EntryLines.{AreTold}
 use Rattle.script_play.specs.Ready.{AreEarlier, IsReady, IsReadyToGo, IsLogged}
 use Rattle.script_play.specs.Run.{Run, run_of}
 use Rattle.script_play.specs.Seen.{Seen}
-use Rattle.script_play.specs.SoFar.{IsBefore, now_of}
-use Rattle.script_play.specs.Step.{World, Turned, turn_of, world_of}
+use Rattle.script_play.specs.SoFar.{IsBefore, Stored, now_of}
+use Rattle.script_play.specs.Step.{World, Turned, entries_added, turn, turn_of, world_of, IsTurned}
 use Rattle.script_play.specs.declared.run.RunSoFar.{RunSoFar}
 use Rattle.script_play.specs.declared.states.InTransaction.{InTransaction}
 use Rattle.script_play.specs.declared.states.InTransaction.TheVariants.{No, Open, Aborted}
@@ -137,6 +139,15 @@ turn_in start tables log s meant kind = turn_of (world start tables log) s.numbe
 abbrev pub CanGoOn : Start → List TableDef → List Entry → InTransaction → Type 0
 CanGoOn start tables log d = IsReadyToGo start tables (length log) log (doing_in d)
 
+-- the log of a run whose store failed has one entry more than the history: it is that of the transaction that was lost by it,
+-- and with it the log would be that of a history too
+pub record HasFurther (script : Script) (start : Start) (generation : ℕ) (r : Run) : Type 0 where
+  pub line : EntryLine
+  pub lost : IsLostBy r.lines line
+  pub told : AreTold start.before generation (r.entries ++ line ∷ []) r.log.entries
+  pub logged : IsLogged start (tables_of script) (length r.log.entries) r.log.entries
+  pub stored : Stored script start (r.entries ++ line ∷ []) (changed_in r.log.entries) (seen_in start r.log.entries)
+
 -- the run before a line, with the lines `left` still to do: its log is that of the history, and one entry more where the node
 -- is down
 pub record IsBeforeLine (script : Script) (start : Start) (generation had : ℕ) (left : List BodyLine) (r : Run) (states : List SessionState) : Type 0 where
@@ -146,6 +157,7 @@ pub record IsBeforeLine (script : Script) (start : Start) (generation had : ℕ)
   pub own : AreOwn generation script.sessions states
   pub earlier : AreEarlier generation start.before
   pub held : IsHeld generation had r.log
+  pub further : r.log.failed ≡ true → HasFurther script start generation r
 
 -- a line of a session did what it does where the node stood, or was cut short
 abbrev pub IsTakenAt : Start → List TableDef → List ℕ → SessionState → List ℕ → SessionState → Run → Run → Type 0
@@ -159,6 +171,26 @@ IsDoneAt start tables name t after r r' =
     IsDoneOn r'.log.failed (world start tables (history_of r.log)) name t (state_in after)
     r.lines r'.lines r.entries r'.entries (changed_in (history_of r'.log)) (seen_in start (history_of r'.log))
 
+-- a line at whose entry the store failed would have been done, but for that: its entry stands in the log
+pub record WouldBeDone (start : Start) (generation : ℕ) (tables : List TableDef) (name : List ℕ) (t : Turned) (r r' : Run) : Type 0 where
+  pub ops : List RowOp
+  pub commits : t.added ≡ ops ∷ []
+  pub turned : IsTurned (world start tables r.log.entries) name t r.lines (r.lines ++ lines_of name t.number t.replies)
+      r.entries (r.entries ++ entries_added name (length r.log.entries) t) (changed_in r'.log.entries) (seen_in start r'.log.entries)
+  pub logged : IsLogged start tables (length r'.log.entries) r'.log.entries
+  pub told : AreTold start.before generation r.entries r.log.entries
+      → AreTold start.before generation (r.entries ++ entries_added name (length r.log.entries) t) r'.log.entries
+
+-- what a line leaves in the log beside the history, by whether the node is down before it and behind it
+abbrev pub IsFurtherOn : Bool → Bool → Start → ℕ → List TableDef → List ℕ → Turned → Run → Run → Type 0
+IsFurtherOn false false start generation tables name t r r' = Unit {0}
+IsFurtherOn false true start generation tables name t r r' = WouldBeDone start generation tables name t r r'
+IsFurtherOn true false start generation tables name t r r' = Unit {0}
+IsFurtherOn true true start generation tables name t r r' = r'.log ≡ r.log
+
+abbrev pub IsFurtherAt : Start → ℕ → List TableDef → List ℕ → Turned → Run → Run → Type 0
+IsFurtherAt start generation tables name t r r' = IsFurtherOn r.log.failed r'.log.failed start generation tables name t r r'
+
 -- the same, and the log is in order behind it
 pub record IsTakenFrom (start : Start) (generation : ℕ) (tables : List TableDef) (name : List ℕ) (before : SessionState) (text : List ℕ) (after : SessionState) (r r' : Run) : Type 0 where
   pub taken : IsTakenAt start tables name before text after r r'
@@ -166,6 +198,7 @@ pub record IsTakenFrom (start : Start) (generation : ℕ) (tables : List TableDe
   pub told : AreTold start.before generation r.entries (history_of r.log) → AreTold start.before generation r'.entries (history_of r'.log)
   pub own : IsOwn generation name after
   pub held : (had : ℕ) → IsHeld generation had r.log → IsHeld generation had r'.log
+  pub further : IsFurtherAt start generation tables name (turn (world start tables (history_of r.log)) (state_in before) text) r r'
 
 pub record IsDoneFrom (start : Start) (generation : ℕ) (tables : List TableDef) (name : List ℕ) (t : Turned) (after : SessionState) (r r' : Run) : Type 0 where
   pub done : IsDoneAt start tables name t after r r'
@@ -173,3 +206,4 @@ pub record IsDoneFrom (start : Start) (generation : ℕ) (tables : List TableDef
   pub told : AreTold start.before generation r.entries (history_of r.log) → AreTold start.before generation r'.entries (history_of r'.log)
   pub own : IsOwn generation name after
   pub held : (had : ℕ) → IsHeld generation had r.log → IsHeld generation had r'.log
+  pub further : IsFurtherAt start generation tables name t r r'

@@ -15,7 +15,7 @@ ghost use Rattle.script_form.specs.declared.scripts.BodyLine.{BodyLine};
 ghost use Rattle.script_play.specs.Basis.{from_base, from_start};
 ghost use Rattle.script_play.specs.Down.{history_of, owner_of, with_entries, IsCaused};
 ghost use Rattle.script_play.specs.EntryLines.{AreTold};
-ghost use Rattle.script_play.specs.Played.{changed_at, downs_by, IsGivenUp, IsPlayed};
+ghost use Rattle.script_play.specs.Played.{changed_at, downs_by, IsFurther, IsGivenUp, IsPlayed};
 ghost use Rattle.script_play.specs.Ready.{AreEarlier, CanBegin};
 ghost use Rattle.script_play.specs.RunViews.{run_in, state_in, IsBeforeLine, IsOpenedBehind, IsSameHistory};
 ghost use Rattle.script_play.specs.Serial.{AreSerial};
@@ -60,7 +60,7 @@ pub struct Played<D: LogStore> {
 /// and the replies that the other texts had. The node may go down in it, once, where its store fails: then it stays down. The
 /// log's entries are those before the run and exactly those of the history, each with the session, number, begin and level that
 /// are printed, of the node's generation, in which their transactions began; and one more, which no one was told of, where the
-/// node went down. Each entry of the history changes what it does there, and from the last position of the opened log on the
+/// node went down: that of the transaction that was lost by it, with which the history would be lawful too. Each entry of the history changes what it does there, and from the last position of the opened log on the
 /// pages of the log stand for the rows of the history. As long as the node is up its store stands for the log; else what a stop
 /// leaves of it stands for the log of the history, or for one entry more.
 ///
@@ -95,6 +95,8 @@ pub fn play<D: LogStore + Drop>(
     ensures made { IfOk result (λ p. p.log.failed ≡ false → p.log.accepted ≡ log.accepted) }
     ensures kept { IfOk result (λ p. p.log.failed ≡ true
         → Leaves p.log.store (with_entries p.log (history_of p.log) ∷ p.log ∷ [])) }
+    ensures further { IfOk result (λ p. p.log.failed ≡ true
+        → IsFurther script.now start log.accepted p.report p.log.entries) }
     ensures given_up { IfErr result (λ l. IsGivenUp start log l) }
     ensures owner { MatchResult result (λ p. owner_of p.log ≡ owner_of log) (λ l. owner_of l ≡ owner_of log) }
 {
@@ -366,12 +368,11 @@ fn base_told(base: u64) -> Option<u64>
 /// was read, or none.
 ///
 /// The report begins with the line that the node went down. Each line that begins a transaction is told that no majority is
-/// up, and the history has no entry. The error is want of memory.
+/// up, and the history has no entry behind that log, whatever its rows are. The error is want of memory.
 pub fn play_down(alloc: Global, script: &Script, base: u64) -> Result<Report, AllocError>
-    ghost rows: { Rows }
     requires can_run { CanRun script.now }
-    ensures lawful { IfOk result (λ r. Lawful (from_base script.now base rows) r) }
-    ensures in_order { IfOk result (λ r. InPlayOrder (from_base script.now base rows) r) }
+    ensures lawful { IfOk result (λ r. (rows : Rows) → Lawful (from_base script.now base rows) r) }
+    ensures in_order { IfOk result (λ r. (rows : Rows) → InPlayOrder (from_base script.now base rows) r) }
     ensures down { IfOk result (λ r. downs r.lines ≡ 1) }
     ensures none { IfOk result (λ r. r.entries ≡ []) }
 {

@@ -40,7 +40,7 @@ returns-in-Ok-clause-text g c =
     IfOk-weaker c.told.result.answer (λ a. IsReportText c.in-Ok.played.report a.status a.text)
     (λ a. IsPlayedText c.args.script.now g.start c.args.begun.log new a.status a.text)
     (λ a is. played_text c.args.script.now g.start c.args.begun.log c.in-Ok.played.log c.in-Ok.played.report new a.status a.text c.args.begun.base
-    (b.place ∙ ap (λ (es : List Entry). length es) (sym c.requires.1.1.0)) p.owner b.node b.same p.lawful p.in_order p.serial p.entries p.schema p.changed p.rows p.stands p.faults p.cause p.kept
+    (b.place ∙ ap (λ (es : List Entry). length es) (sym c.requires.1.1.0)) p.owner b.node b.same p.lawful p.in_order p.serial p.entries p.schema p.changed p.rows p.stands p.faults p.cause p.kept p.further
     c.told.ensures.left is)
     c.told.ensures.text
 

@@ -41,3 +41,6 @@ returns-clause-made g c = if_ok c.play_behind.result (λ p played. held_made p.l
 
 pub returns-clause-kept : goal.returns-clause-kept
 returns-clause-kept g c = if_ok c.play_behind.result (λ p played. held_left p.log c.args.log.accepted c.args.log.store.faults played.held) c.play_behind.ensures.played
+
+pub returns-clause-further : goal.returns-clause-further
+returns-clause-further g c = if_ok c.play_behind.result (λ p played. played.further) c.play_behind.ensures.played

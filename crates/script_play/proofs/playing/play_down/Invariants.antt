@@ -5,8 +5,8 @@ use Rattle.script_play.specs.SoFarDown.{IsBeforeDown}
 use Rattle.script_play.proofs.playing.play_down.Given as goal
 
 abbrev pub invariant-lines : goal.invariant-lines
-invariant-lines g l =
+invariant-lines l =
     IsBeforeDown l.script l.rest l.lines.items (map state_in l.states) × (l.schema-inside.tables ≡ tables_of l.script)
 
 abbrev pub decreases-lines : goal.decreases-lines
-decreases-lines g l = length l.rest
+decreases-lines l = length l.rest

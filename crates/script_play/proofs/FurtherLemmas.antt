@@ -1,0 +1,158 @@
+-- The entry at which the store of a node failed: with it the history would be another one, and so it stays behind later lines.
+use Rattle.std.proofs.Common.{◌≡◌, ℕ, ◌+◌, ◌-◌, ◌++◌, List, [], ◌∷◌, length, map, refl, sym, subst, ap, arith, ◌∙◌, Bool, true, false, Some, slice_set, inl, append_assoc}
+use Rattle.std.proofs.lemmas.List.{length-append}
+use Rattle.std.specs.List.{slice_get}
+use Rattle.block_processor.specs.Changed.{changed_in}
+use Rattle.cdb_values.specs.declared.rows.Change.{Change}
+use Rattle.cdb_values.specs.declared.rows.RowOp.{RowOp}
+use Rattle.node_log.specs.Logged.{Logged}
+use Rattle.phys_log.specs.declared.entries.Entry.{Entry}
+use Rattle.report_laws.specs.History.{changes_at, rows_at, IsEntryAfter}
+use Rattle.report_laws.specs.Told.{lines_of}
+use Rattle.report_text.specs.declared.reports.EntryLine.{EntryLine}
+use Rattle.report_text.specs.declared.reports.EntryLine.TheVariants.{Commit}
+use Rattle.report_text.specs.declared.reports.Line.{Line}
+use Rattle.report_text.specs.declared.reports.Line.TheVariants as line
+use Rattle.report_text.specs.declared.reports.ReplyLine.TheVariants as reply
+use Rattle.report_text.specs.declared.reports.Report.{Report}
+use Rattle.script_form.specs.CanRun.{tables_of}
+use Rattle.script_form.specs.declared.scripts.Act.TheVariants.{Say}
+use Rattle.script_form.specs.declared.scripts.BodyLine.{BodyLine}
+use Rattle.script_form.specs.declared.scripts.Script.{Script}
+use Rattle.session_language.specs.Each.{EachAfter}
+use Rattle.sql_answer.specs.Reading.{kind_of_text}
+use Rattle.script_play.specs.Basis.{from_start}
+use Rattle.script_play.specs.Doing.{SessionAt}
+use Rattle.script_play.specs.Down.{down_line, history_by, history_of, turn_down, fallen_lines, IsLostBy}
+use Rattle.script_play.specs.EntryLines.{AreTold}
+use Rattle.script_play.specs.Falls.{IsDoneDown, IsFallen, IsTakenOn}
+use Rattle.script_play.specs.Played.{IsFurther}
+use Rattle.script_play.specs.Ready.{IsLogged}
+use Rattle.script_play.specs.Run.{run_of}
+use Rattle.script_play.specs.RunViews.{seen_in, state_in, world, HasFurther, IsBeforeLine, IsFurtherOn, WouldBeDone}
+use Rattle.script_play.specs.Seen.{Seen}
+use Rattle.script_play.specs.SoFar.{now_of, session_at, IsBefore, Stored}
+use Rattle.script_play.specs.Start.{Start, base}
+use Rattle.script_play.specs.Step.{Turned, entries_added, turn, world_of, IsTurned, World}
+use Rattle.script_play.specs.declared.states.SessionState.{SessionState}
+use Rattle.script_play.proofs.KeepLemmas.{taken_on}
+use Rattle.script_play.proofs.SiteLemmas.{told_count}
+
+-- the line of a transaction that is lost stays behind further lines
+lost_more : (lines more lines' : List Line) (entry : EntryLine) → lines' ≡ lines ++ more → IsLostBy lines entry → IsLostBy lines' entry
+lost_more lines more lines' entry is lost = record {
+  front = lost.front;
+  back = lost.back ++ more;
+  position = lost.position;
+  session = lost.session;
+  number = lost.number;
+  begin = lost.begin;
+  level = lost.level;
+  entry_is = lost.entry_is;
+  told = is ∙ ap (λ (ls : List Line). ls ++ more) lost.told ∙ append_assoc lost.front (down_line ∷ line.Session lost.session lost.number (reply.Lost 1 1) ∷ lost.back) more;
+}
+
+-- a line on a node that is down leaves the log as it is
+further_down : (script : Script) (start : Start) (generation : ℕ) (lines lines' : List Line) (entries entries' : List EntryLine) (log log' : Logged) (w : World) (name : List ℕ) (x : SessionAt) (text : List ℕ) (after : SessionAt) (changed' : List (List Change)) (seen' : Seen) →
+    IsDoneDown w name x text after lines lines' entries entries' changed' seen' → log' ≡ log → HasFurther script start generation (run_of lines entries log) → HasFurther script start generation (run_of lines' entries' log')
+further_down script start generation lines lines' entries entries' log log' w name x text after changed' seen' run same was =
+    subst (λ (l : Logged). HasFurther script start generation (run_of lines' entries' l)) (sym same)
+    (subst (λ (es : List EntryLine). HasFurther script start generation (run_of lines' es log)) (sym run.still.entries_are) (record {
+      line = was.line;
+      lost = lost_more lines (lines_of name (turn_down x.number x.level (kind_of_text text) x.doing).number (turn_down x.number x.level (kind_of_text text) x.doing).replies) lines' was.line run.told.lines_are was.lost;
+      told = was.told;
+      logged = was.logged;
+      stored = was.stored;
+    }))
+
+-- a line at whose entry the store failed: had it not, the run would have gone on with that entry in the history
+module _ (script : Script) (start : Start) (generation : ℕ) (left : List BodyLine) (l : BodyLine) (lines lines' : List Line) (entries entries' : List EntryLine) (log log' : Logged) (states : List SessionAt) (name text : List ℕ) (at : ℕ) (x after : SessionAt)
+    (before : IsBefore script start false (l ∷ left) lines entries (changed_in log.entries) (seen_in start log.entries) states) (told : AreTold start.before generation entries log.entries)
+    (is_act : l.act ≡ Say name text) (found : session_at name script.sessions ≡ Some at) (has : slice_get states at ≡ Some x) where
+  abbrev turned_there : ℕ → Turned
+  turned_there n = turn (world_of (tables_of script) (seen_in start log.entries) (changed_in log.entries) n) x text
+
+  abbrev t : Turned
+  t = turned_there (length log.entries)
+
+  count : length log.entries ≡ now_of start entries
+  count = told_count start.before generation entries log.entries told
+
+  abbrev line_there : EntryLine
+  line_there = Commit (length log.entries + 1) name t.number t.begin t.after.level
+
+  stored_with : (would : WouldBeDone start generation (tables_of script) name t (run_of lines entries log) (run_of lines' entries' log')) → Stored script start (entries ++ line_there ∷ []) (changed_in log'.entries) (seen_in start log'.entries)
+  stored_with would = subst (λ (es : List EntryLine). Stored script start (entries ++ es) (changed_in log'.entries) (seen_in start log'.entries))
+      (ap (λ (all : List (List RowOp)). map (λ ops. Commit (length log.entries + 1) name t.number t.begin t.after.level) all) would.commits) goes_on.so_far.stored
+    where
+      IsTurnedAt : ℕ → Type 0
+      IsTurnedAt n = IsTurned (world_of (tables_of script) (seen_in start log.entries) (changed_in log.entries) n) name (turned_there n) lines (lines ++ lines_of name t.number t.replies)
+          entries (entries ++ entries_added name (length log.entries) t) (changed_in log'.entries) (seen_in start log'.entries)
+
+      goes_on : IsBefore script start false left (lines ++ lines_of name t.number t.replies) (entries ++ entries_added name (length log.entries) t) (changed_in log'.entries) (seen_in start log'.entries) (slice_set states at (turned_there (now_of start entries)).after)
+      goes_on = taken_on script start false false left l lines (lines ++ lines_of name t.number t.replies) entries (entries ++ entries_added name (length log.entries) t) (changed_in log.entries) (changed_in log'.entries) (seen_in start log.entries) (seen_in start log'.entries)
+          states name text at x (turned_there (now_of start entries)).after before is_act found has (inl (subst (λ (n : ℕ). IsTurnedAt n) count would.turned, refl))
+
+  further_fallen : IsFallen (world start (tables_of script) log.entries) name t after lines lines' entries entries' (changed_in (history_of log')) (seen_in start (history_of log')) →
+      WouldBeDone start generation (tables_of script) name t (run_of lines entries log) (run_of lines' entries' log') → HasFurther script start generation (run_of lines' entries' log')
+  further_fallen fell would = subst (λ (es : List EntryLine). HasFurther script start generation (run_of lines' es log')) (sym fell.still.entries_are) (record {
+    line = line_there;
+    lost = record {
+      front = lines ++ lines_of name t.number fell.outcome.front;
+      back = [];
+      position = length log.entries + 1;
+      session = name;
+      number = t.number;
+      begin = t.begin;
+      level = t.after.level;
+      entry_is = refl;
+      told = fell.lines_are ∙ sym (append_assoc lines (lines_of name t.number fell.outcome.front) (down_line ∷ lines_of name t.number (reply.Lost 1 1 ∷ [])));
+    };
+    told = subst (λ (es : List EntryLine). AreTold start.before generation (entries ++ es) log'.entries)
+        (ap (λ (all : List (List RowOp)). map (λ ops. Commit (length log.entries + 1) name t.number t.begin t.after.level) all) would.commits) (would.told told);
+    logged = would.logged;
+    stored = stored_with would;
+  })
+
+-- behind a line that was taken
+pub further_there : (script : Script) (start : Start) (generation had : ℕ) (left : List BodyLine) (l : BodyLine) (lines lines' : List Line) (entries entries' : List EntryLine) (log log' : Logged) (states : List SessionState) (others : List SessionAt) (name text : List ℕ) (at : ℕ) (x after : SessionAt) →
+    IsBeforeLine script start generation had (l ∷ left) (run_of lines entries log) states → others ≡ map state_in states → l.act ≡ Say name text → session_at name script.sessions ≡ Some at → slice_get others at ≡ Some x →
+    IsTakenOn log.failed log'.failed (world start (tables_of script) (history_of log)) name x text after lines lines' entries entries' (changed_in (history_of log')) (seen_in start (history_of log')) →
+    IsFurtherOn log.failed log'.failed start generation (tables_of script) name (turn (world start (tables_of script) (history_of log)) x text) (run_of lines entries log) (run_of lines' entries' log') →
+    log'.failed ≡ true → HasFurther script start generation (run_of lines' entries' log')
+further_there script start generation had left l lines lines' entries entries' log log' states others name text at x after before same is_act found has taken further down = go log.failed log'.failed refl down taken further
+  where
+    go : (b c : Bool) → log.failed ≡ b → c ≡ true →
+        IsTakenOn b c (world start (tables_of script) (history_of log)) name x text after lines lines' entries entries' (changed_in (history_of log')) (seen_in start (history_of log')) →
+        IsFurtherOn b c start generation (tables_of script) name (turn (world start (tables_of script) (history_of log)) x text) (run_of lines entries log) (run_of lines' entries' log') →
+        HasFurther script start generation (run_of lines' entries' log')
+    go false false up is taken further = absurd cc
+    go true false up is taken further = absurd cc
+    go true true up is taken further =
+        further_down script start generation lines lines' entries entries' log log' (world start (tables_of script) (history_of log)) name x text after (changed_in (history_of log')) (seen_in start (history_of log')) taken further (before.further up)
+    go false true up is taken further =
+        further_fallen script start generation left l lines lines' entries entries' log log' others name text at x after
+        (subst (λ (ss : List SessionAt). IsBefore script start false (l ∷ left) lines entries (changed_in log.entries) (seen_in start log.entries) ss) (sym same)
+        (subst (λ (b : Bool). IsBefore script start b (l ∷ left) lines entries (changed_in (history_by b log.entries)) (seen_in start (history_by b log.entries)) (map state_in states)) up before.before))
+        (subst (λ (b : Bool). AreTold start.before generation entries (history_by b log.entries)) up before.told) is_act found has
+        (subst (λ (b : Bool). IsFallen (world start (tables_of script) (history_by b log.entries)) name (turn (world start (tables_of script) (history_by b log.entries)) x text) after lines lines' entries entries' (changed_in (history_of log')) (seen_in start (history_of log'))) up taken)
+        (subst (λ (b : Bool). WouldBeDone start generation (tables_of script) name (turn (world start (tables_of script) (history_by b log.entries)) x text) (run_of lines entries log) (run_of lines' entries' log')) up further)
+
+-- at the end of a run
+pub further_told : (script : Script) (start : Start) (generation : ℕ) (lines : List Line) (entries : List EntryLine) (log : Logged) (report : Report) → report.lines ≡ lines → report.entries ≡ entries →
+    HasFurther script start generation (run_of lines entries log) → IsFurther script start generation report log.entries
+further_told script start generation lines entries log report says has is = record {
+  line = is.line;
+  lost = subst (λ (ls : List Line). IsLostBy ls is.line) (sym says) is.lost;
+  history = record {
+    lawful = subst (λ (es : List EntryLine). EachAfter (IsEntryAfter (from_start script start)) [] (es ++ is.line ∷ [])) (sym has) is.stored.history;
+    told = subst (λ (es : List EntryLine). AreTold start.before generation (es ++ is.line ∷ []) log.entries) (sym has) is.told;
+    schema = is.logged.schema;
+    changed = λ k first within. is.stored.changed_are k first (omega (arith, count, within)) ∙ sym (ap (λ (es : List EntryLine). changes_at (from_start script start) (es ++ is.line ∷ []) k) has);
+    rows = λ k from within. is.stored.rows_are k from (omega (arith, count, within)) ∙ sym (ap (λ (es : List EntryLine). rows_at (from_start script start) (es ++ is.line ∷ []) k) has);
+    stands = is.logged.stands;
+  };
+}
+  where
+    count : length log.entries ≡ now_of start (entries ++ is.line ∷ [])
+    count = told_count start.before generation (entries ++ is.line ∷ []) log.entries is.told
