@@ -297,7 +297,7 @@ opened_known script old base log o one =
 pub not_up_text : (script : Script) (w : WhyNotUp) (old new : Stored) (s : Status) (text : List ℕ) → IsWhy w 1 (cluster_of script) old.synced (tables_of script) old.faults new.faults →
     IsLeft w 1 (cluster_of script) old.synced new.synced (tables_of script) → IsNotUpText script w s text → IsTextOver script old new s text
 not_up_text script (why.StoreFault size) old new s text is left told =
-    subst (λ (t : Status). IsTextOver script old new t text) (sym told.0) (inr (record { told = told.1; size = size; fault = is; left = left }))
+    subst (λ (t : Status). IsTextOver script old new t text) (sym told.0) (inr (record { size = size; told = told.1; fault = is; left = left }))
 not_up_text script (why.Refused at) old new s text is left told =
     subst (λ (t : Status). IsTextOver script old new t text) (sym told.0) (refl, is, left, told.1)
 not_up_text script why.Unsound old new s text is left told =

@@ -2,7 +2,7 @@
 -- and there is no other such report.
 use Rattle.std.proofs.Common.{◌≡◌, ◌≢◌, ℕ, List, [], ◌∷◌, map, refl, sym, subst, inl, inr}
 use Rattle.std.specs.List.{AllByRecursion}
-use Rattle.cdb_values.specs.Rows.{Rows}
+use Rattle.cdb_values.specs.Rows.{Rows, no_rows}
 use Rattle.cdb_values.specs.declared.tables.ColumnDef.{ColumnDef}
 use Rattle.cdb_values.specs.declared.tables.KeyDef.{KeyDef}
 use Rattle.cdb_values.specs.declared.tables.TableDef.{TableDef}
@@ -29,7 +29,7 @@ use Rattle.report_text.specs.Grammar.{IsName, IsKey, IsReport}
 use Rattle.report_text.specs.Text.{report_text}
 use Rattle.report_text.specs.Types.{FitsTypes}
 use Rattle.report_text.specs.declared.reports.Report.{Report}
-use Rattle.script_play.specs.Basis.{from_nothing, from_start}
+use Rattle.script_play.specs.Basis.{from_base, from_start}
 use Rattle.script_play.specs.Ready.{CanBegin}
 use Rattle.script_play.specs.Start.{Start}
 use Rattle.session_language.specs.Answers.{Answers}
@@ -95,10 +95,10 @@ spelled_by s whole basis can is sessions bodies language says same have named = 
       (body_named whole.sessions whole.body (subst (λ (b : List BodyLine). AllByRecursion (λ (l : BodyLine). script.SaysNamed l.act) b) (sym bodies) is.body) can.said);
 }
 
--- the script of a run, and of one behind a log
+-- the script of a run behind a log of some size, at no rows, and of one behind a log
 
-pub spelled : (s : Script) → CanRun s → script.IsNamed s → IsSpelled (from_nothing s)
-spelled s can is = spelled_by s s (from_nothing s) can is refl refl refl refl refl tt (tables_named s.tables is.tables)
+pub spelled : (s : Script) (size : ℕ) → CanRun s → script.IsNamed s → IsSpelled (from_base s size (no_rows []))
+spelled s size can is = spelled_by s s (from_base s size (no_rows [])) can is refl refl refl refl refl tt (tables_named s.tables is.tables)
 
 same_sessions : (s : Script) (before : List Entry) → (with_tables s before).sessions ≡ s.sessions
 same_sessions s [] = refl
@@ -130,15 +130,16 @@ pub one_such : (s : Script) (start : Start) (report : Report) → Lawful (from_s
 one_such s start report lawful in_order other uncut lawful' in_order' uncut' =
     one_report (from_start s start) report other sql_is_answered lawful in_order uncut lawful' in_order' uncut'
 
--- the text of a report of a node that was down from the opening on
-pub down_text : (s : Script) (report : Report) (text : List ℕ) → CanRun s → script.IsNamed s → Lawful (from_nothing s) report → InPlayOrder (from_nothing s) report →
-    downs report.lines ≡ 1 → report.entries ≡ [] → FitsTypes report → text ≡ report_text report → IsDownText s text
-down_text s report text can names lawful in_order down none fits is = record {
+-- the text of a report of a node that was down from the opening on, behind a log of that size. It tells no row, so it is one of
+-- the grammar whatever the rows are
+pub down_text : (s : Script) (size : ℕ) (report : Report) (text : List ℕ) → CanRun s → script.IsNamed s → ((rows : Rows) → Lawful (from_base s size rows) report) →
+    ((rows : Rows) → InPlayOrder (from_base s size rows) report) → downs report.lines ≡ 1 → report.entries ≡ [] → FitsTypes report → text ≡ report_text report → IsDownText s size text
+down_text s size report text can names lawful in_order down none fits is = record {
   report = report;
   lawful = lawful;
   in_order = in_order;
   down = down;
   none = none;
-  is_report = of_the_grammar (from_nothing s) report (spelled s can names) lawful in_order fits;
+  is_report = of_the_grammar (from_base s size (no_rows [])) report (spelled s size can names) (lawful (no_rows [])) (in_order (no_rows [])) fits;
   is_text = is;
 }

@@ -1,7 +1,8 @@
 -- What is told and kept by a run over the store of its node.
 --
 -- The run begins behind the log for which the store stands, at the rows for which that log's pages stand, in the generation
--- above the promised one. Where the store fails at the opening, the node is down from there on, and nothing is read.
+-- above the promised one. Where the store fails at the opening, the node is down from there on: no transaction begins, and
+-- the report is that of a run behind the log that was read, or behind none.
 use Rattle.std.specs.Prelude.{◌≡◌, ◌≢◌, ◌⊎◌, ℕ, ◌+◌, ◌<◌, ◌^◌, List, [], ◌∷◌, ◌++◌}
 use Rattle.std.specs.List.{AllByRecursion}
 use Rattle.cdb_values.specs.Rows.{Rows}
@@ -25,7 +26,7 @@ use Rattle.report_text.specs.declared.reports.EntryLine.{EntryLine}
 use Rattle.report_text.specs.declared.reports.Report.{Report}
 use Rattle.script_form.specs.CanRun.{tables_of}
 use Rattle.script_form.specs.declared.scripts.Script.{Script}
-use Rattle.script_play.specs.Basis.{from_nothing, from_start}
+use Rattle.script_play.specs.Basis.{from_base, from_start}
 use Rattle.script_play.specs.EntryLines.{AreTold}
 use Rattle.script_play.specs.Played.{IsFurther, IsTold}
 use Rattle.script_play.specs.Serial.{AreSerial}
@@ -96,11 +97,11 @@ pub record IsRun (script : Script) (old new : Stored) (text : List ℕ) : Type 0
       (IsSoundFurther (with_tables script before) (start_at before rows) (promised + 1) report)
   pub sound : IsSoundBelow (start_at before rows) (promised + 1) history
 
--- the text of a report that tells of no entry, and that the node went down
-pub record IsDownText (script : Script) (text : List ℕ) : Type 0 where
+-- the text of a report behind a log of that size, of whatever rows, that tells of no entry, and that the node went down
+pub record IsDownText (script : Script) (size : ℕ) (text : List ℕ) : Type 0 where
   pub report : Report
-  pub lawful : Lawful (from_nothing script) report
-  pub in_order : InPlayOrder (from_nothing script) report
+  pub lawful : (rows : Rows) → Lawful (from_base script size rows) report
+  pub in_order : (rows : Rows) → InPlayOrder (from_base script size rows) report
   pub down : downs report.lines ≡ 1
   pub none : report.entries ≡ []
   pub is_report : IsReport report
@@ -108,8 +109,8 @@ pub record IsDownText (script : Script) (text : List ℕ) : Type 0 where
 
 -- the same where the store failed at the opening, once a log of that size was read, or none; and what is left of the store
 pub record IsDownFirst (script : Script) (old new : Stored) (text : List ℕ) : Type 0 where
-  pub told : IsDownText script text
   pub size : ℕ
+  pub told : IsDownText script size text
   pub fault : IsFault 1 (cluster_of script) old.synced (tables_of script) size old.faults new.faults
   pub left : IsLeft (why.StoreFault size) 1 (cluster_of script) old.synced new.synced (tables_of script)
 

@@ -47,7 +47,7 @@ pub record IsDifferText (tables : List TableLine) (place : ℕ) (s : Status) (te
 
 -- what is told of a node that is not up
 abbrev pub IsNotUpText : Script → WhyNotUp → Status → List ℕ → Type 0
-IsNotUpText script (why.StoreFault size) s text = (s ≡ status.Done) × IsDownText script text
+IsNotUpText script (why.StoreFault size) s text = (s ≡ status.Done) × IsDownText script size text
 IsNotUpText script (why.Refused at) s text = (s ≡ status.StoreRefused 1 at) × (text ≡ store_text 1 at)
 IsNotUpText script why.Unsound s text = (s ≡ status.Unsound 1) × (text ≡ unsound_text 1)
 IsNotUpText script (why.Differs place) s text = IsDifferText script.tables place s text

@@ -7,7 +7,7 @@ ghost use Rattle.script_form.specs.Named.{IsNamed};
 ghost use Rattle.report_laws.specs.Lawful.{Lawful};
 ghost use Rattle.report_laws.specs.Nodes.{downs};
 ghost use Rattle.report_laws.specs.Play.{InPlayOrder};
-ghost use Rattle.script_play.specs.Basis.{from_nothing};
+ghost use Rattle.script_play.specs.Basis.{from_base};
 ghost use Rattle.script_form.specs.declared.scripts.Script.{Script};
 ghost use Rattle.script_play.specs.Start.{Start};
 ghost use Rattle.store_log.specs.Keeps.{Stored};
@@ -123,7 +123,7 @@ fn not_up(alloc: Global, script: &Script, why: WhyNotUp) -> Result<Answer, Alloc
     ensures { IfOk result (λ a. IsNotUpText script.now why a.status a.text) }
 {
     match why {
-        WhyNotUp::StoreFault { .. } => down(alloc, script),
+        WhyNotUp::StoreFault { length } => down(alloc, script, length),
         WhyNotUp::Refused { at } => store_refused(alloc, NODE, at),
         WhyNotUp::Unsound => unsound(alloc, NODE),
         WhyNotUp::Differs { table } => differs(alloc, script.tables.as_slice(), table),
@@ -131,28 +131,34 @@ fn not_up(alloc: Global, script: &Script, why: WhyNotUp) -> Result<Answer, Alloc
     }
 }
 
-/// The answer to a script whose node is down from the opening on.
-fn down(alloc: Global, script: &Script) -> Result<Answer, AllocError>
+/// The answer to a script whose node is down from the opening on, once a log of that size was read, or none: the report of
+/// a run behind that log.
+fn down(alloc: Global, script: &Script, size: u64) -> Result<Answer, AllocError>
     requires runs { CanRun script.now }
     requires names { IsNamed script.now }
-    ensures { IfOk result (λ a. (a.status ≡ Status.Done) × IsDownText script.now a.text) }
+    ensures { IfOk result (λ a. (a.status ≡ Status.Done) × IsDownText script.now size a.text) }
 {
-    let report = play_down(alloc, script, 0)?;
-    let answer = down_told(alloc, script, &report);
+    let report = play_down(alloc, script, size)?;
+    let answer = down_told(alloc, script, size, &report);
     drop(report);
     answer
 }
 
-/// The answer to a script by the report of a node that was down.
+/// The answer to a script by the report of a node that was down, behind a log of that size.
 #[tactic(auto, using(crate::proofs::ReportedLemmas::down_text))]
-fn down_told(alloc: Global, script: &Script, report: &Report) -> Result<Answer, AllocError>
+fn down_told(
+    alloc: Global,
+    script: &Script,
+    size: u64,
+    report: &Report,
+) -> Result<Answer, AllocError>
     requires runs { CanRun script.now }
     requires names { IsNamed script.now }
-    requires lawful { Lawful (from_nothing script.now) report.now }
-    requires in_order { InPlayOrder (from_nothing script.now) report.now }
+    requires lawful { (rows : Rows) → Lawful (from_base script.now size rows) report.now }
+    requires in_order { (rows : Rows) → InPlayOrder (from_base script.now size rows) report.now }
     requires down { downs report.now.lines ≡ 1 }
     requires none { report.now.entries ≡ [] }
-    ensures { IfOk result (λ a. (a.status ≡ Status.Done) × IsDownText script.now a.text) }
+    ensures { IfOk result (λ a. (a.status ≡ Status.Done) × IsDownText script.now size a.text) }
 {
     let text = print(alloc, report)?;
     Ok(Answer {
