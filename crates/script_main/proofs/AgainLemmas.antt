@@ -17,7 +17,7 @@ use Rattle.script_form.specs.CanRun.{tables_of, CanRun}
 use Rattle.script_form.specs.declared.scripts.Script.{Script}
 use Rattle.script_form.specs.declared.scripts.TableLine.{TableLine}
 use Rattle.script_play.specs.Played.{IsHistory}
-use Rattle.script_play.specs.Start.{ground_of}
+use Rattle.script_play.specs.Start.{Start, ground_of}
 use Rattle.sound_log.specs.Columns.{HasColumns}
 use Rattle.sound_log.specs.Sound.{IsSound}
 use Rattle.store_log.specs.declared.standings.Standing.TheVariants.{Log}
@@ -27,7 +27,7 @@ use Rattle.table_store.specs.Stored.{Stands}
 use Rattle.script_main.proofs.AfterLemmas.{sound_again}
 use Rattle.script_main.proofs.ScriptLemmas.{tables_with}
 use Rattle.script_main.specs.Runs.{IsSoundBelow}
-use Rattle.script_main.specs.Stores.{start_at, with_tables, HasRows}
+use Rattle.script_main.specs.Stores.{with_tables, HasRows}
 
 -- no generation is accepted above the promised one
 
@@ -55,7 +55,7 @@ accepted_within c bytes p a es (inr s) =
     omega arith
 
 -- tables of lines with columns
-all_columns : (lines : List TableLine) → AllByRecursion (λ (t : TableLine). t.table.columns ≢ []) lines → AllByRecursion HasColumns (map (λ (t : TableLine). t.table) lines)
+pub all_columns : (lines : List TableLine) → AllByRecursion (λ (t : TableLine). t.table.columns ≢ []) lines → AllByRecursion HasColumns (map (λ (t : TableLine). t.table) lines)
 all_columns [] all = tt
 all_columns (l ∷ ls) all = (all.0, all_columns ls all.1)
 
@@ -68,12 +68,20 @@ state_of script (e ∷ es) rows tables has some = subst (λ (ts : List TableDef)
 abbrev pub KeepTheirKeys : Type 0
 KeepTheirKeys = (pages : ℕ → Image) (tables : List TableDef) (rows : Rows) → Stands pages tables rows → AllFit tables rows.tables → IsGood tables rows.tables
 
-pub sound_behind : (script : Script) (c : ℕ) (bytes : List ℕ) (p a : ℕ) (before : List Entry) (rows : Rows) (entries : List EntryLine) (made : List Entry) → KeepTheirKeys → CanRun (with_tables script before) →
-    StandsForGood 1 c bytes (tables_of script) p a before → HasRows before rows → IsHistory (with_tables script before) (start_at before rows) (p + 1) entries made →
-    IsSoundBelow (start_at before rows) (p + 1) made
-sound_behind script c bytes p a before rows entries made law can stood has told next few =
+-- the tables of a script that can run, or those that it takes from a sound log
+pub columns_with : (script : Script) (a : ℕ) (before : List Entry) → CanRun script → IsSound a before → HasTables (tables_of script) before → AllByRecursion HasColumns (tables_of (with_tables script before))
+columns_with script a [] can sound has = all_columns script.tables can.columns
+columns_with script a (e ∷ es) can (inl none) has = absurd cc
+columns_with script a (e ∷ es) can (inr sound) has = subst (λ (ts : List TableDef). AllByRecursion HasColumns ts) (sym (tables_with script (e ∷ es) has (omega arith))) sound.columns
+
+-- whatever lines tell it
+pub sound_behind : (script : Script) (c : ℕ) (bytes : List ℕ) (p a : ℕ) (before : List Entry) (start : Start) (entries : List EntryLine) (made : List Entry) → KeepTheirKeys → AllByRecursion HasColumns (tables_of (with_tables script before)) →
+    start.before ≡ before → StandsForGood 1 c bytes (tables_of script) p a before → HasRows before start.rows → IsHistory (with_tables script before) start (p + 1) entries made →
+    IsSoundBelow start (p + 1) made
+sound_behind script c bytes p a before start entries made law columns behind stood has told next few =
     let whole = with_tables script before in
-    let start = start_at before rows in
     let l : a ≤ p = accepted_within c bytes p a before stood.stands in
-    sound_again whole start (p + 1) entries made told (state_of script before rows stood.good.tables has) a (omega arith) stood.good.sound (all_columns whole.tables can.columns)
+    sound_again whole start (p + 1) entries made told
+    (subst (λ (es : List Entry). 1 ≤ length es → HasState (pages_of es) (tables_of whole) start.rows) (sym behind) (state_of script before start.rows stood.good.tables has))
+    a (omega arith) (subst (λ (es : List Entry). IsSound a es) (sym behind) stood.good.sound) columns
     (λ stands fit. law (pages_of made) (tables_of whole) (history.rows_over (ground_of start) made) stands fit) next few

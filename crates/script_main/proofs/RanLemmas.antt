@@ -35,16 +35,16 @@ use Rattle.script_play.proofs.PlayLaws.{given_first}
 use Rattle.store_log.specs.declared.standings.Standing.TheVariants.{Log}
 use Rattle.store_log.specs.Held.{StandsFor}
 use Rattle.store_log.specs.Keeps.{Stored}
-use Rattle.script_main.proofs.AgainLemmas.{sound_behind, KeepTheirKeys}
+use Rattle.script_main.proofs.AgainLemmas.{all_columns, columns_with, sound_behind, KeepTheirKeys}
 use Rattle.script_main.proofs.BegunLemmas.{before_is, begins_at, begun_at}
 use Rattle.table_store.specs.Stored.{Stands}
 use Rattle.script_main.proofs.KnownLemmas.{only_state}
 use Rattle.script_main.proofs.ReportedLemmas.{one_such, spelled_over, told_in_grammar}
 use Rattle.script_main.specs.Known.{IsKnown}
 use Rattle.script_main.specs.Run.{IsTextOver}
-use Rattle.script_main.specs.Runs.{AnyLog, IsCutOff, IsLeftBy, IsRun, IsSoundBelow, IsSoundFurther, Keeps}
-use Rattle.script_main.specs.Steps.{log_before, IsBegunAt, IsLeftFrom, IsLeftOf, IsNotUpText, IsOpened, IsPlaceIn, IsPlayedText, IsReportText, IsRunText}
-use Rattle.script_main.specs.Stores.{cluster_of, start_at, with_tables}
+use Rattle.script_main.specs.Runs.{IsCutOff, IsLeftBy, IsMore, IsRun, IsSoundBelow, IsSoundFurther, IsSoundMore, Keeps}
+use Rattle.script_main.specs.Steps.{log_before, IsBegunAt, IsLeftBehind, IsLeftFrom, IsLeftOf, IsNotUpText, IsOpened, IsPlaceIn, IsPlayedText, IsReportText, IsRunText}
+use Rattle.script_main.specs.Stores.{cluster_of, start_at, with_tables, HasRows}
 use Rattle.script_main.specs.declared.statuses.Status.{Status}
 
 -- counts of faults
@@ -113,22 +113,22 @@ or_more old log bytes e same node stood last (inr (inl s)) =
     inr (subst (λ (es : List Entry). Keeps old.cluster bytes old.accepted es) last (keeps_of old log bytes log.entries same node stood s))
 or_more old log bytes e same node stood last (inr (inr none)) = absurd none
 
-left_up : (IsMore : List Entry → Type 0) (old log : Logged) (new : Stored) (count : ℕ) → owner_of log ≡ owner_of old → old.node ≡ 1 → old.promised ≡ old.accepted → count ≡ 0 → ∥ Stand new.synced log ∥₁
-    → IsLeftBy count old.cluster old.store new old.accepted log.entries IsMore
-left_up IsMore old log new count same node stood none stands =
+left_up : (MayBe : List Entry → Type 0) (old log : Logged) (new : Stored) (count : ℕ) → owner_of log ≡ owner_of old → old.node ≡ 1 → old.promised ≡ old.accepted → count ≡ 0 → ∥ Stand new.synced log ∥₁
+    → IsLeftBy count old.cluster old.store new old.accepted log.entries MayBe
+left_up MayBe old log new count same node stood none stands =
     inl (none, ∥∥₁_map stands (λ (s : Stand new.synced log). keeps_of old log new.synced log.entries same node stood s))
 
-left_down : (IsMore : List Entry → Type 0) (old log : Logged) (new : Stored) (count : ℕ) → owner_of log ≡ owner_of old → old.node ≡ 1 → old.promised ≡ old.accepted → count ≡ 1 → Rose old.store.faults log.store.faults
-    → IsLeftOf log new → 1 ≤ length log.entries → Leaves log.store (with_entries log (history_by true log.entries) ∷ log ∷ []) → IsMore log.entries
-    → IsLeftBy count old.cluster old.store new old.accepted (history_by true log.entries) IsMore
-left_down IsMore old log new count owns node stood one rose left some leaves more =
+left_down : (MayBe : List Entry → Type 0) (old log : Logged) (new : Stored) (count : ℕ) → owner_of log ≡ owner_of old → old.node ≡ 1 → old.promised ≡ old.accepted → count ≡ 1 → Rose old.store.faults log.store.faults
+    → IsLeftOf log new → 1 ≤ length log.entries → Leaves log.store (with_entries log (history_by true log.entries) ∷ log ∷ []) → MayBe log.entries
+    → IsLeftBy count old.cluster old.store new old.accepted (history_by true log.entries) MayBe
+left_down MayBe old log new count owns node stood one rose left some leaves more =
     let last = last_of log.entries some in
     inr (
       one,
       rose_later old.store.faults log.store.faults new.faults rose left.later,
       record {
         entry = last.0;
-        is_more = subst IsMore last.1 more;
+        is_more = subst MayBe last.1 more;
         stands = ∥∥₁_map (leaves new.synced left.joined) (or_more old log new.synced last.0 owns node stood last.1);
       },
     )
@@ -138,15 +138,15 @@ abbrev pub HasFallen : Logged → Type 0
 HasFallen log = log.failed ≡ true → (1 ≤ length log.entries) × Leaves log.store (with_entries log (history_of log) ∷ log ∷ [])
 
 -- what a run leaves of its store, by whether its node is down
-left_by : (IsMore : List Entry → Type 0) (failed : Bool) (old log : Logged) (new : Stored) (count : ℕ) → log.failed ≡ failed → owner_of log ≡ owner_of old → old.node ≡ 1 → old.promised ≡ old.accepted
-    → count ≡ downs_by log.failed → IsCaused log.failed old.store.faults log.store.faults → IsLeftOf log new → HasFallen log → (log.failed ≡ true → IsMore log.entries)
-    → IsLeftBy count old.cluster old.store new old.accepted (history_of log) IsMore
-left_by IsMore false old log new count is owns node stood counted caused left fallen more =
-    subst (λ (b : Bool). IsLeftBy count old.cluster old.store new old.accepted (history_by b log.entries) IsMore) (sym is)
-    (left_up IsMore old log new count owns node stood (counted ∙ ap downs_by is) (left.stands is))
-left_by IsMore true old log new count is owns node stood counted caused left fallen more =
-    subst (λ (b : Bool). IsLeftBy count old.cluster old.store new old.accepted (history_by b log.entries) IsMore) (sym is)
-    (left_down IsMore old log new count owns node stood (counted ∙ ap downs_by is)
+left_by : (MayBe : List Entry → Type 0) (failed : Bool) (old log : Logged) (new : Stored) (count : ℕ) → log.failed ≡ failed → owner_of log ≡ owner_of old → old.node ≡ 1 → old.promised ≡ old.accepted
+    → count ≡ downs_by log.failed → IsCaused log.failed old.store.faults log.store.faults → IsLeftOf log new → HasFallen log → (log.failed ≡ true → MayBe log.entries)
+    → IsLeftBy count old.cluster old.store new old.accepted (history_of log) MayBe
+left_by MayBe false old log new count is owns node stood counted caused left fallen more =
+    subst (λ (b : Bool). IsLeftBy count old.cluster old.store new old.accepted (history_by b log.entries) MayBe) (sym is)
+    (left_up MayBe old log new count owns node stood (counted ∙ ap downs_by is) (left.stands is))
+left_by MayBe true old log new count is owns node stood counted caused left fallen more =
+    subst (λ (b : Bool). IsLeftBy count old.cluster old.store new old.accepted (history_by b log.entries) MayBe) (sym is)
+    (left_down MayBe old log new count owns node stood (counted ∙ ap downs_by is)
     (subst (λ (b : Bool). IsCaused b old.store.faults log.store.faults) is caused) left (fallen is).0
     (subst (λ (b : Bool). Leaves log.store (with_entries log (history_by b log.entries) ∷ log ∷ [])) is (fallen is).1) (more is))
 
@@ -160,67 +160,19 @@ has_fallen log tables schema leaves down =
 given_fallen : (generation had : ℕ) (log : Logged) → IsHeld generation had log → HasFallen log
 given_fallen generation had log held down = subst (λ (b : Bool). IsHeldBy b generation log) down held.held
 
-left_from : (before : List Entry) (old log : Logged) (new : Stored) (entries : List EntryLine) → owner_of log ≡ owner_of old → old.node ≡ 1 → old.promised ≡ old.accepted →
-    AreTold before old.accepted entries (history_of log) → IsCaused log.failed old.store.faults log.store.faults → HasFallen log → IsLeftOf log new → IsLeftFrom before old new
-left_from before old log new entries owns node stood told caused fallen left = record {
+left_from : (script : Script) (start : Start) (old log : Logged) (new : Stored) (entries : List EntryLine) → HasRows start.before start.rows → owner_of log ≡ owner_of old → old.node ≡ 1 → old.promised ≡ old.accepted →
+    IsHistory script start old.accepted entries (history_of log) → IsCaused log.failed old.store.faults log.store.faults → HasFallen log → (log.failed ≡ true → IsMore script start old.accepted entries log.entries) → IsLeftOf log new →
+    IsLeftFrom script start.before old new
+left_from script start old log new entries has owns node stood told caused fallen more left = record {
+  start = start;
+  behind = refl;
+  has_rows = has;
   entries = entries;
   history = history_of log;
   told = told;
   count = downs_by log.failed;
-  left = left_by AnyLog log.failed old log new (downs_by log.failed) refl owns node stood refl caused left fallen (λ down. tt);
+  left = left_by (IsMore script start old.accepted entries) log.failed old log new (downs_by log.failed) refl owns node stood refl caused left fallen more;
 }
-
--- of a run that is told
-pub told_left : (script : Script) (start : Start) (old log : Logged) (report : Report) (new : Stored) → owner_of log ≡ owner_of old → old.node ≡ 1 → old.promised ≡ old.accepted →
-    AreTold start.before old.accepted report.entries (history_of log) → schema_of (history_of log) ≡ Some (tables_of script) → IsCaused log.failed old.store.faults log.store.faults →
-    (log.failed ≡ true → Leaves log.store (with_entries log (history_of log) ∷ log ∷ [])) → IsLeftOf log new → IsLeftFrom start.before old new
-told_left script start old log report new owns node stood told schema caused leaves left =
-    left_from start.before old log new report.entries owns node stood told caused (has_fallen log (tables_of script) schema leaves) left
-
--- and of one that is given up
-pub given_left : (start : Start) (old log : Logged) (new : Stored) → owner_of log ≡ owner_of old → old.node ≡ 1 → old.promised ≡ old.accepted → IsGivenUpIn start old log → IsLeftOf log new → IsLeftFrom start.before old new
-given_left start old log new owns node stood given left =
-    left_from start.before old log new given.entries owns node stood given.told given.held.caused (given_fallen old.accepted old.store.faults log given.held) left
-
--- what is told of a run
-pub played_text : (script : Script) (start : Start) (opened log : Logged) (report : Report) (new : Stored) (s : Status) (text : List ℕ) (b : ℕ) → b ≡ base start →
-    owner_of log ≡ owner_of opened → opened.node ≡ 1 → opened.promised ≡ opened.accepted →
-    Lawful (from_start script start) report → InPlayOrder (from_start script start) report → AreSerial (from_start script start) report.entries →
-    AreTold start.before opened.accepted report.entries (history_of log) → schema_of (history_of log) ≡ Some (tables_of script) →
-    ((k : ℕ) → b < k → k ≤ length (history_of log) → unwrap_or (slice_get (changed_in (history_of log)) (k - 1)) [] ≡ changes_at (from_start script start) report.entries k) →
-    ((k : ℕ) → IsFrom b k → k ≤ length (history_of log) → rows_over_at (ground_of start) (history_of log) k ≡ rows_at (from_start script start) report.entries k) →
-    StandsOver (ground_of start) (tables_of script) (history_of log) →
-    downs report.lines ≡ downs_by log.failed → IsCaused log.failed opened.store.faults log.store.faults →
-    (log.failed ≡ true → Leaves log.store (with_entries log (history_of log) ∷ log ∷ [])) → (log.failed ≡ true → IsFurther script start opened.accepted report log.entries) →
-    IsLeftOf log new → IsReportText report s text → IsPlayedText script start opened new s text
-played_text script start opened log report new s text b at same node stood lawful in_order serial entries schema changed rows stands counted caused leaves further left is_text = record {
-  report = report;
-  history = history_of log;
-  told = record {
-    lawful = lawful;
-    in_order = in_order;
-    entries = entries;
-    schema = schema;
-    changed = λ k first within. changed k (let e = at in omega (arith, e, first)) within;
-    rows = λ k from within. rows k (from.0, let e = at in let f = from.1 in omega (arith, e, f)) within;
-    stands = stands;
-  };
-  serial = serial;
-  is_text = is_text;
-  left = left_by (IsFurther script start opened.accepted report) log.failed opened log new (downs report.lines) refl same node stood counted caused left (has_fallen log (tables_of script) schema leaves) further;
-}
-
--- a run over a store
-
-left_older : (IsMore : List Entry → Type 0) (count cluster : ℕ) (old mid new : Stored) (generation : ℕ) (history : List Entry) → old.faults ≤ mid.faults → IsLeftBy count cluster mid new generation history IsMore → IsLeftBy count cluster old new generation history IsMore
-left_older IsMore count cluster old mid new generation history l (inl up) = inl up
-left_older IsMore count cluster old mid new generation history l (inr down) = inr (down.0, risen_from old.faults mid.faults new.faults l down.1, down.2)
-
--- what is known of the log with one entry more
-left_known : (IsMore IsKnown : List Entry → Type 0) (count cluster : ℕ) (old new : Stored) (generation : ℕ) (history : List Entry) → ((log : List Entry) → IsMore log → IsKnown log) → IsLeftBy count cluster old new generation history IsMore → IsLeftBy count cluster old new generation history IsKnown
-left_known IsMore IsKnown count cluster old new generation history knows (inl up) = inl up
-left_known IsMore IsKnown count cluster old new generation history knows (inr down) =
-    inr (down.0, down.1, record { entry = down.2.entry; is_more = knows (history ++ down.2.entry ∷ []) down.2.is_more; stands = down.2.stands })
 
 -- a report tells a history
 its_history : (script : Script) (start : Start) (generation : ℕ) (report : Report) (history : List Entry) → IsTold script start generation report history → IsHistory script start generation report.entries history
@@ -233,6 +185,64 @@ its_history script start generation report history told = record {
   stands = told.stands;
 }
 
+-- what is told of a run, by where it began
+pub its_told : (script : Script) (start : Start) (generation : ℕ) (report : Report) (history : List Entry) (b : ℕ) → b ≡ base start → Lawful (from_start script start) report → InPlayOrder (from_start script start) report →
+    AreTold start.before generation report.entries history → schema_of history ≡ Some (tables_of script) →
+    ((k : ℕ) → b < k → k ≤ length history → unwrap_or (slice_get (changed_in history) (k - 1)) [] ≡ changes_at (from_start script start) report.entries k) →
+    ((k : ℕ) → IsFrom b k → k ≤ length history → rows_over_at (ground_of start) history k ≡ rows_at (from_start script start) report.entries k) →
+    StandsOver (ground_of start) (tables_of script) history → IsTold script start generation report history
+its_told script start generation report history b at lawful in_order entries schema changed rows stands = record {
+  lawful = lawful;
+  in_order = in_order;
+  entries = entries;
+  schema = schema;
+  changed = λ k first within. changed k (let e = at in omega (arith, e, first)) within;
+  rows = λ k from within. rows k (from.0, let e = at in let f = from.1 in omega (arith, e, f)) within;
+  stands = stands;
+}
+
+-- of a run that is told
+pub told_left : (script : Script) (start : Start) (old log : Logged) (report : Report) (new : Stored) → HasRows start.before start.rows → owner_of log ≡ owner_of old → old.node ≡ 1 → old.promised ≡ old.accepted →
+    IsTold script start old.accepted report (history_of log) → IsCaused log.failed old.store.faults log.store.faults →
+    (log.failed ≡ true → Leaves log.store (with_entries log (history_of log) ∷ log ∷ [])) → (log.failed ≡ true → IsFurther script start old.accepted report log.entries) → IsLeftOf log new → IsLeftFrom script start.before old new
+told_left script start old log report new has owns node stood told caused leaves further left =
+    left_from script start old log new report.entries has owns node stood (its_history script start old.accepted report (history_of log) told) caused (has_fallen log (tables_of script) told.schema leaves)
+    (λ down. let f = further down in record { line = f.line; history = f.history }) left
+
+-- and of one that is given up
+pub given_left : (script : Script) (start : Start) (old log : Logged) (new : Stored) → HasRows start.before start.rows → owner_of log ≡ owner_of old → old.node ≡ 1 → old.promised ≡ old.accepted → IsGivenUpIn script start old log → IsLeftOf log new →
+    IsLeftFrom script start.before old new
+given_left script start old log new has owns node stood given left =
+    left_from script start old log new given.entries has owns node stood given.history given.held.caused (given_fallen old.accepted old.store.faults log given.held)
+    (λ down. let f = given.further down in record { line = f.0; history = f.1 }) left
+
+-- what is told of a run
+pub played_text : (script : Script) (start : Start) (opened log : Logged) (report : Report) (new : Stored) (s : Status) (text : List ℕ) →
+    owner_of log ≡ owner_of opened → opened.node ≡ 1 → opened.promised ≡ opened.accepted → IsTold script start opened.accepted report (history_of log) → AreSerial (from_start script start) report.entries →
+    downs report.lines ≡ downs_by log.failed → IsCaused log.failed opened.store.faults log.store.faults →
+    (log.failed ≡ true → Leaves log.store (with_entries log (history_of log) ∷ log ∷ [])) → (log.failed ≡ true → IsFurther script start opened.accepted report log.entries) →
+    IsLeftOf log new → IsReportText report s text → IsPlayedText script start opened new s text
+played_text script start opened log report new s text same node stood told serial counted caused leaves further left is_text = record {
+  report = report;
+  history = history_of log;
+  told = told;
+  serial = serial;
+  is_text = is_text;
+  left = left_by (IsFurther script start opened.accepted report) log.failed opened log new (downs report.lines) refl same node stood counted caused left (has_fallen log (tables_of script) told.schema leaves) further;
+}
+
+-- a run over a store
+
+left_older : (MayBe : List Entry → Type 0) (count cluster : ℕ) (old mid new : Stored) (generation : ℕ) (history : List Entry) → old.faults ≤ mid.faults → IsLeftBy count cluster mid new generation history MayBe → IsLeftBy count cluster old new generation history MayBe
+left_older MayBe count cluster old mid new generation history l (inl up) = inl up
+left_older MayBe count cluster old mid new generation history l (inr down) = inr (down.0, risen_from old.faults mid.faults new.faults l down.1, down.2)
+
+-- what is known of the log with one entry more
+left_known : (MayBe IsKnown : List Entry → Type 0) (count cluster : ℕ) (old new : Stored) (generation : ℕ) (history : List Entry) → ((log : List Entry) → MayBe log → IsKnown log) → IsLeftBy count cluster old new generation history MayBe → IsLeftBy count cluster old new generation history IsKnown
+left_known MayBe IsKnown count cluster old new generation history knows (inl up) = inl up
+left_known MayBe IsKnown count cluster old new generation history knows (inr down) =
+    inr (down.0, down.1, record { entry = down.2.entry; is_more = knows (history ++ down.2.entry ∷ []) down.2.is_more; stands = down.2.stands })
+
 pub is_run : KeepTheirKeys → (script : Script) (old new : Stored) (base : ℕ) (log : Logged) (before : List Entry) (s : Status) (text : List ℕ) → CanRun (with_tables script before) → IsNamed script →
     (o : IsOpened script old base log) → before ≡ o.taken.old_entries → (rows : Rows) → IsBegunAt (with_tables script before) base before log rows →
     IsPlayedText (with_tables script before) (start_at before rows) log new s text → IsRun script old new text
@@ -241,7 +251,7 @@ is_run law script old new base log before s text can names o same rows begun pla
     let start = start_at before rows in
     let sound_further = IsSoundFurther whole start (o.taken.old_promise + 1) played.report in
     let sound : (entries : List EntryLine) (made : List Entry) → IsHistory whole start (o.taken.old_promise + 1) entries made → IsSoundBelow start (o.taken.old_promise + 1) made = λ entries made told.
-        sound_behind script (cluster_of script) old.synced o.taken.old_promise o.taken.old_accepted before rows entries made law can
+        sound_behind script (cluster_of script) old.synced o.taken.old_promise o.taken.old_accepted before start entries made law (all_columns whole.tables can.columns) refl
         (subst (λ (es : List Entry). StandsForGood 1 (cluster_of script) old.synced (tables_of script) o.taken.old_promise o.taken.old_accepted es) (sym same) o.taken.stood) begun.has_rows told in
     let basis = from_start whole (start_at before rows) in
     let p = played.told in
@@ -344,24 +354,41 @@ left_cut script (why.Differs place) old new alike = inl alike
 left_cut script why.NoMemory old new (inl alike) = inl alike
 left_cut script why.NoMemory old new (inr partway) = inr (inl partway)
 
-pub run_cut : (script : Script) (old new : Stored) (base : ℕ) (log : Logged) → IsOpened script old base log → IsLeftFrom (log_before base log) log new → IsCutOff script old new
-run_cut script old new base log o l = inr (inr (record {
-  promised = o.taken.old_promise;
-  accepted = o.taken.old_accepted;
-  before = log_before base log;
-  stood = subst (λ (es : List Entry). StandsForGood 1 (cluster_of script) old.synced (tables_of script) o.taken.old_promise o.taken.old_accepted es) (sym (before_is script old base log o)) o.taken.stood;
-  entries = l.entries;
-  history = l.history;
-  told = subst (λ (g : ℕ). AreTold (log_before base log) g l.entries l.history) o.taken.accepted l.told;
-  count = l.count;
-  left = left_older AnyLog l.count (cluster_of script) old log.store new (o.taken.old_promise + 1) l.history o.later
-      (subst (λ (g : ℕ). IsLeftBy l.count (cluster_of script) log.store new g l.history AnyLog) o.taken.accepted
-      (subst (λ (c : ℕ). IsLeftBy l.count c log.store new log.accepted l.history AnyLog) o.cluster l.left));
-}))
+pub run_cut : KeepTheirKeys → (script : Script) (old new : Stored) (base : ℕ) (log : Logged) → CanRun script → IsOpened script old base log → IsLeftBehind script (log_before base log) log new → IsCutOff script old new
+run_cut law script old new base log can o l =
+    let before = log_before base log in
+    let whole = with_tables script before in
+    let made = o.taken.old_promise + 1 in
+    let sound_more = IsSoundMore whole l.start made l.entries in
+    let stood : StandsForGood 1 (cluster_of script) old.synced (tables_of script) o.taken.old_promise o.taken.old_accepted before =
+    subst (λ (es : List Entry). StandsForGood 1 (cluster_of script) old.synced (tables_of script) o.taken.old_promise o.taken.old_accepted es) (sym (before_is script old base log o)) o.taken.stood in
+    let sound : (entries : List EntryLine) (history : List Entry) → IsHistory whole l.start made entries history → IsSoundBelow l.start made history = λ entries history told.
+        sound_behind script (cluster_of script) old.synced o.taken.old_promise o.taken.old_accepted before l.start entries history law
+        (columns_with script o.taken.old_accepted before can stood.good.sound stood.good.tables) l.behind stood l.has_rows told in
+    let told : IsHistory whole l.start made l.entries l.history = subst (λ (g : ℕ). IsHistory whole l.start g l.entries l.history) o.taken.accepted l.told in
+    inr (inr (record {
+      promised = o.taken.old_promise;
+      accepted = o.taken.old_accepted;
+      before = before;
+      stood = stood;
+      start = l.start;
+      behind = l.behind;
+      has_rows = l.has_rows;
+      entries = l.entries;
+      history = l.history;
+      told = told;
+      count = l.count;
+      left = left_older sound_more l.count (cluster_of script) old log.store new made l.history o.later
+          (left_known (IsMore whole l.start made l.entries) sound_more l.count (cluster_of script) log.store new made l.history (λ es more. record { more = more; sound = sound (l.entries ++ more.line ∷ []) es more.history })
+          (subst (λ (g : ℕ). IsLeftBy l.count (cluster_of script) log.store new g l.history (IsMore whole l.start g l.entries)) o.taken.accepted
+          (subst (λ (c : ℕ). IsLeftBy l.count c log.store new log.accepted l.history (IsMore whole l.start log.accepted l.entries)) o.cluster l.left)));
+      sound = sound l.entries l.history told;
+    }))
 
 -- a run is given up before it begins
-pub opened_left : (script : Script) (old : Stored) (base : ℕ) (log : Logged) (new : Stored) → IsOpened script old base log → IsLeftOf log new → IsLeftFrom (log_before base log) log new
-opened_left script old base log new o left =
+pub opened_left : (script : Script) (old : Stored) (base : ℕ) (log : Logged) (new : Stored) → CanRun (with_tables script (log_before base log)) → IsOpened script old base log → IsLeftOf log new → IsLeftBehind script (log_before base log) log new
+opened_left script old base log new can o left =
     let b = begun_at script old base log o in
+    let whole = with_tables script (log_before base log) in
     let start = start_at (log_before base log) (begins_at script old base log o).rows in
-    given_left start log log new refl o.node b.same (given_first (tables_of (with_tables script (log_before base log))) start log o.running b.opened) left
+    given_left whole start log log new b.has_rows refl o.node b.same (given_first whole start log can o.running b.opened b.behind) left

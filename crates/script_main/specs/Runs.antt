@@ -27,8 +27,7 @@ use Rattle.report_text.specs.declared.reports.Report.{Report}
 use Rattle.script_form.specs.CanRun.{tables_of}
 use Rattle.script_form.specs.declared.scripts.Script.{Script}
 use Rattle.script_play.specs.Basis.{from_base, from_start}
-use Rattle.script_play.specs.EntryLines.{AreTold}
-use Rattle.script_play.specs.Played.{IsFurther, IsTold}
+use Rattle.script_play.specs.Played.{IsFurther, IsHistory, IsTold}
 use Rattle.script_play.specs.Serial.{AreSerial}
 use Rattle.script_play.specs.Start.{Start, ground_of}
 use Rattle.sound_log.specs.Sound.{IsSound}
@@ -61,21 +60,27 @@ pub record IsSoundFurther (script : Script) (start : Start) (generation : ℕ) (
   pub further : IsFurther script start generation report log
   pub sound : IsSoundBelow start generation log
 
--- any log
-abbrev pub AnyLog : List Entry → Type 0
-AnyLog log = Unit {0}
+-- a log that has one entry more than these lines tell: with its line they tell it
+pub record IsMore (script : Script) (start : Start) (generation : ℕ) (entries : List EntryLine) (log : List Entry) : Type 0 where
+  pub line : EntryLine
+  pub history : IsHistory script start generation (entries ++ line ∷ []) log
+
+-- the same, and it is sound
+pub record IsSoundMore (script : Script) (start : Start) (generation : ℕ) (entries : List EntryLine) (log : List Entry) : Type 0 where
+  pub more : IsMore script start generation entries log
+  pub sound : IsSoundBelow start generation log
 
 -- what is left where the node went down: the history, or such a log, which has one entry more
-pub record KeepsOrMore (cluster : ℕ) (bytes : List ℕ) (generation : ℕ) (history : List Entry) (IsMore : List Entry → Type 0) : Type 0 where
+pub record KeepsOrMore (cluster : ℕ) (bytes : List ℕ) (generation : ℕ) (history : List Entry) (MayBe : List Entry → Type 0) : Type 0 where
   pub entry : Entry
-  pub is_more : IsMore (history ++ entry ∷ [])
+  pub is_more : MayBe (history ++ entry ∷ [])
   pub stands : ∥ Keeps cluster bytes generation history ⊎ Keeps cluster bytes generation (history ++ entry ∷ []) ∥₁
 
 -- what is left of the store, by how many down lines are told: none, or one, where its count of faults rose
 abbrev pub IsLeftBy : ℕ → ℕ → Stored → Stored → ℕ → List Entry → (List Entry → Type 0) → Type 0
-IsLeftBy count cluster old new generation history IsMore =
+IsLeftBy count cluster old new generation history MayBe =
     ((count ≡ 0) × ∥ Keeps cluster new.synced generation history ∥₁)
-    ⊎ ((count ≡ 1) × HasRisen old.faults new.faults × KeepsOrMore cluster new.synced generation history IsMore)
+    ⊎ ((count ≡ 1) × HasRisen old.faults new.faults × KeepsOrMore cluster new.synced generation history MayBe)
 
 -- the text of a report of a run behind the log for which the store stood, which is sound and has the script's tables; and what
 -- is left of the store. The entries at level serializable are serial. The history is sound again.
@@ -115,17 +120,22 @@ pub record IsDownFirst (script : Script) (old new : Stored) (text : List ℕ) : 
   pub left : IsLeft (why.StoreFault size) 1 (cluster_of script) old.synced new.synced (tables_of script)
 
 -- what is left of the store where the run was given up behind its opening, for want of memory: the log for which it stood, with
--- entries of the run
+-- entries of the run, whose lines tell its history. It is sound again.
 pub record IsGivenUp (script : Script) (old new : Stored) : Type 0 where
   pub promised : ℕ
   pub accepted : ℕ
   pub before : List Entry
   pub stood : StandsForGood 1 (cluster_of script) old.synced (tables_of script) promised accepted before
+  pub start : Start
+  pub behind : start.before ≡ before
+  pub has_rows : HasRows before start.rows
   pub entries : List EntryLine
   pub history : List Entry
-  pub told : AreTold before (promised + 1) entries history
+  pub told : IsHistory (with_tables script before) start (promised + 1) entries history
   pub count : ℕ
-  pub left : IsLeftBy count (cluster_of script) old new (promised + 1) history AnyLog
+  pub left : IsLeftBy count (cluster_of script) old new (promised + 1) history
+      (IsSoundMore (with_tables script before) start (promised + 1) entries)
+  pub sound : IsSoundBelow start (promised + 1) history
 
 -- what is left of the store whatever is answered: what it stood for; that with some of what the opening appends; or what a run
 -- behind the opening leaves

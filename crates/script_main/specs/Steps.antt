@@ -17,15 +17,14 @@ use Rattle.script_form.specs.CanRun.{tables_of}
 use Rattle.script_form.specs.declared.scripts.Script.{Script}
 use Rattle.script_form.specs.declared.scripts.TableLine.{TableLine}
 use Rattle.script_play.specs.Basis.{from_start}
-use Rattle.script_play.specs.EntryLines.{AreTold}
-use Rattle.script_play.specs.Played.{IsFurther, IsTold}
+use Rattle.script_play.specs.Played.{IsFurther, IsHistory, IsTold}
 use Rattle.script_play.specs.Ready.{AreEarlier, CanBegin}
 use Rattle.script_play.specs.RunViews.{IsOpenedBehind}
 use Rattle.script_play.specs.Serial.{AreSerial}
 use Rattle.script_play.specs.Start.{Start}
 use Rattle.store_log.specs.Keeps.{Stored}
-use Rattle.script_main.specs.Runs.{AnyLog, IsDownText, IsLeftBy, IsRun}
-use Rattle.script_main.specs.Stores.{cluster_of, HasRows}
+use Rattle.script_main.specs.Runs.{IsDownText, IsLeftBy, IsMore, IsRun}
+use Rattle.script_main.specs.Stores.{cluster_of, with_tables, HasRows}
 use Rattle.script_main.specs.Texts.{refused_text, store_text, unsound_text}
 use Rattle.script_main.specs.declared.statuses.Status.{Status}
 use Rattle.script_main.specs.declared.statuses.Status.TheVariants as status
@@ -97,13 +96,20 @@ pub record IsPlayedText (script : Script) (start : Start) (log : Logged) (new : 
   pub is_text : IsReportText report s text
   pub left : IsLeftBy (downs report.lines) log.cluster log.store new log.accepted history (IsFurther script start log.accepted report)
 
--- what is left of the store of a run behind a log, whatever is told of it
-pub record IsLeftFrom (before : List Entry) (log : Logged) (new : Stored) : Type 0 where
+-- what is left of the store of a run of a script behind a log, whatever is told of it
+pub record IsLeftFrom (script : Script) (before : List Entry) (log : Logged) (new : Stored) : Type 0 where
+  pub start : Start
+  pub behind : start.before ≡ before
+  pub has_rows : HasRows before start.rows
   pub entries : List EntryLine
   pub history : List Entry
-  pub told : AreTold before log.accepted entries history
+  pub told : IsHistory script start log.accepted entries history
   pub count : ℕ
-  pub left : IsLeftBy count log.cluster log.store new log.accepted history AnyLog
+  pub left : IsLeftBy count log.cluster log.store new log.accepted history (IsMore script start log.accepted entries)
+
+-- the same of a script that takes the tables of the log, where it has none
+abbrev pub IsLeftBehind : Script → List Entry → Logged → Stored → Type 0
+IsLeftBehind script before log new = IsLeftFrom (with_tables script before) before log new
 
 -- the text of a run over a store
 pub record IsRunText (script : Script) (old new : Stored) (s : Status) (text : List ℕ) : Type 0 where

@@ -13,7 +13,7 @@ ghost use Rattle.script_play.specs.Start.{Start};
 ghost use Rattle.store_log.specs.Keeps.{Stored};
 ghost use Rattle.script_main.specs.Run.{IsTextOver};
 ghost use Rattle.script_main.specs.Runs.{IsCutOff, IsDownText};
-ghost use Rattle.script_main.specs.Steps.{log_before, IsBegunAt, IsLeftFrom, IsLeftOf, IsNotUpText, IsOpened};
+ghost use Rattle.script_main.specs.Steps.{log_before, IsBegunAt, IsLeftBehind, IsLeftFrom, IsLeftOf, IsNotUpText, IsOpened};
 ghost use Rattle.script_main.specs.Steps.{IsPlaceIn, IsPlayedText, IsReportText, IsRunText};
 ghost use Rattle.script_main.specs.Stores.{cluster_of, kept_by, start_at, unsaid, HasId};
 
@@ -84,6 +84,7 @@ fn open_and_play<D: LogStore + Drop>(
         (kept_by D.synced D.pending D.faults result.store) }
     ensures settled { D.pending result.store ≡ [] }
 {
+    pages_that_stand_keep_their_keys();
     match open_node(alloc, store, NODE, cluster, schema) {
         Ok(up) => play_up(alloc, script, up),
         Err(down) => refuse(alloc, script, down),
@@ -174,7 +175,7 @@ fn play_up<D: LogStore + Drop>(alloc: Global, script: &Script, up: UpNode<D>) ->
     requires opened { (old : Stored) × IsOpened script.now old up.base up.log }
     ensures text { IfOk result.answer (λ a. (old : Stored) → IsOpened script.now old up.base up.log
         → IsRunText script.now old (kept_by D.synced D.pending D.faults result.store) a.status a.text) }
-    ensures left { IsLeftFrom (log_before up.base up.log) up.log (kept_by D.synced D.pending D.faults result.store) }
+    ensures left { IsLeftBehind script.now (log_before up.base up.log) up.log (kept_by D.synced D.pending D.faults result.store) }
     ensures settled { D.pending result.store ≡ [] }
 {
     let begun = begin(up);
@@ -206,7 +207,7 @@ fn play_own<D: LogStore + Drop>(alloc: Global, script: &Script, begun: Begun<D>)
     requires own { (begun.base ≡ 0) ⊎ (script.now.tables ≢ []) }
     ensures text { IfOk result.answer (λ a. (old : Stored) → IsOpened script.now old begun.base begun.log
         → IsRunText script.now old (kept_by D.synced D.pending D.faults result.store) a.status a.text) }
-    ensures left { IsLeftFrom (log_before begun.base begun.log) begun.log
+    ensures left { IsLeftBehind script.now (log_before begun.base begun.log) begun.log
         (kept_by D.synced D.pending D.faults result.store) }
     ensures settled { D.pending result.store ≡ [] }
 {
@@ -223,7 +224,7 @@ fn play_logged<D: LogStore + Drop>(alloc: Global, script: &Script, begun: Begun<
     requires none { script.now.tables ≡ [] }
     ensures text { IfOk result.answer (λ a. (old : Stored) → IsOpened script.now old begun.base begun.log
         → IsRunText script.now old (kept_by D.synced D.pending D.faults result.store) a.status a.text) }
-    ensures left { IsLeftFrom (log_before begun.base begun.log) begun.log
+    ensures left { IsLeftBehind script.now (log_before begun.base begun.log) begun.log
         (kept_by D.synced D.pending D.faults result.store) }
     ensures settled { D.pending result.store ≡ [] }
 {
@@ -297,7 +298,7 @@ fn play_begun<D: LogStore + Drop>(alloc: Global, script: &Script, begun: Begun<D
         → IsBegunAt script.now begun.base (log_before begun.base begun.log) begun.log rows
         → IsPlayedText script.now (start_at (log_before begun.base begun.log) rows) begun.log
         (kept_by D.synced D.pending D.faults result.store) a.status a.text) }
-    ensures left { IsLeftFrom (log_before begun.base begun.log) begun.log
+    ensures left { IsLeftFrom script.now (log_before begun.base begun.log) begun.log
         (kept_by D.synced D.pending D.faults result.store) }
     ensures settled { D.pending result.store ≡ [] }
 {
@@ -313,7 +314,8 @@ fn play_from<D: LogStore + Drop>(alloc: Global, script: &Script, begun: Begun<D>
     requires begun { IsBegunAt script.now begun.base (log_before begun.base begun.log) begun.log start.rows }
     ensures text { IfOk result.answer (λ a. IsPlayedText script.now start begun.log
         (kept_by D.synced D.pending D.faults result.store) a.status a.text) }
-    ensures left { IsLeftFrom start.before begun.log (kept_by D.synced D.pending D.faults result.store) }
+    ensures left { IsLeftFrom script.now start.before begun.log
+        (kept_by D.synced D.pending D.faults result.store) }
     ensures settled { D.pending result.store ≡ [] }
 {
     let Begun { log, base } = begun;

@@ -7,7 +7,9 @@ use Rattle.block_processor.specs.Changed.{changed_in}
 use Rattle.node_log.specs.Logged.{Logged, Leaves}
 use Rattle.report_laws.specs.Nodes.{downs}
 use Rattle.report_laws.proofs.NodesLaws.{downs_append}
+use Rattle.phys_log.specs.declared.entries.Entry.{Entry}
 use Rattle.report_text.specs.declared.reports.EntryLine.{EntryLine}
+use Rattle.report_text.specs.declared.reports.EntryLine.TheVariants.{Setup}
 use Rattle.report_text.specs.declared.reports.Line.{Line}
 use Rattle.report_text.specs.declared.reports.Report.{Report}
 use Rattle.script_form.specs.CanRun.{CanRun, tables_of}
@@ -16,19 +18,20 @@ use Rattle.script_form.specs.declared.scripts.Script.{Script}
 use Rattle.script_form.specs.declared.scripts.SessionLine.{SessionLine}
 use Rattle.script_play.specs.Doing.{SessionAt}
 use Rattle.script_play.specs.Doing as doing
-use Rattle.script_play.specs.Played.{downs_by, IsGivenUp, IsPlayed}
+use Rattle.script_play.specs.Played.{downs_by, IsGivenUp, IsHistory, IsPlayed}
 use Rattle.script_play.specs.Run.{run_of}
 use Rattle.script_play.specs.RunViews.{doing_in, seen_in, state_in, AreOwn, IsBeforeLine, IsOpenedBehind, IsOpening, IsOwn, IsOwnDoing}
 use Rattle.script_play.specs.EntryLines.{AreTold}
 use Rattle.script_play.specs.Ready.{AreEarlier, CanBegin, IsLogged}
-use Rattle.script_play.specs.SoFar.{now_of, at_start, report_of, IsAtNode, IsBefore}
+use Rattle.script_play.specs.SoFar.{now_of, at_start, report_of, IsAtNode, IsBefore, Stored}
 use Rattle.script_play.specs.Down.{down_line, history_by, history_of, with_entries, IsCaused, IsHeld, IsHeldBy}
 use Rattle.script_play.specs.Start.{Start, base}
 use Rattle.script_play.specs.declared.states.InTransaction.{InTransaction}
 use Rattle.script_play.specs.declared.states.InTransaction.TheVariants.{No, Open, Aborted}
 use Rattle.script_play.specs.declared.states.SessionState.{SessionState}
 use Rattle.script_play.proofs.FurtherLemmas.{further_told}
-use Rattle.script_play.proofs.StartLemmas.{begun, opens, Opens}
+use Rattle.script_play.proofs.SiteLemmas.{told_count}
+use Rattle.script_play.proofs.StartLemmas.{opens, Opens}
 use Rattle.script_play.proofs.WholeLemmas.{ends_lawful, ends_in_order}
 
 -- no session has an open transaction
@@ -115,24 +118,53 @@ done_at script start opened lines entries log states told report now base_is is 
     report_is : report ≡ report_of (base start) (now_of start entries) lines entries
     report_is = is ∙ ap (λ n. report_of n (length (history_of log)) lines entries) base_is ∙ ap (λ n. report_of (base start) n lines entries) now.logged.count
 
+-- the history of a log, and the lines that tell it
+history_so : (script : Script) (start : Start) (generation : ℕ) (entries : List EntryLine) (log : List Entry) → Stored script start entries (changed_in log) (seen_in start log) →
+    IsLogged start (tables_of script) (now_of start entries) log → AreTold start.before generation entries log → IsHistory script start generation entries log
+history_so script start generation entries log stored logged told = record {
+  lawful = stored.history;
+  told = told;
+  schema = logged.schema;
+  changed = λ k first within. stored.changed_are k first (let n = logged.count in omega (arith, n, within));
+  rows = λ k from within. stored.rows_are k from (let n = logged.count in omega (arith, n, within));
+  stands = logged.stands;
+}
+
 -- a run is given up before the first line of the script
-pub given_first : (tables : List TableDef) (start : Start) (log : Logged) → log.failed ≡ false → IsOpenedBehind tables log.accepted start.before log.entries → IsGivenUp start log log
-given_first tables start log up is = record {
+pub given_first : (script : Script) (start : Start) (log : Logged) → CanRun script → log.failed ≡ false → IsOpenedBehind (tables_of script) log.accepted start.before log.entries →
+    CanBegin (tables_of script) start.before start.rows → IsGivenUp script start log log
+given_first script start log can up is begin = record {
   entries = first.0;
-  told = subst (λ (b : Bool). AreTold start.before log.accepted first.0 (history_by b log.entries)) (sym up) first.1;
+  history = subst (λ (b : Bool). IsHistory script start log.accepted first.0 (history_by b log.entries)) (sym up)
+      (history_so script start log.accepted first.0 log.entries first.1.before_line.so_far.stored first.1.logged_so first.1.told);
   held = held_first log up;
+  further = λ down. let never : false ≡ true = sym up ∙ down in absurd cc;
 }
   where
-    first : (entries : List EntryLine) × AreTold start.before log.accepted entries log.entries
-    first = begun tables log.accepted start.before log.entries is
+    -- the lines that the history has there
+    lines : (before : List Entry) → IsOpenedBehind (tables_of script) log.accepted before log.entries → (entries : List EntryLine) × IsOpening (tables_of script) log.accepted before entries log.entries
+    lines [] opened = (Setup 1 ∷ [], record { first = λ none. (refl, opened.first none); later = λ some. absurd (omega (arith, some)) })
+    lines (e ∷ es) opened = ([], record { first = λ none. absurd cc; later = λ some. (refl, opened.later some) })
+
+    first : (entries : List EntryLine) × Opens script start log.accepted entries log.entries (map (λ _. at_start) script.sessions)
+    first =
+        let l = lines start.before is in
+        (l.0, opens script (tables_of script) start.before start.rows log.accepted l.0 log.entries (map (λ _. at_start) script.sessions) can refl begin l.1 refl)
 
 -- and at a line, which leaves the log as it was
 pub given_at : (script : Script) (start : Start) (opened log log' : Logged) (generation : ℕ) (left : List BodyLine) (lines : List Line) (entries : List EntryLine) (states : List SessionState) →
-    IsBeforeLine script start generation opened.store.faults left (run_of lines entries log) states → generation ≡ opened.accepted → log' ≡ log → IsGivenUp start opened log'
-given_at script start opened log log' generation left lines entries states now made same = subst (λ (l : Logged). IsGivenUp start opened l) (sym same) (record {
+    IsBeforeLine script start generation opened.store.faults left (run_of lines entries log) states → generation ≡ opened.accepted → log' ≡ log → IsGivenUp script start opened log'
+given_at script start opened log log' generation left lines entries states now made same = subst (λ (l : Logged). IsGivenUp script start opened l) (sym same) (record {
   entries = entries;
-  told = subst (λ (n : ℕ). AreTold start.before n entries (history_of log)) made now.told;
+  history = subst (λ (n : ℕ). IsHistory script start n entries (history_of log)) made (history_so script start generation entries (history_of log) now.before.so_far.stored now.logged now.told);
   held = subst (λ (n : ℕ). IsHeld n opened.store.faults log) made now.held;
+  further = λ down.
+      let more = now.further down in (
+        more.line,
+        subst (λ (n : ℕ). IsHistory script start n (entries ++ more.line ∷ []) log.entries) made
+            (history_so script start generation (entries ++ more.line ∷ []) log.entries more.stored
+            (subst (λ (n : ℕ). IsLogged start (tables_of script) n log.entries) (told_count start.before generation (entries ++ more.line ∷ []) log.entries more.told) more.logged) more.told),
+      );
 })
 
 -- how many entries the history of a log has

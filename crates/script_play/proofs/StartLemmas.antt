@@ -45,12 +45,6 @@ opening_is tables generation told before entries logged count first later is = r
   later = λ some. (later (omega (arith, count, some)), is.later some);
 }
 
--- the entries of a log at its opening are told
-pub begun : (tables : List TableDef) (generation : ℕ) (before logged : List Entry) → IsOpenedBehind tables generation before logged → (entries : List EntryLine) × AreTold before generation entries logged
-begun tables generation [] logged is =
-    (lines_from 1 logged, record { made = logged; behind = refl; told = refl; in_it = subst (λ (es : List Entry). AllByRecursion (IsMadeIn generation) es) (sym (is.first refl).is) (refl, tt) })
-begun tables generation (e ∷ es) logged is = ([], record { made = []; behind = is.later (omega arith) ∙ sym (append-nil (e ∷ es)); told = refl; in_it = tt })
-
 -- ---- a run that begins its log
 
 -- the run behind a log without entries

@@ -62,9 +62,10 @@ pub record IsPlayed (script : Script) (start : Start) (opened : Logged) (report 
   pub held : IsHeld opened.accepted opened.store.faults log
   pub further : log.failed ≡ true → IsFurther script start opened.accepted report log.entries
 
--- the log of a run that was given up, and that was opened so: it is the one before the run with entries of the run, as a history
--- tells them, and it is held as that of a run that is done
-pub record IsGivenUp (start : Start) (opened log : Logged) : Type 0 where
+-- the log of a run that was given up, and that was opened so: it is the one before the run with entries of the run, which tell
+-- its history, also with one entry more; and it is held as that of a run that is done
+pub record IsGivenUp (script : Script) (start : Start) (opened log : Logged) : Type 0 where
   pub entries : List EntryLine
-  pub told : AreTold start.before opened.accepted entries (history_of log)
+  pub history : IsHistory script start opened.accepted entries (history_of log)
   pub held : IsHeld opened.accepted opened.store.faults log
+  pub further : log.failed ≡ true → (line : EntryLine) × IsHistory script start opened.accepted (entries ++ line ∷ []) log.entries

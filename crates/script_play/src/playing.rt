@@ -64,8 +64,8 @@ pub struct Played<D: LogStore> {
 /// pages of the log stand for the rows of the history. As long as the node is up its store stands for the log; else what a stop
 /// leaves of it stands for the log of the history, or for one entry more.
 ///
-/// The error is want of memory, with the log: it has the entries before the run and such as a history would tell, and is held
-/// as the log of a run that is done.
+/// The error is want of memory, with the log: it has the entries before the run and such as tell its history, which is lawful,
+/// and is held as the log of a run that is done.
 pub fn play<D: LogStore + Drop>(
     alloc: Global,
     script: &Script,
@@ -97,7 +97,7 @@ pub fn play<D: LogStore + Drop>(
         → Leaves p.log.store (with_entries p.log (history_of p.log) ∷ p.log ∷ [])) }
     ensures further { IfOk result (λ p. p.log.failed ≡ true
         → IsFurther script.now start log.accepted p.report p.log.entries) }
-    ensures given_up { IfErr result (λ l. IsGivenUp start log l) }
+    ensures given_up { IfErr result (λ l. IsGivenUp script.now start log l) }
     ensures owner { MatchResult result (λ p. owner_of p.log ≡ owner_of log) (λ l. owner_of l ≡ owner_of log) }
 {
     play_behind(alloc, script, log, base)
@@ -118,7 +118,7 @@ fn play_behind<D: LogStore + Drop>(
     requires earlier { AreEarlier log.accepted start.before }
     requires behind { CanBegin (tables_of script.now) start.before start.rows }
     ensures played { IfOk result (λ p. IsPlayed script.now start log p.report p.log) }
-    ensures given_up { IfErr result (λ l. IsGivenUp start log l) }
+    ensures given_up { IfErr result (λ l. IsGivenUp script.now start log l) }
     ensures owner { MatchResult result (λ p. owner_of p.log ≡ owner_of log) (λ l. owner_of l ≡ owner_of log) }
 {
     let Ok(known) = BlkSeq::of_entries(alloc, log.log().entries()) else {
@@ -157,7 +157,7 @@ fn play_on<D: LogStore>(
     requires entries { run.old.entries.items ≡ [] }
     ensures done { OnOk result ((states : List SessionState)
         × IsBeforeLine script.now start run.old.log.accepted run.old.log.store.faults [] (run_in run.new) states) }
-    ensures given_up { OnErr result (IsGivenUp start run.old.log run.new.log) }
+    ensures given_up { OnErr result (IsGivenUp script.now start run.old.log run.new.log) }
     ensures owner { owner_of run.new.log ≡ owner_of run.old.log }
 {
     let schema = schema_of(alloc, script.tables.as_slice())?;

@@ -61,7 +61,7 @@ returns-in-Ok-clause-left g c =
     let up = c.in-Ok.up in
     let old = kept_by g.D.LogStore.synced g.D.LogStore.pending g.D.LogStore.faults c.args.store in
     let told = c.in-Ok.ensures in
-    run_cut script old (kept_by g.D.LogStore.synced g.D.LogStore.pending g.D.LogStore.faults c.play_up.result.store) up.base up.log
+    run_cut c.pages_that_stand_keep_their_keys.ensures.good script old (kept_by g.D.LogStore.synced g.D.LogStore.pending g.D.LogStore.faults c.play_up.result.store) up.base up.log c.requires.runs
     (opened_as script old up.base c.args.cluster c.args.schema.now up.log c.requires.cluster c.requires.schema told.up told.node told.cluster told.running told.later) c.play_up.ensures.left
 
 pub returns-in-Err-clause-left : goal.returns-in-Err-clause-left

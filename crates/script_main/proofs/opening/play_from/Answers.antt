@@ -2,11 +2,12 @@ use Rattle.std.proofs.Common.{sym, subst, ap, ◌∙◌, length, List}
 use Rattle.std.proofs.lemmas.Result.{IfOk-weaker}
 use Rattle.phys_log.specs.declared.entries.Entry.{Entry}
 use Rattle.script_form.specs.CanRun.{tables_of}
+use Rattle.script_play.specs.Down.{history_of}
 use Rattle.script_play.specs.Ready.{AreEarlier, CanBegin}
 use Rattle.script_play.specs.RunViews.{IsOpenedBehind}
-use Rattle.script_main.proofs.RanLemmas.{given_left, played_text, told_left}
+use Rattle.script_main.proofs.RanLemmas.{given_left, its_told, played_text, told_left}
 use Rattle.script_main.specs.Steps.{IsLeftFrom, IsPlayedText, IsReportText}
-use Rattle.script_main.specs.Stores.{kept_by}
+use Rattle.script_main.specs.Stores.{kept_by, HasRows}
 use Rattle.script_main.proofs.opening.play_from.Goals as goal
 
 pub play-requires : goal.play-requires
@@ -37,10 +38,11 @@ returns-in-Ok-clause-text g c =
     let p = c.in-Ok.ensures in
     let b = c.requires.1.1.1 in
     let new = kept_by g.D.LogStore.synced g.D.LogStore.pending g.D.LogStore.faults c.told.result.store in
+    let is_told = its_told c.args.script.now g.start c.args.begun.log.accepted c.in-Ok.played.report (history_of c.in-Ok.played.log) c.args.begun.base
+    (b.place ∙ ap (λ (es : List Entry). length es) (sym c.requires.1.1.0)) p.lawful p.in_order p.entries p.schema p.changed p.rows p.stands in
     IfOk-weaker c.told.result.answer (λ a. IsReportText c.in-Ok.played.report a.status a.text)
     (λ a. IsPlayedText c.args.script.now g.start c.args.begun.log new a.status a.text)
-    (λ a is. played_text c.args.script.now g.start c.args.begun.log c.in-Ok.played.log c.in-Ok.played.report new a.status a.text c.args.begun.base
-    (b.place ∙ ap (λ (es : List Entry). length es) (sym c.requires.1.1.0)) p.owner b.node b.same p.lawful p.in_order p.serial p.entries p.schema p.changed p.rows p.stands p.faults p.cause p.kept p.further
+    (λ a is. played_text c.args.script.now g.start c.args.begun.log c.in-Ok.played.log c.in-Ok.played.report new a.status a.text p.owner b.node b.same is_told p.serial p.faults p.cause p.kept p.further
     c.told.ensures.left is)
     c.told.ensures.text
 
@@ -48,12 +50,16 @@ pub returns-in-Ok-clause-left : goal.returns-in-Ok-clause-left
 returns-in-Ok-clause-left g c =
     let p = c.in-Ok.ensures in
     let b = c.requires.1.1.1 in
-    told_left c.args.script.now g.start c.args.begun.log c.in-Ok.played.log c.in-Ok.played.report (kept_by g.D.LogStore.synced g.D.LogStore.pending g.D.LogStore.faults c.told.result.store) p.owner b.node b.same p.entries p.schema p.cause p.kept c.told.ensures.left
+    let is_told = its_told c.args.script.now g.start c.args.begun.log.accepted c.in-Ok.played.report (history_of c.in-Ok.played.log) c.args.begun.base
+    (b.place ∙ ap (λ (es : List Entry). length es) (sym c.requires.1.1.0)) p.lawful p.in_order p.entries p.schema p.changed p.rows p.stands in
+    told_left c.args.script.now g.start c.args.begun.log c.in-Ok.played.log c.in-Ok.played.report (kept_by g.D.LogStore.synced g.D.LogStore.pending g.D.LogStore.faults c.told.result.store)
+    (subst (λ (es : List Entry). HasRows es g.start.rows) (sym c.requires.1.1.0) b.has_rows) p.owner b.node b.same is_told p.cause p.kept p.further c.told.ensures.left
 
 pub returns-in-Err-clause-left : goal.returns-in-Err-clause-left
 returns-in-Err-clause-left g c =
     let b = c.requires.1.1.1 in
     let back = c.give_back.ensures in
-    subst (λ store. IsLeftFrom g.start.before c.args.begun.log (kept_by g.D.LogStore.synced g.D.LogStore.pending g.D.LogStore.faults store)) (sym c.no_memory.ensures.store)
-    (given_left g.start c.args.begun.log c.in-Err.log (kept_by g.D.LogStore.synced g.D.LogStore.pending g.D.LogStore.faults c.give_back.result) c.in-Err.ensures.owner b.node b.same c.in-Err.ensures.given_up
+    subst (λ store. IsLeftFrom c.args.script.now g.start.before c.args.begun.log (kept_by g.D.LogStore.synced g.D.LogStore.pending g.D.LogStore.faults store)) (sym c.no_memory.ensures.store)
+    (given_left c.args.script.now g.start c.args.begun.log c.in-Err.log (kept_by g.D.LogStore.synced g.D.LogStore.pending g.D.LogStore.faults c.give_back.result)
+    (subst (λ (es : List Entry). HasRows es g.start.rows) (sym c.requires.1.1.0) b.has_rows) c.in-Err.ensures.owner b.node b.same c.in-Err.ensures.given_up
     (record { joined = back.joined; later = back.later; stands = back.stands }))

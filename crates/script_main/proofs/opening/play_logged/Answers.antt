@@ -1,12 +1,14 @@
-use Rattle.std.proofs.Common.{◌∙◌, ◌≡◌, ap, map, subst, sym, List}
+use Rattle.std.proofs.Common.{◌∙◌, ◌≡◌, ap, map, refl, subst, sym, List}
 use Rattle.std.proofs.lemmas.Result.{IfOk-weaker}
 use Rattle.cdb_values.specs.Rows.{Rows}
 use Rattle.log_rows.specs.History as history
 use Rattle.phys_log.specs.declared.entries.Entry.{Entry}
+use Rattle.script_form.specs.CanRun.{CanRun}
+use Rattle.script_form.specs.declared.scripts.Script.{Script}
 use Rattle.store_log.specs.Keeps.{Stored}
 use Rattle.script_main.proofs.BegunLemmas.{takes_as, takes_tables}
 use Rattle.script_main.proofs.RanLemmas.{opened_left, whole_begins, whole_runs}
-use Rattle.script_main.specs.Steps.{log_before, IsBegunAt, IsLeftFrom, IsOpened, IsPlayedText, IsRunText}
+use Rattle.script_main.specs.Steps.{log_before, IsBegunAt, IsLeftBehind, IsLeftFrom, IsOpened, IsPlayedText, IsRunText}
 use Rattle.script_main.specs.Stores.{kept_by, start_at, unsaid}
 use Rattle.script_main.proofs.opening.play_logged.Goals as goal
 
@@ -45,10 +47,25 @@ returns-in-Ok-clause-text g c =
     (takes_tables script c.in-Ok.whole o.0 b.base b.log c.requires.runs o.1 (c.log.ensures.spelled o.1.running) c.requires.some is) c.requires.names opened told)
     c.play_begun-ended.ensures.text
 
+pub returns-in-Ok-clause-left : goal.returns-in-Ok-clause-left
+returns-in-Ok-clause-left g c =
+    let b = c.args.begun in
+    let script = c.args.script.now in
+    let before = log_before b.base b.log in
+    let o = c.requires.opened in
+    let is : c.in-Ok.whole ≡ record script { tables = map unsaid (history.tables_of b.log.entries) } =
+    c.in-Ok.ensures ∙ ap (λ (es : List Entry). record script { tables = map unsaid (history.tables_of es) }) c.log.ensures.entries in
+    subst (λ (s : Script). IsLeftFrom s before b.log (kept_by g.D.LogStore.synced g.D.LogStore.pending g.D.LogStore.faults c.play_begun-ended.result.store))
+    (takes_as script c.in-Ok.whole o.0 b.base b.log o.1 c.requires.some c.requires.none is) c.play_begun-ended.ensures.left
+
 pub returns-in-Err-clause-left : goal.returns-in-Err-clause-left
 returns-in-Err-clause-left g c =
     let b = c.args.begun in
+    let script = c.args.script.now in
     let o = c.requires.opened in
     let back = c.give_back.ensures in
-    subst (λ store. IsLeftFrom (log_before b.base b.log) b.log (kept_by g.D.LogStore.synced g.D.LogStore.pending g.D.LogStore.faults store)) (sym c.no_memory.ensures.store)
-    (opened_left c.args.script.now o.0 b.base b.log (kept_by g.D.LogStore.synced g.D.LogStore.pending g.D.LogStore.faults c.give_back.result) o.1 (record { joined = back.joined; later = back.later; stands = back.stands }))
+    let whole : Script = record script { tables = map unsaid (history.tables_of b.log.entries) } in
+    subst (λ store. IsLeftBehind script (log_before b.base b.log) b.log (kept_by g.D.LogStore.synced g.D.LogStore.pending g.D.LogStore.faults store)) (sym c.no_memory.ensures.store)
+    (opened_left script o.0 b.base b.log (kept_by g.D.LogStore.synced g.D.LogStore.pending g.D.LogStore.faults c.give_back.result)
+    (subst CanRun (takes_as script whole o.0 b.base b.log o.1 c.requires.some c.requires.none refl) (takes_tables script whole o.0 b.base b.log c.requires.runs o.1 (c.log.ensures.spelled o.1.running) c.requires.some refl))
+    o.1 (record { joined = back.joined; later = back.later; stands = back.stands }))

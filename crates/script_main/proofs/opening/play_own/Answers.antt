@@ -1,9 +1,11 @@
+use Rattle.std.proofs.Common.{subst}
 use Rattle.std.proofs.lemmas.Result.{IfOk-weaker}
 use Rattle.cdb_values.specs.Rows.{Rows}
+use Rattle.script_form.specs.declared.scripts.Script.{Script}
 use Rattle.store_log.specs.Keeps.{Stored}
 use Rattle.script_main.proofs.BegunLemmas.{keeps_tables}
 use Rattle.script_main.proofs.RanLemmas.{whole_begins, whole_runs}
-use Rattle.script_main.specs.Steps.{log_before, IsBegunAt, IsOpened, IsPlayedText, IsRunText}
+use Rattle.script_main.specs.Steps.{log_before, IsBegunAt, IsLeftFrom, IsOpened, IsPlayedText, IsRunText}
 use Rattle.script_main.specs.Stores.{kept_by, start_at}
 use Rattle.script_main.proofs.opening.play_own.Goals as goal
 
@@ -23,3 +25,9 @@ returns-clause-text g c =
     (λ a told old o. whole_runs c.pages_that_stand_keep_their_keys.ensures.good c.args.script.now c.args.script.now old new b.base b.log a.status a.text (keeps_tables c.args.script.now b.base b.log c.requires.own)
     c.requires.runs c.requires.names o told)
     c.play_begun.ensures.text
+
+pub returns-clause-left : goal.returns-clause-left
+returns-clause-left g c =
+    let b = c.args.begun in
+    let before = log_before b.base b.log in
+    subst (λ (s : Script). IsLeftFrom s before b.log (kept_by g.D.LogStore.synced g.D.LogStore.pending g.D.LogStore.faults c.play_begun.result.store)) (keeps_tables c.args.script.now b.base b.log c.requires.own) c.play_begun.ensures.left

@@ -2,7 +2,7 @@ use Rattle.std.proofs.Common.{subst, sym, ℕ}
 use Rattle.std.proofs.lemmas.Result.{IfOk-weaker}
 use Rattle.node_log.specs.Logged.{Logged}
 use Rattle.store_log.specs.Keeps.{Stored}
-use Rattle.script_main.specs.Steps.{log_before, IsLeftFrom, IsOpened, IsRunText}
+use Rattle.script_main.specs.Steps.{log_before, IsLeftBehind, IsOpened, IsRunText}
 use Rattle.script_main.specs.Stores.{kept_by}
 use Rattle.script_main.proofs.opening.play_up.Goals as goal
 
@@ -37,13 +37,13 @@ returns-then-not-is_empty-clause-left g c =
     let up = c.args.up in
     let same = c.begin-begun.ensures in
     let new = kept_by g.D.LogStore.synced g.D.LogStore.pending g.D.LogStore.faults c.play_own.result.store in
-    subst (λ (l : Logged). IsLeftFrom (log_before up.base l) l new) same.log
-    (subst (λ (n : ℕ). IsLeftFrom (log_before n c.begin-begun.result.log) c.begin-begun.result.log new) same.base c.play_own.ensures.left)
+    subst (λ (l : Logged). IsLeftBehind c.args.script.now (log_before up.base l) l new) same.log
+    (subst (λ (n : ℕ). IsLeftBehind c.args.script.now (log_before n c.begin-begun.result.log) c.begin-begun.result.log new) same.base c.play_own.ensures.left)
 
 pub returns-else-not-is_empty-clause-left : goal.returns-else-not-is_empty-clause-left
 returns-else-not-is_empty-clause-left g c =
     let up = c.args.up in
     let same = c.begin-begun.ensures in
     let new = kept_by g.D.LogStore.synced g.D.LogStore.pending g.D.LogStore.faults c.play_logged.result.store in
-    subst (λ (l : Logged). IsLeftFrom (log_before up.base l) l new) same.log
-    (subst (λ (n : ℕ). IsLeftFrom (log_before n c.begin-begun.result.log) c.begin-begun.result.log new) same.base c.play_logged.ensures.left)
+    subst (λ (l : Logged). IsLeftBehind c.args.script.now (log_before up.base l) l new) same.log
+    (subst (λ (n : ℕ). IsLeftBehind c.args.script.now (log_before n c.begin-begun.result.log) c.begin-begun.result.log new) same.base c.play_logged.ensures.left)

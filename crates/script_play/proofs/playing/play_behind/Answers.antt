@@ -38,7 +38,7 @@ play_on-requires g c κs within = (
 )
 
 pub returns-in_default-clause-given_up : goal.returns-in_default-clause-given_up
-returns-in_default-clause-given_up g c = given_first (tables_of c.args.script.now) g.start c.args.log c.requires.1.1.0 c.requires.1.1.1.1.0
+returns-in_default-clause-given_up g c = given_first c.args.script.now g.start c.args.log c.requires.1.0 c.requires.1.1.0 c.requires.1.1.1.1.0 c.requires.1.1.1.1.1.1
 
 pub returns-in-Ok-play_on-clause-played : goal.returns-in-Ok-play_on-clause-played
 returns-in-Ok-play_on-clause-played g c =

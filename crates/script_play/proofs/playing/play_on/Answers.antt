@@ -39,14 +39,14 @@ returns-clause-done g c = (
 )
 
 pub returns-in_err-schema-clause-given_up : goal.returns-in_err-schema-clause-given_up
-returns-in_err-schema-clause-given_up g c = on_err c.from_residual.result (given_first (tables_of c.args.script.now) g.start c.args.run.now.log c.requires.1.1.0 c.requires.1.1.1.1.0)
+returns-in_err-schema-clause-given_up g c = on_err c.from_residual.result (given_first c.args.script.now g.start c.args.run.now.log c.requires.1.0 c.requires.1.1.0 c.requires.1.1.1.1.0 c.requires.1.1.1.1.1.1.0)
 
 pub returns-in_err-open_history-clause-given_up : goal.returns-in_err-open_history-clause-given_up
 returns-in_err-open_history-clause-given_up g c =
-    on_err c.from_residual-in_err-open_history.result (given_first (tables_of c.args.script.now) g.start c.args.run.now.log c.requires.1.1.0 c.requires.1.1.1.1.0)
+    on_err c.from_residual-in_err-open_history.result (given_first c.args.script.now g.start c.args.run.now.log c.requires.1.0 c.requires.1.1.0 c.requires.1.1.1.1.0 c.requires.1.1.1.1.1.1.0)
 
 pub returns-in_err-states-clause-given_up : goal.returns-in_err-states-clause-given_up
-returns-in_err-states-clause-given_up g c = on_err c.from_residual-in_err-states.result (given_first (tables_of c.args.script.now) g.start c.args.run.now.log c.requires.1.1.0 c.requires.1.1.1.1.0)
+returns-in_err-states-clause-given_up g c = on_err c.from_residual-in_err-states.result (given_first c.args.script.now g.start c.args.run.now.log c.requires.1.0 c.requires.1.1.0 c.requires.1.1.1.1.0 c.requires.1.1.1.1.1.1.0)
 
 pub returns-in_err-run_line-clause-given_up : goal.returns-in_err-run_line-clause-given_up
 returns-in_err-run_line-clause-given_up g c =
