@@ -15,7 +15,7 @@ abbrev pub Offers : Option (List RowEvent) → Option (List RowEvent) → RowEve
 Offers None new event answer = ⊤
 Offers (Some events) new event answer = new ≡ Some (events_after events event answer)
 
--- an offer failed only where the count rose
+-- an offer that failed raised the count, and one that did not left it
 abbrev pub FailsByCount : ℕ → ℕ → Taken → Type 0
-FailsByCount before now Took = ⊤
+FailsByCount before now Took = now ≡ before
 FailsByCount before now Failed = Rose before now

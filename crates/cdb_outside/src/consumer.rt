@@ -30,7 +30,7 @@ pub trait Consumer: Drop {
     /// The events that it took, in order. `None`: it does not tell.
     ghost taken: { Self → Option (List RowEvent) };
 
-    /// How many of its calls have failed. It never falls.
+    /// How many of its calls have failed. It rises exactly in a call that fails.
     ghost faults: { Self → ℕ };
 
     /// Offers one event.

@@ -275,7 +275,7 @@ impl<'a, R: Files> LogStore for FileStore<'a, R> {
     fn halt(&mut self)
         ensures joined { JoinsFront self.old.durable self.old.waiting self.new.durable }
         ensures settled { self.new.waiting ≡ [] }
-        ensures later { self.old.failures ≤ self.new.failures }
+        ensures calm { self.new.failures ≡ self.old.failures }
 
         ensures dropped { self.new ≡ record self.old { waiting = [] } }
     {

@@ -11,10 +11,11 @@
 //! | `LogStore` | the synced and the pending bytes | `append` adds pending bytes, `sync` makes them synced, `read` gives synced ones, `cut` leaves a front of them, `halt` keeps some front of the pending ones | never fewer synced bytes, but by `cut`; a front of what was or was to be pending |
 //! | `Consumer` | the events that it took | `offer` adds one | as before |
 //!
-//! Each object counts its faults. **The count never falls, and a call fails only where it rose in that
-//! call.** It is a u64 that stands still at its last value, so a count that has this value after a call
-//! counts as one that rose (`Rose`, `HasCause`). An answer above that blames the outside can so be
-//! traced to an object that was handed in.
+//! Each object counts its faults. **The count rises exactly in a call that fails: it never falls, and a
+//! call that succeeds leaves it.** It is a u64 that stands still at its last value, so a count that has
+//! this value after a call that failed counts as one that rose (`Rose`, `HasCause`). An answer above that
+//! blames the outside can so be traced to an object that was handed in, and one that hides a call that
+//! failed shows in the count.
 //!
 //! Where bytes are kept, at the calls of a store that held "ab" synced and keeps one pending byte:
 //!

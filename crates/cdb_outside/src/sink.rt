@@ -12,7 +12,7 @@ pub trait Sink {
     /// The bytes that it took. `None`: it does not tell.
     ghost taken: { Self → Option (List ℕ) };
 
-    /// How many of its calls have failed. It never falls.
+    /// How many of its calls have failed. It rises exactly in a call that fails.
     ghost faults: { Self → ℕ };
 
     /// Takes a front of the bytes, at least one byte where there is one, and says how many. `Failed`

@@ -1,5 +1,5 @@
 //! Where bytes come from, and reading them to their end or to a limit.
-ghost use Rattle.std.specs.Prelude.{◌≡◌, ◌+◌, ◌<◌, ◌≤◌, ℕ, List, Option, length, IfOk, OnErr, IsErrOf};
+ghost use Rattle.std.specs.Prelude.{◌≡◌, ◌+◌, ◌<◌, ◌≤◌, ℕ, List, Option, length, IfOk, OnOk, OnErr, IsErrOf};
 ghost use Rattle.std.specs.Io.{ReadsAtMost};
 ghost use Rattle.std.specs.Io.KnownBytes.{ReadConsumes, Consumes, IsAtEnd};
 ghost use Rattle.cdb_outside.specs.Faults.{HasCause, Rose};
@@ -14,7 +14,7 @@ pub trait Source {
     /// The bytes that it has left to give. `None`: it does not tell.
     ghost left: { Self → Option (List ℕ) };
 
-    /// How many of its calls have failed. It never falls.
+    /// How many of its calls have failed. It rises exactly in a call that fails.
     ghost faults: { Self → ℕ };
 
     /// Reads at least one byte into the front of the buffer and says how many, or none at the end, where
@@ -52,6 +52,8 @@ pub fn read_up_to<S: Source>(
     ensures within { IfOk result (λ v. length v.items ≤ limit + 1) }
 
     ensures lost { OnErr result (ConsumesSome (S.left source.old) (S.left source.new)) }
+    ensures calm { OnOk result (S.faults source.new ≡ S.faults source.old) }
+    ensures memory { IsErrOf result ReadStop.NoMemory → S.faults source.new ≡ S.faults source.old }
     ensures later { S.faults source.old ≤ S.faults source.new }
     ensures fault { IsErrOf result ReadStop.Fault → Rose (S.faults source.old) (S.faults source.new) }
 {

@@ -15,7 +15,7 @@ pub trait LogStore {
     /// The bytes that were appended since, of which a stop keeps some front.
     ghost pending: { Self → List ℕ };
 
-    /// How many of its calls have failed. It never falls.
+    /// How many of its calls have failed. It rises exactly in a call that fails.
     ghost faults: { Self → ℕ };
 
     /// Reads synced bytes from the offset `at` on into the front of the buffer and says how many: at
@@ -59,5 +59,5 @@ pub trait LogStore {
     fn halt(&mut self)
         ensures joined { JoinsFront (synced self.old) (pending self.old) (synced self.new) }
         ensures settled { pending self.new ≡ [] }
-        ensures later { faults self.old ≤ faults self.new };
+        ensures calm { faults self.new ≡ faults self.old };
 }

@@ -4,7 +4,7 @@ use Rattle.cdb_outside.proofs.sink.write_whole.Goals as goal
 
 pub loop-written-preserved : goal.loop-written-preserved
 loop-written-preserved g c =
-    let (within, later, appended) = c.loop-written.invariant in
+    let (within, calm, appended) = c.loop-written.invariant in
     let write = c.in_ok-written.ensures in (
       search rules,
       search rules,
