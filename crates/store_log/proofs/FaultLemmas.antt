@@ -1,11 +1,10 @@
 -- Why a store was not opened, over calls one after the other.
-use Rattle.std.proofs.Common.{◌≡◌, ℕ, ◌≤◌, List, sym, subst}
+use Rattle.std.proofs.Common.{◌≡◌, ℕ, ◌≤◌, List, sym, subst, arith}
 use Rattle.store_log.specs.declared.opens.OpenFault.{OpenFault}
 use Rattle.store_log.specs.declared.opens.OpenFault.TheVariants as fault
 use Rattle.store_log.specs.Mends.{IsStoreFault}
-use Rattle.store_log.specs.Opens.{IsOpenFault, IsUnchanged}
+use Rattle.store_log.specs.Opens.{IsOpenFault, IsLater, IsUnchanged}
 use Rattle.store_log.specs.Walks.{IsWalkFault, IsCallFault}
-use Rattle.store_log.proofs.KeepLemmas.{rose_from}
 
 -- want of memory
 pub memory_call : (w : OpenFault) (a b : ℕ) → w ≡ fault.NoMemory → IsCallFault w a b
@@ -18,23 +17,30 @@ pub memory_told : (w : OpenFault) (node cluster : ℕ) (bytes : List ℕ) (a b :
 memory_told w node cluster bytes a b e = subst (λ (v : OpenFault). IsOpenFault v node cluster bytes a b) (sym e) tt
 
 -- a fault of a later call
-pub call_from : (w : OpenFault) (a b c : ℕ) → a ≤ b → IsCallFault w b c → IsCallFault w a c
-call_from fault.StoreFault a b c n x = rose_from a b c n x
-call_from fault.Foreign a b c n x = x
-call_from (fault.Corrupt at) a b c n x = x
-call_from fault.NoMemory a b c n x = tt
+pub call_from : (w : OpenFault) (a b c : ℕ) → b ≡ a → IsCallFault w b c → IsCallFault w a c
+call_from w a b c e x = subst (λ (n : ℕ). IsCallFault w n c) e x
 
-pub walk_from : (w : OpenFault) (bytes : List ℕ) (a b c : ℕ) → a ≤ b → IsWalkFault w bytes b c → IsWalkFault w bytes a c
-walk_from fault.StoreFault bytes a b c n x = rose_from a b c n x
-walk_from fault.Foreign bytes a b c n x = x
-walk_from (fault.Corrupt at) bytes a b c n x = x
-walk_from fault.NoMemory bytes a b c n x = tt
+pub walk_from : (w : OpenFault) (bytes : List ℕ) (a b c : ℕ) → b ≡ a → IsWalkFault w bytes b c → IsWalkFault w bytes a c
+walk_from w bytes a b c e x = subst (λ (n : ℕ). IsWalkFault w bytes n c) e x
 
-pub store_from : (w : OpenFault) (a b c : ℕ) → a ≤ b → IsStoreFault w b c → IsStoreFault w a c
-store_from fault.StoreFault a b c n x = rose_from a b c n x
-store_from fault.Foreign a b c n x = x
-store_from (fault.Corrupt at) a b c n x = x
-store_from fault.NoMemory a b c n x = x
+pub store_from : (w : OpenFault) (a b c : ℕ) → b ≡ a → IsStoreFault w b c → IsStoreFault w a c
+store_from w a b c e x = subst (λ (n : ℕ). IsStoreFault w n c) e x
+
+-- how the count stands then
+pub same_later : (w : OpenFault) (a b : ℕ) → b ≡ a → IsLater w a b
+same_later fault.StoreFault a b e = let same : b ≡ a = e in omega arith
+same_later fault.Foreign a b e = e
+same_later (fault.Corrupt at) a b e = e
+same_later fault.NoMemory a b e = e
+
+pub later_from : (w : OpenFault) (a b c : ℕ) → b ≡ a → IsLater w b c → IsLater w a c
+later_from w a b c e x = subst (λ (n : ℕ). IsLater w n c) e x
+
+pub store_later : (w : OpenFault) (a b : ℕ) → IsStoreFault w a b → a ≤ b → IsLater w a b
+store_later fault.StoreFault a b x n = n
+store_later fault.Foreign a b x n = absurd x
+store_later (fault.Corrupt at) a b x n = absurd x
+store_later fault.NoMemory a b x n = absurd x
 
 -- what a call's fault tells of more
 pub store_call : (w : OpenFault) (a b : ℕ) → IsStoreFault w a b → IsCallFault w a b
@@ -61,7 +67,7 @@ call_told fault.Foreign node cluster bytes a b x = absurd x
 call_told (fault.Corrupt at) node cluster bytes a b x = absurd x
 call_told fault.NoMemory node cluster bytes a b x = tt
 
-pub call_told_from : (w : OpenFault) (node cluster : ℕ) (bytes : List ℕ) (a b c : ℕ) → a ≤ b → IsCallFault w b c
+pub call_told_from : (w : OpenFault) (node cluster : ℕ) (bytes : List ℕ) (a b c : ℕ) → b ≡ a → IsCallFault w b c
     → IsOpenFault w node cluster bytes a c
 call_told_from w node cluster bytes a b c n x = call_told w node cluster bytes a c (call_from w a b c n x)
 

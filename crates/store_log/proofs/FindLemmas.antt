@@ -1,7 +1,6 @@
 -- What is found in a store.
-use Rattle.std.proofs.Common.{◌≡◌, inl, inr, ℕ, ◌+◌, ◌<◌, ◌≤◌, List, [], ◌∷◌, ◌++◌, length, drop, Option, Some, None, Result, Ok, Err, IfOk, IfErr, OnErr, refl, sym, ap, ◌∙◌, subst, arith}
+use Rattle.std.proofs.Common.{◌≡◌, inl, inr, ℕ, ◌<◌, ◌≤◌, List, [], ◌++◌, length, drop, Option, Some, None, Result, Ok, Err, IfOk, IfErr, OnOk, OnErr, refl, sym, ap, ◌∙◌, subst, arith}
 use Rattle.std.specs.Io.{StartsWith}
-use Rattle.std.specs.List.{flat_map}
 use Rattle.frame_code.specs.Codes.{frame_code}
 use Rattle.frame_code.specs.declared.frames.Frame.{Frame}
 use Rattle.phys_log.specs.declared.entries.Entry.{Entry}
@@ -13,10 +12,9 @@ use Rattle.store_log.specs.declared.standings.Standing.TheVariants as standing
 use Rattle.store_log.specs.declared.walks.Ended.{Ended}
 use Rattle.store_log.specs.Firsts.{IsFirst}
 use Rattle.store_log.specs.Held.{Held, at_first, after_all, header, HasFrames, StandsFor}
-use Rattle.store_log.specs.Opens.{IsOpenFault, IsUnchanged}
+use Rattle.store_log.specs.Opens.{IsOpenFault, IsLater, IsUnchanged}
 use Rattle.store_log.specs.Walks.{IsWalked, IsEnded, IsCorrupt, IsWalkFault, IsClosing, IsFoundTo, IsFound}
-use Rattle.store_log.proofs.FaultLemmas.{memory_told}
-use Rattle.store_log.proofs.KeepLemmas.{rose_from}
+use Rattle.store_log.proofs.FaultLemmas.{memory_told, same_later}
 use Rattle.store_log.proofs.OpenLemmas.{first_grows}
 use Rattle.store_log.proofs.StepLemmas.{read_bad, drop_front, header_within}
 
@@ -123,17 +121,10 @@ pub fault_told : (w : OpenFault) (node cluster : ℕ) (bytes window : List ℕ) 
 fault_told w node cluster bytes window a b first s x = told_by w node cluster bytes a b (header_behind node cluster bytes window s first) x
 
 -- a fault of a later call, over the same bytes
-told_from : (w : OpenFault) (node cluster : ℕ) (bytes : List ℕ) (a b c : ℕ) → a ≤ b → IsOpenFault w node cluster bytes b c
-    → IsOpenFault w node cluster bytes a c
-told_from fault.StoreFault node cluster bytes a b c n x = rose_from a b c n x
-told_from fault.Foreign node cluster bytes a b c n x = x
-told_from (fault.Corrupt at) node cluster bytes a b c n x = x
-told_from fault.NoMemory node cluster bytes a b c n x = tt
-
-pub told_over : (w : OpenFault) (node cluster : ℕ) (old mid : List ℕ) (a b c : ℕ) → mid ≡ old → a ≤ b → IsOpenFault w node cluster mid b c
+pub told_over : (w : OpenFault) (node cluster : ℕ) (old mid : List ℕ) (a b c : ℕ) → mid ≡ old → b ≡ a → IsOpenFault w node cluster mid b c
     → IsOpenFault w node cluster old a c
 told_over w node cluster old mid a b c e n x =
-    subst (λ (l : List ℕ). IsOpenFault w node cluster l a c) e (told_from w node cluster mid a b c n x)
+    subst (λ (l : List ℕ). IsOpenFault w node cluster l a c) e (subst (λ (m : ℕ). IsOpenFault w node cluster mid m c) n x)
 
 pub unchanged_over : (w : OpenFault) (old mid new : List ℕ) → mid ≡ old → IsUnchanged w mid new → IsUnchanged w old new
 unchanged_over w old mid new e x = subst (λ (l : List ℕ). IsUnchanged w l new) e x
@@ -143,10 +134,24 @@ pub on_err : {T E : Type 0} {P : Type 0} (r : Result T E) → P → OnErr r P
 on_err (Ok x) p = tt
 on_err (Err e) p = p
 
-pub errs_over : {T : Type 0} (r : Result T OpenFault) (node cluster : ℕ) (old mid : List ℕ) (a b c : ℕ) → mid ≡ old → a ≤ b
+pub on_ok : {T E : Type 0} {P : Type 0} (r : Result T E) → P → OnOk r P
+on_ok (Ok x) p = p
+on_ok (Err e) p = tt
+
+pub calm_over : {T E : Type 0} (r : Result T E) (a b c : ℕ) → b ≡ a → OnOk r (c ≡ b) → OnOk r (c ≡ a)
+calm_over r a b c n h = subst (λ (m : ℕ). OnOk r (c ≡ m)) n h
+
+pub errs_over : {T : Type 0} (r : Result T OpenFault) (node cluster : ℕ) (old mid : List ℕ) (a b c : ℕ) → mid ≡ old → b ≡ a
     → IfErr r (λ w. IsOpenFault w node cluster mid b c) → IfErr r (λ w. IsOpenFault w node cluster old a c)
 errs_over (Ok x) node cluster old mid a b c e n h = tt
 errs_over (Err w) node cluster old mid a b c e n h = told_over w node cluster old mid a b c e n h
+
+pub later_over : {T : Type 0} (r : Result T OpenFault) (a b c : ℕ) → b ≡ a → IfErr r (λ w. IsLater w b c) → IfErr r (λ w. IsLater w a c)
+later_over r a b c n h = subst (λ (m : ℕ). IfErr r (λ w. IsLater w m c)) n h
+
+pub same_errs : {T : Type 0} (r : Result T OpenFault) (a b : ℕ) → b ≡ a → IfErr r (λ w. IsLater w a b)
+same_errs (Ok x) a b n = tt
+same_errs (Err w) a b n = same_later w a b n
 
 pub memory_errs : {T : Type 0} (r : Result T OpenFault) (node cluster : ℕ) (bytes : List ℕ) (a b : ℕ) → IfErr r (λ w. w ≡ fault.NoMemory)
     → IfErr r (λ w. IsOpenFault w node cluster bytes a b)

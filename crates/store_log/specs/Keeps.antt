@@ -1,5 +1,5 @@
 -- What a store has after a call that kept frames in it.
-use Rattle.std.specs.Prelude.{◌≡◌, ℕ, ◌≤◌, List, [], ◌++◌, Result, Ok, Err}
+use Rattle.std.specs.Prelude.{◌≡◌, ℕ, List, [], ◌++◌, Result, Ok, Err}
 use Rattle.cdb_outside.specs.Faults.{Rose}
 use Rattle.cdb_outside.specs.Parts.{IsFront}
 use Rattle.store_log.specs.declared.stores.KeepFault.{KeepFault}
@@ -11,11 +11,11 @@ pub record Stored : Type 0 where
   pub pending : List ℕ
   pub faults : ℕ
 
--- all of the bytes are synced
+-- all of the bytes are synced, and no call of the store failed
 pub record AreKept (old new : Stored) (bytes : List ℕ) : Type 0 where
   pub synced : new.synced ≡ old.synced ++ bytes
   pub settled : new.pending ≡ []
-  pub later : old.faults ≤ new.faults
+  pub calm : new.faults ≡ old.faults
 
 -- none of the bytes is synced, and a front of them waits
 pub record AreLeft (old new : Stored) (bytes : List ℕ) : Type 0 where

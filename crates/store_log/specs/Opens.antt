@@ -1,5 +1,5 @@
 -- What opening a store tells, and what the store has then.
-use Rattle.std.specs.Prelude.{◌≡◌, ◌⊎◌, ℕ, List, [], ◌∷◌, ◌++◌, Bool, true, is_some, None}
+use Rattle.std.specs.Prelude.{◌≡◌, ◌⊎◌, ℕ, ◌≤◌, List, [], ◌∷◌, ◌++◌, true, is_some, None}
 use Rattle.cdb_outside.specs.Faults.{Rose}
 use Rattle.frame_code.specs.Codes.{frame_code}
 use Rattle.frame_code.specs.Fronts.{IsFront}
@@ -40,6 +40,13 @@ IsOpenFault fault.StoreFault node cluster bytes before now = Rose before now
 IsOpenFault fault.Foreign node cluster bytes before now = StandsFor node cluster bytes Foreign
 IsOpenFault (fault.Corrupt at) node cluster bytes before now = StandsFor node cluster bytes (Bad at)
 IsOpenFault fault.NoMemory node cluster bytes before now = Unit {0}
+
+-- only a call of the store that failed raised its count of faults
+abbrev pub IsLater : OpenFault → ℕ → ℕ → Type 0
+IsLater fault.StoreFault before now = before ≤ now
+IsLater fault.Foreign before now = now ≡ before
+IsLater (fault.Corrupt at) before now = now ≡ before
+IsLater fault.NoMemory before now = now ≡ before
 
 -- only a call of the store that failed may have changed it
 abbrev pub IsUnchanged : OpenFault → List ℕ → List ℕ → Type 0

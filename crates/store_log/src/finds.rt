@@ -1,10 +1,10 @@
 //! What a store stands for, and where it is to be cut.
-ghost use Rattle.std.specs.Prelude.{◌≡◌, ◌≤◌, ◌<◌, [], None, Some, length, IfOk, IfErr};
+ghost use Rattle.std.specs.Prelude.{◌≡◌, ◌<◌, [], None, Some, length, IfOk, IfErr, OnOk};
 ghost use Rattle.std.specs.Io.{StartsWith};
 ghost use Rattle.store_log.specs.declared.opens.OpenFault.TheVariants as fault;
 ghost use Rattle.store_log.specs.declared.readings.First.TheVariants.{Ours};
 ghost use Rattle.store_log.specs.Firsts.{IsFirst};
-ghost use Rattle.store_log.specs.Opens.{IsOpenFault};
+ghost use Rattle.store_log.specs.Opens.{IsOpenFault, IsLater};
 ghost use Rattle.store_log.specs.Walks.{IsFound};
 
 use crate::opens::OpenFault;
@@ -40,14 +40,15 @@ pub(crate) fn read_log<D: LogStore>(
         IsOpenFault w node cluster (D.synced store.old) (D.faults store.old) (D.faults store.new)) }
     ensures synced { D.synced store.new ≡ D.synced store.old }
     ensures pending { D.pending store.new ≡ D.pending store.old }
-    ensures later { D.faults store.old ≤ D.faults store.new }
+    ensures calm { OnOk result (D.faults store.new ≡ D.faults store.old) }
+    ensures later { IfErr result (λ w. IsLater w (D.faults store.old) (D.faults store.new)) }
 {
     let window = first_window(alloc, store)?;
     read_from(alloc, store, window, node, cluster)
 }
 
 /// Reads a store, by the window over its first bytes.
-#[tactic(auto, using(crate::proofs::FaultLemmas::memory_told))]
+#[tactic(auto, using(crate::proofs::FaultLemmas::memory_told, crate::proofs::FaultLemmas::same_later))]
 fn read_from<D: LogStore>(
     alloc: Global,
     store: &mut D,
@@ -62,7 +63,8 @@ fn read_from<D: LogStore>(
         IsOpenFault w node cluster (D.synced store.old) (D.faults store.old) (D.faults store.new)) }
     ensures synced { D.synced store.new ≡ D.synced store.old }
     ensures pending { D.pending store.new ≡ D.pending store.old }
-    ensures later { D.faults store.old ≤ D.faults store.new }
+    ensures calm { OnOk result (D.faults store.new ≡ D.faults store.old) }
+    ensures later { IfErr result (λ w. IsLater w (D.faults store.old) (D.faults store.new)) }
 {
     match first_of(alloc, window.as_slice(), node, cluster)? {
         First::Ours => read_behind(alloc, store, window, node, cluster),
@@ -116,7 +118,8 @@ fn read_behind<D: LogStore>(
         IsOpenFault w node cluster (D.synced store.old) (D.faults store.old) (D.faults store.new)) }
     ensures synced { D.synced store.new ≡ D.synced store.old }
     ensures pending { D.pending store.new ≡ D.pending store.old }
-    ensures later { D.faults store.old ≤ D.faults store.new }
+    ensures calm { OnOk result (D.faults store.new ≡ D.faults store.old) }
+    ensures later { IfErr result (λ w. IsLater w (D.faults store.old) (D.faults store.new)) }
 {
     let ended = read_frames(alloc, store, window)?;
     found_in(alloc, ended)

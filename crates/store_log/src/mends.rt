@@ -5,7 +5,7 @@ ghost use Rattle.frame_code.specs.Codes.{frame_code};
 ghost use Rattle.store_log.specs.Held.{header};
 ghost use Rattle.store_log.specs.Holds.{Holds, plain};
 ghost use Rattle.store_log.specs.Mends.{IsPart, IsStoreFault};
-ghost use Rattle.store_log.specs.Opens.{IsOpened, StandsAlike, IsUnchanged};
+ghost use Rattle.store_log.specs.Opens.{IsOpened, StandsAlike, IsLater, IsUnchanged};
 ghost use Rattle.store_log.specs.Walks.{IsCallFault, IsFound};
 
 use crate::finds::Found;
@@ -19,7 +19,7 @@ use std::alloc::{AllocError, Global};
 
 /// Cuts off what is behind the last frame after which no adoption is open, and writes a header where there is none.
 /// Memory is taken before the store is called.
-#[tactic(auto, using(crate::proofs::MendLemmas::closed_within, crate::proofs::MendLemmas::trim_opened, crate::proofs::MendLemmas::trim_holds, crate::proofs::MendLemmas::trim_alike, crate::proofs::MendLemmas::begin_opened, crate::proofs::MendLemmas::begin_holds, crate::proofs::MendLemmas::begin_alike, crate::proofs::MendLemmas::same_alike, crate::proofs::FaultLemmas::store_call, crate::proofs::FaultLemmas::store_changed))]
+#[tactic(auto, using(crate::proofs::MendLemmas::closed_within, crate::proofs::MendLemmas::trim_opened, crate::proofs::MendLemmas::trim_holds, crate::proofs::MendLemmas::trim_alike, crate::proofs::MendLemmas::begin_opened, crate::proofs::MendLemmas::begin_holds, crate::proofs::MendLemmas::begin_alike, crate::proofs::MendLemmas::same_alike, crate::proofs::FaultLemmas::store_call, crate::proofs::FaultLemmas::store_later, crate::proofs::FaultLemmas::store_changed))]
 pub(crate) fn mend<D: LogStore>(
     alloc: Global,
     store: &mut D,
@@ -33,7 +33,8 @@ pub(crate) fn mend<D: LogStore>(
     ensures holds { OnOk result
         (Holds node cluster (D.synced store.new) (plain found.now.promised found.now.accepted found.now.entries)) }
     ensures settled { D.pending store.new ≡ [] }
-    ensures later { D.faults store.old ≤ D.faults store.new }
+    ensures calm { OnOk result (D.faults store.new ≡ D.faults store.old) }
+    ensures later { IfErr result (λ w. IsLater w (D.faults store.old) (D.faults store.new)) }
     ensures why { IfErr result (λ w. IsCallFault w (D.faults store.old) (D.faults store.new)) }
     ensures unchanged { IfErr result (λ w. IsUnchanged w (D.synced store.old) (D.synced store.new)) }
     ensures alike { OnErr result (StandsAlike node cluster (D.synced store.old) (D.synced store.new)) }
@@ -71,6 +72,7 @@ fn trim<D: LogStore>(store: &mut D, at: u64, end: u64) -> Result<(), OpenFault>
     ensures cut { OnOk result (D.synced store.new ≡ take at (D.synced store.old)) }
     ensures part { OnErr result (IsFrontFrom at (D.synced store.new) (D.synced store.old)) }
     ensures settled { D.pending store.new ≡ [] }
+    ensures calm { OnOk result (D.faults store.new ≡ D.faults store.old) }
     ensures later { D.faults store.old ≤ D.faults store.new }
     ensures why { IfErr result (λ w. IsStoreFault w (D.faults store.old) (D.faults store.new)) }
 {
@@ -91,6 +93,7 @@ fn begin<D: LogStore>(store: &mut D, end: u64, header: &[u8]) -> Result<(), Open
     ensures written { OnOk result (D.synced store.new ≡ header.now) }
     ensures part { OnErr result (IsPart (D.synced store.old) header.now (D.synced store.new)) }
     ensures settled { D.pending store.new ≡ [] }
+    ensures calm { OnOk result (D.faults store.new ≡ D.faults store.old) }
     ensures later { D.faults store.old ≤ D.faults store.new }
     ensures why { IfErr result (λ w. IsStoreFault w (D.faults store.old) (D.faults store.new)) }
 {
@@ -100,13 +103,14 @@ fn begin<D: LogStore>(store: &mut D, end: u64, header: &[u8]) -> Result<(), Open
 }
 
 /// Writes into a store of no byte, synced. After a fault the store is stopped.
-#[tactic(auto, using(crate::proofs::MendLemmas::stopped_front, crate::proofs::KeepLemmas::rose_up))]
+#[tactic(auto, using(crate::proofs::MendLemmas::stopped_front, crate::proofs::KeepLemmas::rose_still))]
 fn write_or_halt<D: LogStore>(store: &mut D, bytes: &[u8]) -> Result<(), OpenFault>
     requires settled { D.pending store.old ≡ [] }
     requires empty { D.synced store.old ≡ [] }
     ensures written { OnOk result (D.synced store.new ≡ bytes.now) }
     ensures part { OnErr result (IsFront (D.synced store.new) bytes.now) }
     ensures settled { D.pending store.new ≡ [] }
+    ensures calm { OnOk result (D.faults store.new ≡ D.faults store.old) }
     ensures later { D.faults store.old ≤ D.faults store.new }
     ensures why { IfErr result (λ w. IsStoreFault w (D.faults store.old) (D.faults store.new)) }
 {

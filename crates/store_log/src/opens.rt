@@ -1,9 +1,9 @@
 //! A store is opened: read, begun or mended where need be, and told.
-ghost use Rattle.std.specs.Prelude.{◌≡◌, ◌≤◌, [], IfOk, IfErr, MatchResult};
+ghost use Rattle.std.specs.Prelude.{◌≡◌, [], IfOk, IfErr, OnOk, MatchResult};
 ghost use Rattle.store_log.specs.declared.standings.Standing.TheVariants.{Log};
 ghost use Rattle.store_log.specs.Held.{StandsFor};
 ghost use Rattle.store_log.specs.Holds.{Holds, plain};
-ghost use Rattle.store_log.specs.Opens.{IsOpened, StandsAlike, IsOpenFault, IsUnchanged};
+ghost use Rattle.store_log.specs.Opens.{IsOpened, StandsAlike, IsOpenFault, IsLater, IsUnchanged};
 
 use crate::finds::{Found, read_log};
 use crate::mends::mend;
@@ -65,7 +65,8 @@ pub fn open_log<D: LogStore + Drop>(
     ensures opened { IfOk result (λ o. IsOpened node cluster (D.synced store) o.held.synced) }
     ensures holds { IfOk result (λ o. Holds node cluster o.held.synced (plain o.promised o.accepted o.entries)) }
     ensures settled { MatchResult result (λ o. o.held.pending ≡ []) (λ u. D.pending u.store ≡ []) }
-    ensures later { MatchResult result (λ o. D.faults store ≤ o.held.faults) (λ u. D.faults store ≤ D.faults u.store) }
+    ensures calm { IfOk result (λ o. o.held.faults ≡ D.faults store) }
+    ensures later { IfErr result (λ u. IsLater u.why (D.faults store) (D.faults u.store)) }
     ensures why { IfErr result (λ u.
         IsOpenFault u.why node cluster (D.synced store) (D.faults store) (D.faults u.store)) }
     ensures unchanged { IfErr result (λ u. IsUnchanged u.why (D.synced store) (D.synced u.store)) }
@@ -84,7 +85,7 @@ pub fn open_log<D: LogStore + Drop>(
 }
 
 /// Reads a store, and begins or mends it.
-#[tactic(auto, using(crate::proofs::MendLemmas::found_stands, crate::proofs::FaultLemmas::same_unchanged, crate::proofs::FindLemmas::unchanged_over, crate::proofs::FaultLemmas::call_told_from))]
+#[tactic(auto, using(crate::proofs::MendLemmas::found_stands, crate::proofs::FaultLemmas::same_unchanged, crate::proofs::FindLemmas::unchanged_over, crate::proofs::FaultLemmas::call_told_from, crate::proofs::FaultLemmas::later_from))]
 fn make_ready<D: LogStore>(
     alloc: Global,
     store: &mut D,
@@ -98,7 +99,8 @@ fn make_ready<D: LogStore>(
     ensures holds { IfOk result (λ f.
         Holds node cluster (D.synced store.new) (plain f.promised f.accepted f.entries)) }
     ensures settled { D.pending store.new ≡ [] }
-    ensures later { D.faults store.old ≤ D.faults store.new }
+    ensures calm { OnOk result (D.faults store.new ≡ D.faults store.old) }
+    ensures later { IfErr result (λ w. IsLater w (D.faults store.old) (D.faults store.new)) }
     ensures why { IfErr result (λ w.
         IsOpenFault w node cluster (D.synced store.old) (D.faults store.old) (D.faults store.new)) }
     ensures unchanged { IfErr result (λ w. IsUnchanged w (D.synced store.old) (D.synced store.new)) }

@@ -1,5 +1,5 @@
 //! A node's store: frames are kept in it.
-ghost use Rattle.std.specs.Prelude.{◌≡◌, ◌≤◌, [], ◌++◌, IfOk, OnOk, OnErr};
+ghost use Rattle.std.specs.Prelude.{◌≡◌, [], ◌++◌, IfOk, OnOk, OnErr};
 ghost use Rattle.std.specs.List.{flat_map, AllByRecursion};
 ghost use Rattle.cdb_outside.specs.Faults.{HasCause};
 ghost use Rattle.cdb_outside.specs.Parts.{IsFront};
@@ -76,7 +76,7 @@ impl<D: LogStore> Held<D> {
     pub fn give_back(self) -> D
         ensures joined { JoinsFront self.synced self.pending (D.synced result) }
         ensures settled { D.pending result ≡ [] }
-        ensures later { self.faults ≤ D.faults result }
+        ensures calm { D.faults result ≡ self.faults }
     {
         let mut store = self.store;
         store.halt();

@@ -1,8 +1,9 @@
 //! The frames of a store are read one after the other, through a window that grows with the greatest frame.
-ghost use Rattle.std.specs.Prelude.{◌≡◌, ◌≤◌, ◌<◌, ◌+◌, length, drop, is_some, if◌then◌else◌, IfOk, IfErr};
+ghost use Rattle.std.specs.Prelude.{◌≡◌, ◌≤◌, ◌<◌, ◌+◌, length, drop, is_some, if◌then◌else◌, IfOk, IfErr, OnOk};
 ghost use Rattle.std.specs.Io.{StartsWith};
 ghost use Rattle.frame_code.specs.Fronts.{IsFront};
 ghost use Rattle.store_log.specs.declared.opens.OpenFault.TheVariants as fault;
+ghost use Rattle.store_log.specs.Opens.{IsLater};
 ghost use Rattle.store_log.specs.Steps.{IsStep};
 ghost use Rattle.store_log.specs.Walks.{IsWalk, ahead, IsEnded, IsTurn, IsWalkFault, further};
 
@@ -48,7 +49,7 @@ pub(crate) enum Turn {
 }
 
 /// Reads the frames of a store whose header is at the front of the window.
-#[tactic(auto, using(crate::proofs::WalkLemmas::walk_begun, crate::proofs::FaultLemmas::walk_from))]
+#[tactic(auto, using(crate::proofs::WalkLemmas::walk_begun, crate::proofs::FaultLemmas::walk_from, crate::proofs::FaultLemmas::later_from))]
 pub(crate) fn read_frames<D: LogStore>(
     alloc: Global,
     store: &mut D,
@@ -60,7 +61,8 @@ pub(crate) fn read_frames<D: LogStore>(
     ensures why { IfErr result (λ w. IsWalkFault w (D.synced store.old) (D.faults store.old) (D.faults store.new)) }
     ensures synced { D.synced store.new ≡ D.synced store.old }
     ensures pending { D.pending store.new ≡ D.pending store.old }
-    ensures later { D.faults store.old ≤ D.faults store.new }
+    ensures calm { OnOk result (D.faults store.new ≡ D.faults store.old) }
+    ensures later { IfErr result (λ w. IsLater w (D.faults store.old) (D.faults store.new)) }
 {
     let mut held = HeldLog::new(alloc);
     let mut reach = Reach {
@@ -81,7 +83,7 @@ pub(crate) fn read_frames<D: LogStore>(
 }
 
 /// Takes the frame at the offset, or reads more bytes.
-#[tactic(auto, using(crate::proofs::WalkLemmas::walk_to, crate::proofs::WalkLemmas::walk_corrupt, crate::proofs::WalkLemmas::more_within, crate::proofs::WalkLemmas::walk_same, crate::proofs::FaultLemmas::memory_walk))]
+#[tactic(auto, using(crate::proofs::WalkLemmas::walk_to, crate::proofs::WalkLemmas::walk_corrupt, crate::proofs::WalkLemmas::more_within, crate::proofs::WalkLemmas::walk_same, crate::proofs::FaultLemmas::memory_walk, crate::proofs::FaultLemmas::same_later))]
 fn take_turn<D: LogStore>(
     alloc: Global,
     store: &mut D,
@@ -93,7 +95,8 @@ fn take_turn<D: LogStore>(
     ensures why { IfErr result (λ w. IsWalkFault w (D.synced store.old) (D.faults store.old) (D.faults store.new)) }
     ensures synced { D.synced store.new ≡ D.synced store.old }
     ensures pending { D.pending store.new ≡ D.pending store.old }
-    ensures later { D.faults store.old ≤ D.faults store.new }
+    ensures calm { OnOk result (D.faults store.new ≡ D.faults store.old) }
+    ensures later { IfErr result (λ w. IsLater w (D.faults store.old) (D.faults store.new)) }
 {
     match next_of(alloc, held, &reach)? {
         Step::Wrong => Err(OpenFault::Corrupt { at: reach.at }),
@@ -144,7 +147,7 @@ fn closed_at(held: &HeldLog, before: u64, at: u64) -> u64
 }
 
 /// Reads more bytes, where the window has less than an envelope behind the offset.
-#[tactic(auto, using(crate::proofs::WalkLemmas::walk_window, crate::proofs::WalkLemmas::walk_grown, crate::proofs::WalkLemmas::walk_ended, crate::proofs::FaultLemmas::memory_walk, crate::proofs::FaultLemmas::call_walk))]
+#[tactic(auto, using(crate::proofs::WalkLemmas::walk_window, crate::proofs::WalkLemmas::walk_grown, crate::proofs::WalkLemmas::walk_ended, crate::proofs::FaultLemmas::memory_walk, crate::proofs::FaultLemmas::call_walk, crate::proofs::FaultLemmas::same_later))]
 fn read_more<D: LogStore>(
     alloc: Global,
     store: &mut D,
@@ -157,7 +160,8 @@ fn read_more<D: LogStore>(
     ensures why { IfErr result (λ w. IsWalkFault w (D.synced store.old) (D.faults store.old) (D.faults store.new)) }
     ensures synced { D.synced store.new ≡ D.synced store.old }
     ensures pending { D.pending store.new ≡ D.pending store.old }
-    ensures later { D.faults store.old ≤ D.faults store.new }
+    ensures calm { OnOk result (D.faults store.new ≡ D.faults store.old) }
+    ensures later { IfErr result (λ w. IsLater w (D.faults store.old) (D.faults store.new)) }
 {
     let Reach {
         at,

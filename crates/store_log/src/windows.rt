@@ -1,7 +1,8 @@
 //! A window over bytes of a store.
-ghost use Rattle.std.specs.Prelude.{◌≡◌, ◌≤◌, ◌<◌, ◌+◌, length, drop, IfOk, IfErr};
+ghost use Rattle.std.specs.Prelude.{◌≡◌, ◌≤◌, ◌<◌, ◌+◌, length, drop, IfOk, IfErr, OnOk};
 ghost use Rattle.std.specs.Io.{StartsWith};
 ghost use Rattle.store_log.specs.declared.opens.OpenFault.TheVariants as fault;
+ghost use Rattle.store_log.specs.Opens.{IsLater};
 ghost use Rattle.store_log.specs.Walks.{IsCallFault};
 
 use crate::opens::OpenFault;
@@ -13,13 +14,14 @@ use std::alloc::Global;
 const CHUNK: usize = 4096;
 
 /// The first bytes of a store: at least as many as a header takes, or all.
-#[tactic(auto, using(crate::proofs::FaultLemmas::call_from))]
+#[tactic(auto, using(crate::proofs::FaultLemmas::call_from, crate::proofs::FaultLemmas::later_from))]
 pub(crate) fn first_window<D: LogStore>(alloc: Global, store: &mut D) -> Result<Vec<u8>, OpenFault>
     ensures window { IfOk result (λ v. StartsWith (D.synced store.old) v.items) }
     ensures whole { IfOk result (λ v. length v.items < 27 → v.items ≡ D.synced store.old) }
     ensures synced { D.synced store.new ≡ D.synced store.old }
     ensures pending { D.pending store.new ≡ D.pending store.old }
-    ensures later { D.faults store.old ≤ D.faults store.new }
+    ensures calm { OnOk result (D.faults store.new ≡ D.faults store.old) }
+    ensures later { IfErr result (λ w. IsLater w (D.faults store.old) (D.faults store.new)) }
     ensures why { IfErr result (λ w. IsCallFault w (D.faults store.old) (D.faults store.new)) }
 {
     let mut window = Vec::new(alloc);
@@ -44,7 +46,7 @@ pub(crate) fn sum(offset: u64, more: u64) -> Result<u64, OpenFault>
 
 /// Adds to the window, which has the bytes from an offset on, some that are behind them, and says how many: none
 /// exactly at the end.
-#[tactic(auto, using(crate::proofs::GrowLemmas::window_more, crate::proofs::GrowLemmas::window_is_all, crate::proofs::FaultLemmas::memory_call))]
+#[tactic(auto, using(crate::proofs::GrowLemmas::window_more, crate::proofs::GrowLemmas::window_is_all, crate::proofs::FaultLemmas::memory_call, crate::proofs::FaultLemmas::same_later))]
 pub(crate) fn grow<D: LogStore>(
     store: &mut D,
     from: u64,
@@ -56,7 +58,8 @@ pub(crate) fn grow<D: LogStore>(
     ensures end { IfOk result (λ n. n ≡ 0 → window.new.items ≡ drop from (D.synced store.old)) }
     ensures synced { D.synced store.new ≡ D.synced store.old }
     ensures pending { D.pending store.new ≡ D.pending store.old }
-    ensures later { D.faults store.old ≤ D.faults store.new }
+    ensures calm { OnOk result (D.faults store.new ≡ D.faults store.old) }
+    ensures later { IfErr result (λ w. IsLater w (D.faults store.old) (D.faults store.new)) }
     ensures why { IfErr result (λ w. IsCallFault w (D.faults store.old) (D.faults store.new)) }
 {
     let mut chunk = [0u8; CHUNK];

@@ -1,4 +1,4 @@
-use Rattle.store_log.proofs.FindLemmas.{ended_result, memory_errs}
+use Rattle.store_log.proofs.FindLemmas.{ended_result, memory_errs, on_ok, same_errs}
 use Rattle.store_log.proofs.StepLemmas.{header_within}
 use Rattle.store_log.proofs.finds.read_behind.Goals as goal
 
@@ -15,3 +15,10 @@ pub returns-clause-why : goal.returns-clause-why
 returns-clause-why g c =
     memory_errs c.found_in.result c.args.node c.args.cluster (g.D.LogStore.synced c.args.store.now) (g.D.LogStore.faults c.args.store.now)
     (g.D.LogStore.faults c.read_frames.new.store) c.found_in.ensures.why
+
+pub returns-clause-calm : goal.returns-clause-calm
+returns-clause-calm g c = on_ok c.found_in.result c.in_ok-ended.ensures.calm
+
+pub returns-clause-later : goal.returns-clause-later
+returns-clause-later g c =
+    same_errs c.found_in.result (g.D.LogStore.faults c.args.store.now) (g.D.LogStore.faults c.read_frames.new.store) c.in_ok-ended.ensures.calm

@@ -1,4 +1,4 @@
-use Rattle.std.proofs.Common.{refl, arith}
+use Rattle.std.proofs.Common.{refl}
 use Rattle.store_log.specs.declared.walks.Reach.{Reach}
 use Rattle.store_log.specs.Held.{at_first}
 use Rattle.store_log.proofs.WalkLemmas.{walk_begun, walk_same}
@@ -12,5 +12,5 @@ frames-init g c =
           (walk_begun (g.D.LogStore.synced c.args.store.now) reach refl refl refl c.requires.begun c.requires.front);
       synced = refl;
       pending = refl;
-      later = omega arith;
+      calm = refl;
     }

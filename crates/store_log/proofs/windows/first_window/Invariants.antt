@@ -1,5 +1,5 @@
 -- the window has the first bytes of the store
-use Rattle.std.proofs.Common.{◌≡◌, ◌≤◌, ◌-◌, length}
+use Rattle.std.proofs.Common.{◌≡◌, ◌-◌, length}
 use Rattle.std.specs.Io.{StartsWith}
 use Rattle.store_log.proofs.windows.first_window.Given as goal
 
@@ -8,7 +8,7 @@ invariant-begin g l = record {
   window : StartsWith (g.D.LogStore.synced l.fn.store) l.window.items;
   synced : g.D.LogStore.synced l.store ≡ g.D.LogStore.synced l.fn.store;
   pending : g.D.LogStore.pending l.store ≡ g.D.LogStore.pending l.fn.store;
-  later : g.D.LogStore.faults l.fn.store ≤ g.D.LogStore.faults l.store;
+  calm : g.D.LogStore.faults l.store ≡ g.D.LogStore.faults l.fn.store;
 }
 
 abbrev pub decreases-begin : goal.decreases-begin
