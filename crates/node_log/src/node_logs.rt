@@ -1,4 +1,4 @@
-ghost use Rattle.std.specs.Prelude.{◌≡◌, ◌+◌, ◌<◌, ◌≤◌, ◌^◌, true, false, [], ◌∷◌, ◌++◌, IfOk, IfErr, OnOk, IsErrOf, MatchResult};
+ghost use Rattle.std.specs.Prelude.{◌≡◌, ◌+◌, ◌<◌, ◌^◌, true, false, [], ◌∷◌, ◌++◌, IfOk, IfErr, OnOk, IsErrOf, MatchResult};
 ghost use Rattle.cdb_outside.specs.Faults.{Rose};
 ghost use Rattle.cdb_outside.specs.Stores.{JoinsFront};
 ghost use Rattle.frame_code.specs.Codes.{frame_code};
@@ -7,7 +7,7 @@ ghost use Rattle.frame_code.specs.declared.frames.Frame.TheVariants as frame;
 ghost use Rattle.phys_log.specs.Logs.{Fits};
 ghost use Rattle.store_log.specs.declared.standings.Standing.TheVariants.{Log};
 ghost use Rattle.store_log.specs.Held.{StandsFor, generation_of};
-ghost use Rattle.store_log.specs.Opens.{IsOpened, StandsAlike, IsOpenFault, IsUnchanged};
+ghost use Rattle.store_log.specs.Opens.{IsOpened, StandsAlike, IsOpenFault, IsLater, IsUnchanged};
 ghost use Rattle.node_log.specs.Logged.{AreSpelled, Stand, Leaves, with_entry, with_promise, with_stand};
 
 use crate::keeps::{keep_entry, keep_stand};
@@ -64,8 +64,8 @@ impl<D: LogStore + Drop> NodeLog<D> {
         ensures cluster { IfOk result (λ n. n.cluster ≡ cluster) }
         ensures running { IfOk result (λ n. n.failed ≡ false) }
         ensures settled { MatchResult result (λ n. n.store.pending ≡ []) (λ u. D.pending u.store ≡ []) }
-        ensures later { MatchResult result
-            (λ n. D.faults store ≤ n.store.faults) (λ u. D.faults store ≤ D.faults u.store) }
+        ensures calm { IfOk result (λ n. n.store.faults ≡ D.faults store) }
+        ensures later { IfErr result (λ u. IsLater u.why (D.faults store) (D.faults u.store)) }
         ensures why { IfErr result (λ u.
             IsOpenFault u.why node cluster (D.synced store) (D.faults store) (D.faults u.store)) }
         ensures unchanged { IfErr result (λ u. IsUnchanged u.why (D.synced store) (D.synced u.store)) }
@@ -104,7 +104,7 @@ impl<D: LogStore> NodeLog<D> {
         ensures left { IsErrOf result KeepFault.StoreFault → Leaves self.new.store
             (self.old ∷ with_promise self.old (self.old.promised + 1)
             ∷ with_stand self.old (self.old.promised + 1) ∷ []) }
-        ensures later { OnOk result (self.old.store.faults ≤ self.new.store.faults) }
+        ensures calm { OnOk result (self.new.store.faults ≡ self.old.store.faults) }
     {
         if self.promised >= GENERATION_END - 1 {
             return Err(KeepFault::NoMemory);
@@ -139,7 +139,7 @@ impl<D: LogStore> NodeLog<D> {
         ensures rose { IsErrOf result KeepFault.StoreFault → Rose self.old.store.faults self.new.store.faults }
         ensures left { IsErrOf result KeepFault.StoreFault →
             Leaves self.new.store (self.old ∷ with_entry self.old entry ∷ []) }
-        ensures later { OnOk result (self.old.store.faults ≤ self.new.store.faults) }
+        ensures calm { OnOk result (self.new.store.faults ≡ self.old.store.faults) }
     {
         match keep_entry(alloc, &mut self.log, &mut self.held, entry) {
             Ok(()) => Ok(()),
@@ -202,7 +202,7 @@ impl<D: LogStore> NodeLog<D> {
     pub fn give_back(self) -> D
         ensures joined { JoinsFront self.store.synced self.store.pending (D.synced result) }
         ensures settled { D.pending result ≡ [] }
-        ensures later { self.store.faults ≤ D.faults result }
+        ensures calm { D.faults result ≡ self.store.faults }
         ensures same { self.failed ≡ false → D.synced result ≡ self.store.synced }
         ensures stands { self.failed ≡ false → ∥ Stand (D.synced result) self ∥₁ }
     {
