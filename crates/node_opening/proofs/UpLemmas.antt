@@ -1,6 +1,5 @@
 -- A node is up over its store, or down.
-use Rattle.std.proofs.Common.{◌≡◌, inl, inr, ℕ, ◌<◌, ◌≤◌, ◌^◌, List, sym, subst, arith}
-use Rattle.cdb_outside.specs.Faults.{Rose}
+use Rattle.std.proofs.Common.{◌≡◌, inl, inr, ℕ, ◌<◌, ◌^◌, List, sym, subst}
 use Rattle.cdb_values.specs.declared.tables.TableDef.{TableDef}
 use Rattle.store_log.specs.declared.standings.Standing.TheVariants.{Log}
 use Rattle.store_log.specs.Held.{StandsFor}
@@ -14,12 +13,8 @@ use Rattle.node_opening.specs.Up.{IsTakenUp}
 use Rattle.node_opening.specs.Why.{HasRisen, IsWhy, StopsOn, IsDown}
 use Rattle.node_opening.proofs.OpenedLemmas.{opened_alike}
 
-rose_from : (a b c : ℕ) → a ≤ b → Rose b c → Rose a c
-rose_from a b c n (inl h) = inl (omega arith)
-rose_from a b c n (inr h) = inr h
-
-risen_from : (a b c : ℕ) → a ≤ b → HasRisen b c → HasRisen a c
-risen_from a b c n h = record { told = h.told; rose = rose_from a b h.told n h.rose; later = h.later }
+risen_from : (a b c : ℕ) → b ≡ a → HasRisen b c → HasRisen a c
+risen_from a b c e h = subst (λ (n : ℕ). HasRisen n c) e h
 
 -- a log that was opened, of a node of a cluster
 pub record WasOpened (node cluster : ℕ) (old : List ℕ) (before : ℕ) (l : Logged) : Type 0 where
@@ -27,7 +22,7 @@ pub record WasOpened (node cluster : ℕ) (old : List ℕ) (before : ℕ) (l : L
   pub opened : IsOpened node cluster old l.store.synced
   pub node_is : l.node ≡ node
   pub cluster_is : l.cluster ≡ cluster
-  pub later : before ≤ l.store.faults
+  pub calm : l.store.faults ≡ before
 
 pub taken_up : (node cluster : ℕ) (old : List ℕ) (before : ℕ) (given : List TableDef) (l : Logged) (size : ℕ) (k : Logged)
     → WasOpened node cluster old before l → IsUpFrom l given size k → IsTakenUp node cluster old given size k
@@ -46,7 +41,7 @@ taken_up node cluster old before given l size k w u = record {
 pub why_of_down : (w : WhyNotUp) (node cluster : ℕ) (old : List ℕ) (before : ℕ) (l : Logged) (given : List TableDef) (new : List ℕ) (now : ℕ)
     → WasOpened node cluster old before l → IsDown w l given new now → IsWhy w node cluster old given before now
 why_of_down (why.StoreFault length) node cluster old before l given new now o d = record {
-  rose = risen_from before l.store.faults now o.later d.rose;
+  rose = risen_from before l.store.faults now o.calm d.rose;
   told = inr (record {
     promised = l.promised;
     accepted = l.accepted;

@@ -1,5 +1,5 @@
 -- What the steps by which a node stands make of its log.
-use Rattle.std.specs.Prelude.{◌≡◌, ℕ, ◌+◌, ◌≤◌, List, [], ◌∷◌, length, false}
+use Rattle.std.specs.Prelude.{◌≡◌, ℕ, ◌+◌, List, [], ◌∷◌, length, false}
 use Rattle.cdb_outside.specs.Stores.{JoinsFront}
 use Rattle.cdb_values.specs.declared.tables.TableDef.{TableDef}
 use Rattle.phys_log.specs.declared.entries.Entry.{Entry}
@@ -41,4 +41,4 @@ pub record IsUpFrom (l : Logged) (given : List TableDef) (size : ℕ) (k : Logge
   pub had : size ≡ length l.entries
   pub begun : IsBegunFrom l given k
   pub settled : k.store.pending ≡ []
-  pub later : l.store.faults ≤ k.store.faults
+  pub calm : k.store.faults ≡ l.store.faults

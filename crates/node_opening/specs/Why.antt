@@ -65,13 +65,13 @@ IsWhy why.Unsound node cluster bytes given before now = WasUnsound node cluster 
 IsWhy (why.Differs table) node cluster bytes given before now = WasOther node cluster bytes given table
 IsWhy why.NoMemory node cluster bytes given before now = Unit {0}
 
--- the count did not fall; of a call that failed it is told why
+-- the count is as it was, but where a call failed; of that it is told why
 abbrev pub IsLater : WhyNotUp → ℕ → ℕ → Type 0
 IsLater (why.StoreFault length) before now = Unit {0}
-IsLater (why.Refused at) before now = before ≤ now
-IsLater why.Unsound before now = before ≤ now
-IsLater (why.Differs table) before now = before ≤ now
-IsLater why.NoMemory before now = before ≤ now
+IsLater (why.Refused at) before now = now ≡ before
+IsLater why.Unsound before now = now ≡ before
+IsLater (why.Differs table) before now = now ≡ before
+IsLater why.NoMemory before now = now ≡ before
 
 -- why a node is not up whose store was not opened
 abbrev pub unopened : OpenFault → WhyNotUp

@@ -1,5 +1,5 @@
 //! A node stands, and begins its log where it has none.
-ghost use Rattle.std.specs.Prelude.{◌≡◌, ◌≤◌, false, [], IfOk, IfErr, OnOk, OnErr, IsErrOf};
+ghost use Rattle.std.specs.Prelude.{◌≡◌, false, [], IfOk, IfErr, OnOk, OnErr, IsErrOf};
 ghost use Rattle.cdb_outside.specs.Faults.{Rose};
 ghost use Rattle.frame_code.specs.Spelled.{Grow};
 ghost use Rattle.node_opening.specs.Goods.{IsGood};
@@ -61,8 +61,8 @@ fn begin<D: LogStore>(alloc: Global, log: &mut NodeLog<D>, schema: &Schema) -> R
     ensures begun { OnOk result (IsBegunFrom log.old schema.now log.new) }
     ensures left { OnErr result (LeavesPartway log.old schema.now log.new.store) }
     ensures rose { IsErrOf result KeepFault.StoreFault → Rose log.old.store.faults log.new.store.faults }
-    ensures later { OnOk result (log.old.store.faults ≤ log.new.store.faults) }
-    ensures same { IsErrOf result KeepFault.NoMemory → log.old.store.faults ≤ log.new.store.faults }
+    ensures calm { OnOk result (log.new.store.faults ≡ log.old.store.faults) }
+    ensures same { IsErrOf result KeepFault.NoMemory → log.new.store.faults ≡ log.old.store.faults }
 {
     let _ = log.log();
     match log.stand(alloc) {
@@ -93,7 +93,7 @@ fn append_setup<D: LogStore>(
     ensures unchanged { IsErrOf result KeepFault.NoMemory → log.new ≡ log.old }
     ensures left { IsErrOf result KeepFault.StoreFault → LeavesBegun log.old schema.now log.new.store }
     ensures rose { IsErrOf result KeepFault.StoreFault → Rose log.old.store.faults log.new.store.faults }
-    ensures later { OnOk result (log.old.store.faults ≤ log.new.store.faults) }
+    ensures calm { OnOk result (log.new.store.faults ≡ log.old.store.faults) }
 {
     let Ok(entry) = setup_entry(alloc, schema, log.accepted()) else {
         return Err(KeepFault::NoMemory);

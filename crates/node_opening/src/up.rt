@@ -1,5 +1,5 @@
 //! A node is opened over its store.
-ghost use Rattle.std.specs.Prelude.{◌≡◌, ◌≤◌, false, [], IfOk, IfErr, MatchResult};
+ghost use Rattle.std.specs.Prelude.{◌≡◌, false, [], IfOk, IfErr, MatchResult};
 ghost use Rattle.frame_code.specs.Spelled.{Grow};
 ghost use Rattle.node_opening.specs.Left.{IsLeft};
 ghost use Rattle.node_opening.specs.Stands.{IsUpFrom};
@@ -72,8 +72,8 @@ pub fn open_node<D: LogStore + Drop>(
     ensures cluster { IfOk result (λ u. u.log.cluster ≡ cluster) }
     ensures running { IfOk result (λ u. u.log.failed ≡ false) }
     ensures settled { MatchResult result (λ u. u.log.store.pending ≡ []) (λ n. D.pending n.store ≡ []) }
-    ensures later { MatchResult result
-        (λ u. D.faults store ≤ u.log.store.faults) (λ n. IsLater n.why (D.faults store) (D.faults n.store)) }
+    ensures calm { IfOk result (λ u. u.log.store.faults ≡ D.faults store) }
+    ensures later { IfErr result (λ n. IsLater n.why (D.faults store) (D.faults n.store)) }
     ensures why { IfErr result (λ n.
         IsWhy n.why node cluster (D.synced store) schema.now (D.faults store) (D.faults n.store)) }
     ensures left { IfErr result (λ n.
