@@ -162,14 +162,22 @@ static LOST: &[u8] =
 /// What is told where the store fails at the opening.
 static DOWN: &[u8] = b"down 1 1 fault\na 1 nomajority 0 1\na 2 nomajority 0 1\nend 0\n";
 
-/// What is told by a run over an empty store whose call of this number fails, and whose halt keeps so many bytes.
-fn failed(alloc: Global, script: &[u8], call: u64, keeps: u64) -> Result<Outcome, AllocError> {
+/// What is told by a run over a store with these bytes whose call of this number fails, and whose halt keeps so many bytes.
+fn failed_over(
+    alloc: Global,
+    script: &[u8],
+    bytes: &[u8],
+    call: u64,
+    keeps: u64,
+) -> Result<Outcome, AllocError> {
+    let bytes = Vec::from_slice(alloc, bytes)?;
     let fails = vec![in alloc; call]?;
-    ran_over(
-        alloc,
-        script,
-        MemStore::new(Vec::new(alloc), fails, None, keeps),
-    )
+    ran_over(alloc, script, MemStore::new(bytes, fails, None, keeps))
+}
+
+/// The same over an empty store.
+fn failed(alloc: Global, script: &[u8], call: u64, keeps: u64) -> Result<Outcome, AllocError> {
+    failed_over(alloc, script, b"", call, keeps)
 }
 
 /// How many of the first sixteen calls there are at whose fault this is told.
@@ -202,6 +210,50 @@ fn a_store_fails(rt: HostRuntime) -> Result<(), Fail> {
         down.saturating_add(lost).saturating_add(whole) == 16,
         "nothing else is told",
     );
+    Ok(())
+}
+
+/// What is told of the select over a store with two entries that fails at the opening: before they were read, and behind that.
+static UNREAD: &[u8] = b"down 1 1 fault\na 1 nomajority 0 1\nend 0\n";
+
+static READ: &[u8] = b"down 1 1 fault\na 1 nomajority 0 1\nbase 2\nend 2\n";
+
+/// What is told of it where no call fails.
+static SELECTED: &[u8] = b"a 1 begin 2\na 1 row 1|10\na 1 done 1\na 1 committed 2\nbase 2\nend 2\n";
+
+/// Asserts what is told of the select over these bytes where the call of this number fails.
+fn tells_of_select<R: Abort>(
+    rt: &R,
+    alloc: Global,
+    bytes: &[u8],
+    call: u64,
+    text: &[u8],
+    what: &str,
+) -> Result<(), AllocError> {
+    let run = failed_over(alloc, SELECT, bytes, call, 0)?;
+    tells(rt, &run, Status::Done, text, what);
+    Ok(())
+}
+
+/// A store whose first read fails, or the next one, which finds its end: nothing is known of its log.
+#[test]
+fn a_log_that_was_not_read_is_not_told(rt: HostRuntime) -> Result<(), Fail> {
+    let alloc = rt.alloc();
+    let bytes = inserted(alloc)?;
+    tells_of_select(&rt, alloc, bytes.as_slice(), 1, UNREAD, "the first read")?;
+    tells_of_select(&rt, alloc, bytes.as_slice(), 2, UNREAD, "the second read")?;
+    Ok(())
+}
+
+/// A store whose log was read, and that fails behind that: at the append of the next promise and acceptance, or as these are
+/// synced. The report stands behind that log.
+#[test]
+fn a_log_that_was_read_is_told(rt: HostRuntime) -> Result<(), Fail> {
+    let alloc = rt.alloc();
+    let bytes = inserted(alloc)?;
+    tells_of_select(&rt, alloc, bytes.as_slice(), 3, READ, "the append")?;
+    tells_of_select(&rt, alloc, bytes.as_slice(), 4, READ, "the sync")?;
+    tells_of_select(&rt, alloc, bytes.as_slice(), 5, SELECTED, "no call")?;
     Ok(())
 }
 
