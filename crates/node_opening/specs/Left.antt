@@ -1,5 +1,5 @@
 -- What is left of a store whose node is not up.
-use Rattle.std.specs.Prelude.{◌≡◌, ◌⊎◌, ℕ, ◌+◌, List, [], ◌∷◌}
+use Rattle.std.specs.Prelude.{◌≡◌, ◌⊎◌, ℕ, ◌+◌, List, [], ◌∷◌, length}
 use Rattle.cdb_values.specs.declared.tables.TableDef.{TableDef}
 use Rattle.phys_log.specs.declared.entries.Entry.{Entry}
 use Rattle.store_log.specs.declared.standings.Standing.TheVariants.{Log}
@@ -33,9 +33,14 @@ pub record StopsPartway (node cluster : ℕ) (old new : List ℕ) (given : List 
   pub stood : StandsForGood node cluster old given promised accepted entries
   pub stands : ∥ StandsPartway node cluster new given promised accepted entries ∥₁
 
+-- the same where the store failed there, once a log of that size was read
+pub record FailsPartway (node cluster : ℕ) (old new : List ℕ) (given : List TableDef) (size : ℕ) : Type 0 where
+  pub partway : StopsPartway node cluster old new given
+  pub had : size ≡ length partway.entries
+
 -- a store that was refused stands for what it stood for
 abbrev pub IsLeft : WhyNotUp → ℕ → ℕ → List ℕ → List ℕ → List TableDef → Type 0
-IsLeft (why.StoreFault length) node cluster old new given = StandsAlike node cluster old new ⊎ StopsPartway node cluster old new given
+IsLeft (why.StoreFault size) node cluster old new given = StandsAlike node cluster old new ⊎ FailsPartway node cluster old new given size
 IsLeft (why.Refused at) node cluster old new given = StandsAlike node cluster old new
 IsLeft why.Unsound node cluster old new given = StandsAlike node cluster old new
 IsLeft (why.Differs table) node cluster old new given = StandsAlike node cluster old new

@@ -31,13 +31,13 @@ use Rattle.script_main.specs.Stores.{cluster_of, unsaid, with_tables, HasRows}
 
 -- a node that was opened over a store
 pub opened_as : (script : Script) (old : Stored) (base cluster : ℕ) (given : List TableDef) (log : Logged) → cluster ≡ cluster_of script → given ≡ tables_of script →
-    IsTakenUp 1 cluster old.synced given base log → log.node ≡ 1 → log.cluster ≡ cluster → log.failed ≡ false → old.faults ≤ log.store.faults → IsOpened script old base log
-opened_as script old base cluster given log is same taken node named running later = record {
+    IsTakenUp 1 cluster old.synced given base log → log.node ≡ 1 → log.cluster ≡ cluster → log.failed ≡ false → log.store.faults ≡ old.faults → IsOpened script old base log
+opened_as script old base cluster given log is same taken node named running calm = record {
   taken = subst (λ (c : ℕ). IsTakenUp 1 c old.synced (tables_of script) base log) is (subst (λ (ts : List TableDef). IsTakenUp 1 cluster old.synced ts base log) same taken);
   node = node;
   cluster = named ∙ is;
   running = running;
-  later = later;
+  calm = calm;
 }
 
 -- what a node that goes on with a log had before

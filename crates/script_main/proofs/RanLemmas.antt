@@ -49,15 +49,11 @@ use Rattle.script_main.specs.declared.statuses.Status.{Status}
 
 -- counts of faults
 
-rose_later : (a b c : ℕ) → Rose a b → b ≤ c → HasRisen a c
-rose_later a b c rose later = record { told = b; rose = rose; later = later }
+rose_later : (a b c : ℕ) → Rose a b → c ≡ b → HasRisen a c
+rose_later a b c rose calm = record { told = b; rose = rose; later = omega (arith, calm) }
 
-rose_from : (a b c : ℕ) → a ≤ b → Rose b c → Rose a c
-rose_from a b c l (inl r) = inl (omega arith)
-rose_from a b c l (inr r) = inr r
-
-risen_from : (a b c : ℕ) → a ≤ b → HasRisen b c → HasRisen a c
-risen_from a b c l r = record { told = r.told; rose = rose_from a b r.told l r.rose; later = r.later }
+risen_from : (a b c : ℕ) → b ≡ a → HasRisen b c → HasRisen a c
+risen_from a b c same risen = subst (λ (n : ℕ). HasRisen n c) same risen
 
 -- a log that has a schema has entries, and where the last of them is dropped it is one more
 
@@ -113,10 +109,10 @@ or_more old log bytes e same node stood last (inr (inl s)) =
     inr (subst (λ (es : List Entry). Keeps old.cluster bytes old.accepted es) last (keeps_of old log bytes log.entries same node stood s))
 or_more old log bytes e same node stood last (inr (inr none)) = absurd none
 
-left_up : (MayBe : List Entry → Type 0) (old log : Logged) (new : Stored) (count : ℕ) → owner_of log ≡ owner_of old → old.node ≡ 1 → old.promised ≡ old.accepted → count ≡ 0 → ∥ Stand new.synced log ∥₁
+left_up : (MayBe : List Entry → Type 0) (old log : Logged) (new : Stored) (count : ℕ) → owner_of log ≡ owner_of old → old.node ≡ 1 → old.promised ≡ old.accepted → count ≡ 0 → new.faults ≡ old.store.faults → ∥ Stand new.synced log ∥₁
     → IsLeftBy count old.cluster old.store new old.accepted log.entries MayBe
-left_up MayBe old log new count same node stood none stands =
-    inl (none, ∥∥₁_map stands (λ (s : Stand new.synced log). keeps_of old log new.synced log.entries same node stood s))
+left_up MayBe old log new count same node stood none calm stands =
+    inl (none, calm, ∥∥₁_map stands (λ (s : Stand new.synced log). keeps_of old log new.synced log.entries same node stood s))
 
 left_down : (MayBe : List Entry → Type 0) (old log : Logged) (new : Stored) (count : ℕ) → owner_of log ≡ owner_of old → old.node ≡ 1 → old.promised ≡ old.accepted → count ≡ 1 → Rose old.store.faults log.store.faults
     → IsLeftOf log new → 1 ≤ length log.entries → Leaves log.store (with_entries log (history_by true log.entries) ∷ log ∷ []) → MayBe log.entries
@@ -125,7 +121,7 @@ left_down MayBe old log new count owns node stood one rose left some leaves more
     let last = last_of log.entries some in
     inr (
       one,
-      rose_later old.store.faults log.store.faults new.faults rose left.later,
+      rose_later old.store.faults log.store.faults new.faults rose left.calm,
       record {
         entry = last.0;
         is_more = subst MayBe last.1 more;
@@ -143,7 +139,8 @@ left_by : (MayBe : List Entry → Type 0) (failed : Bool) (old log : Logged) (ne
     → IsLeftBy count old.cluster old.store new old.accepted (history_of log) MayBe
 left_by MayBe false old log new count is owns node stood counted caused left fallen more =
     subst (λ (b : Bool). IsLeftBy count old.cluster old.store new old.accepted (history_by b log.entries) MayBe) (sym is)
-    (left_up MayBe old log new count owns node stood (counted ∙ ap downs_by is) (left.stands is))
+    (left_up MayBe old log new count owns node stood (counted ∙ ap downs_by is)
+    (left.calm ∙ subst (λ (b : Bool). IsCaused b old.store.faults log.store.faults) is caused) (left.stands is))
 left_by MayBe true old log new count is owns node stood counted caused left fallen more =
     subst (λ (b : Bool). IsLeftBy count old.cluster old.store new old.accepted (history_by b log.entries) MayBe) (sym is)
     (left_down MayBe old log new count owns node stood (counted ∙ ap downs_by is)
@@ -233,9 +230,9 @@ played_text script start opened log report new s text same node stood told seria
 
 -- a run over a store
 
-left_older : (MayBe : List Entry → Type 0) (count cluster : ℕ) (old mid new : Stored) (generation : ℕ) (history : List Entry) → old.faults ≤ mid.faults → IsLeftBy count cluster mid new generation history MayBe → IsLeftBy count cluster old new generation history MayBe
-left_older MayBe count cluster old mid new generation history l (inl up) = inl up
-left_older MayBe count cluster old mid new generation history l (inr down) = inr (down.0, risen_from old.faults mid.faults new.faults l down.1, down.2)
+left_older : (MayBe : List Entry → Type 0) (count cluster : ℕ) (old mid new : Stored) (generation : ℕ) (history : List Entry) → mid.faults ≡ old.faults → IsLeftBy count cluster mid new generation history MayBe → IsLeftBy count cluster old new generation history MayBe
+left_older MayBe count cluster old mid new generation history same (inl up) = inl (up.0, up.1 ∙ same, up.2)
+left_older MayBe count cluster old mid new generation history same (inr down) = inr (down.0, risen_from old.faults mid.faults new.faults same down.1, down.2)
 
 -- what is known of the log with one entry more
 left_known : (MayBe IsKnown : List Entry → Type 0) (count cluster : ℕ) (old new : Stored) (generation : ℕ) (history : List Entry) → ((log : List Entry) → MayBe log → IsKnown log) → IsLeftBy count cluster old new generation history MayBe → IsLeftBy count cluster old new generation history IsKnown
@@ -269,7 +266,7 @@ is_run law script old new base log before s text can names o same rows begun pla
       one = one_such whole (start_at before rows) played.report p.lawful p.in_order;
       is_report = λ called. told_in_grammar basis played.report (spelled_over script before rows can names begun.behind called) p.lawful p.in_order played.is_text.fits;
       is_text = played.is_text.is_text;
-      left = left_older sound_further (downs played.report.lines) (cluster_of script) old log.store new (o.taken.old_promise + 1) played.history o.later
+      left = left_older sound_further (downs played.report.lines) (cluster_of script) old log.store new (o.taken.old_promise + 1) played.history o.calm
           (left_known (IsFurther whole start (o.taken.old_promise + 1) played.report) sound_further (downs played.report.lines) (cluster_of script) log.store new (o.taken.old_promise + 1) played.history
           (λ more further. record { further = further; sound = sound (played.report.entries ++ further.line ∷ []) more further.history })
           (subst (λ (g : ℕ). IsLeftBy (downs played.report.lines) (cluster_of script) log.store new g played.history (IsFurther whole start g played.report)) o.taken.accepted
@@ -347,7 +344,7 @@ same_cut script old new same = subst (λ (s : Stored). IsCutOff script old s) (s
 
 pub left_cut : (script : Script) (w : WhyNotUp) (old new : Stored) → IsLeft w 1 (cluster_of script) old.synced new.synced (tables_of script) → IsCutOff script old new
 left_cut script (why.StoreFault size) old new (inl alike) = inl alike
-left_cut script (why.StoreFault size) old new (inr partway) = inr (inl partway)
+left_cut script (why.StoreFault size) old new (inr fails) = inr (inl fails.partway)
 left_cut script (why.Refused at) old new alike = inl alike
 left_cut script why.Unsound old new alike = inl alike
 left_cut script (why.Differs place) old new alike = inl alike
@@ -378,7 +375,7 @@ run_cut law script old new base log can o l =
       history = l.history;
       told = told;
       count = l.count;
-      left = left_older sound_more l.count (cluster_of script) old log.store new made l.history o.later
+      left = left_older sound_more l.count (cluster_of script) old log.store new made l.history o.calm
           (left_known (IsMore whole l.start made l.entries) sound_more l.count (cluster_of script) log.store new made l.history (λ es more. record { more = more; sound = sound (l.entries ++ more.line ∷ []) es more.history })
           (subst (λ (g : ℕ). IsLeftBy l.count (cluster_of script) log.store new g l.history (IsMore whole l.start g l.entries)) o.taken.accepted
           (subst (λ (c : ℕ). IsLeftBy l.count c log.store new log.accepted l.history (IsMore whole l.start log.accepted l.entries)) o.cluster l.left)));

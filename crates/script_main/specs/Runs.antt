@@ -76,10 +76,11 @@ pub record KeepsOrMore (cluster : ℕ) (bytes : List ℕ) (generation : ℕ) (hi
   pub is_more : MayBe (history ++ entry ∷ [])
   pub stands : ∥ Keeps cluster bytes generation history ⊎ Keeps cluster bytes generation (history ++ entry ∷ []) ∥₁
 
--- what is left of the store, by how many down lines are told: none, or one, where its count of faults rose
+-- what is left of the store, by how many down lines are told: none, where its count of faults is as it was, or one, where that
+-- rose
 abbrev pub IsLeftBy : ℕ → ℕ → Stored → Stored → ℕ → List Entry → (List Entry → Type 0) → Type 0
 IsLeftBy count cluster old new generation history MayBe =
-    ((count ≡ 0) × ∥ Keeps cluster new.synced generation history ∥₁)
+    ((count ≡ 0) × (new.faults ≡ old.faults) × ∥ Keeps cluster new.synced generation history ∥₁)
     ⊎ ((count ≡ 1) × HasRisen old.faults new.faults × KeepsOrMore cluster new.synced generation history MayBe)
 
 -- the text of a report of a run behind the log for which the store stood, which is sound and has the script's tables; and what

@@ -64,7 +64,7 @@ pub record IsOpened (script : Script) (old : Stored) (base : ℕ) (log : Logged)
   pub node : log.node ≡ 1
   pub cluster : log.cluster ≡ cluster_of script
   pub running : log.failed ≡ false
-  pub later : old.faults ≤ log.store.faults
+  pub calm : log.store.faults ≡ old.faults
 
 -- the log that a node had when it was opened, by how many entries that were
 abbrev pub log_before : ℕ → Logged → List Entry
@@ -84,7 +84,7 @@ pub record IsBegunAt (script : Script) (base : ℕ) (before : List Entry) (log :
 -- what is left of a store whose log is given up
 pub record IsLeftOf (log : Logged) (new : Stored) : Type 0 where
   pub joined : JoinsFront log.store.synced log.store.pending new.synced
-  pub later : log.store.faults ≤ new.faults
+  pub calm : new.faults ≡ log.store.faults
   pub stands : log.failed ≡ false → ∥ Stand new.synced log ∥₁
 
 -- what is told of a run behind a log, and what is left of its store

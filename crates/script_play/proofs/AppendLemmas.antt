@@ -69,7 +69,7 @@ told_last name number replies lines mid told is =
 -- an entry is appended whatever the lines are
 pub entered_so : (entry : Entry) (lines more lines' more' : List Line) (entries entries' : List EntryLine) (log log' : Logged) →
     IsEntered entry (run_of lines entries log) (run_of lines' entries' log') → IsEntered entry (run_of more entries log) (run_of more' entries' log')
-entered_so entry lines more lines' more' entries entries' log log' is = record { entries_are = is.entries_are; log_is = is.log_is; later = is.later }
+entered_so entry lines more lines' more' entries entries' log log' is = record { entries_are = is.entries_are; log_is = is.log_is; calm = is.calm }
 
 pub fallen_so : (entry : Entry) (lines more lines' more' : List Line) (entries entries' : List EntryLine) (log log' : Logged) →
     IsFallenAt entry (run_of lines entries log) (run_of lines' entries' log') → IsFallenAt entry (run_of more entries log) (run_of more' entries' log')

@@ -69,7 +69,7 @@ downs_at true script lines states is =
 held_first : (log : Logged) → log.failed ≡ false → IsHeld log.accepted log.store.faults log
 held_first log up = record {
   held = subst (λ (b : Bool). IsHeldBy b log.accepted log) (sym up) refl;
-  caused = subst (λ (b : Bool). IsCaused b log.store.faults log.store.faults) (sym up) (omega arith);
+  caused = subst (λ (b : Bool). IsCaused b log.store.faults log.store.faults) (sym up) refl;
 }
 
 -- the run before the first line of the script

@@ -252,9 +252,9 @@ is_up log up = ap (λ (b : Bool). record log { failed = b }) up
 
 -- a node that was up is up behind a line
 done_up : (start : Start) (generation : ℕ) (tables : List TableDef) (name : List ℕ) (t : Turned) (after : SessionState) (lines lines' : List Line) (entries entries' : List EntryLine) (log log' : Logged) →
-    log.failed ≡ false → log'.failed ≡ log.failed → log'.accepted ≡ log.accepted → log.store.faults ≤ log'.store.faults →
+    log.failed ≡ false → log'.failed ≡ log.failed → log'.accepted ≡ log.accepted → log'.store.faults ≡ log.store.faults →
     WasDone start generation tables name t after lines lines' entries entries' log.entries log'.entries → IsDoneFrom start generation tables name t after (run_of lines entries log) (run_of lines' entries' log')
-done_up start generation tables name t after lines lines' entries entries' log log' up stays accepted later was =
+done_up start generation tables name t after lines lines' entries entries' log log' up stays accepted calm was =
     subst (λ (l : Logged). IsDoneFrom start generation tables name t after (run_of lines entries l) (run_of lines' entries' log')) (sym (is_up log up))
     (subst (λ (l : Logged). IsDoneFrom start generation tables name t after (run_of lines entries (up_log log)) (run_of lines' entries' l)) (sym (is_up log' (stays ∙ up))) (record {
       done = (was.0, was.1);
@@ -263,7 +263,7 @@ done_up start generation tables name t after lines lines' entries entries' log l
       own = was.4;
       held = λ had is. record {
         held = accepted ∙ is.held;
-        caused = let c : had ≤ log.store.faults = is.caused in omega (arith, c, later);
+        caused = calm ∙ is.caused;
       };
       further = tt;
     }))
@@ -278,9 +278,8 @@ without_last es entry = ap (λ n. take n (es ++ entry ∷ [])) count ∙ take-ap
     count : length (es ++ entry ∷ []) - 1 ≡ length es
     count = omega (arith, length-append es (entry ∷ []))
 
-rose_since : (had before now : ℕ) → had ≤ before → Rose before now → Rose had now
-rose_since had before now from (inl rises) = inl (omega (arith, from, rises))
-rose_since had before now from (inr last) = inr last
+rose_since : (had before now : ℕ) → before ≡ had → Rose before now → Rose had now
+rose_since had before now same rises = subst (λ (n : ℕ). Rose n now) same rises
 
 left_so : (log : Logged) (entry : Entry) (store : Stored) (es : List Entry) → es ≡ log.entries → Leaves store (log ∷ with_entry log entry ∷ []) →
     Leaves store (with_entries (fallen_log log entry store) es ∷ fallen_log log entry store ∷ [])
@@ -338,11 +337,11 @@ effect_kept start generation tables name p t after lines lines' entries entries'
     go : (added : Option Entry) → p.added ≡ added → IsKeptSo name p.number p.replies.items added (run_of lines entries log) (run_of lines' entries' log') → IsDoneFrom start generation tables name t after (run_of lines entries log) (run_of lines' entries' log')
     go None none (told, es, same) =
         done_up start generation tables name t after lines lines' entries entries' log log' up (ap (λ (l : Logged). l.failed) same) (ap (λ (l : Logged). l.accepted) same)
-        (let n = ap (λ (l : Logged). l.store.faults) same in omega (arith, n))
+        (ap (λ (l : Logged). l.store.faults) same)
         (done (es ∙ sym (append-nil entries) ∙ ap (λ (o : Option Entry). entries ++ lines_added (length log.entries) o) (sym none))
         (ap (λ (l : Logged). l.entries) same ∙ sym (append-nil log.entries) ∙ ap (λ (o : Option Entry). log.entries ++ option_to_list o) (sym none)) told)
     go (Some entry) some (inl (told, entered)) =
-        done_up start generation tables name t after lines lines' entries entries' log log' up (ap (λ (l : Logged). l.failed) entered.log_is) (ap (λ (l : Logged). l.accepted) entered.log_is) entered.later
+        done_up start generation tables name t after lines lines' entries entries' log log' up (ap (λ (l : Logged). l.failed) entered.log_is) (ap (λ (l : Logged). l.accepted) entered.log_is) entered.calm
         (done (entered.entries_are ∙ ap (λ (o : Option Entry). entries ++ lines_added (length log.entries) o) (sym some))
         (ap (λ (l : Logged). l.entries) entered.log_is ∙ ap (λ (o : Option Entry). log.entries ++ option_to_list o) (sym some)) told)
     go (Some entry) some (inr (told, falls, fell)) =

@@ -85,7 +85,7 @@ owner_of l = record { node = l.node; cluster = l.cluster; promised = l.promised;
 pub record IsEntered (entry : Entry) (r r' : Run) : Type 0 where
   pub entries_are : r'.entries ≡ r.entries ++ line_of (length r.log.entries + 1) entry ∷ []
   pub log_is : r'.log ≡ record (with_entry r.log entry) { store = r'.log.store }
-  pub later : r.log.store.faults ≤ r'.log.store.faults
+  pub calm : r'.log.store.faults ≡ r.log.store.faults
 
 -- an entry was appended, but the store failed at it: it stands in the log alone, and what a stop leaves of the store stands
 -- for the log without it, or with it
@@ -140,9 +140,9 @@ abbrev pub IsHeldBy : Bool → ℕ → Logged → Type 0
 IsHeldBy false generation log = log.accepted ≡ generation
 IsHeldBy true generation log = (1 ≤ length log.entries) × Leaves log.store (with_entries log (history_of log) ∷ log ∷ [])
 
--- the node went down at most once, and only where the count of its store rose
+-- the node went down exactly where a call of its store failed: the count rose there, and else is as it was
 abbrev pub IsCaused : Bool → ℕ → ℕ → Type 0
-IsCaused false before now = before ≤ now
+IsCaused false before now = now ≡ before
 IsCaused true before now = Rose before now
 
 -- the same of a log whose store had so many faults before the run

@@ -94,7 +94,7 @@ impl<D: LogStore> IndexedLog<D> {
         ensures rose { IsErrOf result KeepFault.StoreFault → Rose self.old.store.faults self.new.store.faults }
         ensures left { IsErrOf result KeepFault.StoreFault →
             Leaves self.new.store (self.old ∷ with_entry self.old entry ∷ []) }
-        ensures later { OnOk result (self.old.store.faults ≤ self.new.store.faults) }
+        ensures calm { OnOk result (self.new.store.faults ≡ self.old.store.faults) }
     {
         let last = self.log.log().entries().len() as u64;
         let told = tell(&mut self.known, &entry, last + 1);

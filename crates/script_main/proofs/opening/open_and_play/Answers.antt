@@ -13,7 +13,7 @@ pub play_up-requires-clause-opened : goal.play_up-requires-clause-opened
 play_up-requires-clause-opened g c =
     let old = kept_by g.D.LogStore.synced g.D.LogStore.pending g.D.LogStore.faults c.args.store in
     let told = c.in-Ok.ensures in
-    (old, opened_as c.args.script.now old c.in-Ok.up.base c.args.cluster c.args.schema.now c.in-Ok.up.log c.requires.cluster c.requires.schema told.up told.node told.cluster told.running told.later)
+    (old, opened_as c.args.script.now old c.in-Ok.up.base c.args.cluster c.args.schema.now c.in-Ok.up.log c.requires.cluster c.requires.schema told.up told.node told.cluster told.running told.calm)
 
 pub refuse-requires-clause-place : goal.refuse-requires-clause-place
 refuse-requires-clause-place g c =
@@ -32,7 +32,7 @@ returns-in-Ok-clause-text g c =
     let new = kept_by g.D.LogStore.synced g.D.LogStore.pending g.D.LogStore.faults c.play_up.result.store in
     let told = c.in-Ok.ensures in
     let opened : IsOpened script old up.base up.log =
-    opened_as script old up.base c.args.cluster c.args.schema.now up.log c.requires.cluster c.requires.schema told.up told.node told.cluster told.running told.later in
+    opened_as script old up.base c.args.cluster c.args.schema.now up.log c.requires.cluster c.requires.schema told.up told.node told.cluster told.running told.calm in
     IfOk-weaker c.play_up.result.answer
     (λ a. (old : Stored) → IsOpened script old up.base up.log → IsRunText script old new a.status a.text)
     (λ a. IsTextOver script old new a.status a.text)
@@ -62,7 +62,7 @@ returns-in-Ok-clause-left g c =
     let old = kept_by g.D.LogStore.synced g.D.LogStore.pending g.D.LogStore.faults c.args.store in
     let told = c.in-Ok.ensures in
     run_cut c.pages_that_stand_keep_their_keys.ensures.good script old (kept_by g.D.LogStore.synced g.D.LogStore.pending g.D.LogStore.faults c.play_up.result.store) up.base up.log c.requires.runs
-    (opened_as script old up.base c.args.cluster c.args.schema.now up.log c.requires.cluster c.requires.schema told.up told.node told.cluster told.running told.later) c.play_up.ensures.left
+    (opened_as script old up.base c.args.cluster c.args.schema.now up.log c.requires.cluster c.requires.schema told.up told.node told.cluster told.running told.calm) c.play_up.ensures.left
 
 pub returns-in-Err-clause-left : goal.returns-in-Err-clause-left
 returns-in-Err-clause-left g c =

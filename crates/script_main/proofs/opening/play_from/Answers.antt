@@ -62,4 +62,4 @@ returns-in-Err-clause-left g c =
     subst (λ store. IsLeftFrom c.args.script.now g.start.before c.args.begun.log (kept_by g.D.LogStore.synced g.D.LogStore.pending g.D.LogStore.faults store)) (sym c.no_memory.ensures.store)
     (given_left c.args.script.now g.start c.args.begun.log c.in-Err.log (kept_by g.D.LogStore.synced g.D.LogStore.pending g.D.LogStore.faults c.give_back.result)
     (subst (λ (es : List Entry). HasRows es g.start.rows) (sym c.requires.1.1.0) b.has_rows) c.in-Err.ensures.owner b.node b.same c.in-Err.ensures.given_up
-    (record { joined = back.joined; later = back.later; stands = back.stands }))
+    (record { joined = back.joined; calm = back.calm; stands = back.stands }))

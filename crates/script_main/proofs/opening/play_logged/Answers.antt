@@ -68,4 +68,4 @@ returns-in-Err-clause-left g c =
     subst (λ store. IsLeftBehind script (log_before b.base b.log) b.log (kept_by g.D.LogStore.synced g.D.LogStore.pending g.D.LogStore.faults store)) (sym c.no_memory.ensures.store)
     (opened_left script o.0 b.base b.log (kept_by g.D.LogStore.synced g.D.LogStore.pending g.D.LogStore.faults c.give_back.result)
     (subst CanRun (takes_as script whole o.0 b.base b.log o.1 c.requires.some c.requires.none refl) (takes_tables script whole o.0 b.base b.log c.requires.runs o.1 (c.log.ensures.spelled o.1.running) c.requires.some refl))
-    o.1 (record { joined = back.joined; later = back.later; stands = back.stands }))
+    o.1 (record { joined = back.joined; calm = back.calm; stands = back.stands }))
