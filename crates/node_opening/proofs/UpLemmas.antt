@@ -79,7 +79,7 @@ partway node cluster old before l given new o s = (
 
 pub left_of_down : (w : WhyNotUp) (node cluster : ℕ) (old : List ℕ) (before : ℕ) (l : Logged) (given : List TableDef) (new : List ℕ) (now : ℕ)
     → node < 256 → cluster < 2 ^ 128 → WasOpened node cluster old before l → IsDown w l given new now → IsLeft w node cluster old new given
-left_of_down (why.StoreFault size) node cluster old before l given new now n c o d = 
+left_of_down (why.StoreFault size) node cluster old before l given new now n c o d =
     let s = partway node cluster old before l given new o d.stops in
     inr (record { partway = s.0; had = d.had ∙ ap (λ (es : List Entry). length es) (sym s.1) })
 left_of_down (why.Refused at) node cluster old before l given new now n c o d = absurd d

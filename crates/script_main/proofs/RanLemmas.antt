@@ -248,8 +248,8 @@ is_run law script old new base log before s text can names o same rows begun pla
     let start = start_at before rows in
     let sound_further = IsSoundFurther whole start (o.taken.old_promise + 1) played.report in
     let sound : (entries : List EntryLine) (made : List Entry) → IsHistory whole start (o.taken.old_promise + 1) entries made → IsSoundBelow start (o.taken.old_promise + 1) made = λ entries made told.
-        sound_behind script (cluster_of script) old.synced o.taken.old_promise o.taken.old_accepted before start entries made law (all_columns whole.tables can.columns) refl
-        (subst (λ (es : List Entry). StandsForGood 1 (cluster_of script) old.synced (tables_of script) o.taken.old_promise o.taken.old_accepted es) (sym same) o.taken.stood) begun.has_rows told in
+    sound_behind script (cluster_of script) old.synced o.taken.old_promise o.taken.old_accepted before start entries made law (all_columns whole.tables can.columns) refl
+    (subst (λ (es : List Entry). StandsForGood 1 (cluster_of script) old.synced (tables_of script) o.taken.old_promise o.taken.old_accepted es) (sym same) o.taken.stood) begun.has_rows told in
     let basis = from_start whole (start_at before rows) in
     let p = played.told in
     record {
@@ -360,8 +360,8 @@ run_cut law script old new base log can o l =
     let stood : StandsForGood 1 (cluster_of script) old.synced (tables_of script) o.taken.old_promise o.taken.old_accepted before =
     subst (λ (es : List Entry). StandsForGood 1 (cluster_of script) old.synced (tables_of script) o.taken.old_promise o.taken.old_accepted es) (sym (before_is script old base log o)) o.taken.stood in
     let sound : (entries : List EntryLine) (history : List Entry) → IsHistory whole l.start made entries history → IsSoundBelow l.start made history = λ entries history told.
-        sound_behind script (cluster_of script) old.synced o.taken.old_promise o.taken.old_accepted before l.start entries history law
-        (columns_with script o.taken.old_accepted before can stood.good.sound stood.good.tables) l.behind stood l.has_rows told in
+    sound_behind script (cluster_of script) old.synced o.taken.old_promise o.taken.old_accepted before l.start entries history law
+    (columns_with script o.taken.old_accepted before can stood.good.sound stood.good.tables) l.behind stood l.has_rows told in
     let told : IsHistory whole l.start made l.entries l.history = subst (λ (g : ℕ). IsHistory whole l.start g l.entries l.history) o.taken.accepted l.told in
     inr (inr (record {
       promised = o.taken.old_promise;
