@@ -1,5 +1,5 @@
 -- The history of a run over a store is sound again, in the run's generation.
-use Rattle.std.proofs.Common.{◌≡◌, ◌≢◌, ℕ, ◌+◌, ◌<◌, ◌≤◌, ◌^◌, List, [], ◌∷◌, length, map, Option, Some, None, sym, subst, inl, inr, arith}
+use Rattle.std.proofs.Common.{◌≡◌, ◌≢◌, ℕ, ◌+◌, ◌≤◌, List, [], ◌∷◌, length, map, Option, Some, None, sym, subst, inl, inr, arith}
 use Rattle.std.specs.List.{AllByRecursion}
 use Rattle.cdb_values.specs.Good.{AllFit, IsGood}
 use Rattle.cdb_values.specs.Rows.{Rows}
@@ -9,7 +9,6 @@ use Rattle.frame_code.specs.declared.frames.Frame.TheVariants as frame
 use Rattle.log_rows.specs.History as history
 use Rattle.node_opening.specs.Goods.{HasTables, StandsForGood}
 use Rattle.page_store.specs.Image.{Image}
-use Rattle.page_workspace.specs.Spare.{count_of}
 use Rattle.phys_log.specs.Logs.{pages_of}
 use Rattle.phys_log.specs.declared.entries.Entry.{Entry}
 use Rattle.report_text.specs.declared.reports.EntryLine.{EntryLine}

@@ -1,5 +1,5 @@
 -- What the steps of a run over a store tell and keep.
-use Rattle.std.specs.Prelude.{◌≡◌, ◌≤◌, ◌<◌, ℕ, List, false, length, take, slice_get, Some}
+use Rattle.std.specs.Prelude.{◌≡◌, ◌<◌, ℕ, List, false, length, take, slice_get, Some}
 use Rattle.cdb_outside.specs.Stores.{JoinsFront}
 use Rattle.cdb_values.specs.Rows.{Rows}
 use Rattle.cdb_values.specs.declared.tables.TableDef.{TableDef}

@@ -1,12 +1,10 @@
 -- The entry at which the store of a node failed: with it the history would be another one, and so it stays behind later lines.
-use Rattle.std.proofs.Common.{◌≡◌, ℕ, ◌+◌, ◌-◌, ◌++◌, List, [], ◌∷◌, length, map, refl, sym, subst, ap, arith, ◌∙◌, Bool, true, false, Some, slice_set, inl, append_assoc}
-use Rattle.std.proofs.lemmas.List.{length-append}
+use Rattle.std.proofs.Common.{◌≡◌, ℕ, ◌+◌, ◌++◌, List, [], ◌∷◌, length, map, refl, sym, subst, ap, arith, ◌∙◌, Bool, true, false, Some, slice_set, inl, append_assoc}
 use Rattle.std.specs.List.{slice_get}
 use Rattle.block_processor.specs.Changed.{changed_in}
 use Rattle.cdb_values.specs.declared.rows.Change.{Change}
 use Rattle.cdb_values.specs.declared.rows.RowOp.{RowOp}
 use Rattle.node_log.specs.Logged.{Logged}
-use Rattle.phys_log.specs.declared.entries.Entry.{Entry}
 use Rattle.report_laws.specs.History.{changes_at, rows_at, IsEntryAfter}
 use Rattle.report_laws.specs.Told.{lines_of}
 use Rattle.report_text.specs.declared.reports.EntryLine.{EntryLine}
@@ -23,16 +21,15 @@ use Rattle.session_language.specs.Each.{EachAfter}
 use Rattle.sql_answer.specs.Reading.{kind_of_text}
 use Rattle.script_play.specs.Basis.{from_start}
 use Rattle.script_play.specs.Doing.{SessionAt}
-use Rattle.script_play.specs.Down.{down_line, history_by, history_of, turn_down, fallen_lines, IsLostBy}
+use Rattle.script_play.specs.Down.{down_line, history_by, history_of, turn_down, IsLostBy}
 use Rattle.script_play.specs.EntryLines.{AreTold}
 use Rattle.script_play.specs.Falls.{IsDoneDown, IsFallen, IsTakenOn}
 use Rattle.script_play.specs.Played.{IsFurther}
-use Rattle.script_play.specs.Ready.{IsLogged}
 use Rattle.script_play.specs.Run.{run_of}
 use Rattle.script_play.specs.RunViews.{seen_in, state_in, world, HasFurther, IsBeforeLine, IsFurtherOn, WouldBeDone}
 use Rattle.script_play.specs.Seen.{Seen}
 use Rattle.script_play.specs.SoFar.{now_of, session_at, IsBefore, Stored}
-use Rattle.script_play.specs.Start.{Start, base}
+use Rattle.script_play.specs.Start.{Start}
 use Rattle.script_play.specs.Step.{Turned, entries_added, turn, world_of, IsTurned, World}
 use Rattle.script_play.specs.declared.states.SessionState.{SessionState}
 use Rattle.script_play.proofs.KeepLemmas.{taken_on}

@@ -2,7 +2,6 @@
 use Rattle.std.proofs.Common.{◌≡◌, zero, suc, ℕ, ◌+◌, ◌-◌, ◌++◌, Bool, true, false, List, [], ◌∷◌, length, map, refl, sym, subst, ap, arith, ◌∙◌, Result, Ok, Err, OnOk, OnErr, IfOk}
 use Rattle.std.proofs.lemmas.List.{length-take-le}
 use Rattle.std.specs.Prelude.{slice_get, Some}
-use Rattle.cdb_values.specs.declared.tables.TableDef.{TableDef}
 use Rattle.block_processor.specs.Changed.{changed_in}
 use Rattle.node_log.specs.Logged.{Logged, Leaves}
 use Rattle.report_laws.specs.Nodes.{downs}

@@ -23,7 +23,7 @@ use Rattle.script_form.specs.declared.scripts.SessionLine.{SessionLine}
 use Rattle.script_play.specs.Basis.{from_start}
 use Rattle.script_play.specs.Decisions.{HasName}
 use Rattle.script_play.specs.Doing.{SessionAt}
-use Rattle.script_play.specs.EntryLines.{AreTold, IsMadeIn, lines_from}
+use Rattle.script_play.specs.EntryLines.{AreTold}
 use Rattle.script_play.specs.Ready.{AreKept, CanBegin, GoesOn, IsLogged}
 use Rattle.script_play.specs.RunViews.{seen_in, IsOpening, IsOpenedBehind, IsOpenedLog}
 use Rattle.script_play.specs.Seen.{Seen}

@@ -1,6 +1,6 @@
 //! The log of a node, and which entry of it has which identity: a transaction that asks again is found without a walk over the
 //! log.
-ghost use Rattle.std.specs.Prelude.{◌≡◌, ◌+◌, ◌++◌, ◌∷◌, ◌≤◌, [], false, true, Some, OnOk, OnErr, IsErrOf};
+ghost use Rattle.std.specs.Prelude.{◌≡◌, ◌+◌, ◌++◌, ◌∷◌, [], false, true, Some, OnOk, OnErr, IsErrOf};
 ghost use Rattle.blkseq_table.specs.Known.{AreBelow, IsAbsent};
 ghost use Rattle.blkseq_table.specs.OfLogs.{id_of, identities_of, known_of};
 ghost use Rattle.cdb_outside.specs.Faults.{Rose};
