@@ -15,7 +15,7 @@ count_after n = min (n + 1) last_count
 abbrev pub Rose : ℕ → ℕ → Type 0
 Rose before now = (before < now) ⊎ (now ≡ last_count)
 
--- the count rises exactly where a call fails: it did not fall, stayed where the call succeeded, and rose where it failed
+-- the count rises exactly where a call fails: it did not fall, stayed where the call succeeded, rose where it failed
 pub record HasCause {T E : Type 0} (before now : ℕ) (result : Result T E) : Type 0 where
   pub later : before ≤ now
   pub calm : OnOk result (now ≡ before)
