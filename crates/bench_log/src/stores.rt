@@ -5,8 +5,9 @@ ghost use Rattle.std.specs.List.{AllByRecursion};
 ghost use Rattle.frame_code.specs.Spelled.{IsSpelled};
 
 use byte_words::put_u64;
-use cdb_outside::{FileStore, LogStore, MemStore};
+use cdb_outside::{LogStore, MemStore};
 use cdb_values::List;
+use file_store::FileStore;
 use log_format::Frame;
 use log_replay::PagedLog;
 use phys_log::{Entry, copy_entry};

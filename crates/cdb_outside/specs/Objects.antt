@@ -1,7 +1,6 @@
 -- What contracts see of the objects in memory and of the adapters over std's readers and writers.
 use Rattle.std.specs.Prelude.{ℕ, List, Option}
 use Rattle.cdb_outside.specs.Plans.{Planned}
-use Rattle.cdb_outside.specs.declared.file_store.FileState.{FileState}
 
 -- a source in memory: the bytes that it has left to give
 pub record HeldSource : Type 0 where
@@ -26,13 +25,6 @@ pub record HeldStore : Type 0 where
   pub keeps : ℕ
   pub left : Option ℕ
   pub plan : Planned
-
--- a store in a file: its synced and its pending bytes, how the file stands to the synced ones, and how many calls failed
-pub record HeldFile : Type 0 where
-  pub durable : List ℕ
-  pub waiting : List ℕ
-  pub state : FileState
-  pub failures : ℕ
 
 -- a reader or a writer of std, and how many of its calls failed
 pub record Counted (T : Type 0) : Type 0 where

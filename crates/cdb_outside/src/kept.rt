@@ -1,4 +1,4 @@
-//! The bytes of a store, as both stores keep them in memory.
+//! The bytes of a store, as stores keep them in memory.
 ghost use Rattle.std.specs.Prelude.{◌≡◌, ◌-◌, ◌≤◌, false, IsTrue, [], ◌++◌, min, length, take, drop};
 ghost use Rattle.std.specs.Io.{StartsWith};
 ghost use Rattle.cdb_outside.specs.Objects.{Kept};
@@ -6,9 +6,9 @@ ghost use Rattle.cdb_outside.specs.Objects.{Kept};
 use crate::fronts::copy_front;
 use std::marker::Model;
 
-/// Synced bytes, and pending ones behind them.
+/// The bytes of a store in memory: synced ones, and pending ones behind them. Who builds a store of its own keeps them so.
 #[derive(Drop)]
-pub(crate) struct KeptBytes {
+pub struct KeptBytes {
     bytes: Vec<u8>,
     synced: usize,
 }
@@ -23,27 +23,29 @@ impl Model for KeptBytes {
 
 impl KeptBytes {
     /// These bytes, synced.
-    pub(crate) fn new(bytes: Vec<u8>) -> Self
+    pub fn new(bytes: Vec<u8>) -> Self
         ensures { result ≡ record { durable = bytes.items; waiting = [] } }
     {
         let synced = bytes.len();
         KeptBytes { bytes, synced }
     }
 
-    pub(crate) fn synced(&self) -> &[u8]
+    /// The synced bytes.
+    pub fn synced(&self) -> &[u8]
         ensures { result.now ≡ self.now.durable }
     {
         &self.bytes[..self.synced]
     }
 
-    pub(crate) fn pending(&self) -> &[u8]
+    /// The pending bytes.
+    pub fn pending(&self) -> &[u8]
         ensures { result.now ≡ self.now.waiting }
     {
         &self.bytes[self.synced..]
     }
 
     /// Gives as many synced bytes from an offset on as the buffer has room for and stand there.
-    pub(crate) fn give(&self, at: u64, buf: &mut [u8]) -> usize
+    pub fn give(&self, at: u64, buf: &mut [u8]) -> usize
         ensures bound { result ≤ length buf.new }
         ensures given { StartsWith (drop at self.now.durable) (take result buf.new) }
         ensures count { result ≡ min (length buf.old) (length self.now.durable - at) }
@@ -53,7 +55,7 @@ impl KeptBytes {
     }
 
     /// Adds pending bytes, where memory is found for them.
-    pub(crate) fn add(&mut self, bytes: &[u8]) -> bool
+    pub fn add(&mut self, bytes: &[u8]) -> bool
         ensures added { IsTrue result → self.new ≡ record self.old { waiting = self.old.waiting ++ bytes.now } }
         ensures full { result ≡ false → self.new ≡ self.old }
     {
@@ -61,14 +63,14 @@ impl KeptBytes {
     }
 
     /// Makes the pending bytes synced.
-    pub(crate) fn join(&mut self)
+    pub fn join(&mut self)
         ensures { self.new ≡ record { durable = self.old.durable ++ self.old.waiting; waiting = [] } }
     {
         self.synced = self.bytes.len();
     }
 
     /// Leaves so many synced bytes.
-    pub(crate) fn cut(&mut self, at: u64)
+    pub fn cut(&mut self, at: u64)
         requires settled { self.old.waiting ≡ [] }
         requires within { at ≤ length self.old.durable }
         ensures { self.new ≡ record { durable = take at self.old.durable; waiting = [] } }
@@ -79,7 +81,7 @@ impl KeptBytes {
     }
 
     /// Makes so many pending bytes synced, all where they are fewer, and lets the others go.
-    pub(crate) fn settle(&mut self, keeps: u64)
+    pub fn settle(&mut self, keeps: u64)
         ensures { self.new ≡ record { durable = self.old.durable ++ take keeps self.old.waiting; waiting = [] } }
     {
         let pending = self.bytes.len() - self.synced;

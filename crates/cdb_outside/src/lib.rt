@@ -31,13 +31,13 @@
 //! The objects in memory fail as they are told: `fails` lists the numbers of the calls that fail, from
 //! 1 over the calls of the trait that can fail, and a store may be told to stop after so many appended
 //! bytes, until it is halted. Otherwise they fail only where they find no memory for their own bytes.
-//! `ReadSource` and `WriteSink` stand over a reader and a writer of std, `FileStore` over a file of std.
+//! `ReadSource` and `WriteSink` stand over a reader and a writer of std. `KeptBytes` is what a store of
+//! one's own keeps in memory.
 #![tactic(auto)]
 
 mod adapters;
 mod consumer;
 mod faults;
-mod file_store;
 mod fronts;
 mod kept;
 mod mem_sink;
@@ -50,7 +50,7 @@ mod store;
 pub use adapters::{ReadSource, WriteSink};
 pub use consumer::{Consumer, RowEvent, Taken};
 pub use faults::Failed;
-pub use file_store::{FileState, FileStore};
+pub use kept::KeptBytes;
 pub use mem_sink::MemSink;
 pub use mem_source::MemSource;
 pub use mem_store::MemStore;

@@ -1,5 +1,6 @@
 //! Stores of a log: calls that fail as planned, stops inside a write, and files.
-use cdb_outside::{Failed, FileStore, LogStore, MemStore};
+use cdb_outside::{Failed, LogStore, MemStore};
+use file_store::FileStore;
 use std::test::Fail;
 use std::{env, fs, process};
 

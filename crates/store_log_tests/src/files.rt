@@ -5,7 +5,8 @@ ghost use Rattle.frame_code.specs.Spelled.{IsSpelled};
 
 use crate::bytes::{front, small};
 use crate::outcomes::{Outcome, comes_to, fault, holds, log, stand};
-use cdb_outside::{FileStore, LogStore};
+use cdb_outside::LogStore;
+use file_store::FileStore;
 use log_format::Frame;
 use std::alloc::Global;
 use std::process::Abort;

@@ -1,7 +1,7 @@
 use Rattle.std.proofs.Common.{◌≡◌, rules, subst, sym}
 use Rattle.cdb_outside.specs.Parts.{IsFrontFrom}
 use Rattle.cdb_outside.proofs.StopLemmas.{front_from_whole, on_err}
-use Rattle.cdb_outside.proofs.file_store.FileStoreLogStore.cut.Goals as goal
+use Rattle.file_store.proofs.files.FileStoreLogStore.cut.Goals as goal
 
 pub returns-in_err-catch_up-clause-part : goal.returns-in_err-catch_up-clause-part
 returns-in_err-catch_up-clause-part g c =

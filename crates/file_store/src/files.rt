@@ -1,13 +1,12 @@
 //! A store of a log in a file.
-ghost use Rattle.std.specs.Prelude.{◌≡◌, ◌≢◌, ◌-◌, ◌<◌, ◌≤◌, false, IsTrue, [], ◌++◌, min, length, take, drop, IsErr, IfOk, OnOk, OnErr};
+ghost use Rattle.std.specs.Prelude.{◌≡◌, ◌≢◌, ◌-◌, ◌<◌, ◌≤◌, ◌↔◌, IsTrue, None, [], ◌++◌, min, length, take, drop, IsErr, IfOk, OnOk, OnErr};
 ghost use Rattle.std.specs.Io.{ReadsAtMost};
 ghost use Rattle.cdb_outside.specs.Faults.{HasCause, count_after};
 ghost use Rattle.cdb_outside.specs.Parts.{IsFront, IsFrontFrom};
 ghost use Rattle.cdb_outside.specs.Stores.{GivesFrom, JoinsFront};
-ghost use Rattle.cdb_outside.specs.Objects.{HeldFile};
+ghost use Rattle.file_store.specs.Files.{HeldFile, last_cut};
 
-use crate::kept::KeptBytes;
-use crate::{Failed, LogStore};
+use cdb_outside::{Failed, KeptBytes, LogStore};
 use std::fs::{OpenFile, OpenOptions};
 use std::io::{ErrorKind, Seek, SeekFrom, Write};
 use std::marker::Model;
@@ -25,6 +24,15 @@ pub enum FileState {
     Unread,
 }
 
+/// Bytes that were cut off the file of a store: the offset of the first, and how many.
+#[derive(Clone, Copy, PartialEq, Eq, Debug)]
+pub struct CutOff {
+    /// Where the first of them stood.
+    pub at: u64,
+    /// How many there were.
+    pub count: u64,
+}
+
 /// A store that keeps its bytes in a file, and in memory those that it read when it was made and those that it synced
 /// since. These are its synced bytes. A halt keeps no pending byte.
 #[derive(Drop)]
@@ -34,6 +42,7 @@ pub struct FileStore<'a, R: Files> {
     file: Option<R::File>,
     kept: KeptBytes,
     state: FileState,
+    cut_off: Option<CutOff>,
     faults: u64,
 }
 
@@ -44,6 +53,7 @@ impl<'a, R: Files> Model for FileStore<'a, R> {
       durable = s.kept.durable;
       waiting = s.kept.waiting;
       state = s.state;
+      cut_off = s.cut_off;
       failures = s.faults;
     } };
 }
@@ -55,6 +65,7 @@ impl<'a, R: Files + AllocGlobal> FileStore<'a, R> {
         ensures settled { result.waiting ≡ [] }
         ensures begun { result.state ≢ FileState.Behind }
         ensures unread { result.state ≡ FileState.Unread → result.durable ≡ [] }
+        ensures whole { result.cut_off ≡ None }
         ensures count { result.failures ≡ 0 }
     {
         let (bytes, state) = match fs::read(files, path.as_str()) {
@@ -70,17 +81,42 @@ impl<'a, R: Files + AllocGlobal> FileStore<'a, R> {
             file: None,
             kept: KeptBytes::new(bytes),
             state,
+            cut_off: None,
             faults: 0,
         }
     }
 }
 
-impl<'a, R: Files> FileStore<'a, R> {
+impl<'a, R: Files + AllocGlobal> FileStore<'a, R> {
     /// The synced bytes.
     pub fn synced(&self) -> &[u8]
         ensures { result.now ≡ self.now.durable }
     {
         self.kept.synced()
+    }
+
+    /// Whether the file could not be read when the store was made.
+    pub fn is_unread(&self) -> bool
+        ensures { IsTrue result ↔ (self.now.state ≡ FileState.Unread) }
+    {
+        match self.state {
+            FileState::Unread => true,
+            _ => false,
+        }
+    }
+
+    /// The bytes that the last cut took off, of those that took some. They stand in the file beside the store.
+    pub fn cut_off(&self) -> Option<CutOff>
+        ensures { result ≡ self.now.cut_off }
+    {
+        self.cut_off
+    }
+
+    /// How many calls failed.
+    pub fn failures(&self) -> u64
+        ensures { result ≡ self.now.failures }
+    {
+        self.faults
     }
 
     /// The file, open to be written; it is made where it is not there.
@@ -107,10 +143,29 @@ impl<'a, R: Files> FileStore<'a, R> {
         Ok(())
     }
 
-    /// Leaves the file so many bytes, and syncs it. A file that failed is closed.
+    /// Adds bytes that stand in the file from an offset on to the end of the file beside it, and syncs that.
+    fn set_aside(&self, at: u64, bytes: &[u8]) -> io::Result<()> {
+        if bytes.is_empty() {
+            return Ok(());
+        }
+        let mut path = self.path.clone()?;
+        path.push_str(".cut")?;
+        let mut beside = OpenOptions::new()
+            .append(true)
+            .create(true)
+            .open(self.files, path.as_str())?;
+        beside.write_all(&at.to_be_bytes())?;
+        beside.write_all(&(bytes.len() as u64).to_be_bytes())?;
+        beside.write_all(bytes)?;
+        beside.sync_all()
+    }
+
+    /// Leaves the file so many bytes, once the others are set aside, and syncs it. A file that failed is closed.
     fn shorten(&mut self, size: u64) -> io::Result<()>
+        requires within { size ≤ length self.old.durable }
         ensures { self.new ≡ self.old }
     {
+        self.set_aside(size, &self.kept.synced()[size as usize..])?;
         let file = self.opened()?;
         file.set_len(size)?;
         file.sync_all()?;
@@ -118,10 +173,25 @@ impl<'a, R: Files> FileStore<'a, R> {
         Ok(())
     }
 
-    /// Makes the file equal to the synced bytes. A file that failed is closed.
+    /// Sets aside what the file has behind the synced bytes, or all of it where it does not begin with them.
+    fn set_others_aside(&self) -> io::Result<()> {
+        let found = match fs::read(self.files, self.path.as_str()) {
+            Ok(found) => found,
+            Err(error) if error.kind() == ErrorKind::NotFound => return Ok(()),
+            Err(error) => return Err(error),
+        };
+        let bytes = self.kept.synced();
+        match found.as_slice().strip_prefix(bytes) {
+            Some(rest) => self.set_aside(bytes.len() as u64, rest),
+            None => self.set_aside(0, found.as_slice()),
+        }
+    }
+
+    /// Makes the file equal to the synced bytes, once what else it has is set aside. A file that failed is closed.
     fn rewrite(&mut self) -> io::Result<()>
         ensures { self.new ≡ self.old }
     {
+        self.set_others_aside()?;
         let mut file = self.opened()?;
         let bytes = self.kept.synced();
         write_at(&mut file, 0, bytes)?;
@@ -153,6 +223,19 @@ impl<'a, R: Files> FileStore<'a, R> {
     }
 }
 
+/// The last bytes that were cut off, once these are which stood at an offset; those before where there is none of these.
+fn last_cut(at: u64, bytes: &[u8], before: Option<CutOff>) -> Option<CutOff>
+    ensures { result ≡ last_cut at bytes.now before }
+{
+    if bytes.is_empty() {
+        return before;
+    }
+    Some(CutOff {
+        at,
+        count: bytes.len() as u64,
+    })
+}
+
 /// Writes bytes to a place in a file, and syncs it.
 fn write_at<F: Write + Seek + OpenFile>(file: &mut F, at: u64, bytes: &[u8]) -> io::Result<()> {
     file.seek(SeekFrom::Start(at))?;
@@ -160,7 +243,7 @@ fn write_at<F: Write + Seek + OpenFile>(file: &mut F, at: u64, bytes: &[u8]) -> 
     file.sync_all()
 }
 
-impl<'a, R: Files> LogStore for FileStore<'a, R> {
+impl<'a, R: Files + AllocGlobal> LogStore for FileStore<'a, R> {
     ghost synced = { λ s. s.durable };
 
     ghost pending = { λ s. s.waiting };
@@ -241,7 +324,7 @@ impl<'a, R: Files> LogStore for FileStore<'a, R> {
         Ok(())
     }
 
-    /// Shortens the file and syncs it. After `Failed` all synced bytes are left.
+    /// Sets the bytes behind aside, shortens the file and syncs it. After `Failed` all synced bytes are left.
     fn cut(&mut self, at: u64) -> Result<(), Failed>
         requires settled { self.old.waiting ≡ [] }
         requires within { at ≤ length self.old.durable }
@@ -254,6 +337,7 @@ impl<'a, R: Files> LogStore for FileStore<'a, R> {
         ensures success { OnOk result (self.new ≡ record self.old {
           durable = take at self.old.durable;
           state = FileState.Equal;
+          cut_off = last_cut at (drop at self.old.durable) self.old.cut_off;
         }) }
         ensures failure { OnErr result (self.new ≡ record self.old {
           state = self.new.state;
@@ -267,6 +351,7 @@ impl<'a, R: Files> LogStore for FileStore<'a, R> {
             self.faults = self.faults.saturating_add(1);
             return Err(Failed);
         }
+        self.cut_off = last_cut(at, &self.kept.synced()[at as usize..], self.cut_off);
         self.kept.cut(at);
         Ok(())
     }

@@ -1,7 +1,7 @@
 use Rattle.std.proofs.Common.{◌≡◌, ◌++◌, rules, subst, sym}
 use Rattle.cdb_outside.specs.Parts.{IsFront}
 use Rattle.cdb_outside.proofs.StopLemmas.{front_kept, on_err}
-use Rattle.cdb_outside.proofs.file_store.FileStoreLogStore.append.Goals as goal
+use Rattle.file_store.proofs.files.FileStoreLogStore.append.Goals as goal
 
 pub returns-in_err-catch_up-clause-part : goal.returns-in_err-catch_up-clause-part
 returns-in_err-catch_up-clause-part g c =
