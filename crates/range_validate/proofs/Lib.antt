@@ -1,3 +1,2 @@
-pub mod IntervalLemmas
 pub mod TouchLemmas
 pub mod UsedLemmas

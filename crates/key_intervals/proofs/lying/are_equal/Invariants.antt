@@ -1,7 +1,7 @@
 -- the columns so far are equal to their values
 use Rattle.std.proofs.Common.{◌≡◌, length}
-use Rattle.query_laws.specs.Intervals.{are_equal}
-use Rattle.plan_run.proofs.lying.are_equal.Given as goal
+use Rattle.session_language.specs.Intervals.{are_equal}
+use Rattle.key_intervals.proofs.lying.are_equal.Given as goal
 
 abbrev pub invariant-values : goal.invariant-values
 invariant-values l = are_equal l.rest l.left l.row ≡ are_equal l.columns l.values l.row
