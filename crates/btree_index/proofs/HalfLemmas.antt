@@ -41,6 +41,21 @@ level_in n front m x others i =
     go (inl i) = inl (subst (λ (l : List ℕ). IsIn n l) (sym (pages_once front m others)) i)
     go (inr e) = inr e
 
+level_keeps : (n : ℕ) (front : List Entry) (m x : Entry) (others : List Entry) → IsIn n (map page_of (front ++ (m ∷ others))) ⊎ (n ≡ x.page)
+    → IsIn n (map page_of (front ++ (m ∷ (x ∷ others))))
+level_keeps n front m x others i = subst (λ (l : List ℕ). IsIn n l) (sym (pages_more front m x others)) (go i)
+  where
+    either : IsIn n (map page_of front ++ (m.page ∷ [])) ⊎ IsIn n (map page_of others)
+        → IsIn n ((map page_of front ++ (m.page ∷ [])) ++ (x.page ∷ map page_of others))
+    either (inl j) = in_left n (map page_of front ++ (m.page ∷ [])) (x.page ∷ map page_of others) j
+    either (inr j) = in_right n (map page_of front ++ (m.page ∷ [])) (x.page ∷ map page_of others) (inr j)
+
+    go : IsIn n (map page_of (front ++ (m ∷ others))) ⊎ (n ≡ x.page) → IsIn n ((map page_of front ++ (m.page ∷ [])) ++ (x.page ∷ map page_of others))
+    go (inl j) =
+        either (in_either n (map page_of front ++ (m.page ∷ [])) (map page_of others)
+        (subst (λ (l : List ℕ). IsIn n l) (pages_once front m others) j))
+    go (inr e) = in_right n (map page_of front ++ (m.page ∷ [])) (x.page ∷ map page_of others) (inl e)
+
 front_in : (n : ℕ) (front : List Entry) (m : Entry) (others : List Entry) → IsIn n (map page_of front) → IsIn n (map page_of (front ++ (m ∷ others)))
 front_in n front m others i = subst (λ (l : List ℕ). IsIn n l) (sym (pages-append front (m ∷ others))) (in_left n (map page_of front) (m.page ∷ map page_of others) i)
 
@@ -114,6 +129,8 @@ half_leaf old new front m others fresh separator cells halves off h =
             ∙ sym (cells-append old front (m ∷ others)) ∙ h.is;
       };
       from = λ n i. level_in n front m x others i;
+      keeps = λ n i. level_keeps n front m x others (inl i);
+      has = λ n e. level_keeps n front m x others (inr e);
     }
 
 -- a page above the leaves halved: the level below stays
@@ -174,6 +191,8 @@ half_inner old new height front m others fresh separator cells halves off h =
     let holds : Holds new height next cells = subst (λ (l : List Entry). Holds new height l cells) (sym below_is) kept.holds in
     let from : (n : ℕ) → IsIn n (pages_of new height next) → IsIn n deeper ⊎ ⊥ =
     subst (λ (l : List Entry). (n : ℕ) → IsIn n (pages_of new height l) → IsIn n deeper ⊎ ⊥) (sym below_is) kept.from in
+    let keeps : (n : ℕ) → IsIn n deeper → IsIn n (pages_of new height next) =
+    subst (λ (l : List Entry). (n : ℕ) → IsIn n deeper → IsIn n (pages_of new height l)) (sym below_is) kept.keeps in
     record {
       holds = record {
         shaped = (
@@ -188,6 +207,8 @@ half_inner old new height front m others fresh separator cells halves off h =
         is = holds.is;
       };
       from = λ n i. up n from (in_either n (map page_of (front ++ (m ∷ (x ∷ others)))) (pages_of new height next) i);
+      keeps = λ n i. stay n keeps (in_either n here_pages deeper i);
+      has = λ n e. in_left n (map page_of (front ++ (m ∷ (x ∷ others)))) (pages_of new height next) (level_keeps n front m x others (inr e));
     }
   where
     shorter : halves.first ≡ inner_cell [] (child_of halves.middle) → IsInnerCell halves.middle → HasRoom (halves.middle ∷ halves.right) → HasRoom (halves.first ∷ halves.right)
@@ -221,6 +242,19 @@ half_inner old new height front m others fresh separator cells halves off h =
         there : IsIn n (pages_of old height (spread old (front ++ (m ∷ others)))) ⊎ ⊥ → IsIn n (pages_of old (suc height) (front ++ (m ∷ others))) ⊎ (n ≡ fresh)
         there (inl j) = inl (in_right n (map page_of (front ++ (m ∷ others))) (pages_of old height (spread old (front ++ (m ∷ others)))) j)
         there (inr f) = absurd f
+
+    stay : (n : ℕ)
+        → ((n : ℕ) → IsIn n (pages_of old height (spread old (front ++ (m ∷ others))))
+        → IsIn n (pages_of new height (spread new (front ++ (m ∷ (record { low = separator; page = fresh } ∷ others))))))
+        → IsIn n (map page_of (front ++ (m ∷ others))) ⊎ IsIn n (pages_of old height (spread old (front ++ (m ∷ others))))
+        → IsIn n (pages_of new (suc height) (front ++ (m ∷ (record { low = separator; page = fresh } ∷ others))))
+    stay n keeps (inl i) =
+        in_left n (map page_of (front ++ (m ∷ (record { low = separator; page = fresh } ∷ others))))
+        (pages_of new height (spread new (front ++ (m ∷ (record { low = separator; page = fresh } ∷ others)))))
+        (level_keeps n front m (record { low = separator; page = fresh }) others (inl i))
+    stay n keeps (inr i) =
+        in_right n (map page_of (front ++ (m ∷ (record { low = separator; page = fresh } ∷ others))))
+        (pages_of new height (spread new (front ++ (m ∷ (record { low = separator; page = fresh } ∷ others))))) (keeps n i)
 
 -- a page halved, at any height
 pub half_level : (old new : ℕ → Image) (height : ℕ) (front : List Entry) (m : Entry) (others : List Entry) (fresh : ℕ) (separator : Key) (cells : List (List ℕ))

@@ -57,6 +57,8 @@ holds_same old new zero level cells same h = record {
     is = cells-same old new level same ∙ h.is;
   };
   from = λ n i. inl i;
+  keeps = λ n i. i;
+  has = λ n f. absurd f;
 }
 holds_same old new (suc height) level cells same h =
     let here = map page_of level in
@@ -144,6 +146,8 @@ changed_leaf old new front e others all cells h changes room each fence =
             ∙ ap (λ (l : List (List ℕ)). cells_of old front ++ (cells ++ l)) (cells-same old new others right);
       };
       from = λ n i. inl i;
+      keeps = λ n i. i;
+      has = λ n f. absurd f;
     }
 
 -- a path that has come to a leaf

@@ -7,10 +7,12 @@ use Rattle.btree_index.specs.Trees.{Entry, page_of, below, spread, leaves, cells
 use Rattle.btree_index.specs.Changes.{raise}
 use Rattle.btree_index.proofs.ApartLaws.{in_left, in_right, in_either, apart_left, apart_right, apart_cross, apart_join}
 
--- a level that holds cells now, on pages that were its own or are fresh
+-- a level that holds cells now, on the pages that were its own and on fresh ones
 pub record Grown (old new : ℕ → Image) (Fresh : ℕ → Type 0) (height : ℕ) (before level : List Entry) (cells : List (List ℕ)) : Type 0 where
   pub holds : Holds new height level cells
   pub from : (n : ℕ) → IsIn n (pages_of new height level) → IsIn n (pages_of old height before) ⊎ Fresh n
+  pub keeps : (n : ℕ) → IsIn n (pages_of old height before) → IsIn n (pages_of new height level)
+  pub has : (n : ℕ) → Fresh n → IsIn n (pages_of new height level)
 
 -- the pages of a level are as before
 abbrev pub SameOn : (ℕ → Image) → (ℕ → Image) → List ℕ → Type 0
@@ -44,6 +46,10 @@ lift old new Fresh height level cells shaped same fresh apart grown =
     let F : List Entry → Type 0 = λ l. (n : ℕ) → IsIn n (pages_of new height l) → IsIn n (pages_of old height (spread old level)) ⊎ Fresh n in
     let holds : Holds new height (spread new level) cells = subst H (sym e) grown.holds in
     let from : (n : ℕ) → IsIn n (pages_of new height (spread new level)) → IsIn n (pages_of old height (spread old level)) ⊎ Fresh n = subst F (sym e) grown.from in
+    let K : List Entry → Type 0 = λ l. (n : ℕ) → IsIn n (pages_of old height (spread old level)) → IsIn n (pages_of new height l) in
+    let R : List Entry → Type 0 = λ l. (n : ℕ) → Fresh n → IsIn n (pages_of new height l) in
+    let keeps : (n : ℕ) → IsIn n (pages_of old height (spread old level)) → IsIn n (pages_of new height (spread new level)) = subst K (sym e) grown.keeps in
+    let has : (n : ℕ) → Fresh n → IsIn n (pages_of new height (spread new level)) = subst R (sym e) grown.has in
     record {
       holds = record {
         shaped = (each_same old new (λ i. IsInnerPage (suc height) i) level same shaped, holds.shaped);
@@ -55,6 +61,8 @@ lift old new Fresh height level cells shaped same fresh apart grown =
         is = holds.is;
       };
       from = λ n i. up n from (in_either n (map page_of level) (pages_of new height (spread new level)) i);
+      keeps = λ n i. stay n keeps (in_either n (map page_of level) (pages_of old height (spread old level)) i);
+      has = λ n f. in_right n (map page_of level) (pages_of new height (spread new level)) (has n f);
     }
   where
     off : (n : ℕ) → IsIn n (map page_of level) → IsIn n (pages_of old height (spread old level)) ⊎ Fresh n → ⊥
@@ -70,6 +78,11 @@ lift old new Fresh height level cells shaped same fresh apart grown =
         deeper : IsIn n (pages_of old height (spread old level)) ⊎ Fresh n → IsIn n (pages_of old (suc height) level) ⊎ Fresh n
         deeper (inl j) = inl (in_right n (map page_of level) (pages_of old height (spread old level)) j)
         deeper (inr f) = inr f
+
+    stay : (n : ℕ) → ((n : ℕ) → IsIn n (pages_of old height (spread old level)) → IsIn n (pages_of new height (spread new level)))
+        → IsIn n (map page_of level) ⊎ IsIn n (pages_of old height (spread old level)) → IsIn n (pages_of new (suc height) level)
+    stay n keeps (inl i) = in_left n (map page_of level) (pages_of new height (spread new level)) i
+    stay n keeps (inr i) = in_right n (map page_of level) (pages_of new height (spread new level)) (keeps n i)
 
 -- the pages of so many levels
 abbrev pub uppers : (ℕ → Image) → ℕ → List Entry → List ℕ

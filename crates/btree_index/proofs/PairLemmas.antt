@@ -6,7 +6,7 @@ use Rattle.page_store.specs.Image.{Image}
 use Rattle.btree_index.specs.Keys.{Key, before, same_key}
 use Rattle.btree_index.specs.Cells.{key_of, value_of}
 use Rattle.btree_index.specs.Pairs.{with_pair, without_key, place_in, cell_value}
-use Rattle.btree_index.specs.Trees.{Entry, cells_of, IsUnder, Ascends, IsFenced, AreFenced, pair_of}
+use Rattle.btree_index.specs.Trees.{Entry, cells_of, IsUnder, IsUpTo, Ascends, IsFenced, AreFenced, pair_of}
 use Rattle.btree_index.proofs.KeyLaws.{before_atmost, atmost_before, before_before, not_back, not_same_before, not_same_behind, same_not_before, same_not_behind, else_before}
 use Rattle.btree_index.proofs.WayLemmas.{begins_below}
 use Rattle.btree_index.proofs.RowLemmas.{front_low, pairs-append}
@@ -49,9 +49,9 @@ behind_after pages key (e ∷ es) fenced to =
     here [] from = tt
     here (c ∷ cs) from = (before_atmost key e.low (key_of c) to from.0, here cs from.1)
 
-    further : (es : List Entry) → IsUnder e.low es → IsUnder key es
+    further : (es : List Entry) → IsUpTo e.low es → IsUnder key es
     further [] h = tt
-    further (f ∷ fs) h = before_before key e.low f.low to h
+    further (f ∷ fs) h = before_atmost key e.low f.low to h
 
 -- a pair goes behind the cells before its key
 with_pair-front : (key : Key) (value : List ℕ) (cells : List (List ℕ)) (rest : List (Key × List ℕ)) → AllByRecursion (λ c. before (key_of c) key ≡ true) cells

@@ -127,6 +127,10 @@ half_parent old new height front e others at cell fresh separator cells more h h
     let holds : Holds new height next cells = subst (λ (l : List Entry). Holds new height l cells) (sym new_is) grown.holds in
     let from : (n : ℕ) → IsIn n (pages_of new height next) → IsIn n deeper ⊎ (n ≡ fresh) =
     subst (λ (l : List Entry). (n : ℕ) → IsIn n (pages_of new height l) → IsIn n deeper ⊎ (n ≡ fresh)) (sym new_is) grown.from in
+    let keeps : (n : ℕ) → IsIn n deeper → IsIn n (pages_of new height next) =
+    subst (λ (l : List Entry). (n : ℕ) → IsIn n deeper → IsIn n (pages_of new height l)) (sym new_is) grown.keeps in
+    let has : (n : ℕ) → n ≡ fresh → IsIn n (pages_of new height next) =
+    subst (λ (l : List Entry). (n : ℕ) → n ≡ fresh → IsIn n (pages_of new height l)) (sym new_is) grown.has in
     record {
       holds = record {
         shaped = (each_with old new (λ i. IsInnerPage (suc height) i) front e others left right h.shaped.0 there, holds.shaped);
@@ -136,6 +140,8 @@ half_parent old new height front e others at cell fresh separator cells more h h
         is = holds.is;
       };
       from = λ n i. rise n from (in_either n here_pages (pages_of new height next) i);
+      keeps = λ n i. stay n keeps (in_either n here_pages deeper i);
+      has = λ n k. in_right n here_pages (pages_of new height next) (has n k);
     }
   where
     deep : (height : ℕ) (level before : List Entry) (m : Entry) (behind : List Entry) → level ≡ before ++ (m ∷ behind) → IsIn m.page (pages_of old height level)
@@ -166,3 +172,9 @@ half_parent old new height front e others at cell fresh separator cells more h h
         deeper : IsIn n (pages_of old height (spread old (front ++ (e ∷ others)))) ⊎ (n ≡ fresh) → IsIn n (pages_of old (suc height) (front ++ (e ∷ others))) ⊎ (n ≡ fresh)
         deeper (inl j) = inl (in_right n (map page_of (front ++ (e ∷ others))) (pages_of old height (spread old (front ++ (e ∷ others)))) j)
         deeper (inr k) = inr k
+
+    stay : (n : ℕ) → ((n : ℕ) → IsIn n (pages_of old height (spread old (front ++ (e ∷ others)))) → IsIn n (pages_of new height (spread new (front ++ (e ∷ others)))))
+        → IsIn n (map page_of (front ++ (e ∷ others))) ⊎ IsIn n (pages_of old height (spread old (front ++ (e ∷ others))))
+        → IsIn n (pages_of new (suc height) (front ++ (e ∷ others)))
+    stay n keeps (inl i) = in_left n (map page_of (front ++ (e ∷ others))) (pages_of new height (spread new (front ++ (e ∷ others)))) i
+    stay n keeps (inr i) = in_right n (map page_of (front ++ (e ∷ others))) (pages_of new height (spread new (front ++ (e ∷ others)))) (keeps n i)

@@ -49,6 +49,7 @@ pub record Took (old new : ℕ → Image) (root : ℕ) (own free : List ℕ) (li
   pub stands : Stands new root own free list
   pub changes : Changes old new own own free free
   pub fresh_is : IsFresh old new free fresh
+  pub only : (n : ℕ) → count_of old ≤ n → n < count_of new → n ≡ fresh
   pub off : IsIn fresh own → ⊥
   pub same : SameOn old new own
 
@@ -98,6 +99,7 @@ took old new root fresh own free list takes stands =
         some = λ e. omega arith;
         off = λ i. (let b : fresh < count_of old = written_in (count_of old) free fresh stands.spare.written i in omega arith);
       };
+      only = λ n a b. omega arith;
       off = λ i. (let b : fresh < count_of old = stands.below fresh i in omega arith);
       same = same;
     }
@@ -210,7 +212,12 @@ split_down mid halved new root key parent fresh separator at cell depth height c
         let two = holds_same halved new height (before ++ (m ∷ (record { low = separator; page = fresh } ∷ behind))) cells
         (λ n i. puts.others n (λ k. clash n k (one.from n i) deeper_is)) one.holds in
         subst (λ (l : List Entry). Grown mid new (λ n. n ≡ fresh) height l (before ++ (m ∷ (record { low = separator; page = fresh } ∷ behind))) cells) (sym old_is)
-        (record { holds = two.holds; from = λ n i. back n (two.from n i) one.from })
+        (record {
+          holds = two.holds;
+          from = λ n i. back n (two.from n i) one.from;
+          keeps = λ n i. two.keeps n (one.keeps n i);
+          has = λ n k. two.keeps n (one.has n k);
+        })
       where
         clash : (n : ℕ) → n ≡ parent → IsIn n (pages_of mid height (before ++ (m ∷ behind))) ⊎ (n ≡ fresh)
             → pages_of mid height (spread mid (path.front ++ (record { low = path.low; page = parent } ∷ path.others))) ≡ pages_of mid height (before ++ (m ∷ behind)) → ⊥
@@ -244,6 +251,7 @@ splits old new root key parent s leads inner own free list stands =
     becomes old s.taken new (λ n. n ≡ s.fresh) root own free list list t.stands t.changes
     (λ n e. subst (λ (k : ℕ). IsFresh old s.taken free k) (sym e) t.fresh_is) stands.height stands.cells tree.grown.holds
     (λ n i. subst (λ (l : List ℕ). IsIn n l ⊎ (n ≡ s.fresh)) own_is (tree.grown.from n i))
+    (λ n i. tree.grown.keeps n (subst (λ (l : List ℕ). IsIn n l) (sym own_is) i)) tree.grown.has t.only
     (λ n off far. s.puts.others n (λ k. off (subst (λ (j : ℕ). IsIn j own) (sym k) parent_own))
     ∙ s.halves.others n (λ k. off (subst (λ (j : ℕ). IsIn j own) (sym k) child_own)) far)
     stands.pairs
@@ -272,7 +280,10 @@ splits old new root key parent s leads inner own free list stands =
 
 -- the one page below a raised root holds what the root held
 pub record Lowered (mid new : ℕ → Image) (root fresh height : ℕ) (cells : List (List ℕ)) : Type 0 where
-  pub grown : Grown mid new (λ n. n ≡ fresh) height (top root) (record { low = []; page = fresh } ∷ []) cells
+  pub holds : Holds new height (record { low = []; page = fresh } ∷ []) cells
+  pub from : (n : ℕ) → IsIn n (pages_of new height (record { low = []; page = fresh } ∷ [])) → IsIn n (pages_of mid height (top root)) ⊎ (n ≡ fresh)
+  pub keeps : (n : ℕ) → IsIn n (pages_of mid height (top root)) → (n ≡ root) ⊎ IsIn n (pages_of new height (record { low = []; page = fresh } ∷ []))
+  pub has : IsIn fresh (pages_of new height (record { low = []; page = fresh } ∷ []))
   pub off : IsIn root (pages_of new height (record { low = []; page = fresh } ∷ [])) → ⊥
 
 pub crowned : (mid new : ℕ → Image) (root fresh height : ℕ) (cells : List (List ℕ)) → Holds mid height (top root) cells
@@ -282,24 +293,24 @@ crowned mid new root fresh zero cells h head is off away same =
     let leaf : IsLeafPage (mid root) = h.shaped.0 in
     record {
       off = λ i. none i;
-      grown = record {
-        holds = record {
-          shaped = (
-            record {
-              kind = ap (λ (h : Head). h.kind) head ∙ leaf.kind;
-              level = ap (λ (h : Head). h.level) head ∙ leaf.level;
-              cells = subst (λ (l : List (List ℕ)). AllByRecursion IsLeafCell l) (sym is) leaf.cells;
-              fits = subst HasRoom (sym is) leaf.fits;
-            },
-            tt,
-          );
-          fenced = (subst (λ (l : List (List ℕ)). IsFenced [] l []) (sym is) h.fenced.0, tt);
-          linked = ap (λ (h : Head). h.right) head ∙ h.linked;
-          apart = (λ i. i, tt);
-          is = ap (λ (l : List (List ℕ)). l ++ []) is ∙ h.is;
-        };
-        from = λ n i. only n i;
+      holds = record {
+        shaped = (
+          record {
+            kind = ap (λ (h : Head). h.kind) head ∙ leaf.kind;
+            level = ap (λ (h : Head). h.level) head ∙ leaf.level;
+            cells = subst (λ (l : List (List ℕ)). AllByRecursion IsLeafCell l) (sym is) leaf.cells;
+            fits = subst HasRoom (sym is) leaf.fits;
+          },
+          tt,
+        );
+        fenced = (subst (λ (l : List (List ℕ)). IsFenced [] l []) (sym is) h.fenced.0, tt);
+        linked = ap (λ (h : Head). h.right) head ∙ h.linked;
+        apart = (λ i. i, tt);
+        is = ap (λ (l : List (List ℕ)). l ++ []) is ∙ h.is;
       };
+      from = λ n i. only n i;
+      keeps = λ n i. stay n i;
+      has = inl refl;
     }
   where
     none : IsIn root (fresh ∷ []) → ⊥
@@ -309,6 +320,10 @@ crowned mid new root fresh zero cells h head is off away same =
     only : (n : ℕ) → IsIn n (fresh ∷ []) → IsIn n (pages_of mid zero (top root)) ⊎ (n ≡ fresh)
     only n (inl e) = inr e
     only n (inr i) = absurd i
+
+    stay : (n : ℕ) → IsIn n (root ∷ []) → (n ≡ root) ⊎ IsIn n (fresh ∷ [])
+    stay n (inl e) = inl e
+    stay n (inr i) = absurd i
 crowned mid new root fresh (suc height) cells h head is off away same =
     let inner : IsInnerPage (suc height) (mid root) = h.shaped.0.0 in
     let next_is : spread new (record { low = []; page = fresh } ∷ []) ≡ spread mid (top root) = ap (λ (l : List (List ℕ)). below [] l ++ []) is in
@@ -320,30 +335,32 @@ crowned mid new root fresh (suc height) cells h head is off away same =
     let holds : Holds new height next cells = subst (λ (l : List Entry). Holds new height l cells) (sym next_is) kept.holds in
     let from : (n : ℕ) → IsIn n (pages_of new height next) → IsIn n deeper ⊎ ⊥ =
     subst (λ (l : List Entry). (n : ℕ) → IsIn n (pages_of new height l) → IsIn n deeper ⊎ ⊥) (sym next_is) kept.from in
+    let keeps : (n : ℕ) → IsIn n deeper → IsIn n (pages_of new height next) =
+    subst (λ (l : List Entry). (n : ℕ) → IsIn n deeper → IsIn n (pages_of new height l)) (sym next_is) kept.keeps in
     record {
       off = λ i. none i from;
-      grown = record {
-        holds = record {
-          shaped = (
-            (
-              record {
-                kind = ap (λ (h : Head). h.kind) head ∙ inner.kind;
-                level = ap (λ (h : Head). h.level) head ∙ inner.level;
-                first = subst BeginsEmpty (sym is) inner.first;
-                cells = subst (λ (l : List (List ℕ)). AllByRecursion IsInnerCell l) (sym is) inner.cells;
-                fits = subst HasRoom (sym is) inner.fits;
-              },
-              tt,
-            ),
-            holds.shaped,
-          );
-          fenced = holds.fenced;
-          linked = holds.linked;
-          apart = (λ i. clash (from fresh i), holds.apart);
-          is = holds.is;
-        };
-        from = λ n i. rise n i from;
+      holds = record {
+        shaped = (
+          (
+            record {
+              kind = ap (λ (h : Head). h.kind) head ∙ inner.kind;
+              level = ap (λ (h : Head). h.level) head ∙ inner.level;
+              first = subst BeginsEmpty (sym is) inner.first;
+              cells = subst (λ (l : List (List ℕ)). AllByRecursion IsInnerCell l) (sym is) inner.cells;
+              fits = subst HasRoom (sym is) inner.fits;
+            },
+            tt,
+          ),
+          holds.shaped,
+        );
+        fenced = holds.fenced;
+        linked = holds.linked;
+        apart = (λ i. clash (from fresh i), holds.apart);
+        is = holds.is;
       };
+      from = λ n i. rise n i from;
+      keeps = λ n i. stay n i keeps;
+      has = inl refl;
     }
   where
     none : IsIn root (fresh ∷ pages_of new height (spread new (record { low = []; page = fresh } ∷ [])))
@@ -369,6 +386,12 @@ crowned mid new root fresh (suc height) cells h head is off away same =
         deeper (inl j) = inl (inr j)
         deeper (inr f) = absurd f
 
+    stay : (n : ℕ) → IsIn n (root ∷ pages_of mid height (spread mid (top root)))
+        → ((n : ℕ) → IsIn n (pages_of mid height (spread mid (top root))) → IsIn n (pages_of new height (spread new (record { low = []; page = fresh } ∷ []))))
+        → (n ≡ root) ⊎ IsIn n (fresh ∷ pages_of new height (spread new (record { low = []; page = fresh } ∷ [])))
+    stay n (inl e) keeps = inl e
+    stay n (inr i) keeps = inr (inr (keeps n i))
+
 -- the level of the root's head, by its height
 pub root_level : (pages : ℕ → Image) (root height : ℕ) → IsShaped pages height (top root) → (pages root).head.level ≡ min height 255
 root_level pages root zero h = h.0.level
@@ -386,7 +409,6 @@ crowns old new root s own free list stands =
     let off : IsIn s.fresh (pages_of mid stands.height (top root)) → ⊥ = λ i. t.off (subst (λ (l : List ℕ). IsIn s.fresh l) own_is i) in
     let lowered : Lowered mid new root s.fresh stands.height stands.cells =
     crowned mid new root s.fresh stands.height stands.cells holds s.low_head s.low_cells off s.off s.others in
-    let low = lowered.grown in
     let cell = inner_cell [] s.fresh in
     let level : (mid root).head.level ≡ min stands.height 255 = root_level mid root stands.height holds.shaped in
     let next_is : spread new (top root) ≡ record { low = []; page = s.fresh } ∷ [] =
@@ -402,14 +424,20 @@ crowns old new root s own free list stands =
       cells = subst (λ (l : List (List ℕ)). AllByRecursion IsInnerCell l) (sym s.cells) (inner_cell_is [] s.fresh (lit≤ tt), tt);
       fits = subst HasRoom (sym s.cells) (let e : taken (cell ∷ []) ≡ 0 + (4 + length cell) = refl in omega arith);
     } in
-    let low_holds : Holds new stands.height (spread new (top root)) stands.cells = subst (λ (l : List Entry). Holds new stands.height l stands.cells) (sym next_is) low.holds in
+    let low_holds : Holds new stands.height (spread new (top root)) stands.cells = subst (λ (l : List Entry). Holds new stands.height l stands.cells) (sym next_is) lowered.holds in
     let from : (n : ℕ) → IsIn n (pages_of new stands.height (spread new (top root))) → IsIn n (pages_of mid stands.height (top root)) ⊎ (n ≡ s.fresh) =
-    subst (λ (l : List Entry). (n : ℕ) → IsIn n (pages_of new stands.height l) → IsIn n (pages_of mid stands.height (top root)) ⊎ (n ≡ s.fresh)) (sym next_is) low.from in
+    subst (λ (l : List Entry). (n : ℕ) → IsIn n (pages_of new stands.height l) → IsIn n (pages_of mid stands.height (top root)) ⊎ (n ≡ s.fresh)) (sym next_is) lowered.from in
+    let keeps : (n : ℕ) → IsIn n (pages_of mid stands.height (top root)) → (n ≡ root) ⊎ IsIn n (pages_of new stands.height (spread new (top root))) =
+    subst (λ (l : List Entry). (n : ℕ) → IsIn n (pages_of mid stands.height (top root)) → (n ≡ root) ⊎ IsIn n (pages_of new stands.height l)) (sym next_is) lowered.keeps in
+    let has : IsIn s.fresh (pages_of new stands.height (spread new (top root))) =
+    subst (λ (l : List Entry). IsIn s.fresh (pages_of new stands.height l)) (sym next_is) lowered.has in
     let root_own : IsIn root own = subst (λ (l : List ℕ). IsIn root l) own_is (root_in mid stands.height root) in
     becomes old mid new (λ n. n ≡ s.fresh) root own free list list t.stands t.changes
     (λ n e. subst (λ (k : ℕ). IsFresh old mid free k) (sym e) t.fresh_is) (suc stands.height) stands.cells
     (record { shaped = ((shaped, tt), low_holds.shaped); fenced = low_holds.fenced; linked = low_holds.linked; apart = (apart, low_holds.apart); is = low_holds.is })
     (λ n i. up n i from own_is root_own)
+    (λ n i. keeps n (subst (λ (l : List ℕ). IsIn n l) (sym own_is) i))
+    (λ n e. inr (subst (λ (k : ℕ). IsIn k (pages_of new stands.height (spread new (top root)))) (sym e) has)) t.only
     (λ n away far. s.others n (λ k. away (subst (λ (j : ℕ). IsIn j own) (sym k) root_own)) far)
     stands.pairs
   where

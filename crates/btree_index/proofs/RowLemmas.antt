@@ -131,7 +131,7 @@ beyond_leaves pages low high e (f ∷ fs) fenced h =
   where
     further : (high : Option Key) → is_below high e.low ≡ false → is_below high f.low ≡ false
     further None h = h
-    further (Some high) h = atmost_atmost high e.low f.low h (not_back e.low f.low fenced.0.next)
+    further (Some high) h = atmost_atmost high e.low f.low h fenced.0.next
 
 -- a leaf with a cell beyond the high key is the last one that is wanted
 pub row_stop : (pages : ℕ → Image) (low : Key) (high : Option Key) (page : ℕ) (out all : List (Key × List ℕ)) → OnRow pages low high page out all

@@ -5,7 +5,7 @@ use Rattle.page_store.specs.Image.{Image}
 use Rattle.page_workspace.specs.Spare.{IsIn}
 use Rattle.btree_index.specs.Keys.{Key, before}
 use Rattle.btree_index.specs.Cells.{key_of, child_of}
-use Rattle.btree_index.specs.Trees.{Entry, page_of, entry_of, below, spread, IsFenced, IsUnder, Ascends, AreFenced, AreLinked}
+use Rattle.btree_index.specs.Trees.{Entry, page_of, entry_of, below, spread, IsFenced, IsUnder, IsUpTo, Ascends, AreFenced, AreLinked}
 use Rattle.btree_index.proofs.KeyLaws.{atmost_before, before_before, irreflexive, not_back}
 use Rattle.btree_index.proofs.PairLemmas.{ascends_all}
 use Rattle.btree_index.proofs.LevelLemmas.{SameOn}
@@ -31,13 +31,22 @@ under_split : (key : Key) (front : List Entry) (m x : Entry) (others : List Entr
 under_split key [] m x others h = h
 under_split key (f ∷ fs) m x others h = h
 
+up_to_split : (key : Key) (front : List Entry) (m x : Entry) (others : List Entry) → IsUpTo key (front ++ (m ∷ others)) → IsUpTo key (front ++ (m ∷ (x ∷ others)))
+up_to_split key [] m x others h = h
+up_to_split key (f ∷ fs) m x others h = h
+
+-- what is under is not above
+under_up_to : (key : Key) (others : List Entry) → IsUnder key others → IsUpTo key others
+under_up_to key [] h = tt
+under_up_to key (f ∷ fs) h = not_back key f.low h
+
 fence_split : (low : Key) (cells : List (List ℕ)) (front : List Entry) (m x : Entry) (others : List Entry) → IsFenced low cells (front ++ (m ∷ others))
     → IsFenced low cells (front ++ (m ∷ (x ∷ others)))
 fence_split low cells front m x others h = record {
   from = h.from;
   to = go cells h.to;
   ascends = h.ascends;
-  next = under_split low front m x others h.next;
+  next = up_to_split low front m x others h.next;
 }
   where
     go : (cells : List (List ℕ)) → AllByRecursion (λ c. IsUnder (key_of c) (front ++ (m ∷ others))) cells
@@ -94,13 +103,13 @@ fence_halves low separator start left middle right fresh others is h =
         from = from.0;
         to = under;
         ascends = up.0;
-        next = atmost_before low (key_of start) separator from.0.0 under.0;
+        next = not_back low separator (atmost_before low (key_of start) separator from.0.0 under.0);
       },
       subst P (sym is) (record {
         from = (irreflexive (key_of middle), at_least right (ascends_all middle right up.1));
         to = to.1;
         ascends = up.1;
-        next = to.1.0;
+        next = under_up_to (key_of middle) others to.1.0;
       }),
     )
   where

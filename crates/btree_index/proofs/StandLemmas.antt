@@ -3,7 +3,7 @@ use Rattle.std.proofs.Common.{if◌then◌else◌, drop, length, ◌+◌, ◌^�
 use Rattle.std.proofs.lemmas.Option.{none-some, same_Some}
 use Rattle.std.specs.Option.{is_some}
 use Rattle.std.specs.Prelude.{Option}
-use Rattle.std.proofs.lemmas.Bool.{false≢true}
+use Rattle.std.proofs.lemmas.Bool.{false≢true, cases_lt}
 use Rattle.std.specs.List.{AllByRecursion, slice_get, insert, remove}
 use Rattle.byteorder.specs.Endian.{big_number}
 use Rattle.page_store.specs.Image.{Image, HasRoom}
@@ -17,7 +17,7 @@ use Rattle.btree_index.specs.Keys.{Key, same_key}
 use Rattle.btree_index.specs.Cells.{key_of, value_of, leaf_cell, IsLeafCell}
 use Rattle.btree_index.specs.Pairs.{value_at, cell_value, with_pair, place_in, without_key, HasKeyAt}
 use Rattle.btree_index.specs.Trees.{Entry, cells_of, pages_of, IsFenced, AreFenced, Holds, top, pair_of}
-use Rattle.btree_index.specs.Changes.{Stands, Changes, Becomes, Leads}
+use Rattle.btree_index.specs.Changes.{Stands, Changes, LosesNone, Becomes, Leads}
 use Rattle.btree_index.proofs.LeafLaws.{ChangesCells, Replaces, replaces, cells-append, fenced_at}
 use Rattle.btree_index.proofs.CellLemmas.{key_of-cell, value_of-cell, leaf_cell_is}
 use Rattle.btree_index.proofs.PairLemmas.{with_pair-cells, fenced_insert, all_insert, front_before, behind_after, without-cells, without-absent, fenced_remove, all_remove}
@@ -62,9 +62,11 @@ pub becomes : (first old new : ℕ → Image) (Fresh : ℕ → Type 0) (root : �
     → Stands old root own free list → Changes first old own own free free → ((n : ℕ) → Fresh n → IsFresh first old free n)
     → (height : ℕ) (cells : List (List ℕ)) → Holds new height (top root) cells
     → ((n : ℕ) → IsIn n (pages_of new height (top root)) → IsIn n own ⊎ Fresh n)
+    → ((n : ℕ) → IsIn n own → IsIn n (pages_of new height (top root))) → ((n : ℕ) → Fresh n → IsIn n (pages_of new height (top root)))
+    → ((n : ℕ) → count_of first ≤ n → n < count_of old → Fresh n)
     → ((n : ℕ) → (IsIn n own → ⊥) → (Fresh n → ⊥) → new n ≡ old n) → map pair_of cells ≡ after
     → Becomes first new root own free after
-becomes first old new Fresh root own free list after stands changes fresh height cells holds from same pairs =
+becomes first old new Fresh root own free list after stands changes fresh height cells holds from keeps has taken same pairs =
     let zeroth : new 0 ≡ old 0 = same 0 stands.off_meta (λ f. (fresh 0 f).some refl) in
     let count : count_of new ≡ count_of old = ap (λ (i : Image). big_number 8 (drop 8 (first_cell i.cells))) zeroth in
     let genid : next_genid new ≡ next_genid old = ap (λ (i : Image). big_number 8 (first_cell i.cells)) zeroth in
@@ -103,6 +105,11 @@ becomes first old new Fresh root own free list after stands changes fresh height
         tree = λ n i. tree n (from n i);
         unused = changes.unused;
       };
+      lost = record {
+        tree = keeps;
+        unused = λ n i. inr i;
+        taken = λ n a b. has n (taken n a (subst (λ (c : ℕ). n < c) count b));
+      };
     }
   where
     off : (n : ℕ) {c : ℕ} → c ≤ n → n < c → ⊥
@@ -134,6 +141,7 @@ leaf_becomes old new root key page own free list after cells stands changes r ro
     becomes old old new (λ _. ⊥) root own free list after stands (changes_none old own free) (λ n f. absurd f) stands.height
     (cells_of old r.front ++ (cells ++ cells_of old r.others)) grown.holds
     (λ n i. subst (λ (l : List ℕ). IsIn n l ⊎ ⊥) stands.own_is (grown.from n i))
+    (λ n i. grown.keeps n (subst (λ (l : List ℕ). IsIn n l) (sym stands.own_is) i)) (λ n f. absurd f) (λ n a b. omega arith)
     (λ n off f. changes.others n (λ e. off (subst (λ (k : ℕ). IsIn k own) (sym e) (subst (λ (l : List ℕ). IsIn page l) stands.own_is r.inside)))) pairs
 
 -- what the leaf has of the key is what the tree has
@@ -198,7 +206,8 @@ removes_none old new root key page same leads leaf none own free list stands =
       sym (ap is_some value),
       subst (λ (f : ℕ → Image). Becomes old f root own free (without_key key list)) (sym same)
           (becomes old old old (λ _. ⊥) root own free list (without_key key list) stands (changes_none old own free) (λ n f. absurd f) stands.height stands.cells stands.holds
-          (λ n i. inl (subst (λ (l : List ℕ). IsIn n l) stands.own_is i)) (λ n off f. refl)
+          (λ n i. inl (subst (λ (l : List ℕ). IsIn n l) stands.own_is i))
+          (λ n i. subst (λ (l : List ℕ). IsIn n l) (sym stands.own_is) i) (λ n f. absurd f) (λ n a b. omega arith) (λ n off f. refl)
           (sym (without-absent key stands.cells absent) ∙ ap (without_key key) stands.pairs)),
     )
 
@@ -226,29 +235,25 @@ pub becomes_none : (pages : ℕ → Image) (root : ℕ) (own free : List ℕ) (l
     → Becomes pages pages root own free list
 becomes_none pages root own free list stands =
     becomes pages pages pages (λ _. ⊥) root own free list list stands (changes_none pages own free) (λ n f. absurd f) stands.height stands.cells stands.holds
-    (λ n i. inl (subst (λ (l : List ℕ). IsIn n l) stands.own_is i)) (λ n off f. refl) stands.pairs
+    (λ n i. inl (subst (λ (l : List ℕ). IsIn n l) stands.own_is i))
+    (λ n i. subst (λ (l : List ℕ). IsIn n l) (sym stands.own_is) i) (λ n f. absurd f) (λ n a b. omega arith) (λ n off f. refl) stands.pairs
 
 -- one change after another
-pub becomes_after : (a b c : ℕ → Image) (root : ℕ) (own free : List ℕ) (one two : List (Key × List ℕ)) → (first : Becomes a b root own free one)
-    → Becomes b c root first.more first.spare two → Becomes a c root own free two
-becomes_after a b c root own free one two first second =
-    let early : count_of a ≤ count_of b = first.changes.count in
-    let late : count_of b ≤ count_of c = second.changes.count in
+pub changes_after : (a b c : ℕ → Image) (own more most free spare left : List ℕ) → Changes a b own more free spare → Changes b c more most spare left
+    → Changes a c own most free left
+changes_after a b c own more most free spare left first second =
+    let early : count_of a ≤ count_of b = first.count in
+    let late : count_of b ≤ count_of c = second.count in
     record {
-      more = second.more;
-      spare = second.spare;
-      stands = second.stands;
-      changes = record {
-        genid = second.changes.genid ∙ first.changes.genid;
-        count = omega arith;
-        few = λ h. second.changes.few (first.changes.few h);
-        others = λ n h some off_own off_free.
-            (let below : n < count_of b = omega arith in
-            second.changes.others n below some (λ i. gone n h off_own off_free (first.changes.tree n i)) (λ i. gone n h off_own off_free (first.changes.unused n i))
-            ∙ first.changes.others n h some off_own off_free);
-        tree = λ n i. back n (second.changes.tree n i);
-        unused = λ n i. back n (second.changes.unused n i);
-      };
+      genid = second.genid ∙ first.genid;
+      count = omega arith;
+      few = λ h. second.few (first.few h);
+      others = λ n h some off_own off_free.
+          (let below : n < count_of b = omega arith in
+          second.others n below some (λ i. gone n h off_own off_free (first.tree n i)) (λ i. gone n h off_own off_free (first.unused n i))
+          ∙ first.others n h some off_own off_free);
+      tree = λ n i. back n (second.tree n i);
+      unused = λ n i. back n (second.unused n i);
     }
   where
     gone : (n : ℕ) → n < count_of a → (IsIn n own → ⊥) → (IsIn n free → ⊥) → IsIn n own ⊎ IsIn n free ⊎ (count_of a ≤ n) → ⊥
@@ -256,10 +261,42 @@ becomes_after a b c root own free one two first second =
     gone n h off_own off_free (inr (inl i)) = off_free i
     gone n h off_own off_free (inr (inr k)) = omega arith
 
-    back : (n : ℕ) → IsIn n first.more ⊎ IsIn n first.spare ⊎ (count_of b ≤ n) → IsIn n own ⊎ IsIn n free ⊎ (count_of a ≤ n)
-    back n (inl i) = first.changes.tree n i
-    back n (inr (inl i)) = first.changes.unused n i
-    back n (inr (inr k)) = let early : count_of a ≤ count_of b = first.changes.count in inr (inr (omega arith))
+    back : (n : ℕ) → IsIn n more ⊎ IsIn n spare ⊎ (count_of b ≤ n) → IsIn n own ⊎ IsIn n free ⊎ (count_of a ≤ n)
+    back n (inl i) = first.tree n i
+    back n (inr (inl i)) = first.unused n i
+    back n (inr (inr k)) = let early : count_of a ≤ count_of b = first.count in inr (inr (omega arith))
+
+pub loses_none : (pages : ℕ → Image) (own free : List ℕ) → LosesNone pages pages own own free free
+loses_none pages own free = record { tree = λ n i. i; unused = λ n i. inr i; taken = λ n from to. absurd (past n from to) }
+  where
+    past : (n : ℕ) → count_of pages ≤ n → n < count_of pages → ⊥
+    past n from to = omega arith
+
+pub loses_after : (a b c : ℕ → Image) (own more most free spare left : List ℕ) → LosesNone a b own more free spare → LosesNone b c more most spare left
+    → LosesNone a c own most free left
+loses_after a b c own more most free spare left first second = record {
+  tree = λ n i. second.tree n (first.tree n i);
+  unused = λ n i. later n (first.unused n i);
+  taken = λ n from to. either n from to (cases_lt n (count_of b));
+}
+  where
+    later : (n : ℕ) → IsIn n more ⊎ IsIn n spare → IsIn n most ⊎ IsIn n left
+    later n (inl i) = inl (second.tree n i)
+    later n (inr i) = second.unused n i
+
+    either : (n : ℕ) → count_of a ≤ n → n < count_of c → (n < count_of b) ⊎ (count_of b ≤ n) → IsIn n most
+    either n from to (inl h) = second.tree n (first.taken n from h)
+    either n from to (inr h) = second.taken n h to
+
+pub becomes_after : (a b c : ℕ → Image) (root : ℕ) (own free : List ℕ) (one two : List (Key × List ℕ)) → (first : Becomes a b root own free one)
+    → Becomes b c root first.more first.spare two → Becomes a c root own free two
+becomes_after a b c root own free one two first second = record {
+  more = second.more;
+  spare = second.spare;
+  stands = second.stands;
+  changes = changes_after a b c own first.more second.more free first.spare second.spare first.changes second.changes;
+  lost = loses_after a b c own first.more second.more free first.spare second.spare first.lost second.lost;
+}
 
 -- what the leaf of the way has of a key is what the list has
 pub value_there : (old : ℕ → Image) (root : ℕ) (key : Key) (page : ℕ) → Leads old root key page → (old page).head.kind ≡ Leaf

@@ -7,10 +7,10 @@ use Rattle.page_workspace.specs.Spare.{IsIn}
 use Rattle.btree_index.specs.Keys.{Key, before, same_key}
 use Rattle.btree_index.specs.Cells.{key_of, value_of, child_of}
 use Rattle.btree_index.specs.Pairs.{value_at, cell_value, chosen, choice}
-use Rattle.btree_index.specs.Trees.{AreLinked, page_of, pages_of, Entry, entry_of, below, spread, leaves, cells_of, IsShaped, IsLeafPage, IsInnerPage, BeginsEmpty, IsUnder, AreFenced, top, pair_of, TreeList}
+use Rattle.btree_index.specs.Trees.{AreLinked, page_of, pages_of, Entry, entry_of, below, spread, leaves, cells_of, IsShaped, IsLeafPage, IsInnerPage, BeginsEmpty, IsUnder, IsUpTo, AreFenced, top, pair_of, TreeList}
 use Rattle.btree_index.specs.Ways.{IsAt, OnWay}
 use Rattle.btree_index.proofs.ApartLaws.{in_right}
-use Rattle.btree_index.proofs.KeyLaws.{before_atmost, before_before, not_back, not_same_before, not_same_behind, none_before_empty}
+use Rattle.btree_index.proofs.KeyLaws.{atmost_atmost, before_atmost, not_same_before, not_same_behind, none_before_empty}
 
 at_more : (ys xs : List Entry) (key : Key) (page : ℕ) → IsAt xs key page → IsAt (ys ++ xs) key page
 at_more ys xs key page h = record {
@@ -99,9 +99,9 @@ none_behind pages key (e ∷ es) fenced to =
     value-append key (pages e.page).cells (cells_of pages es) others
     ∙ no_cell key (pages e.page).cells (above key e.low (pages e.page).cells to fenced.0.from)
   where
-    further : (es : List Entry) → IsUnder e.low es → IsUnder key es
+    further : (es : List Entry) → IsUpTo e.low es → IsUnder key es
     further [] h = tt
-    further (f ∷ fs) h = before_before key e.low f.low to h
+    further (f ∷ fs) h = before_atmost key e.low f.low to h
 
 -- the first of these leaves begins at most at the key
 abbrev pub BeginsBelow : Key → List Entry → Type 0
@@ -115,9 +115,9 @@ begins_below pages key low page [] others fenced from = from
 begins_below pages key low page (f ∷ fs) others fenced from =
     step (fs ++ (record { low = low; page = page } ∷ others)) fenced.0.next (begins_below pages key low page fs others fenced.1 from)
   where
-    step : (level : List Entry) → IsUnder f.low level → BeginsBelow key level → before key f.low ≡ false
-    step [] under begins = absurd begins
-    step (g ∷ gs) under begins = not_back f.low key (before_atmost f.low g.low key under begins)
+    step : (level : List Entry) → IsUpTo f.low level → BeginsBelow key level → before key f.low ≡ false
+    step [] up begins = absurd begins
+    step (g ∷ gs) up begins = atmost_atmost f.low g.low key up begins
 
 -- cells under a level that begins at most at the key
 pub under_all : (key : Key) (cells : List (List ℕ)) (level : List Entry) → AllByRecursion (λ c. IsUnder (key_of c) level) cells

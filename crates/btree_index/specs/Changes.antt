@@ -39,12 +39,20 @@ pub record Changes (old new : ℕ → Image) (own more free spare : List ℕ) : 
   pub tree : (n : ℕ) → IsIn n more → IsIn n own ⊎ IsIn n free ⊎ (count_of old ≤ n)
   pub unused : (n : ℕ) → IsIn n spare → IsIn n own ⊎ IsIn n free ⊎ (count_of old ≤ n)
 
--- the tree of another list stands below the root, after such a change
+-- no page is lost: each page of the tree is one still, each free page is free still or of the tree now, and each page
+-- that was taken from the end is of the tree now
+pub record LosesNone (old new : ℕ → Image) (own more free spare : List ℕ) : Type 0 where
+  pub tree : (n : ℕ) → IsIn n own → IsIn n more
+  pub unused : (n : ℕ) → IsIn n free → IsIn n more ⊎ IsIn n spare
+  pub taken : (n : ℕ) → count_of old ≤ n → n < count_of new → IsIn n more
+
+-- the tree of another list stands below the root, after such a change, and no page is lost
 pub record Becomes (old new : ℕ → Image) (root : ℕ) (own free : List ℕ) (list : List (Key × List ℕ)) : Type 0 where
   pub more : List ℕ
   pub spare : List ℕ
   pub stands : Stands new root more spare list
   pub changes : Changes old new own more free spare
+  pub lost : LosesNone old new own more free spare
 
 -- an answer of an insert: the pair stands in the list where its key was not there before; `Duplicate` comes where it was
 abbrev pub IsInserted : (ℕ → Image) → (ℕ → Image) → ℕ → List ℕ → List ℕ → Key → List ℕ → List (Key × List ℕ) → Result (Unit {0}) InsertFault → Type 0

@@ -85,12 +85,18 @@ Ascends [] = Unit {0}
 Ascends (c ∷ []) = Unit {0}
 Ascends (c ∷ d ∷ cs) = (before (key_of c) (key_of d) ≡ true) × Ascends (d ∷ cs)
 
--- the cells of a leaf stand in order between its least key and that of the next leaf
+-- a key is not above the first of these entries
+abbrev pub IsUpTo : Key → List Entry → Type 0
+IsUpTo key [] = Unit {0}
+IsUpTo key (e ∷ _) = before e.low key ≡ false
+
+-- the cells of a leaf stand in order between its least key and that of the next leaf. These least keys do not fall; where
+-- they are the same, there is no key between, so the leaf is empty.
 pub record IsFenced (low : Key) (cells : List (List ℕ)) (others : List Entry) : Type 0 where
   pub from : AllByRecursion (λ c. before (key_of c) low ≡ false) cells
   pub to : AllByRecursion (λ c. IsUnder (key_of c) others) cells
   pub ascends : Ascends cells
-  pub next : IsUnder low others
+  pub next : IsUpTo low others
 
 abbrev pub AreFenced : (ℕ → Image) → List Entry → Type 0
 AreFenced pages [] = Unit {0}

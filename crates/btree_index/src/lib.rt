@@ -44,7 +44,8 @@
 //!
 //! In the definitions a level is a list of entries, a page with the least key that may stand below it, and the level
 //! below is computed from it: the first cell of a page takes the page's own least key. So order is said once, at the
-//! leaves. That the pages below a root hold at most one list is a law of the definitions, `trees_have_one_list`.
+//! leaves. Least keys do not fall, and two are the same only around an empty leaf. That the pages below a root hold at
+//! most one list is a law of the definitions, `trees_have_one_list`.
 #![tactic(auto)]
 
 mod cells;

@@ -5,7 +5,7 @@ use Rattle.page_store.specs.Image.{Image}
 use Rattle.btree_index.specs.Keys.{before}
 use Rattle.btree_index.specs.Cells.{key_of}
 use Rattle.btree_index.specs.Trees.{Entry, cells_of, Ascends, AreFenced}
-use Rattle.btree_index.proofs.KeyLaws.{before_atmost, before_before, not_back}
+use Rattle.btree_index.proofs.KeyLaws.{atmost_atmost, before_atmost, before_before}
 use Rattle.table_state.specs.Listed.{Climb}
 
 all_join : {A : Type 0} (P : A → Type 0) (xs ys : List A) → AllByRecursion P xs → AllByRecursion P ys → AllByRecursion P (xs ++ ys)
@@ -34,7 +34,7 @@ cells_from pages e [] h = all_join (λ c. before (key_of c) e.low ≡ false) (pa
 cells_from pages e (f ∷ fs) h =
     all_join (λ c. before (key_of c) e.low ≡ false) (pages e.page).cells (cells_of pages (f ∷ fs)) h.0.from
     (all_map (λ c. before (key_of c) f.low ≡ false) (λ c. before (key_of c) e.low ≡ false) (cells_of pages (f ∷ fs))
-    (λ c k. not_back e.low (key_of c) (before_atmost e.low f.low (key_of c) h.0.next k)) (cells_from pages f fs h.1))
+    (λ c k. atmost_atmost e.low f.low (key_of c) h.0.next k) (cells_from pages f fs h.1))
 
 pub cells_climb : (pages : ℕ → Image) (level : List Entry) → AreFenced pages level → Climb (cells_of pages level)
 cells_climb pages [] h = tt

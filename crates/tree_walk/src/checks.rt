@@ -4,7 +4,7 @@ ghost use Rattle.std.specs.List.{list_all};
 ghost use Rattle.page_store.specs.Image.{taken};
 ghost use Rattle.btree_index.specs.Keys.{before};
 ghost use Rattle.btree_index.specs.Cells.{key_of};
-ghost use Rattle.tree_walk.specs.Walks.{is_leaf_kind, is_inner_kind, is_leaf_cell, is_inner_cell, begins_empty, is_leaf, is_inner, is_under, ascend, is_fenced, is_linked, is_leaf_of};
+ghost use Rattle.tree_walk.specs.Walks.{is_leaf_kind, is_inner_kind, is_leaf_cell, is_inner_cell, begins_empty, is_leaf, is_inner, is_under, is_up_to, ascend, is_fenced, is_linked, is_leaf_of};
 
 use crate::cells::{may_stand_above, may_stand_in_leaf};
 use crate::lows::Low;
@@ -85,6 +85,16 @@ fn is_key_under(key: &[u8], others: &[Low]) -> bool
     }
 }
 
+/// Whether a key is not above the first of these entries.
+fn is_key_up_to(key: &[u8], others: &[Low]) -> bool
+    ensures { result ≡ is_up_to key.now others.now }
+{
+    match others.split_first() {
+        None => true,
+        Some((entry, _)) => !is_before(entry.low.as_slice(), key),
+    }
+}
+
 /// Whether the keys of cells rise.
 fn is_rising(cells: &[Cell]) -> bool
     ensures { result ≡ ascend cells.now }
@@ -125,7 +135,7 @@ fn is_page_fenced(low: &[u8], cells: &[Cell], others: &[Low]) -> bool
     ensures { result ≡ is_fenced low.now cells.now others.now }
 {
     are_from(cells, low)
-        && (are_under(cells, others) && (is_rising(cells) && is_key_under(low, others)))
+        && (are_under(cells, others) && (is_rising(cells) && is_key_up_to(low, others)))
 }
 
 /// Whether a leaf links to the next one.

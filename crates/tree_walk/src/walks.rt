@@ -1,5 +1,5 @@
 //! The walk.
-ghost use Rattle.std.specs.Prelude.{ℕ, ◌≡◌, ◌++◌, IfOk, OnOk, length, map, nat_lt};
+ghost use Rattle.std.specs.Prelude.{ℕ, ◌≡◌, ◌≤◌, ◌++◌, IfOk, IfSome, OnOk, false, length, map, nat_lt};
 ghost use Rattle.page_store.specs.Sources.{IsExcused};
 ghost use Rattle.btree_index.specs.Trees.{top, page_of};
 ghost use Rattle.tree_walk.specs.Walks.{left_child, depth_from, IsDown, IsWalked};
@@ -21,7 +21,7 @@ pub struct Walked {
 }
 
 /// The tree below a root of any pages, by its pages and the cells of its leaves; `None` where there is none, or where it has
-/// more pages than the limit. That no page comes twice is not asked.
+/// more pages than the limit. That no page comes twice is not asked; one that comes twice counts twice.
 pub fn walk<P: PageSource>(
     alloc: Global,
     pages: &mut P,
@@ -29,6 +29,7 @@ pub fn walk<P: PageSource>(
     limit: u64,
 ) -> Result<Option<Walked>, PageFault>
     ensures walked { IfOk result (IsWalked (P.pages pages.old) root limit) }
+    ensures few { IfOk result (λ found. IfSome found (λ w. length w.own.items ≤ limit)) }
     ensures pages { P.pages pages.new ≡ P.pages pages.old }
     ensures below { P.below pages.new ≡ P.below pages.old }
     ensures excused { IsExcused result (P.losses pages.old) (P.losses pages.new) }
@@ -93,7 +94,8 @@ fn add_pages(own: &mut Vec<u64>, level: &[Low]) -> Result<(), AllocError>
 
 /// Whether there are more numbers than the limit.
 fn is_past(own: &Vec<u64>, limit: u64) -> bool
-    ensures { result ≡ nat_lt limit (length own.now.items) }
+    ensures told { result ≡ nat_lt limit (length own.now.items) }
+    ensures few { result ≡ false → length own.now.items ≤ limit }
 {
     own.len() as u64 > limit
 }
@@ -107,6 +109,7 @@ fn walk_down<P: PageSource>(
     limit: u64,
 ) -> Result<Option<Walked>, PageFault>
     ensures down { IfOk result (IsDown (P.pages pages.old) root height limit) }
+    ensures few { IfOk result (λ found. IfSome found (λ w. length w.own.items ≤ limit)) }
     ensures pages { P.pages pages.new ≡ P.pages pages.old }
     ensures below { P.below pages.new ≡ P.below pages.old }
     ensures excused { IsExcused result (P.losses pages.old) (P.losses pages.new) }

@@ -13,7 +13,7 @@ returns-then-is_past-clause-down g c =
     let old = g.P.PageSource.pages c.args.pages.now in
     let ok = ok_before c.add_pages.result c.map_err-in-down.result _ c.in_ok-map_err.field-0 c.map_err-in-down.ensures.cases c.in_ok-map_err.was in
     let added : c.add_pages.new.own.items ≡ c.down.own.items ++ map page_of c.as_slice.result.now = rw ok at c.add_pages.ensures in
-    let long : c.args.limit < length c.add_pages.new.own.items = ltb-true c.args.limit (length c.add_pages.new.own.items) (sym c.is_past.ensures ∙ c.if-is_past.true) in
+    let long : c.args.limit < length c.add_pages.new.own.items = ltb-true c.args.limit (length c.add_pages.new.own.items) (sym c.is_past.ensures.told ∙ c.if-is_past.true) in
     inr (pages_past old c.down.above c.args.limit c.down.level.items c.down.own.items c.add_pages.new.own.items (pages_of old c.args.height (top c.args.root))
     (added ∙ ap (λ (l : List Entry). c.down.own.items ++ map page_of l) c.as_slice.ensures.value) c.down.invariant.own long)
 
