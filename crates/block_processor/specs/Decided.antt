@@ -6,7 +6,7 @@
 -- 3. Where the rows at the last position with its operations applied break a key: a duplicate, of the first such key.
 -- 4. Else the entry that comes next. It has the request's identity, begin position and level, and the changes that its
 --    operations are on the rows at the last position; its records are next on the pages of the log, which then stand for
---    these rows with the operations applied.
+--    these rows with the operations applied, and the next genid and the number of pages stay below 2^62.
 use Rattle.std.specs.Prelude.{◌≡◌, ℕ, List, [], ◌∷◌, ◌++◌, length, Option, Some, None}
 use Rattle.blkseq_table.specs.OfLogs.{HasId}
 use Rattle.cdb_values.specs.Changes.{changes_of}
@@ -20,6 +20,7 @@ use Rattle.phys_log.specs.declared.requests.CommitRequest.{CommitRequest}
 use Rattle.phys_log.specs.declared.requests.Decision.{Decision}
 use Rattle.phys_log.specs.declared.requests.Decision.TheVariants.{Repeat, Conflict, Duplicate, Commit}
 use Rattle.table_store.specs.Stored.{Stands}
+use Rattle.table_edits.specs.Answers.{AreWithin}
 use Rattle.table_edits.specs.Broken.{KeyPlace, broken_place}
 use Rattle.log_rows.specs.History.{Ground, rows_over, tables_of}
 use Rattle.block_processor.specs.Conflicts.{conflict_of}
@@ -54,6 +55,7 @@ pub record IsNextEntry (footing : Ground) (request : CommitRequest) (entries : L
   pub fits : Fits entries next
   pub stands : Stands (pages_of (entries ++ next ∷ [])) (tables_of entries) (rows_over footing (entries ++ next ∷ []))
   pub rows : rows_over footing (entries ++ next ∷ []) ≡ apply_all (rows_over footing entries) request.ops
+  pub within : AreWithin (pages_of entries) (pages_of (entries ++ next ∷ []))
 
 -- a decision is the right one
 abbrev pub Decides : Ground → CommitRequest → List Entry → ℕ → Decision → Type 0

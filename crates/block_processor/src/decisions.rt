@@ -6,6 +6,7 @@ ghost use Rattle.page_workspace.specs.Drafts.{meant};
 ghost use Rattle.phys_log.specs.declared.entries.Entry.{Entry};
 ghost use Rattle.phys_log.specs.Logs.{pages_of};
 ghost use Rattle.table_store.specs.Stored.{Stands};
+ghost use Rattle.table_edits.specs.Answers.{AreWithin};
 ghost use Rattle.log_rows.specs.History.{Ground, rows_over, tables_of};
 ghost use Rattle.log_rows.specs.Sources.{source_pages};
 ghost use Rattle.block_processor.specs.Able.{IsAble};
@@ -145,6 +146,7 @@ fn next_entry<'a>(
     requires kept { broken_by footing request.now log.now ≡ None }
     requires over { source_pages space.base ≡ pages_of log.now }
     requires done { Stands (meant source_pages space) (tables_of log.now) (apply_all (rows_over footing log.now) request.now.ops) }
+    requires within { AreWithin (pages_of log.now) (meant source_pages space) }
     ensures { IfOk result (IsNextEntry footing request.now log.now generation) }
 {
     let records = entry_records(alloc, log, space)?;

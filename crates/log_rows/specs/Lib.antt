@@ -1,4 +1,5 @@
 pub mod Applied
 pub mod History
 pub mod Setups
+pub mod Sizes
 pub mod Sources

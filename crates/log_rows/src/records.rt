@@ -7,6 +7,7 @@ ghost use Rattle.phys_log.specs.Logs.{pages_of, replayed, last_lsn_of, AreNext};
 ghost use Rattle.cdb_values.specs.Rows.{Rows};
 ghost use Rattle.cdb_values.specs.declared.tables.TableDef.{TableDef};
 ghost use Rattle.table_store.specs.Stored.{Stands};
+ghost use Rattle.edit_records.specs.Alike.{AreAlike};
 ghost use Rattle.edit_records.specs.Numbered.{records_behind, are_below};
 ghost use Rattle.log_rows.specs.Sources.{source_pages, IsWant};
 
@@ -20,7 +21,7 @@ use phys_log::{LogRecord, last_lsn};
 use std::alloc::{AllocError, Global};
 
 /// The edits of a workspace over the pages of a log, as the records of the log's next entry: they are next on its pages,
-/// and leave pages that stand for the same rows as the pages of the workspace.
+/// and leave the pages of the workspace, with other LSNs, which stand for the same rows.
 ///
 /// Answers `AllocError` for want of memory, where an LSN would not be below 2^62, and where an edit is one of a page past
 /// the end.
@@ -35,6 +36,7 @@ pub fn entry_records<'a>(
     ensures next { IfOk result (AreNext (pages_of log.now) (last_lsn_of log.now + 1)) }
     ensures stands { (tables : std.List TableDef) (rows : Rows) → Stands (meant source_pages space.entry) tables rows →
         IfOk result (λ records. Stands (replayed (pages_of log.now) records) tables rows) }
+    ensures alike { IfOk result (λ records. AreAlike (meant source_pages space.entry) (replayed (pages_of log.now) records)) }
 {
     let mut space = space;
     let count = match page_count(&mut space) {
@@ -60,6 +62,7 @@ fn number(
     ensures stands { (tables : std.List TableDef) (rows : Rows) → Stands (edited_by edits.items (pages_of log.now)) tables rows →
         are_below (count_of (edited_by edits.items (pages_of log.now))) edits.items ≡ true →
         IfOk result (λ records. Stands (replayed (pages_of log.now) records) tables rows) }
+    ensures alike { IfOk result (λ records. AreAlike (edited_by edits.items (pages_of log.now)) (replayed (pages_of log.now) records)) }
 {
     let mut pages = LogPages::new(alloc, log)?;
     match records_of(alloc, &mut pages, last_lsn(log.entries()), edits) {

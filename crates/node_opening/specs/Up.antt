@@ -3,16 +3,18 @@ use Rattle.std.specs.Prelude.{◌≡◌, ℕ, ◌+◌, List, [], ◌∷◌, leng
 use Rattle.cdb_values.specs.Rows.{no_rows}
 use Rattle.cdb_values.specs.declared.tables.TableDef.{TableDef}
 use Rattle.log_rows.specs.Setups.{IsSetup}
+use Rattle.log_rows.specs.Sizes.{IsSmall}
 use Rattle.phys_log.specs.Logs.{pages_of}
 use Rattle.phys_log.specs.declared.entries.Entry.{Entry}
 use Rattle.table_store.specs.Stored.{Stands}
 use Rattle.node_log.specs.Logged.{Logged}
 use Rattle.node_opening.specs.Goods.{StandsForGood}
 
--- the setup of the given tables in a generation, whose pages stand for these tables without rows
+-- the setup of the given tables in a generation, whose pages stand for these tables without rows, with numbers below 2^62
 pub record IsBegin (generation : ℕ) (given : List TableDef) (entry : Entry) : Type 0 where
   pub setup : IsSetup generation given entry
   pub pages : Stands (pages_of (entry ∷ [])) given (no_rows given)
+  pub small : IsSmall (entry ∷ [])
 
 -- a log without entries begins with such a setup; any other one is as it was
 abbrev pub GoesOn : ℕ → List TableDef → List Entry → List Entry → Type 0

@@ -263,6 +263,10 @@ apart_owns root (suc count) = ((λ i. above (in_owns root (suc root) count i).lo
     above : suc root ≤ root → ⊥
     above h = omega arith
 
+-- how many pages there are
+begun_count : (pages : ℕ → Image) (last : ℕ) → IsBegun last pages → last + 1 < 2 ^ 62 → count_of pages ≡ last + 1
+begun_count pages last b few = ap (λ (i : Image). big_number 8 (drop 8 (first_cell i.cells))) b.meta ∙ count_is last few
+
 begun_forest : (pages : ℕ → Image) (last : ℕ) → IsBegun last pages → last + 1 < 2 ^ 62 → Forest pages 1 (owns_from 1 last) [] (nothings last)
 begun_forest pages last b few = record {
   trees = leaf_trees pages 1 last (λ k low high. b.leaf k (omega arith) (omega arith));
@@ -281,7 +285,7 @@ begun_forest pages last b few = record {
 }
   where
     counted : count_of pages ≡ last + 1
-    counted = ap (λ (i : Image). big_number 8 (drop 8 (first_cell i.cells))) b.meta ∙ count_is last few
+    counted = begun_count pages last b few
 
     behind : (n : ℕ) → count_of pages ≤ n → last < n
     behind n h = let h : last + 1 ≤ n = subst (λ (k : ℕ). k ≤ n) counted h in omega arith
@@ -331,3 +335,10 @@ begin_stands pages blank tables last e few =
       genid = ap (λ (i : Image). big_number 8 (first_cell i.cells)) b.meta ∙ genid_is last;
       state = begun_state tables;
     }
+
+-- what the edits leave has few pages
+pub begin_counts : (pages : ℕ → Image) → AreBlank pages → (last : ℕ) → last + 1 < 2 ^ 62
+    → count_of (edited_by (leaf_edits last ++ meta_edits last) pages) < 2 ^ 62
+begin_counts pages blank last few =
+    let after = edited_by (leaf_edits last ++ meta_edits last) pages in
+    subst (λ (n : ℕ). n < 2 ^ 62) (sym (begun_count after last (begun pages blank last) few)) few

@@ -1,5 +1,5 @@
 mod AmongLemmas
-mod ForestLemmas
+pub mod ForestLemmas
 mod ListingLemmas
 mod BrokenLemmas
 mod TreeLemmas

@@ -2,6 +2,7 @@ ghost use Rattle.std.specs.Prelude.{ℕ, ◌≡◌, ◌+◌, ◌<◌, ◌^◌, �
 ghost use Rattle.page_store.specs.Image.{Image};
 ghost use Rattle.page_store.specs.declared.pages.PageKind.TheVariants.{Leaf};
 ghost use Rattle.page_workspace.specs.Drafts.{edited_by, AreFit};
+ghost use Rattle.page_workspace.specs.Spare.{count_of};
 ghost use Rattle.cdb_values.specs.Rows.{no_rows};
 ghost use Rattle.table_store.specs.Plans.{plan_from};
 ghost use Rattle.table_store.specs.Stored.{Stands};
@@ -16,13 +17,16 @@ use std::alloc::{AllocError, Global};
 const COUNT_LIMIT: u64 = 1 << 62;
 
 /// The edits, each with the number of its page, that make of pages that were never written the store of a schema:
-/// a leaf without cells for the rows of each table and for each key, and the meta page, whose next genid is 1.
+/// a leaf without cells for the rows of each table and for each key, and the meta page, whose next genid is 1. There are
+/// fewer than 2^62 pages then.
 ///
 /// Answers `AllocError` for want of memory, and where the schema has 2^62 trees or more.
 pub fn create_edits(alloc: Global, schema: &Schema) -> Result<Vec<(u64, Edit)>, AllocError>
     ensures fit { (pages : ℕ → Image) → AreBlank pages → IfOk result (λ edits. AreFit edits.items pages) }
     ensures stands { (pages : ℕ → Image) → AreBlank pages →
         IfOk result (λ edits. Stands (edited_by edits.items pages) schema.now (no_rows schema.now)) }
+    ensures few { (pages : ℕ → Image) → AreBlank pages →
+        IfOk result (λ edits. count_of (edited_by edits.items pages) < 2 ^ 62) }
 {
     let trees = count_trees(schema.tables())?;
     let mut edits = make_leaves(alloc, trees)?;

@@ -7,7 +7,10 @@ use Rattle.phys_log.specs.declared.entries.CommitId.{CommitId}
 use Rattle.phys_log.specs.declared.entries.Entry.TheVariants as entry
 use Rattle.log_rows.specs.History.{rows_over, tables_of}
 use Rattle.block_processor.specs.Decided.{IsNextEntry}
-use Rattle.block_processor.proofs.EntryLemmas.{next_is}
+use Rattle.phys_log.specs.Logs.{pages_of, replayed}
+use Rattle.page_workspace.specs.Drafts.{meant}
+use Rattle.log_rows.specs.Sources.{source_pages}
+use Rattle.block_processor.proofs.EntryLemmas.{next_is, within_alike}
 use Rattle.block_processor.proofs.decisions.next_entry.Goals as goal
 
 pub returns : goal.returns
@@ -23,4 +26,5 @@ returns g c =
     c.in_ok-changes.ensures ∙ ap (λ (l : List RowOp). changes_of l c.next_genid.result) c.as_slice.ensures ∙ ap (changes_of request.ops) next in
     subst (λ (i : CommitId). IsNextEntry g.footing request log c.args.generation (entry.Commit c.args.generation i request.begin request.level changes records)) (sym same)
     (next_is g.footing request log c.args.generation changes records base c.requires.1.0 c.requires.1.1.0 c.requires.1.1.1.1.0 made c.in_ok-records.ensures.next
-    (c.in_ok-records.ensures.stands (tables_of log) (apply_all (rows_over g.footing log) request.ops) c.requires.1.1.1.1.1.1))
+    (c.in_ok-records.ensures.stands (tables_of log) (apply_all (rows_over g.footing log) request.ops) c.requires.1.1.1.1.1.1.0)
+    (within_alike (pages_of log) (meant source_pages c.args.space) (replayed (pages_of log) records) c.in_ok-records.ensures.alike c.requires.1.1.1.1.1.1.1))
