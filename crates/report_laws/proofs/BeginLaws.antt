@@ -17,10 +17,10 @@ use Rattle.session_language.specs.Language.{Language, Answered, Kind, BeginText,
 use Rattle.report_laws.specs.Cut.{cuts}
 use Rattle.report_laws.specs.History.{Basis, last_position, view_of}
 use Rattle.report_laws.specs.Lawful.{Lawful}
-use Rattle.report_laws.specs.Nodes.{up_from, is_up, up_count, are_few}
+use Rattle.report_laws.specs.Nodes.{downs, up_from, is_up, up_count, are_few}
 use Rattle.report_laws.specs.Outcome.{IsDecided, IsOneDecision, Ends}
 use Rattle.report_laws.specs.Places.{GoesDown}
-use Rattle.report_laws.specs.Play.{InPlayOrder, InTurns, IsTurnOf, IsSaid, IsDownLine, opened_behind, begins, is_begin, lacks_majority, number_by, number_told, was_cut}
+use Rattle.report_laws.specs.Play.{InPlayOrder, InTurns, IsTurnOf, IsSaid, IsDownLine, opened_behind, begins, is_begin, lacks_majority, node_of, number_by, number_told, was_cut}
 use Rattle.report_laws.specs.Told.{told, Along, IsTold, Numbered, numbered, lines_of, alone_at}
 use Rattle.report_laws.specs.View.{View}
 use Rattle.report_laws.specs.Work.{Transaction, Item, Does, Lone, End, ByCommit, ByRollback, WithItsLine, Nowhere, Place, start, work, open_item, next_by, next_place, place_from, place_after, said}
@@ -33,6 +33,7 @@ use Rattle.report_text.specs.declared.reports.Report.{Report}
 use Rattle.session_language.proofs.AllLaws.{all_behind}
 use Rattle.session_language.proofs.EachLaws.{all_append, all_front, all_map}
 use Rattle.session_language.proofs.UpToLaws.{same_head, same_tail}
+use Rattle.report_laws.proofs.DownLaws.{or_memory}
 use Rattle.report_laws.proofs.AlongLaws.{of_number, of_another}
 use Rattle.report_laws.proofs.LawLemmas.{has_its_place}
 use Rattle.report_laws.proofs.NodesLaws.{IsNoUp, none_up, is_down_behind, up_append}
@@ -216,9 +217,17 @@ record Piece (script : Script) (before : List Line) (session : List ℕ) (m : �
 piece_of : (script : Script) (now : ℕ) (before : List Line) (session : List ℕ) (m : ℕ) (kind : Kind) (pending : Option (List (List ℕ))) (mine : List Line) (added : List EntryLine) →
     IsSaid script now before session m kind pending mine added → Piece script before session m kind pending mine
 piece_of script now before session m kind pending mine added (inl is) = record { front = is.replies; tail = []; says = is.says ∙ sym (append-nil (lines_of session m is.replies)); quiet = tt; may = inl is.majority }
-piece_of script now before session m kind pending mine added (inr (inl is)) = record { front = []; tail = _; says = is.says; quiet = (refl, tt); may = inr refl }
-piece_of script now before session m kind pending mine added (inr (inr (inl is))) = record { front = []; tail = _; says = is.says; quiet = (refl, tt); may = inr refl }
-piece_of script now before session m kind pending mine added (inr (inr (inr is))) = record { front = is.front; tail = _; says = is.says; quiet = (tt, (refl, tt)); may = inl is.majority }
+piece_of script now before session m kind pending mine added (inr (inl is)) =
+    record { front = []; tail = lines_of session m (is.told ∷ []); says = is.says; quiet = (or_memory (λ (r : ReplyLine). is_begin r ≡ false) (reply.Lost (node_of script session) is.down) is.told is.is_told refl refl, tt); may = inr refl }
+piece_of script now before session m kind pending mine added (inr (inr (inl is))) =
+    record { front = []; tail = lines_of session m (is.told ∷ []); says = is.says; quiet = (or_memory (λ (r : ReplyLine). is_begin r ≡ false) (reply.NoMajority (up_count script.nodes before) script.nodes) is.told is.is_told refl refl, tt); may = inr refl }
+piece_of script now before session m kind pending mine added (inr (inr (inr is))) = record {
+  front = is.front;
+  tail = line.Down (downs before + 1) is.node true ∷ lines_of session m (is.told ∷ []);
+  says = is.says;
+  quiet = (tt, (or_memory (λ (r : ReplyLine). is_begin r ≡ false) (reply.Lost is.node (downs before + 1)) is.told is.is_told refl refl, tt));
+  may = inl is.majority;
+}
 
 quiet_lines : (tail others front back : List Line) (name : List ℕ) (n begin : ℕ) → AllByRecursion IsNoBeginLine tail → tail ++ others ≡ front ++ line.Session name n (reply.Begin begin) ∷ back →
     (later : List Line) × (front ≡ tail ++ later) × (others ≡ later ++ line.Session name n (reply.Begin begin) ∷ back)

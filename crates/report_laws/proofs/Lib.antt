@@ -1,6 +1,7 @@
 pub mod AlongLaws
 pub mod BeginLaws
 pub mod DecideLemmas
+pub mod DownLaws
 pub mod EntryToldLaws
 pub mod FrontLemmas
 pub mod GrowLaws

@@ -12,8 +12,9 @@ use Rattle.session_language.specs.Answers.{Answers}
 use Rattle.session_language.specs.Language.{Language, Kind}
 use Rattle.report_laws.specs.Lawful.{Lawful}
 use Rattle.report_laws.specs.One.{IsUncutLine, IsUncut}
-use Rattle.report_laws.specs.Nodes.{are_few}
-use Rattle.report_laws.specs.Play.{InPlayOrder, InTurns, IsTurn, IsTurnOf, IsSaid, IsAnswered, IsDownLine, opened_behind, number_told, is_own_by}
+use Rattle.report_laws.specs.Cut.{cuts}
+use Rattle.report_laws.specs.Nodes.{are_few, up_count}
+use Rattle.report_laws.specs.Play.{InPlayOrder, InTurns, IsTurn, IsTurnOf, IsSaid, IsAnswered, IsDownLine, opened_behind, node_of, number_told, is_own_by}
 use Rattle.report_laws.specs.Told.{told, Along, IsTold, lines_of}
 use Rattle.report_laws.specs.Work.{Transaction, Item, Does, Lone, Place, start, work, items_at, place_from, place_after, said, said_by, transaction_of, numbered_among}
 use Rattle.report_text.specs.declared.reports.Report.{Report}
@@ -22,11 +23,13 @@ use Rattle.report_text.specs.declared.reports.EntryLine.TheVariants.{Setup, Comm
 use Rattle.report_text.specs.declared.reports.Line.{Line}
 use Rattle.report_text.specs.declared.reports.Line.TheVariants as line
 use Rattle.report_text.specs.declared.reports.ReplyLine.{ReplyLine}
+use Rattle.report_text.specs.declared.reports.ReplyLine.TheVariants as reply
 use Rattle.session_language.proofs.AllLaws.{all_behind}
 use Rattle.session_language.proofs.EachLaws.{all_front, all_map, all_found}
 use Rattle.report_laws.proofs.PieceLaws.{under, under_append, under_own}
 use Rattle.report_laws.proofs.RestLemmas.{items_are, rest_of, rest_rises, Rising, of_its_rest, told_lones, lones, lones_append}
 use Rattle.report_laws.proofs.SoFarLemmas.{IsEnded, IsHeard, SoFar, same_name, so_far_next}
+use Rattle.report_laws.proofs.DownLaws.{or_memory}
 use Rattle.report_laws.proofs.TurnedLaws.{Given, Turned, begun_at, one_turn, turned}
 use Rattle.report_laws.proofs.WorkLaws.{IsBelow, IsBegun, first_left, after_more, are_numbered, numbered_last, others_below}
 
@@ -72,8 +75,10 @@ quiet_turn basis now done before act.Feed mine added quiet turn = turn
 uncut_answer : (script : Script) (now : ℕ) (before : List Line) (session : List ℕ) (number : ℕ) (kind : Kind) (pending : Option (List (List ℕ))) (mine : List Line) (added : List EntryLine) →
     AllByRecursion IsUncutLine mine → IsSaid script now before session number kind pending mine added → IsAnswered script now before session number kind pending mine added
 uncut_answer script now before session number kind pending mine added uncut (inl is) = is
-uncut_answer script now before session number kind pending mine added uncut (inr (inl is)) = absurd (true≢false (subst (AllByRecursion IsUncutLine) is.says uncut).0)
-uncut_answer script now before session number kind pending mine added uncut (inr (inr (inl is))) = absurd (true≢false (subst (AllByRecursion IsUncutLine) is.says uncut).0)
+uncut_answer script now before session number kind pending mine added uncut (inr (inl is)) =
+    absurd (true≢false (sym (or_memory (λ (r : ReplyLine). cuts r ≡ true) (reply.Lost (node_of script session) is.down) is.told is.is_told refl refl) ∙ (subst (AllByRecursion IsUncutLine) is.says uncut).0))
+uncut_answer script now before session number kind pending mine added uncut (inr (inr (inl is))) =
+    absurd (true≢false (sym (or_memory (λ (r : ReplyLine). cuts r ≡ true) (reply.NoMajority (up_count script.nodes before) script.nodes) is.told is.is_told refl refl) ∙ (subst (AllByRecursion IsUncutLine) is.says uncut).0))
 uncut_answer script now before session number kind pending mine added uncut (inr (inr (inr is))) =
     absurd (all_behind IsUncutLine (lines_of session number is.front) _ (subst (AllByRecursion IsUncutLine) is.says uncut)).0
 

@@ -2,7 +2,7 @@
 --
 -- A node is up at first. A line that it went down or came up says otherwise from there on. What is counted
 -- are the nodes of a script, which are numbered from 1.
-use Rattle.std.specs.Prelude.{ℕ, zero, suc, ◌+◌, ◌*◌, ◌==◌, ◌∷◌, ◌&&◌, [], List, Bool, true, false, Option, Some, None, if◌then◌else◌, leb}
+use Rattle.std.specs.Prelude.{◌≡◌, ℕ, zero, suc, ◌+◌, ◌*◌, ◌==◌, ◌∷◌, ◌&&◌, [], List, Bool, true, false, Option, Some, None, if◌then◌else◌, leb}
 use Rattle.report_text.specs.declared.reports.Line.{Line}
 use Rattle.report_text.specs.declared.reports.Line.TheVariants as line
 
@@ -14,6 +14,10 @@ downs (line.Down count node fault ∷ ls) = downs ls + 1
 downs (line.Up node ∷ ls) = downs ls
 downs (line.Barrier ∷ ls) = downs ls
 downs (line.Fed position ∷ ls) = downs ls
+
+-- the first line tells that the one node of a script went down, by a fault
+abbrev pub BeginsDown : List Line → Type 0
+BeginsDown lines = (rest : List Line) × (lines ≡ line.Down 1 1 true ∷ rest)
 
 -- whether a node is up behind a line, by whether it was up before it
 abbrev pub up_after : ℕ → Bool → Line → Bool

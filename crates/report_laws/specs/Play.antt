@@ -11,10 +11,12 @@
 --
 -- A line of a session is not answered, and appends nothing, where its transaction is lost: its node went down
 -- since the begin. Or where it begins a transaction and no majority is up. Or where a node goes down while it
--- is committed, by a fault: then that line is printed and the transaction is lost by it.
+-- is committed, by a fault: then that line is printed and the transaction is lost by it. That happens to a
+-- transaction with operations alone: no other calls a store. In the place of each of these it may be told that
+-- memory is wanting.
 --
 -- A session is at the node of its line in the script: it never moves here.
-use Rattle.std.specs.Prelude.{◌≡◌, ℕ, ◌+◌, ◌≤◌, ◌++◌, ◌∷◌, ◌==◌, ◌&&◌, [], List, length, Bool, true, false, Option, Some, None, if◌then◌else◌, ◌⊎◌}
+use Rattle.std.specs.Prelude.{◌≡◌, ℕ, ◌+◌, ◌≤◌, ◌++◌, ◌∷◌, ◌==◌, ◌&&◌, ◌≢◌, [], List, length, Bool, true, false, Option, Some, None, if◌then◌else◌, ◌⊎◌}
 use Rattle.std.specs.List.{AllByRecursion, list_any}
 use Rattle.std.specs.Str.{bytes_eq}
 use Rattle.cdb_values.specs.declared.rows.Level.{Level}
@@ -27,8 +29,9 @@ use Rattle.session_language.specs.Each.{StandsIn}
 use Rattle.report_laws.specs.Cut.{cuts}
 use Rattle.report_laws.specs.History.{Origin, Basis, view_of}
 use Rattle.report_laws.specs.Nodes.{downs, is_up, up_count, are_few, first_down}
-use Rattle.report_laws.specs.Told.{lines_of}
-use Rattle.report_laws.specs.Work.{Place, place_after}
+use Rattle.report_laws.specs.Told.{alone_at, lines_of}
+use Rattle.report_laws.specs.View.{View}
+use Rattle.report_laws.specs.Work.{Place, Transaction, place_after, transaction_of}
 use Rattle.session_language.specs.Replies.{are_up_to, is_last_of, is_outcome}
 use Rattle.session_language.specs.Language.{Language, Kind, BeginText, CommitText, RollbackText, LevelText, OtherText}
 use Rattle.report_text.specs.declared.reports.Report.{Report}
@@ -173,17 +176,25 @@ pub record IsAnswered (script : Script) (now : ℕ) (before : List Line) (sessio
   pub kept : loss_of script before session number pending ≡ None
   pub majority : lacks_majority script before kind pending ≡ false
 
+-- a reply is this one, or tells of want of memory in its place
+abbrev pub IsOrMemory : ReplyLine → ReplyLine → Type 0
+IsOrMemory answer told = (told ≡ answer) ⊎ (told ≡ reply.NoMemory)
+
 -- it is told that its transaction is lost
 pub record IsLostThere (script : Script) (before : List Line) (session : List ℕ) (number : ℕ) (pending : Option (List (List ℕ))) (mine : List Line) (added : List EntryLine) : Type 0 where
   pub down : ℕ
   pub is_lost : loss_of script before session number pending ≡ Some down
-  pub says : mine ≡ lines_of session number (reply.Lost (node_of script session) down ∷ [])
+  pub told : ReplyLine
+  pub is_told : IsOrMemory (reply.Lost (node_of script session) down) told
+  pub says : mine ≡ lines_of session number (told ∷ [])
   pub none : added ≡ []
 
 -- it is told that no majority is up
 pub record IsShortThere (script : Script) (before : List Line) (session : List ℕ) (number : ℕ) (kind : Kind) (pending : Option (List (List ℕ))) (mine : List Line) (added : List EntryLine) : Type 0 where
   pub lacks : lacks_majority script before kind pending ≡ true
-  pub says : mine ≡ lines_of session number (reply.NoMajority (up_count script.nodes before) script.nodes ∷ [])
+  pub told : ReplyLine
+  pub is_told : IsOrMemory (reply.NoMajority (up_count script.nodes before) script.nodes) told
+  pub says : mine ≡ lines_of session number (told ∷ [])
   pub none : added ≡ []
 
 -- what is told before a transaction is committed: its begin and the replies to its text by a line that is a transaction
@@ -203,7 +214,9 @@ pub record FailsThere (script : Script) (now : ℕ) (before : List Line) (sessio
   pub node : ℕ
   pub of_script : (1 ≤ node) × (node ≤ script.nodes)
   pub was_up : is_up node before ≡ true
-  pub says : mine ≡ lines_of session number front ++ line.Down (downs before + 1) node true ∷ lines_of session number (reply.Lost node (downs before + 1) ∷ [])
+  pub told : ReplyLine
+  pub is_told : IsOrMemory (reply.Lost node (downs before + 1)) told
+  pub says : mine ≡ lines_of session number front ++ line.Down (downs before + 1) node true ∷ lines_of session number (told ∷ [])
   pub none : added ≡ []
 
 -- a line of a session is answered, or one of these keeps it from that
@@ -246,6 +259,21 @@ opening origin = if origin.position == 0 then Setup 1 ∷ [] else []
 abbrev pub opened_behind : Basis → List Line → List EntryLine
 opened_behind basis first = if are_few basis.script.nodes first then [] else opening basis.origin
 
+-- a transaction of a session was told that it begins at a position, and has operations, run alone on the rows there
+pub record HasChanges (basis : Basis) (view : View) (before : List Line) (session : List ℕ) (number : ℕ) : Type 0 where
+  pub transaction : Transaction
+  pub is_its : transaction_of basis.language session number basis.script.body ≡ Some transaction
+  pub begin : ℕ
+  pub begun : StandsIn before (line.Session session number (reply.Begin begin))
+  pub has_ops : (alone_at basis view transaction begin).ops ≢ []
+
+-- a line that a node went down, among the lines behind the opening, stands right before a line of a transaction that was told
+-- its begin and has operations
+abbrev pub GoDownAtChanges : Basis → View → List Line → List Line → Type 0
+GoDownAtChanges basis view first rest =
+    (front : List Line) (back : List Line) (count node : ℕ) (fault : Bool) (session : List ℕ) (number : ℕ) (told : ReplyLine)
+    → rest ≡ front ++ line.Down count node fault ∷ line.Session session number told ∷ back → HasChanges basis view (first ++ front) session number
+
 pub record InPlayOrder (basis : Basis) (report : Report) : Type 0 where
   -- the nodes that go down before the first line of the script
   pub first : List Line
@@ -255,3 +283,5 @@ pub record InPlayOrder (basis : Basis) (report : Report) : Type 0 where
   pub later : List EntryLine
   pub opened : report.entries ≡ opened_behind basis first ++ later
   pub order : InTurns basis [] first (opened_behind basis first) basis.script.body rest later
+  -- the transactions at whose commit nodes go down later
+  pub changes : GoDownAtChanges basis (view_of basis report.entries) first rest

@@ -7,6 +7,7 @@ use Rattle.report_laws.specs.Lawful.{Lawful}
 use Rattle.report_laws.specs.Play.{InPlayOrder, InTurns, opened_behind}
 use Rattle.report_laws.specs.Told.{Along, IsTold}
 use Rattle.report_laws.specs.Work.{Item, work}
+use Rattle.report_laws.proofs.DownLaws.{none_go_down}
 use Rattle.report_worked.specs.Worked.{empty_report, report_with}
 use Rattle.report_text.specs.declared.reports.EntryLine.{EntryLine}
 use Rattle.report_text.specs.declared.reports.EntryLine.TheVariants.{Setup}
@@ -43,6 +44,7 @@ empty_is_in_order script is = record {
   later = [];
   opened = sym (ap (λ (es : List EntryLine). es ++ []) (open_at_first script));
   order = subst (λ (body : List BodyLine). InTurns (from_nothing script) [] [] (opened_behind (from_nothing script) []) body [] []) (sym is) (refl, refl);
+  changes = none_go_down (from_nothing script) (view_of (from_nothing script) (Setup 1 ∷ [])) [] [] refl;
 }
 
 -- the schema's entry stands in the history of each run in which no node goes down

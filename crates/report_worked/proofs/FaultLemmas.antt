@@ -17,9 +17,10 @@ use Rattle.report_text.specs.declared.reports.Line.TheVariants as line
 use Rattle.report_text.specs.declared.reports.ReplyLine.{ReplyLine}
 use Rattle.report_text.specs.declared.reports.ReplyLine.TheVariants as reply
 use Rattle.report_laws.proofs.LineLaws.{fresh_begin}
+use Rattle.report_laws.proofs.DownLaws.{none_go_down, one_goes_down}
 use Rattle.report_worked.specs.Worked.{worked_table, insert_select, insert_text, select_text, lost_insert_report, lost_insert_text, open_insert, open_insert_report, nothing_said, down_at_first_report, to_a, to_b}
 use Rattle.report_worked.specs.Small.{from_nothing, small_language}
-use Rattle.report_worked.proofs.InsertSelectLemmas.{items_of_a, work_of_a}
+use Rattle.report_worked.proofs.InsertSelectLemmas.{inserting, items_of_a, work_of_a}
 use Rattle.report_worked.proofs.WorkedLemmas.{along_each, along_parts, EachPart, cut, is_turn}
 
 -- the report's text
@@ -90,11 +91,15 @@ lost_insert_is_in_order = record {
       node = 1;
       of_script = (omega arith, omega arith);
       was_up = refl;
+      told = reply.Lost 1 1;
+      is_told = inl refl;
       says = refl;
       none = refl;
     }))),
-    (to_a 2 (reply.NoMajority 0 1) ∷ [], [], [], [], refl, refl, inr (inr (inl (record { lacks = refl; says = refl; none = refl }))), (refl, refl)),
+    (to_a 2 (reply.NoMajority 0 1) ∷ [], [], [], [], refl, refl, inr (inr (inl (record { lacks = refl; told = reply.NoMajority 0 1; is_told = inl refl; says = refl; none = refl }))), (refl, refl)),
   );
+  changes = one_goes_down (from_nothing insert_select) (view_of (from_nothing insert_select) lost_insert_report.entries) [] (take 2 lost_insert_report.lines) (drop 4 lost_insert_report.lines) 1 1 true (codes "a") 1 (reply.Lost 1 1) refl
+      (record { transaction = inserting; is_its = refl; begin = 1; begun = ([], to_a 1 (reply.Changed 1) ∷ [], refl); has_ops = λ is. cc });
 }
 
 -- the transactions of the sessions, where one is open as the other's commit fails
@@ -104,16 +109,16 @@ opened_insert = transaction 1 (insert_text ∷ []) Snapshot ByCommit
 abbrev then_select : Transaction
 then_select = transaction 2 (select_text ∷ []) Snapshot WithItsLine
 
-abbrev open_items_of_a : List Item
+abbrev pub open_items_of_a : List Item
 open_items_of_a = Does opened_insert ∷ Does then_select ∷ []
 
-abbrev open_items_of_b : List Item
+abbrev pub open_items_of_b : List Item
 open_items_of_b = Does (transaction 1 (codes "insert into t values(2, 20)" ∷ []) Snapshot WithItsLine) ∷ []
 
-open_work_of_a : work small_language (codes "a") open_insert.body ≡ open_items_of_a
+pub open_work_of_a : work small_language (codes "a") open_insert.body ≡ open_items_of_a
 open_work_of_a = refl
 
-open_work_of_b : work small_language (codes "b") open_insert.body ≡ open_items_of_b
+pub open_work_of_b : work small_language (codes "b") open_insert.body ≡ open_items_of_b
 open_work_of_b = refl
 
 abbrev open_of_b : List (List ReplyLine)
@@ -170,7 +175,7 @@ open_insert_is_lawful = record {
 }
 
 -- a line that is answered by these replies behind lines that keep it from nothing
-answered : {script : Script} {now : ℕ} {before : List Line} {session : List ℕ} {number : ℕ} {kind : Kind} {pending : Option (List (List ℕ))} {added : List EntryLine} (replies : List ReplyLine) →
+pub answered : {script : Script} {now : ℕ} {before : List Line} {session : List ℕ} {number : ℕ} {kind : Kind} {pending : Option (List (List ℕ))} {added : List EntryLine} (replies : List ReplyLine) →
     IsTurn now before session number (is_own_by kind pending) replies added → loss_of script before session number pending ≡ None → lacks_majority script before kind pending ≡ false →
     IsSaid script now before session number kind pending (lines_of session number replies) added
 answered replies turn kept majority = inl (record { replies = replies; says = refl; turn = turn; kept = kept; majority = majority })
@@ -216,6 +221,8 @@ open_insert_is_in_order = record {
           node = 1;
           of_script = (omega arith, omega arith);
           was_up = refl;
+          told = reply.Lost 1 1;
+          is_told = inl refl;
           says = refl;
           none = refl;
         }))),
@@ -226,12 +233,14 @@ open_insert_is_in_order = record {
           [],
           refl,
           refl,
-          inr (inl (record { down = 1; is_lost = refl; says = refl; none = refl })),
-          (to_a 2 (reply.NoMajority 0 1) ∷ [], [], [], [], refl, refl, inr (inr (inl (record { lacks = refl; says = refl; none = refl }))), (refl, refl)),
+          inr (inl (record { down = 1; is_lost = refl; told = reply.Lost 1 1; is_told = inl refl; says = refl; none = refl })),
+          (to_a 2 (reply.NoMajority 0 1) ∷ [], [], [], [], refl, refl, inr (inr (inl (record { lacks = refl; told = reply.NoMajority 0 1; is_told = inl refl; says = refl; none = refl }))), (refl, refl)),
         ),
       ),
     ),
   );
+  changes = one_goes_down (from_nothing open_insert) (view_of (from_nothing open_insert) open_insert_report.entries) [] (take 4 open_insert_report.lines) (drop 6 open_insert_report.lines) 1 1 true (codes "b") 1 (reply.Lost 1 1) refl
+      (record { transaction = transaction 1 (codes "insert into t values(2, 20)" ∷ []) Snapshot WithItsLine; is_its = refl; begin = 1; begun = (take 2 open_insert_report.lines, to_b 1 (reply.Changed 1) ∷ [], refl); has_ops = λ is. cc });
 }
 
 -- a node that goes down at the opening
@@ -251,4 +260,13 @@ down_at_first_is_lawful = record {
 }
 
 pub down_at_first_is_in_order : InPlayOrder (from_nothing nothing_said) down_at_first_report
-down_at_first_is_in_order = record { first = line.Down 1 1 true ∷ []; go_down = (tt, tt); rest = []; lines_are = refl; later = []; opened = refl; order = (refl, refl) }
+down_at_first_is_in_order = record {
+  first = line.Down 1 1 true ∷ [];
+  go_down = (tt, tt);
+  rest = [];
+  lines_are = refl;
+  later = [];
+  opened = refl;
+  order = (refl, refl);
+  changes = none_go_down (from_nothing nothing_said) (view_of (from_nothing nothing_said) []) (line.Down 1 1 true ∷ []) [] refl;
+}

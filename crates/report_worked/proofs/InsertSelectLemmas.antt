@@ -11,6 +11,7 @@ use Rattle.report_text.specs.declared.reports.EntryLine.TheVariants.{Setup}
 use Rattle.report_laws.specs.Told.{told, Along, IsTold}
 use Rattle.report_laws.specs.Work.{Transaction, Item, Does, transaction, WithItsLine, work}
 use Rattle.script_form.specs.CanRun.{tables_of}
+use Rattle.report_laws.proofs.DownLaws.{none_go_down}
 use Rattle.report_worked.specs.Worked.{worked_table, insert_select, insert_select_report, insert_select_text, insert_text, select_text, inserted_entries, row, of_a}
 use Rattle.report_text.specs.declared.reports.ReplyLine.{ReplyLine}
 use Rattle.report_text.specs.declared.reports.ReplyLine.TheVariants as reply
@@ -112,4 +113,5 @@ insert_select_is_in_order = record {
           tt,
         ),
       );
+  changes = none_go_down (from_nothing insert_select) (view_of (from_nothing insert_select) insert_select_report.entries) [] insert_select_report.lines refl;
 }

@@ -37,7 +37,7 @@ its_told t before after lines begin back front outcome among none all is ends un
     (along_its (IsTold (from_nothing insert_select) (view_of (from_nothing insert_select) inserted_entries) (codes "a")) before after (Does t) (told (codes "a") lines) none all
     (subst (λ (items : List Item). Along (IsTold (from_nothing insert_select) (view_of (from_nothing insert_select) inserted_entries) (codes "a")) items (told (codes "a") lines)) (work_of_a ∙ sym among) (law (codes "a")))))
 
-select_told : (lines : List Line) (begin : ℕ) (back front : List ReplyLine) (outcome : ReplyLine) → of_number 2 (told (codes "a") lines) ≡ reply.Begin begin ∷ back →
+pub select_told : (lines : List Line) (begin : ℕ) (back front : List ReplyLine) (outcome : ReplyLine) → of_number 2 (told (codes "a") lines) ≡ reply.Begin begin ∷ back →
     reply.Begin begin ∷ back ≡ front ++ outcome ∷ [] → cuts outcome ≡ false → RepliesAreRight insert_select (report_with lines inserted_entries) →
     ToldAt (from_nothing insert_select) inserted_entries (codes "a") selecting begin back
 select_told lines begin back front outcome is ends uncut law = its_told selecting (Does inserting ∷ []) [] lines begin back front outcome refl (refl, tt) tt is ends uncut law

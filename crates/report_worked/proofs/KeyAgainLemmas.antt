@@ -9,6 +9,7 @@ use Rattle.report_text.specs.declared.reports.EntryLine.TheVariants.{Setup}
 use Rattle.report_laws.specs.Told.{told, Along, IsTold}
 use Rattle.report_laws.specs.Work.{Transaction, Item, Does, transaction, ByCommit, WithItsLine, work}
 use Rattle.script_form.specs.CanRun.{tables_of}
+use Rattle.report_laws.proofs.DownLaws.{none_go_down}
 use Rattle.report_worked.specs.Worked.{worked_table, key_again, key_again_report, of_a, of_b}
 use Rattle.report_text.specs.declared.reports.ReplyLine.{ReplyLine}
 use Rattle.report_text.specs.declared.reports.ReplyLine.TheVariants as reply
@@ -161,4 +162,5 @@ key_again_is_in_order = record {
           ),
         ),
       );
+  changes = none_go_down (from_nothing key_again) (view_of (from_nothing key_again) key_again_report.entries) [] key_again_report.lines refl;
 }

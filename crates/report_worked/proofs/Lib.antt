@@ -1,6 +1,12 @@
+pub mod AheadLemmas
+pub mod AllKeyLemmas
+pub mod DownLateLemmas
+pub mod DownNothingLemmas
+pub mod EarlierBeginLemmas
 pub mod EmptyLemmas
 pub mod FaultLemmas
 pub mod FaultWrongLemmas
+pub mod FirstTurnLemmas
 pub mod InsertSelectLemmas
 pub mod InsertSelectWrongLemmas
 pub mod KeyAgainLemmas
@@ -11,4 +17,6 @@ pub mod SkewLemmas
 pub mod SmallLaws
 pub mod TwoUpdatesLemmas
 pub mod TwoUpdatesWrongLemmas
+pub mod WantingLemmas
 pub mod WorkedLemmas
+pub mod WrongEntryLemmas

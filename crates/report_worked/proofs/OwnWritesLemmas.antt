@@ -9,6 +9,7 @@ use Rattle.report_text.specs.declared.reports.EntryLine.TheVariants.{Setup}
 use Rattle.report_laws.specs.Told.{told, Along, IsTold}
 use Rattle.report_laws.specs.Work.{Transaction, Item, Does, transaction, ByCommit, WithItsLine, work}
 use Rattle.script_form.specs.CanRun.{tables_of}
+use Rattle.report_laws.proofs.DownLaws.{none_go_down}
 use Rattle.report_worked.specs.Worked.{worked_table, own_writes, own_writes_report, inserted_entries, insert_text, select_text, row, of_a}
 use Rattle.report_text.specs.declared.reports.ReplyLine.{ReplyLine}
 use Rattle.report_text.specs.declared.reports.ReplyLine.TheVariants as reply
@@ -127,4 +128,5 @@ own_writes_is_in_order = record {
           ),
         ),
       );
+  changes = none_go_down (from_nothing own_writes) (view_of (from_nothing own_writes) own_writes_report.entries) [] own_writes_report.lines refl;
 }

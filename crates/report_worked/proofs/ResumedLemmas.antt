@@ -9,6 +9,7 @@ use Rattle.report_laws.specs.Play.{InPlayOrder, InTurns, opened_behind}
 use Rattle.report_laws.specs.Told.{IsTold}
 use Rattle.report_laws.proofs.NodesLaws.{none_few}
 use Rattle.report_text.specs.declared.reports.EntryLine.{EntryLine}
+use Rattle.report_laws.proofs.DownLaws.{none_go_down}
 use Rattle.report_worked.specs.Small.{from_log}
 use Rattle.report_worked.specs.Worked.{resumed_report, resumed_with}
 use Rattle.report_worked.proofs.EmptyLemmas.{along_none}
@@ -38,6 +39,7 @@ resumed_is_in_order script rows is = record {
   later = [];
   opened = sym (ap (λ (es : List EntryLine). es ++ []) (nothing_opened script rows));
   order = subst (λ (body : List BodyLine). InTurns (from_log script 2 rows) [] [] (opened_behind (from_log script 2 rows) []) body [] []) (sym is) (refl, refl);
+  changes = none_go_down (from_log script 2 rows) (view_of (from_log script 2 rows) []) [] [] refl;
 }
 
 pub no_base_is_refused : (script : Script) (rows : Rows) → Lawful (from_log script 2 rows) (resumed_with None) → ⊥

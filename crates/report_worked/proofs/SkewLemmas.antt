@@ -9,6 +9,7 @@ use Rattle.report_laws.specs.Told.{told, alone_at, Along, IsTold}
 use Rattle.report_laws.specs.View.{touched_in}
 use Rattle.report_laws.specs.Work.{Transaction, Item, Does, Lone, transaction, ByCommit, WithItsLine, work}
 use Rattle.script_form.specs.CanRun.{tables_of}
+use Rattle.report_laws.proofs.DownLaws.{none_go_down}
 use Rattle.report_worked.specs.Small.{from_nothing, small_language, range_of, has_id}
 use Rattle.report_worked.specs.Worked.{worked_table, row, skew, skew_entries, skew_report, strict_skew, strict_entries, strict_skew_report, range_conflict}
 use Rattle.report_worked.specs.WorkedWrong.{IsRefusedBy, HistoryIsRight, strict_committed}
@@ -173,6 +174,7 @@ skew_is_in_order = record {
   order = in_turns (from_nothing skew) [] (Setup 1 ∷ []) skew.body (
       ((reply.Begin 1) ∷ (reply.Changed 1) ∷ (reply.Committed 2) ∷ [], Commit 2 (codes "a") 1 1 Snapshot ∷ []) ∷ ((reply.Begin 2) ∷ (reply.Changed 1) ∷ (reply.Committed 3) ∷ [], Commit 3 (codes "a") 2 2 Snapshot ∷ []) ∷ ((reply.Begin 3) ∷ [], []) ∷ ((reply.Begin 3) ∷ [], []) ∷ ((row 2 20) ∷ (reply.Done 1) ∷ [], []) ∷ ((row 1 10) ∷ (reply.Done 1) ∷ [], []) ∷ ((reply.Changed 1) ∷ [], []) ∷ ((reply.Changed 1) ∷ [], []) ∷ ((reply.Committed 4) ∷ [], Commit 4 (codes "a") 3 3 Snapshot ∷ []) ∷ ((reply.Committed 5) ∷ [], Commit 5 (codes "b") 1 3 Snapshot ∷ []) ∷ []
       ) (is_turn refl (refl, (tt, (omega arith, tt))) (refl, 1, Snapshot, refl, ((reply.Begin 1) ∷ (reply.Changed 1) ∷ [], [], refl)), (is_turn refl (refl, (tt, (omega arith, tt))) (refl, 2, Snapshot, refl, ((reply.Begin 2) ∷ (reply.Changed 1) ∷ [], [], refl)), (is_turn refl (refl, tt) tt, (is_turn refl (refl, tt) tt, (is_turn refl (tt, (tt, tt)) tt, (is_turn refl (tt, (tt, tt)) tt, (is_turn refl (tt, tt) tt, (is_turn refl (tt, tt) tt, (is_turn refl (omega arith, tt) (refl, 3, Snapshot, refl, ([], [], refl)), (is_turn refl (omega arith, tt) (refl, 3, Snapshot, refl, ([], [], refl)), tt))))))))));
+  changes = none_go_down (from_nothing skew) (view_of (from_nothing skew) skew_report.entries) [] skew_report.lines refl;
 }
 
 abbrev pub strict_skew_of_a : Transaction
@@ -298,6 +300,7 @@ strict_skew_is_in_order = record {
   order = in_turns (from_nothing strict_skew) [] (Setup 1 ∷ []) strict_skew.body (
       ((reply.Begin 1) ∷ (reply.Changed 1) ∷ (reply.Committed 2) ∷ [], Commit 2 (codes "a") 1 1 Snapshot ∷ []) ∷ ((reply.Begin 2) ∷ (reply.Changed 1) ∷ (reply.Committed 3) ∷ [], Commit 3 (codes "a") 2 2 Snapshot ∷ []) ∷ ((reply.Level Serializable) ∷ [], []) ∷ ((reply.Level Serializable) ∷ [], []) ∷ ((reply.Begin 3) ∷ [], []) ∷ ((reply.Begin 3) ∷ [], []) ∷ ((row 2 20) ∷ (reply.Done 1) ∷ [], []) ∷ ((row 1 10) ∷ (reply.Done 1) ∷ [], []) ∷ ((reply.Changed 1) ∷ [], []) ∷ ((reply.Changed 1) ∷ [], []) ∷ ((reply.Committed 4) ∷ [], Commit 4 (codes "a") 3 3 Serializable ∷ []) ∷ ((range_conflict) ∷ [], []) ∷ []
       ) (is_turn refl (refl, (tt, (omega arith, tt))) (refl, 1, Snapshot, refl, ((reply.Begin 1) ∷ (reply.Changed 1) ∷ [], [], refl)), (is_turn refl (refl, (tt, (omega arith, tt))) (refl, 2, Snapshot, refl, ((reply.Begin 2) ∷ (reply.Changed 1) ∷ [], [], refl)), (is_turn refl (tt, tt) tt, (is_turn refl (tt, tt) tt, (is_turn refl (refl, tt) tt, (is_turn refl (refl, tt) tt, (is_turn refl (tt, (tt, tt)) tt, (is_turn refl (tt, (tt, tt)) tt, (is_turn refl (tt, tt) tt, (is_turn refl (tt, tt) tt, (is_turn refl (omega arith, tt) (refl, 3, Serializable, refl, ([], [], refl)), (is_turn refl (omega arith, tt) tt, tt))))))))))));
+  changes = none_go_down (from_nothing strict_skew) (view_of (from_nothing strict_skew) strict_skew_report.entries) [] strict_skew_report.lines refl;
 }
 
 -- the entry of a transaction that read a row which an entry since its begin changed

@@ -9,7 +9,7 @@ use Rattle.session_language.specs.Replies.{are_up_to, is_last_of}
 use Rattle.report_text.specs.declared.reports.ReplyLine.{ReplyLine}
 use Rattle.report_text.specs.declared.reports.ReplyLine.TheVariants as reply
 use Rattle.session_language.proofs.UpToLaws.{up_to_rows}
-use Rattle.report_worked.specs.Small.{Statement, Begin, Commit, Insert, SelectAll, SelectWhere, SetLevel, SetWhere, DeleteWhere, statement_of, answer_to, rows_seen, has_id, small_language}
+use Rattle.report_worked.specs.Small.{Statement, Begin, Commit, Rollback, Insert, SelectAll, SelectWhere, SetLevel, SetWhere, DeleteWhere, statement_of, answer_to, rows_seen, has_id, small_language}
 
 plain_rows : (rows : List (List Value)) (last : List ReplyLine) → ArePlain last → ArePlain (map reply.Row rows ++ last)
 plain_rows [] last is = is
@@ -19,6 +19,7 @@ plain_answer_to : (versions : List (List Version)) (done : List RowOp) (s : Opti
 plain_answer_to versions done None = (tt, tt)
 plain_answer_to versions done (Some Begin) = (tt, tt)
 plain_answer_to versions done (Some Commit) = (tt, tt)
+plain_answer_to versions done (Some Rollback) = (tt, tt)
 plain_answer_to versions done (Some (Insert id v)) = (tt, tt)
 plain_answer_to versions done (Some SelectAll) = plain_rows (rows_seen versions done 0 None) (reply.Done (length (rows_seen versions done 0 None)) ∷ []) (tt, tt)
 plain_answer_to versions done (Some (SelectWhere id)) = plain_rows (rows_seen versions done 0 (has_id id)) (reply.Done (length (rows_seen versions done 0 (has_id id))) ∷ []) (tt, tt)
@@ -30,6 +31,7 @@ closed_answer_to : (versions : List (List Version)) (done : List RowOp) (s : Opt
 closed_answer_to versions done None = refl
 closed_answer_to versions done (Some Begin) = refl
 closed_answer_to versions done (Some Commit) = refl
+closed_answer_to versions done (Some Rollback) = refl
 closed_answer_to versions done (Some (Insert id v)) = refl
 closed_answer_to versions done (Some SelectAll) = up_to_rows (rows_seen versions done 0 None) (reply.Done (length (rows_seen versions done 0 None))) refl
 closed_answer_to versions done (Some (SelectWhere id)) = up_to_rows (rows_seen versions done 0 (has_id id)) (reply.Done (length (rows_seen versions done 0 (has_id id)))) refl

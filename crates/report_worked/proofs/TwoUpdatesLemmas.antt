@@ -9,6 +9,7 @@ use Rattle.report_text.specs.declared.reports.EntryLine.TheVariants.{Setup}
 use Rattle.report_laws.specs.Told.{told, Along, IsTold}
 use Rattle.report_laws.specs.Work.{Transaction, Item, Does, transaction, ByCommit, WithItsLine, work}
 use Rattle.script_form.specs.CanRun.{tables_of}
+use Rattle.report_laws.proofs.DownLaws.{none_go_down}
 use Rattle.report_worked.specs.Worked.{worked_table, two_updates, two_updates_report, two_updates_entries, inserted_entries, insert_text, conflict, of_a, of_b}
 use Rattle.report_text.specs.declared.reports.ReplyLine.{ReplyLine}
 use Rattle.report_text.specs.declared.reports.ReplyLine.TheVariants as reply
@@ -159,4 +160,5 @@ two_updates_is_in_order = record {
           ),
         ),
       );
+  changes = none_go_down (from_nothing two_updates) (view_of (from_nothing two_updates) two_updates_report.entries) [] two_updates_report.lines refl;
 }

@@ -44,7 +44,7 @@ pub untouched_row_is_refused : IsRefusedBy (RepliesAreRight two_updates untouche
 untouched_row_is_refused = (touches_another, λ is. touches_another is.replies)
 
 -- an entry of a transaction whose version an entry since its begin took away
-same_transaction : (t s : Transaction) → Some t ≡ Some s → t ≡ s
+pub same_transaction : (t s : Transaction) → Some t ≡ Some s → t ≡ s
 same_transaction t s is = cc
 
 some_or_none : (item : Used) → Some item ≡ None → ⊥

@@ -26,15 +26,16 @@ use Rattle.cdb_values.specs.declared.values.Value.TheVariants.{Int}
 use Rattle.script_form.specs.CanRun.{tables_of}
 use Rattle.script_form.specs.declared.scripts.Script.{Script}
 use Rattle.report_laws.specs.History.{Basis, nothing_before}
-use Rattle.session_language.specs.Language.{Answered, Language, Kind, BeginText, CommitText, LevelText, OtherText}
+use Rattle.session_language.specs.Language.{Answered, Language, Kind, BeginText, CommitText, RollbackText, LevelText, OtherText}
 use Rattle.report_text.specs.declared.reports.ReplyLine.{ReplyLine}
 use Rattle.report_text.specs.declared.reports.ReplyLine.TheVariants as reply
 
--- a statement: it begins or commits a transaction, inserts the row of an id and a v, selects all rows or an id's, sets the
+-- a statement: it begins, commits or rolls back a transaction, inserts the row of an id and a v, selects all rows or an id's, sets the
 -- level of later transactions, sets the v of an id's rows, or deletes an id's rows
 pub data Statement : Type 0 where
   Begin : Statement
   Commit : Statement
+  Rollback : Statement
   Insert : ℕ → ℕ → Statement
   SelectAll : Statement
   SelectWhere : ℕ → Statement
@@ -47,6 +48,7 @@ abbrev pub statement_of : List ℕ → Option Statement
 statement_of text =
     if bytes_eq text (codes "begin") then Some Begin
     else if bytes_eq text (codes "commit") then Some Commit
+    else if bytes_eq text (codes "rollback") then Some Rollback
     else if bytes_eq text (codes "insert into t values(1, 1)") then Some (Insert 1 1)
     else if bytes_eq text (codes "insert into t values(1, 2)") then Some (Insert 1 2)
     else if bytes_eq text (codes "insert into t values(1, 3)") then Some (Insert 1 3)
@@ -185,12 +187,13 @@ has_id id = Some (record { column = 0; value = Int (pos id) })
 abbrev pub refused : List RowOp → StatementError → Answered
 refused done cause = only_told done (reply.Error cause ∷ [])
 
--- the answer of a statement; one that begins or commits a transaction does not fit inside one, and a text that is no
+-- the answer of a statement; one that begins or ends a transaction does not fit inside one, and a text that is no
 -- statement is told so
 abbrev pub answer_to : List (List Version) → List RowOp → Option Statement → Answered
 answer_to versions done None = refused done (error.Syntax 0)
 answer_to versions done (Some Begin) = refused done error.State
 answer_to versions done (Some Commit) = refused done error.State
+answer_to versions done (Some Rollback) = refused done error.State
 answer_to versions done (Some (Insert id v)) = inserted done 0 (Int (pos id) ∷ Int (pos v) ∷ [])
 answer_to versions done (Some SelectAll) = selected versions done 0 None
 answer_to versions done (Some (SelectWhere id)) = selected versions done 0 (has_id id)
@@ -203,6 +206,7 @@ abbrev pub kind_of : Option Statement → Kind
 kind_of None = OtherText
 kind_of (Some Begin) = BeginText
 kind_of (Some Commit) = CommitText
+kind_of (Some Rollback) = RollbackText
 kind_of (Some (Insert id v)) = OtherText
 kind_of (Some SelectAll) = OtherText
 kind_of (Some (SelectWhere id)) = OtherText

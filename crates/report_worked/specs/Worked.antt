@@ -296,3 +296,45 @@ level_lines = to_a 0 (reply.Level Serializable) ∷ to_b 0 (reply.Level Serializ
 
 abbrev pub strict_skew_report : Report
 strict_skew_report = report_with (two_inserted_lines ++ (level_lines ++ skew_lines range_conflict)) strict_entries
+
+-- a transaction that does nothing, and then an insert of the other session, behind a log of two entries
+abbrev pub nothing_then_insert : Script
+nothing_then_insert = script_with (a_says (codes "begin") ∷ a_says (codes "commit") ∷ b_says (codes "insert into t values(2, 20)") ∷ [])
+
+-- its node goes down at the last commit only
+abbrev pub down_late_report : Report
+down_late_report = record {
+  lines = to_a 1 (reply.Begin 2) ∷ to_a 1 (reply.Committed 2) ∷ to_b 1 (reply.Begin 2) ∷ to_b 1 (reply.Changed 1) ∷ line.Down 1 1 true ∷ to_b 1 (reply.Lost 1 1) ∷ [];
+  base = Some 2;
+  entries = [];
+  feeds = [];
+  end = 2;
+}
+
+-- two inserts, and their history where the second one began at a position
+abbrev pub two_inserts : Script
+two_inserts = script_with (a_says insert_text ∷ a_says (codes "insert into t values(2, 20)") ∷ [])
+
+abbrev pub two_inserts_with : ℕ → List EntryLine
+two_inserts_with begin = Setup 1 ∷ of_a 2 1 1 ∷ of_a 3 2 begin ∷ []
+
+-- two inserts of the same key by two sessions, one after the other
+abbrev pub two_keys : Script
+two_keys = script_with (a_says (codes "insert into t values(1, 1)") ∷ b_says (codes "insert into t values(1, 2)") ∷ [])
+
+-- an insert that is rolled back
+abbrev pub rolled_insert : Script
+rolled_insert = script_with (a_says (codes "begin") ∷ a_says insert_text ∷ a_says (codes "rollback") ∷ [])
+
+-- a transaction that does nothing
+abbrev pub nothing_done : Script
+nothing_done = script_with (a_says (codes "begin") ∷ a_says (codes "commit") ∷ [])
+
+-- the node goes down at a commit, which wants memory, and so do the lines behind it, that would tell of a loss and of a missing
+-- majority
+abbrev pub wanting_report : Report
+wanting_report = report_with
+    (to_a 1 (reply.Begin 1) ∷ to_a 1 (reply.Changed 1)
+    ∷ to_b 1 (reply.Begin 1) ∷ to_b 1 (reply.Changed 1) ∷ line.Down 1 1 true ∷ to_b 1 reply.NoMemory
+    ∷ to_a 1 reply.NoMemory ∷ to_a 2 reply.NoMemory ∷ [])
+    (Setup 1 ∷ [])

@@ -1,12 +1,19 @@
 //! The worked examples: facts of their reports, each a clause of a function that does nothing.
 
-ghost use Rattle.std.specs.Prelude.{◌≡◌, [], None, Some};
+ghost use Rattle.std.specs.Prelude.{◌≡◌, ◌∷◌, [], None, Some};
+ghost use Rattle.std.specs.List.{AllByRecursion};
 ghost use Rattle.cdb_values.specs.Rows.{Rows};
 ghost use Rattle.report_worked.specs.Small.{from_log, from_nothing};
 ghost use Rattle.report_laws.specs.Lawful.{Lawful};
+ghost use Rattle.session_language.specs.Each.{EachAfter};
+ghost use Rattle.report_laws.specs.History.{IsEntryAfter};
+ghost use Rattle.report_laws.specs.Nodes.{downs, BeginsDown};
+ghost use Rattle.report_laws.specs.Outcome.{conflict_line};
 ghost use Rattle.report_laws.specs.Play.{InPlayOrder};
-ghost use Rattle.report_worked.specs.Worked.{empty_report, report_with, insert_select, insert_select_report, insert_select_text, two_updates, two_updates_report, key_again, key_again_report, own_writes, own_writes_report, two_selects, lost_insert_report, lost_insert_text, open_insert, open_insert_report, nothing_said, down_at_first_report, resumed_report, resumed_with, skew, skew_report, strict_skew, strict_skew_report};
-ghost use Rattle.report_worked.specs.WorkedWrong.{IsRefusedBy, RepliesAreRight, BeginsAreFresh, HistoryIsRight, LinesHavePlaces, wrong_value, missing_row, out_of_order, early_row, late, wrong_position, entry_twice, node_line, lost_line, begin_too_old, untouched_row, refused_entry, serial, lost_twice, lost_late, short_while_up, down_misnumbered, down_twice, begun_behind, opened_while_down, strict_committed};
+ghost use Rattle.report_laws.specs.Spelled.{IsNamedTable};
+ghost use Rattle.session_language.specs.Touched.{TheRange};
+ghost use Rattle.report_worked.specs.Worked.{empty_report, report_with, insert_select, insert_select_report, insert_select_text, two_updates, two_updates_report, key_again, key_again_report, own_writes, own_writes_report, two_selects, lost_insert_report, lost_insert_text, open_insert, open_insert_report, nothing_said, down_at_first_report, nothing_then_insert, down_late_report, two_inserts, two_inserts_with, two_keys, rolled_insert, nothing_done, wanting_report, resumed_report, resumed_with, skew, skew_report, strict_skew, strict_skew_report};
+ghost use Rattle.report_worked.specs.WorkedWrong.{IsRefusedBy, RepliesAreRight, BeginsAreFresh, HistoryIsRight, EntriesAreTold, LinesHavePlaces, wrong_value, missing_row, out_of_order, early_row, late, wrong_position, entry_twice, node_line, lost_line, begin_too_old, untouched_row, refused_entry, serial, lost_twice, lost_late, short_while_up, down_misnumbered, down_twice, begun_behind, opened_while_down, strict_committed, committed_ahead, conflict_ahead, duplicate_ahead, conflict_at_begin, select_behind, begun_elsewhere, split_insert, rolled_entry, down_at_nothing, all_table, by_all, of_all};
 ghost use Rattle.report_text.specs.Text.{report_text};
 ghost use Rattle.script_form.specs.declared.scripts.Script.{Script};
 
@@ -139,4 +146,67 @@ pub fn resumed_report_is_lawful()
     ensures order { (script : Script) (rows : Rows) → script.body ≡ [] → InPlayOrder (from_log script 2 rows) resumed_report }
     ensures no_base { (script : Script) (rows : Rows) → Lawful (from_log script 2 rows) (resumed_with None) → ⊥ }
     ensures other_base { (script : Script) (rows : Rows) → Lawful (from_log script 2 rows) (resumed_with (Some 1)) → ⊥ }
+{}
+
+/// Behind a log of two entries, whatever its rows are, a report is lawful and in the order of play that tells of one fault and
+/// of no entry, and in which a transaction was committed and another one begun before the node went down. It is no report of a
+/// node that is down from the opening on: its first line does not tell that.
+pub fn down_late_is_lawful()
+    ensures lawful { (rows : Rows) → Lawful (from_log nothing_then_insert 2 rows) down_late_report }
+    ensures order { (rows : Rows) → InPlayOrder (from_log nothing_then_insert 2 rows) down_late_report }
+    ensures down { downs down_late_report.lines ≡ 1 }
+    ensures none { down_late_report.entries ≡ [] }
+    ensures late { BeginsDown down_late_report.lines → ⊥ }
+{}
+
+/// Of two inserts the second one's entry is right after the first with the begin 2, and with the begin 1 as well. But
+/// where the transaction was told that it begins at 2, the report is refused with the begin 1 in its entry.
+pub fn entries_begin_where_they_were_told()
+    ensures there { EachAfter (IsEntryAfter (from_nothing two_inserts)) [] (two_inserts_with 2) }
+    ensures earlier { EachAfter (IsEntryAfter (from_nothing two_inserts)) [] (two_inserts_with 1) }
+    ensures elsewhere { IsRefusedBy (EntriesAreTold two_inserts begun_elsewhere) two_inserts begun_elsewhere }
+{}
+
+/// The transaction of an entry was told in one segment of its session's lines, and that it is committed: an entry of one that
+/// was told in two segments is refused, and one of what was rolled back.
+pub fn entries_are_told_whole()
+    ensures split { IsRefusedBy (EntriesAreTold insert_select split_insert) insert_select split_insert }
+    ensures rolled { IsRefusedBy (EntriesAreTold rolled_insert rolled_entry) rolled_insert rolled_entry }
+{}
+
+/// An outcome is judged from the begin on: refused are a conflict with the entry at which the transaction began, and a commit
+/// behind its begin of a transaction that changes nothing.
+pub fn outcomes_count_from_the_begin()
+    ensures conflict_at_begin { IsRefusedBy (RepliesAreRight two_updates conflict_at_begin) two_updates conflict_at_begin }
+    ensures select_behind { IsRefusedBy (RepliesAreRight insert_select select_behind) insert_select select_behind }
+{}
+
+/// What is decided at a line speaks of the history of that moment. A commit whose entry does not stand yet is not in the order of
+/// play. Nor are a conflict and a duplicate at an entry that comes later, which are lawful.
+pub fn decisions_ahead_are_not_played()
+    ensures commit { InPlayOrder (from_nothing insert_select) committed_ahead → ⊥ }
+    ensures conflict { Lawful (from_nothing two_updates) conflict_ahead }
+    ensures conflict_order { InPlayOrder (from_nothing two_updates) conflict_ahead → ⊥ }
+    ensures duplicate { Lawful (from_nothing two_keys) duplicate_ahead }
+    ensures duplicate_order { InPlayOrder (from_nothing two_keys) duplicate_ahead → ⊥ }
+{}
+
+/// No key is called `all`: a conflict over an interval of it would be told as one over the whole table.
+pub fn keys_are_not_called_all()
+    ensures refused { AllByRecursion IsNamedTable (all_table ∷ []) → ⊥ }
+    ensures alike { conflict_line (all_table ∷ []) 2 (TheRange by_all) ≡ conflict_line (all_table ∷ []) 2 (TheRange of_all) }
+{}
+
+/// A node goes down at a commit of a transaction that changes something alone: at one of a transaction that changes nothing the
+/// report is lawful, but not in the order of play.
+pub fn down_at_nothing_is_not_played()
+    ensures lawful { Lawful (from_nothing nothing_done) down_at_nothing }
+    ensures order { InPlayOrder (from_nothing nothing_done) down_at_nothing → ⊥ }
+{}
+
+/// Want of memory may come anywhere: where a node goes down at a commit, and in the place of a loss and of a missing majority. The
+/// report is lawful and in the order of play.
+pub fn wanting_memory_is_played()
+    ensures lawful { Lawful (from_nothing open_insert) wanting_report }
+    ensures order { InPlayOrder (from_nothing open_insert) wanting_report }
 {}
