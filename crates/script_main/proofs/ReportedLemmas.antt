@@ -20,7 +20,7 @@ use Rattle.phys_log.specs.declared.entries.Entry.{Entry}
 use Rattle.query_laws.specs.Alone.{reads_of, sql_language}
 use Rattle.report_laws.specs.History.{Basis}
 use Rattle.report_laws.specs.Lawful.{Lawful}
-use Rattle.report_laws.specs.Nodes.{downs}
+use Rattle.report_laws.specs.Nodes.{downs, BeginsDown}
 use Rattle.report_laws.specs.Play.{InPlayOrder}
 use Rattle.report_laws.specs.Spelled.{IsNamedTable, SaysAsNamed, IsSpelled}
 use Rattle.report_laws.proofs.OneLaws.{one_report}
@@ -133,11 +133,12 @@ one_such s start report lawful in_order other uncut lawful' in_order' uncut' =
 -- the text of a report of a node that was down from the opening on, behind a log of that size. It tells no row, so it is one of
 -- the grammar whatever the rows are
 pub down_text : (s : Script) (size : ℕ) (report : Report) (text : List ℕ) → CanRun s → script.IsNamed s → ((rows : Rows) → Lawful (from_base s size rows) report) →
-    ((rows : Rows) → InPlayOrder (from_base s size rows) report) → downs report.lines ≡ 1 → report.entries ≡ [] → FitsTypes report → text ≡ report_text report → IsDownText s size text
-down_text s size report text can names lawful in_order down none fits is = record {
+    ((rows : Rows) → InPlayOrder (from_base s size rows) report) → BeginsDown report.lines → downs report.lines ≡ 1 → report.entries ≡ [] → FitsTypes report → text ≡ report_text report → IsDownText s size text
+down_text s size report text can names lawful in_order first down none fits is = record {
   report = report;
   lawful = lawful;
   in_order = in_order;
+  first = first;
   down = down;
   none = none;
   is_report = of_the_grammar (from_base s size (no_rows [])) report (spelled s size can names) (lawful (no_rows [])) (in_order (no_rows [])) fits;

@@ -16,7 +16,7 @@ use Rattle.phys_log.specs.Logs.{pages_of}
 use Rattle.phys_log.specs.declared.entries.Entry.{Entry}
 use Rattle.report_laws.specs.History.{Basis}
 use Rattle.report_laws.specs.Lawful.{Lawful}
-use Rattle.report_laws.specs.Nodes.{downs}
+use Rattle.report_laws.specs.Nodes.{downs, BeginsDown}
 use Rattle.report_laws.specs.One.{IsUncut}
 use Rattle.report_laws.specs.Play.{InPlayOrder}
 use Rattle.report_laws.specs.Spelled.{IsNamedTable}
@@ -103,11 +103,13 @@ pub record IsRun (script : Script) (old new : Stored) (text : List ℕ) : Type 0
       (IsSoundFurther (with_tables script before) (start_at before rows) (promised + 1) report)
   pub sound : IsSoundBelow (start_at before rows) (promised + 1) history
 
--- the text of a report behind a log of that size, of whatever rows, that tells of no entry, and that the node went down
+-- the text of a report behind a log of that size, of whatever rows, that tells of no entry, and first of all that the node went
+-- down: so no transaction begins in it
 pub record IsDownText (script : Script) (size : ℕ) (text : List ℕ) : Type 0 where
   pub report : Report
   pub lawful : (rows : Rows) → Lawful (from_base script size rows) report
   pub in_order : (rows : Rows) → InPlayOrder (from_base script size rows) report
+  pub first : BeginsDown report.lines
   pub down : downs report.lines ≡ 1
   pub none : report.entries ≡ []
   pub is_report : IsReport report

@@ -5,7 +5,7 @@ ghost use Rattle.log_rows.specs.History.{tables_of as tables_of_log};
 ghost use Rattle.script_form.specs.CanRun.{tables_of, CanRun};
 ghost use Rattle.script_form.specs.Named.{IsNamed};
 ghost use Rattle.report_laws.specs.Lawful.{Lawful};
-ghost use Rattle.report_laws.specs.Nodes.{downs};
+ghost use Rattle.report_laws.specs.Nodes.{downs, BeginsDown};
 ghost use Rattle.report_laws.specs.Play.{InPlayOrder};
 ghost use Rattle.script_play.specs.Basis.{from_base};
 ghost use Rattle.script_form.specs.declared.scripts.Script.{Script};
@@ -157,6 +157,7 @@ fn down_told(
     requires names { IsNamed script.now }
     requires lawful { (rows : Rows) → Lawful (from_base script.now size rows) report.now }
     requires in_order { (rows : Rows) → InPlayOrder (from_base script.now size rows) report.now }
+    requires first { BeginsDown report.now.lines }
     requires down { downs report.now.lines ≡ 1 }
     requires none { report.now.entries ≡ [] }
     ensures { IfOk result (λ a. (a.status ≡ Status.Done) × IsDownText script.now size a.text) }

@@ -17,11 +17,12 @@ use Rattle.session_language.specs.Language.{Kind, BeginText, CommitText, Rollbac
 use Rattle.session_language.proofs.EachLaws.{each_append}
 use Rattle.report_laws.specs.History.{Origin, last_position, view_of}
 use Rattle.report_laws.specs.Lawful.{IsFreshLine, Lawful}
-use Rattle.report_laws.specs.Nodes.{downs, is_up, are_few}
+use Rattle.report_laws.specs.Nodes.{downs, is_up, are_few, BeginsDown}
 use Rattle.report_laws.specs.Places.{HasItsPlace}
 use Rattle.report_laws.specs.Play.{number_by, opened_behind, opening, was_cut, InPlayOrder, InTurns, IsTurnOf}
 use Rattle.report_laws.specs.Told.{Along, Numbered, IsCut, IsTold, alone_at, lines_of, numbered, told}
 use Rattle.report_laws.specs.Work.{Transaction, Item, Does, Lone, Place, End, ByCommit, ByRollback, WithItsLine, Nowhere, items_at, next_by, next_place, number_of, open_item, place_after, transaction, with_open, work, start as place_first}
+use Rattle.report_laws.proofs.DownLaws.{none_go_down}
 use Rattle.report_laws.proofs.EntryToldLaws.{told_stands}
 use Rattle.report_laws.proofs.LineLaws.{in_turns_more}
 use Rattle.report_laws.proofs.NodesLaws.{downs_more, is_down_behind, none_up}
@@ -320,6 +321,7 @@ first_down_is script lines states can one starts_so =
 record IsToldOut (script : Script) (origin : Origin) (lines : List Line) : Type 0 where
   pub lawful : Lawful (from_origin script origin) (report_of origin.position origin.position lines [])
   pub in_order : InPlayOrder (from_origin script origin) (report_of origin.position origin.position lines [])
+  pub first : BeginsDown lines
   pub once : downs lines ≡ 1
 
 module _ (script : Script) (origin : Origin) (can : CanRun script) (done : List BodyLine) (lines : List Line) (states : List SessionAt) (was : SoFarDown (from_origin script origin) done [] lines states) where
@@ -358,7 +360,9 @@ module _ (script : Script) (origin : Origin) (can : CanRun script) (done : List 
       opened = sym (append-nil (opened_behind (from_origin script origin) (down_line ∷ [])) ∙ none_opened);
       order = subst (λ (es : List EntryLine). InTurns (from_origin script origin) [] (down_line ∷ []) es script.body was.rest []) (sym none_opened)
           (subst (λ (body : List BodyLine). InTurns (from_origin script origin) [] (down_line ∷ []) [] body was.rest []) (sym all_done) was.order);
+      changes = none_go_down (from_origin script origin) (view_of (from_origin script origin) []) (down_line ∷ []) was.rest was.once;
     };
+    first = (was.rest, was.lines_are);
     once = ap downs was.lines_are ∙ ap (λ (n : ℕ). n + 1) was.once;
   }
 
@@ -366,6 +370,7 @@ module _ (script : Script) (origin : Origin) (can : CanRun script) (done : List 
 pub record IsOutReport (script : Script) (origin : Origin) (report : Report) : Type 0 where
   pub lawful : Lawful (from_origin script origin) report
   pub in_order : InPlayOrder (from_origin script origin) report
+  pub first : BeginsDown report.lines
   pub once : downs report.lines ≡ 1
   pub none : report.entries ≡ []
 
@@ -375,7 +380,7 @@ none_left (l ∷ ls) is = absurd (omega (arith, is))
 
 pub reports_out : (script : Script) (origin : Origin) (left : List BodyLine) (lines : List Line) (states : List SessionAt) (entries : List EntryLine) (report : Report) →
     IsBeforeDown script left lines states → length left ≡ 0 → entries ≡ [] → report ≡ report_of origin.position origin.position lines entries → IsOutReport script origin report
-reports_out script origin left lines states entries report before ends none is = subst (λ (r : Report). IsOutReport script origin r) (sym report_is) (record { lawful = out.lawful; in_order = out.in_order; once = out.once; none = refl })
+reports_out script origin left lines states entries report before ends none is = subst (λ (r : Report). IsOutReport script origin r) (sym report_is) (record { lawful = out.lawful; in_order = out.in_order; first = out.first; once = out.once; none = refl })
   where
     report_is : report ≡ report_of origin.position origin.position lines []
     report_is = is ∙ ap (λ (es : List EntryLine). report_of origin.position origin.position lines es) none

@@ -141,6 +141,8 @@ module _ (script : Script) (start : Start) (entries : List EntryLine) (lines : L
       node = 1;
       of_script = down_placed.of_script;
       was_up = up_unhurt lines unhurt;
+      told = reply.Lost 1 (downs lines + 1);
+      is_told = inl refl;
       says = (let count : downs lines + 1 ≡ 1 = omega (arith, unhurt) in ap (λ (d : ℕ). lines_of name number front ++ line.Down d 1 true ∷ lines_of name number (reply.Lost 1 d ∷ [])) (sym count));
       none = refl;
     })));

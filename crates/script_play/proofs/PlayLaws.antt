@@ -4,7 +4,10 @@ use Rattle.std.proofs.lemmas.List.{length-take-le}
 use Rattle.std.specs.Prelude.{slice_get, Some}
 use Rattle.block_processor.specs.Changed.{changed_in}
 use Rattle.node_log.specs.Logged.{Logged, Leaves}
+use Rattle.report_laws.specs.History.{view_of}
 use Rattle.report_laws.specs.Nodes.{downs}
+use Rattle.report_laws.specs.Play.{GoDownAtChanges}
+use Rattle.report_laws.proofs.DownLaws.{none_go_down}
 use Rattle.report_laws.proofs.NodesLaws.{downs_append}
 use Rattle.phys_log.specs.declared.entries.Entry.{Entry}
 use Rattle.report_text.specs.declared.reports.EntryLine.{EntryLine}
@@ -15,6 +18,7 @@ use Rattle.script_form.specs.CanRun.{CanRun, tables_of}
 use Rattle.script_form.specs.declared.scripts.BodyLine.{BodyLine}
 use Rattle.script_form.specs.declared.scripts.Script.{Script}
 use Rattle.script_form.specs.declared.scripts.SessionLine.{SessionLine}
+use Rattle.script_play.specs.Basis.{from_start}
 use Rattle.script_play.specs.Doing.{SessionAt}
 use Rattle.script_play.specs.Doing as doing
 use Rattle.script_play.specs.Played.{downs_by, IsGivenUp, IsHistory, IsPlayed}
@@ -28,7 +32,7 @@ use Rattle.script_play.specs.Start.{Start, base}
 use Rattle.script_play.specs.declared.states.InTransaction.{InTransaction}
 use Rattle.script_play.specs.declared.states.InTransaction.TheVariants.{No, Open, Aborted}
 use Rattle.script_play.specs.declared.states.SessionState.{SessionState}
-use Rattle.script_play.proofs.FurtherLemmas.{further_told}
+use Rattle.script_play.proofs.FurtherLemmas.{falls_at_changes, further_told}
 use Rattle.script_play.proofs.SiteLemmas.{told_count}
 use Rattle.script_play.proofs.StartLemmas.{opens, Opens}
 use Rattle.script_play.proofs.WholeLemmas.{ends_lawful, ends_in_order}
@@ -89,6 +93,18 @@ begins_at script start log lines entries states can up earlier none opening begi
     first : Opens script start log.accepted entries log.entries (map state_in states)
     first = opens script (tables_of script) start.before start.rows log.accepted entries log.entries (map state_in states) can refl begin opening starts
 
+-- where the node went down in it, a transaction with operations was to be committed
+go_down_so : (script : Script) (start : Start) (generation had : ℕ) (lines : List Line) (entries : List EntryLine) (log : Logged) (states : List SessionState) → IsBeforeLine script start generation had [] (run_of lines entries log) states →
+    GoDownAtChanges (from_start script start) (view_of (from_start script start) entries) [] lines
+go_down_so script start generation had lines entries log states now = go log.failed refl
+  where
+    count : downs lines ≡ downs_by log.failed
+    count = downs_at log.failed script lines (map state_in states) now.before.so_far.node
+
+    go : (b : Bool) → log.failed ≡ b → GoDownAtChanges (from_start script start) (view_of (from_start script start) entries) [] lines
+    go false up = none_go_down (from_start script start) (view_of (from_start script start) entries) [] lines (count ∙ ap downs_by up)
+    go true down = falls_at_changes script start generation lines entries log (now.further down) (count ∙ ap downs_by down)
+
 -- what a run that is done leaves
 done_so : (script : Script) (start : Start) (opened : Logged) (lines : List Line) (entries : List EntryLine) (log : Logged) (states : List SessionState) →
     IsBeforeLine script start opened.accepted opened.store.faults [] (run_of lines entries log) states →
@@ -96,7 +112,8 @@ done_so : (script : Script) (start : Start) (opened : Logged) (lines : List Line
 done_so script start opened lines entries log states now = record {
   told = record {
     lawful = ends_lawful script start log.failed now.before.done lines entries (changed_in (history_of log)) (seen_in start (history_of log)) (map state_in states) now.before.so_far;
-    in_order = ends_in_order script start log.failed now.before.done lines entries (changed_in (history_of log)) (seen_in start (history_of log)) (map state_in states) now.before.so_far;
+    in_order = ends_in_order script start log.failed now.before.done lines entries (changed_in (history_of log)) (seen_in start (history_of log)) (map state_in states) now.before.so_far
+        (go_down_so script start opened.accepted opened.store.faults lines entries log states now);
     entries = now.told;
     schema = now.logged.schema;
     changed = λ k first within. now.before.so_far.stored.changed_are k first (let n = now.logged.count in omega (arith, n, within));

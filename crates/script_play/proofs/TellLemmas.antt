@@ -63,6 +63,8 @@ module _ (script : Script) (start : Start) (entries : List EntryLine) (changed :
           ∙ ap (λ (n : ℕ). first_down n (since_begin name p.number lines)) its_node
           ∙ ap (λ (ls : List Line). first_down 1 (since_begin name p.number ls)) is.is
           ∙ loses name p.number begin is.front is.back begun_before is.unhurt;
+      told = reply.Lost (node_of script name) 1;
+      is_told = inl refl;
       says = ap (λ (n : ℕ). lines_of name p.number (reply.Lost n 1 ∷ [])) (sym its_node);
       none = refl;
     }));

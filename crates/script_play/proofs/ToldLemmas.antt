@@ -34,6 +34,8 @@ module _ (script : Script) (origin : Origin) (one : script.nodes ≡ 1) (now : �
   told_short k pending number starts = record {
     said = inr (inr (inl (record {
       lacks = and_from (begins k pending) (are_few script.nodes lines) starts (ap (λ (n : ℕ). are_few n lines) one ∙ few);
+      told = reply.NoMajority (up_count script.nodes lines) script.nodes;
+      is_told = inl refl;
       says = ap (λ (m : ℕ). lines_of name number (reply.NoMajority m 1 ∷ [])) (sym none_up) ∙ ap (λ (m : ℕ). lines_of name number (reply.NoMajority (up_count script.nodes lines) m ∷ [])) (sym one);
       none = refl;
     })));

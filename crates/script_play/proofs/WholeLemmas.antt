@@ -21,7 +21,7 @@ use Rattle.script_play.specs.Basis.{from_start}
 use Rattle.query_laws.specs.Alone.{sql_language}
 use Rattle.report_laws.specs.Lawful.{Lawful}
 use Rattle.report_laws.specs.Outcome.{Ends}
-use Rattle.report_laws.specs.Play.{InPlayOrder, InTurns, opening, opened_behind}
+use Rattle.report_laws.specs.Play.{GoDownAtChanges, InPlayOrder, InTurns, opening, opened_behind}
 use Rattle.report_laws.specs.Told.{Along, Numbered, IsTold, IsEntryTold, IsCut, told, numbered, alone_at}
 use Rattle.report_laws.specs.Work.{Transaction, Item, Does, Place, Nowhere, transaction, work, place_after, items_at, open_item, start as place_first}
 use Rattle.cdb_values.specs.declared.items.GenidItem.{GenidItem}
@@ -133,8 +133,8 @@ module _ (script : Script) (start : Start) (down : Bool) (done : List BodyLine) 
   }
 
   -- and its lines stand in the order of play
-  pub ends_in_order : InPlayOrder (from_start script start) (report_of (base start) (now_of start entries) lines entries)
-  ends_in_order = record {
+  pub ends_in_order : GoDownAtChanges (from_start script start) (view_of (from_start script start) entries) [] lines → InPlayOrder (from_start script start) (report_of (base start) (now_of start entries) lines entries)
+  ends_in_order changes = record {
     first = [];
     go_down = tt;
     rest = lines;
@@ -143,6 +143,7 @@ module _ (script : Script) (start : Start) (down : Bool) (done : List BodyLine) 
     opened = was.begins ∙ ap (λ (es : List EntryLine). es ++ was.later) (sym opens);
     order = subst (λ (es : List EntryLine). InTurns (from_start script start) [] [] es script.body lines was.later) (sym opens)
         (subst (λ (body : List BodyLine). InTurns (from_start script start) [] [] (opening (from_start script start).origin) body lines was.later) (sym all_done) was.order);
+    changes = changes;
   }
     where
       -- no node is down at the opening

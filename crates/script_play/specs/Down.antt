@@ -19,6 +19,7 @@ use Rattle.report_text.specs.declared.reports.Line.{Line}
 use Rattle.report_text.specs.declared.reports.Line.TheVariants as line
 use Rattle.report_text.specs.declared.reports.ReplyLine.{ReplyLine}
 use Rattle.report_text.specs.declared.reports.ReplyLine.TheVariants as reply
+use Rattle.session_language.specs.Each.{StandsIn}
 use Rattle.session_language.specs.Language.{Kind, BeginText, CommitText, RollbackText, LevelText, OtherText}
 use Rattle.script_play.specs.Doing.{SessionAt, Doing}
 use Rattle.script_play.specs.Doing as doing
@@ -122,7 +123,8 @@ IsKeptSo name number replies (Some entry) r r' =
     ((r'.lines ≡ r.lines ++ lines_of name number replies) × IsEntered entry r r')
     ⊎ ((told : HasOutcome replies) × (r'.lines ≡ r.lines ++ fallen_lines name number told.front) × IsFallenAt entry r r')
 
--- the line of an entry is that of the transaction that is lost by the line that the node went down
+-- the line of an entry is that of the transaction that is lost by the line that the node went down, with the begin that it was
+-- told
 pub record IsLostBy (lines : List Line) (entry : EntryLine) : Type 0 where
   pub front : List Line
   pub back : List Line
@@ -133,6 +135,7 @@ pub record IsLostBy (lines : List Line) (entry : EntryLine) : Type 0 where
   pub level : Level
   pub entry_is : entry ≡ Commit position session number begin level
   pub told : lines ≡ front ++ down_line ∷ line.Session session number (reply.Lost 1 1) ∷ back
+  pub begun : StandsIn front (line.Session session number (reply.Begin begin))
 
 -- how the log of a node is held: as long as the node is up, in a generation, and its store stands for it as its type says;
 -- where it is down, what a stop leaves of the store stands for the history, or for the log, which has one entry more

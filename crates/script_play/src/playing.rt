@@ -8,7 +8,7 @@ ghost use Rattle.log_rows.specs.History.{rows_over_at, IsFrom, StandsOver};
 ghost use Rattle.node_log.specs.Logged.{Leaves};
 ghost use Rattle.report_laws.specs.History.{rows_at, changes_at};
 ghost use Rattle.report_laws.specs.Lawful.{Lawful, base_line};
-ghost use Rattle.report_laws.specs.Nodes.{downs};
+ghost use Rattle.report_laws.specs.Nodes.{downs, BeginsDown};
 ghost use Rattle.report_laws.specs.Play.{InPlayOrder};
 ghost use Rattle.script_form.specs.CanRun.{CanRun, tables_of};
 ghost use Rattle.script_form.specs.declared.scripts.BodyLine.{BodyLine};
@@ -60,7 +60,8 @@ pub struct Played<D: LogStore> {
 /// and the replies that the other texts had. The node may go down in it, once, where its store fails: then it stays down. The
 /// log's entries are those before the run and exactly those of the history, each with the session, number, begin and level that
 /// are printed, of the node's generation, in which their transactions began; and one more, which no one was told of, where the
-/// node went down: that of the transaction that was lost by it, with which the history would be lawful too. Each entry of the history changes what it does there, and from the last position of the opened log on the
+/// node went down: that of the transaction that was lost by it, at the begin that it was told, with which the history would be
+/// lawful too. Each entry of the history changes what it does there, and from the last position of the opened log on the
 /// pages of the log stand for the rows of the history. As long as the node is up its store stands for the log; else what a stop
 /// leaves of it stands for the log of the history, or for one entry more.
 ///
@@ -373,6 +374,7 @@ pub fn play_down(alloc: Global, script: &Script, base: u64) -> Result<Report, Al
     requires can_run { CanRun script.now }
     ensures lawful { IfOk result (λ r. (rows : Rows) → Lawful (from_base script.now base rows) r) }
     ensures in_order { IfOk result (λ r. (rows : Rows) → InPlayOrder (from_base script.now base rows) r) }
+    ensures first { IfOk result (λ r. BeginsDown r.lines) }
     ensures down { IfOk result (λ r. downs r.lines ≡ 1) }
     ensures none { IfOk result (λ r. r.entries ≡ []) }
 {

@@ -30,4 +30,4 @@ returns c =
     reports_out c.args.script.now (record { position = c.args.base; tables = tables_of c.args.script.now; rows = rows }) c.lines.rest.now c.lines.lines.items (map state_in c.lines.states) c.new.result.items c.report_with.result
     c.lines.invariant.0 c.in_default.ensures.cases c.new.ensures.items c.report_with.ensures in
     let any = out (record { tables = []; next = 0 }) in
-    record { lawful = λ rows. (out rows).lawful; in_order = λ rows. (out rows).in_order; down = any.once; none = any.none }
+    record { lawful = λ rows. (out rows).lawful; in_order = λ rows. (out rows).in_order; first = any.first; down = any.once; none = any.none }
