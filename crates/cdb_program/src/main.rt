@@ -1,23 +1,29 @@
-//! The command `cdb`: its words, standard input and standard output, and the status of the run.
+//! The command `cdb`: its words, standard input and standard output, and the status of the run. What a person
+//! wants to know besides is said on standard error, in lines that begin with `cdb: `.
 #![tactic(auto)]
 
 ghost use Rattle.std.specs.Prelude.{◌≡◌, [], IfOk, OnOk};
 ghost use Rattle.std.specs.List.{AllByRecursion};
 
-use cdb_outside::{FileStore, LogStore, MemStore, ReadSource, WriteSink};
+mod remarks;
+
+use cdb_outside::{LogStore, MemStore, ReadSource, WriteSink};
+use file_store::FileStore;
+use remarks::{remark_cuts, remark_status, remark_unread};
 use script_main::{Outside, Status, exit_status, run, store_folder};
 use std::alloc::AllocError;
 use std::process::ExitCode;
 use std::{env, io};
 
 /// How many nodes a script may have; each has a store.
-const NODES: usize = 7;
+pub(crate) const NODES: usize = 7;
 
 fn main(rt: HostRuntime) -> ExitCode {
     let status = match played(&rt) {
         Ok(status) => status,
         Err(_) => Status::NoMemory,
     };
+    remark_status(&rt, status);
     ExitCode::from(exit_status(status))
 }
 
@@ -25,17 +31,35 @@ fn main(rt: HostRuntime) -> ExitCode {
 fn played(rt: &HostRuntime) -> Result<Status, AllocError> {
     let words = words(rt)?;
     match store_folder(words.as_slice()) {
-        Some(folder) => run_over(rt, words.as_slice(), file_stores(rt, folder)?),
-        None => run_over(rt, words.as_slice(), empty_stores(rt)?),
+        Some(folder) => run_over_files(rt, words.as_slice(), folder),
+        None => run_over_memory(rt, words.as_slice()),
     }
 }
 
-/// Runs the command over the words, standard input, standard output and these stores.
-fn run_over<D: LogStore + Send + Drop>(
-    rt: &HostRuntime,
-    words: &[String],
+/// Runs the command over stores in memory.
+fn run_over_memory(rt: &HostRuntime, words: &[String]) -> Result<Status, AllocError> {
+    let ran = run_over(rt, words, empty_stores(rt)?);
+    Ok(ran.status)
+}
+
+/// Runs the command over the files of a folder, and says which could not be read, and what was cut off them.
+fn run_over_files(rt: &HostRuntime, words: &[String], folder: &str) -> Result<Status, AllocError> {
+    let stores = file_stores(rt, folder)?;
+    remark_unread(rt, folder, stores.as_slice());
+    let ran = run_over(rt, words, stores);
+    remark_cuts(rt, folder, ran.stores.as_slice());
+    Ok(ran.status)
+}
+
+/// How a run ended, and its stores.
+#[derive(Drop)]
+struct Ran<D: LogStore> {
+    status: Status,
     stores: Vec<D>,
-) -> Result<Status, AllocError>
+}
+
+/// Runs the command over the words, standard input, standard output and these stores.
+fn run_over<D: LogStore + Send + Drop>(rt: &HostRuntime, words: &[String], stores: Vec<D>) -> Ran<D>
     requires settled { AllByRecursion (λ d. D.pending d ≡ []) stores.items }
 {
     let alloc = rt.alloc();
@@ -45,7 +69,9 @@ fn run_over<D: LogStore + Send + Drop>(
         stores,
         consumers: Vec::new(alloc),
     };
-    Ok(run(alloc, words, &mut outside))
+    let status = run(alloc, words, &mut outside);
+    let Outside { stores, .. } = outside;
+    Ran { status, stores }
 }
 
 /// The words behind the command's name. Where one of them is no text there are none, since either is a
