@@ -1,5 +1,0 @@
-//! Only tests: definitions of tables, read against schemas.
-#![tactic(auto)]
-
-#[cfg(test)]
-mod tests;
