@@ -1,2 +1,0 @@
-pub mod MissLemmas
-pub mod HeldLemmas
