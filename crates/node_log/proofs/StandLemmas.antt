@@ -9,6 +9,7 @@ use Rattle.frame_code.specs.declared.frames.Frame.{Frame}
 use Rattle.frame_code.specs.declared.frames.Frame.TheVariants as frame
 use Rattle.phys_log.specs.declared.entries.Entry.{Entry}
 use Rattle.store_log.specs.Cuts.{StandsAfter}
+use Rattle.store_log.specs.Follows.{MayFollow}
 use Rattle.store_log.specs.Held.{Held, at_first, May, after, AllMay, after_all, IsLogOf}
 use Rattle.store_log.specs.Held as held
 use Rattle.store_log.specs.Holds.{Holds, plain}
@@ -55,6 +56,18 @@ held_rises node cluster bytes p a es h =
 
 stand_may : (p a : ℕ) (es : List Entry) → a ≤ p → AllMay (plain p a es) (frames_of (p + 1))
 stand_may p a es n = (omega arith, ((refl, omega arith), tt))
+
+-- so both frames may be kept
+pub stand_follows : (node cluster : ℕ) (store : Stored) (p a g : ℕ) (es : List Entry) → g ≡ p + 1 → g < 2 ^ 62
+    → IsInStep node cluster store p a es → ∥ MayFollow store.synced (frames_of g) ∥₁
+stand_follows node cluster store p a g es e n i = ∥∥₁_map i.holds (λ h. record {
+  node = node;
+  cluster = cluster;
+  held = plain p a es;
+  holds = h;
+  spelled = frames_are_spelled g n;
+  may = subst (λ (k : ℕ). AllMay (plain p a es) (frames_of k)) (sym e) (stand_may p a es (held_rises node cluster store.synced p a es h));
+})
 
 stand_held : (node cluster : ℕ) (bytes : List ℕ) (p a : ℕ) (es : List Entry) → p + 1 < 2 ^ 62
     → Holds node cluster bytes (plain p a es) → Holds node cluster (bytes ++ bytes_of (p + 1)) (plain (p + 1) (p + 1) es)

@@ -4,6 +4,7 @@ ghost use Rattle.frame_code.specs.Codes.{frame_code};
 ghost use Rattle.frame_code.specs.Spelled.{IsSpelled};
 ghost use Rattle.frame_code.specs.declared.frames.Frame.TheVariants as frame;
 ghost use Rattle.phys_log.specs.Logs.{Fits};
+ghost use Rattle.store_log.specs.Follows.{AreNext, MayFollow};
 ghost use Rattle.store_log.specs.Keeps.{IsKept};
 
 use cdb_outside::LogStore;
@@ -40,6 +41,7 @@ pub(crate) fn keep_entry<D: LogStore>(
     requires settled { held.old.pending ≡ [] }
     requires fits { Fits log.old entry }
     requires spelled { IsSpelled (frame.Entry entry) }
+    requires next { ∥ AreNext held.old.synced (frame_code (frame.Entry entry)) ∥₁ }
     ensures kept { IsKept result held.old held.new (frame_code (frame.Entry entry)) }
     ensures added { OnOk result (log.new ≡ log.old ++ entry ∷ []) }
     ensures under_way { IsErrOf result KeepFault.StoreFault → log.new ≡ log.old ++ entry ∷ [] }
@@ -65,6 +67,7 @@ pub(crate) fn keep_stand<D: LogStore>(
 ) -> Result<(), KeepFault>
     requires settled { held.old.pending ≡ [] }
     requires number { generation < 2 ^ 62 }
+    requires follow { ∥ MayFollow held.old.synced (frame.Promise generation ∷ frame.Accept generation ∷ []) ∥₁ }
     ensures kept { IsKept result held.old held.new
         (frame_code (frame.Promise generation) ++ frame_code (frame.Accept generation)) }
 {

@@ -34,12 +34,12 @@ held_stand node cluster bytes h x = inr record {
 }
 
 -- a front of a front
-two_fronts : (m n : ℕ) (part whole : List ℕ) → part ≡ take m whole → take n part ++ (drop n part ++ drop m whole) ≡ whole
+pub two_fronts : (m n : ℕ) (part whole : List ℕ) → part ≡ take m whole → take n part ++ (drop n part ++ drop m whole) ≡ whole
 two_fronts m n part whole e =
     sym (append_assoc (take n part) (drop n part) (drop m whole)) ∙ ap (λ (l : List ℕ). l ++ drop m whole) (take-append-drop n part)
     ∙ ap (λ (l : List ℕ). l ++ drop m whole) e ∙ take-append-drop m whole
 
-cut_held : (node cluster : ℕ) (bytes cut more : List ℕ) (h : Held) (gs : List Frame) → Holds node cluster bytes h
+pub cut_held : (node cluster : ℕ) (bytes cut more : List ℕ) (h : Held) (gs : List Frame) → Holds node cluster bytes h
     → AllByRecursion IsSpelled gs → AllMay h gs → cut ++ more ≡ flat_map frame_code gs → StandsAfter node cluster (bytes ++ cut) h gs
 cut_held node cluster bytes cut more h gs x s m e =
     subst (λ (k : Held). StandsAfter node cluster (bytes ++ cut) k gs) x.is

@@ -14,3 +14,4 @@ pub mod StepLemmas
 pub mod WalkLemmas
 pub mod WindowLemmas
 pub mod WorkedStores
+pub mod FollowLemmas

@@ -4,6 +4,7 @@ pub mod Firsts
 pub mod Held
 pub mod Holds
 pub mod Keeps
+pub mod Follows
 pub mod Mends
 pub mod Opens
 pub mod Steps

@@ -6,6 +6,7 @@ ghost use Rattle.cdb_outside.specs.Parts.{IsFront};
 ghost use Rattle.cdb_outside.specs.Stores.{JoinsFront};
 ghost use Rattle.frame_code.specs.Codes.{frame_code};
 ghost use Rattle.frame_code.specs.Spelled.{IsSpelled};
+ghost use Rattle.store_log.specs.Follows.{AreNext, IsOfLog, MayFollow, StandForLog};
 ghost use Rattle.store_log.specs.Keeps.{AreKept, AreLeft, IsKept};
 
 use cdb_outside::{Failed, LogStore};
@@ -23,33 +24,40 @@ pub enum KeepFault {
     NoMemory,
 }
 
-/// A store of frames. Contracts see its synced bytes, those that wait for a sync, and its count of faults.
+/// A store of frames: its synced bytes hold a log, and what waits for a sync is a front of frames that may follow. So however
+/// it is stopped, it stands for a log. Contracts see its synced bytes, those that wait, and its count of faults.
 #[derive(Drop)]
 pub struct Held<D: LogStore> {
     store: D,
 }
 
 impl<D: LogStore> Model for Held<D> {
+    ghost use Rattle.store_log.specs.Follows.{IsOfLog};
     ghost use Rattle.store_log.specs.Keeps.{Stored};
 
     ghost Value = { Stored };
 
     ghost view = { λ h. record { synced = D.synced h.store; pending = D.pending h.store; faults = D.faults h.store } };
+
+    ghost invariant = { λ h.
+        ∥ IsOfLog (record { synced = D.synced h.store; pending = D.pending h.store; faults = D.faults h.store }) ∥₁ };
 }
 
 impl<D: LogStore> Held<D> {
-    /// A store that has frames.
+    /// A store that has the frames of a log.
     pub(crate) fn of(store: D) -> Held<D>
+        requires { ∥ IsOfLog (record { synced = D.synced store; pending = D.pending store; faults = D.faults store }) ∥₁ }
         ensures { result ≡ record { synced = D.synced store; pending = D.pending store; faults = D.faults store } }
     {
         Held { store }
     }
 
-    /// Keeps frames behind those that stand in the store, synced, in order. All memory is taken before the store is
-    /// called. After `StoreFault` the store can only be given back.
+    /// Keeps frames that may stand there behind those that stand in the store, synced, in order. All memory is taken before
+    /// the store is called. After `StoreFault` the store can only be given back.
     pub fn keep(&mut self, alloc: Global, frames: &[Frame]) -> Result<(), KeepFault>
         requires settled { self.old.pending ≡ [] }
         requires spelled { AllByRecursion IsSpelled frames.now }
+        requires follow { ∥ MayFollow self.old.synced frames.now ∥₁ }
         ensures { IsKept result self.old self.new (flat_map frame_code frames.now) }
     {
         let bytes = match bytes_of(alloc, frames) {
@@ -62,19 +70,21 @@ impl<D: LogStore> Held<D> {
         }
     }
 
-    /// Keeps bytes of frames, which `write_frame` wrote, behind those that stand in the store, synced. Takes no memory.
-    /// After `Failed` the store can only be given back.
+    /// Keeps bytes of frames that may stand there, which `write_frame` wrote, behind those that stand in the store, synced.
+    /// Takes no memory. After `Failed` the store can only be given back.
     pub fn keep_bytes(&mut self, bytes: &[u8]) -> Result<(), Failed>
         requires settled { self.old.pending ≡ [] }
+        requires next { ∥ AreNext self.old.synced bytes.now ∥₁ }
         ensures kept { OnOk result (AreKept self.old self.new bytes.now) }
         ensures left { OnErr result (AreLeft self.old self.new bytes.now) }
     {
         write_synced(&mut self.store, bytes)
     }
 
-    /// Stops the store and gives it back. Takes no memory.
+    /// Stops the store and gives it back; it stands for a log. Takes no memory.
     pub fn give_back(self) -> D
         ensures joined { JoinsFront self.synced self.pending (D.synced result) }
+        ensures log { ∥ StandForLog (D.synced result) ∥₁ }
         ensures settled { D.pending result ≡ [] }
         ensures calm { D.faults result ≡ self.faults }
     {
