@@ -1,10 +1,7 @@
 -- Walks over the cells of one page.
-use Rattle.std.proofs.Common.{◌≡◌, ℕ, zero, suc, ◌+◌, Bool, true, false, List, [], ◌∷◌, drop, Some, Result, Ok, Err, if◌then◌else◌, sym, ap, ◌∙◌, subst, add-one}
+use Rattle.std.proofs.Common.{◌≡◌, ℕ, zero, suc, ◌<◌, List, [], ◌∷◌, length, drop, Some, Result, Ok, Err, refl, sym, ap, subst, arith}
 use Rattle.std.specs.List.{slice_get}
 use Rattle.std.specs.Result.{MatchResult, IfOk, IsErrAnd}
-use Rattle.btree_index.specs.Keys.{Key, before, same_key}
-use Rattle.btree_index.specs.Cells.{key_of, value_of, child_of}
-use Rattle.btree_index.specs.Pairs.{cell_value, chosen, choice}
 
 -- the item at a place, and those behind it
 pub drop_here : {X : Type 0} (xs : List X) (i : ℕ) (x : X) → slice_get xs i ≡ Some x → drop i xs ≡ x ∷ drop (suc i) xs
@@ -12,40 +9,14 @@ drop_here [] i x h = cc
 drop_here (y ∷ ys) zero x h = let e : y ≡ x = cc in ap (λ z. z ∷ ys) e
 drop_here (y ∷ ys) (suc i) x h = drop_here ys i x h
 
--- the cell that has the key
-pub looked_at : (key : Key) (cells : List (List ℕ)) (i : ℕ) (c : List ℕ) → slice_get cells i ≡ Some c → same_key key (key_of c) ≡ true
-    → cell_value key (drop i cells) ≡ cell_value key cells → Some (value_of c) ≡ cell_value key cells
-looked_at key cells i c here same so_far =
-    let e = drop_here cells i c here in
-    sym (ap (λ (t : Bool). if t then Some (value_of c) else cell_value key (drop (suc i) cells)) same)
-    ∙ sym (ap (cell_value key) e) ∙ so_far
-
--- one that has not
-pub looked_past : (key : Key) (cells : List (List ℕ)) (i : ℕ) (c : List ℕ) → slice_get cells i ≡ Some c → same_key key (key_of c) ≡ false
-    → cell_value key (drop i cells) ≡ cell_value key cells → cell_value key (drop (i + 1) cells) ≡ cell_value key cells
-looked_past key cells i c here same so_far =
-    let e = drop_here cells i c here in
-    ap (λ (n : ℕ). cell_value key (drop n cells)) (add-one i)
-    ∙ sym (ap (λ (t : Bool). if t then Some (value_of c) else cell_value key (drop (suc i) cells)) same)
-    ∙ sym (ap (cell_value key) e) ∙ so_far
-
--- the first cell that is above the key
-pub chosen_here : (key : Key) (child : ℕ) (cells : List (List ℕ)) (i : ℕ) (c : List ℕ) → slice_get cells i ≡ Some c
-    → before key (key_of c) ≡ true → chosen key child (drop i cells) ≡ choice key cells → child ≡ choice key cells
-chosen_here key child cells i c here above so_far =
-    let e = drop_here cells i c here in
-    sym (ap (λ (t : Bool). if t then child else chosen key (child_of c) (drop (suc i) cells)) above)
-    ∙ sym (ap (chosen key child) e) ∙ so_far
-
--- one that is not
-pub chosen_past : (key : Key) (child : ℕ) (cells : List (List ℕ)) (i : ℕ) (c : List ℕ) → slice_get cells i ≡ Some c
-    → before key (key_of c) ≡ false → chosen key child (drop i cells) ≡ choice key cells
-    → chosen key (child_of c) (drop (i + 1) cells) ≡ choice key cells
-chosen_past key child cells i c here above so_far =
-    let e = drop_here cells i c here in
-    ap (λ (n : ℕ). chosen key (child_of c) (drop n cells)) (add-one i)
-    ∙ sym (ap (λ (t : Bool). if t then child else chosen key (child_of c) (drop (suc i) cells)) above)
-    ∙ sym (ap (chosen key child) e) ∙ so_far
+-- the item at a place below the length
+pub cell_at : (cells : List (List ℕ)) (i : ℕ) → i < length cells → (c : List ℕ) × (slice_get cells i ≡ Some c)
+cell_at [] i h = absurd (none i h)
+  where
+    none : (i : ℕ) → i < 0 → ⊥
+    none i h = omega arith
+cell_at (c ∷ cs) zero h = (c, refl)
+cell_at (c ∷ cs) (suc i) h = cell_at cs i (omega arith)
 
 -- another error leaves an `Ok` as it is
 pub ok_through : {T E F : Type 0} (r : Result T E) (s : Result T F) (Q : E → F → Type 0) (P : T → Type 0)

@@ -17,3 +17,5 @@ pub mod StepLemmas
 pub mod RootLaws
 pub mod FitLemmas
 pub mod DepthLemmas
+pub mod PlaceLemmas
+pub mod ChoiceLemmas

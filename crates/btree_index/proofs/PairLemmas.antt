@@ -110,7 +110,7 @@ with_pair-cells key value cell front cells behind is none before_all after_all =
     ∙ sym (ap (with_pair key value) (pairs-append front (cells ++ behind)))
 
 -- the key of a place is above those before it
-ascends_to : (cells : List (List ℕ)) (at : ℕ) (first found : List ℕ) → Ascends (first ∷ cells) → slice_get cells at ≡ Some found
+pub ascends_to : (cells : List (List ℕ)) (at : ℕ) (first found : List ℕ) → Ascends (first ∷ cells) → slice_get cells at ≡ Some found
     → before (key_of first) (key_of found) ≡ true
 ascends_to [] at first found up h = absurd (none-some found h)
 ascends_to (c ∷ cs) zero first found up h = ap (λ (x : List ℕ). before (key_of first) (key_of x)) (sym (same_Some c found h)) ∙ up.0

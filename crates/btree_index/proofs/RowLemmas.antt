@@ -1,5 +1,5 @@
 -- The row of leaves, walked by right links.
-use Rattle.std.proofs.Common.{◌≡◌, inl, inr, ℕ, zero, suc, ◌&&◌, not, Bool, true, false, List, [], ◌∷◌, ◌++◌, map, Option, None, Some, if◌then◌else◌, refl, sym, ap, ◌∙◌, subst, append_assoc, ◌+◌, add-one, drop}
+use Rattle.std.proofs.Common.{◌≡◌, inl, inr, ℕ, zero, suc, ◌&&◌, not, Bool, true, false, List, [], ◌∷◌, ◌++◌, map, Option, None, Some, if◌then◌else◌, refl, sym, ap, ◌∙◌, subst, append_assoc}
 use Rattle.std.proofs.lemmas.Bool.{false≢true}
 use Rattle.std.proofs.lemmas.List.{append-nil}
 use Rattle.std.specs.List.{AllByRecursion, slice_get}
@@ -12,7 +12,6 @@ use Rattle.btree_index.specs.Trees.{Entry, cells_of, IsUnder, AreFenced, AreLink
 use Rattle.btree_index.specs.Ways.{OnWay, OnRow}
 use Rattle.btree_index.proofs.KeyLaws.{atmost_atmost, before_atmost, not_back}
 use Rattle.std.proofs.lemmas.Option.{none-some, same_Some}
-use Rattle.btree_index.proofs.FindLemmas.{drop_here}
 use Rattle.btree_index.proofs.WayLemmas.{BeginsBelow, begins_below, way_ends}
 
 -- what is between in joined lists
@@ -45,7 +44,7 @@ none_low low high (c ∷ cs) h =
     ∙ none_low low high cs h.1
 
 -- cells that are not below the high key
-none_high : (low : Key) (high : Option Key) (cells : List (List ℕ)) → AllByRecursion (λ c. is_below high (key_of c) ≡ false) cells
+pub none_high : (low : Key) (high : Option Key) (cells : List (List ℕ)) → AllByRecursion (λ c. is_below high (key_of c) ≡ false) cells
     → between low high (map pair_of cells) ≡ []
 none_high low high [] h = refl
 none_high low high (c ∷ cs) h =
@@ -194,19 +193,6 @@ row_begins pages low high page list way leaf =
           sym (front_none pages low at.low high page at.front at.others fenced at.from)
           ∙ ap (λ (l : List Entry). between low high (map pair_of (cells_of pages l))) (sym at.is) ∙ ap (between low high) there.is;
     }
-
--- one cell more of a leaf
-pub cell_more : (low : Key) (high : Option Key) (cells : List (List ℕ)) (i : ℕ) (c : List ℕ) (out more all : List (Key × List ℕ))
-    → slice_get cells i ≡ Some c → more ≡ out ++ between low high (pair_of c ∷ [])
-    → out ++ between low high (map pair_of (drop i cells)) ≡ all → more ++ between low high (map pair_of (drop (i + 1) cells)) ≡ all
-cell_more low high cells i c out more all here added so_far =
-    let rest = map pair_of (drop (suc i) cells) in
-    ap (λ (n : ℕ). more ++ between low high (map pair_of (drop n cells))) (add-one i)
-    ∙ ap (λ l. l ++ between low high rest) added
-    ∙ append_assoc out (between low high (pair_of c ∷ [])) (between low high rest)
-    ∙ ap (λ l. out ++ l) (sym (between-append low high (pair_of c ∷ []) rest))
-    ∙ ap (λ (l : List (List ℕ)). out ++ between low high (map pair_of l)) (sym (drop_here cells i c here))
-    ∙ so_far
 
 -- a cell that is beyond the high key
 pub beyond_here : (high : Option Key) (cells : List (List ℕ)) (i : ℕ) (c : List ℕ) → slice_get cells i ≡ Some c → is_below high (key_of c) ≡ false

@@ -1,5 +1,5 @@
 -- The steps of an insert, put together from edits of single pages.
-use Rattle.std.proofs.Common.{◌≡◌, ◌≢◌, ℕ, zero, suc, ◌+◌, ◌<◌, ◌≤◌, ◌^◌, min, Bool, true, false, List, [], ◌∷◌, ◌++◌, take, drop, length, Some, if◌then◌else◌, refl, sym, ap, ◌∙◌, subst, append_assoc, add-one, arith}
+use Rattle.std.proofs.Common.{◌≡◌, ◌≢◌, ℕ, zero, suc, ◌+◌, ◌<◌, ◌≤◌, ◌^◌, min, List, [], ◌∷◌, ◌++◌, take, drop, length, Some, refl, sym, ap, ◌∙◌, subst, append_assoc, add-one, arith}
 use Rattle.std.proofs.lemmas.Option.{none-some}
 use Rattle.std.proofs.lemmas.List.{append-nil}
 use Rattle.std.proofs.Math.ListN.{drop_of_length-le}
@@ -9,28 +9,12 @@ use Rattle.page_store.specs.declared.pages.Head.{Head}
 use Rattle.page_store.specs.declared.pages.PageKind.TheVariants.{Inner}
 use Rattle.page_workspace.specs.Takes.{TakesPage}
 use Rattle.btree_index.specs.Keys.{Key, before}
-use Rattle.btree_index.specs.Cells.{key_of, inner_cell}
+use Rattle.btree_index.specs.Cells.{inner_cell}
 use Rattle.btree_index.specs.Pairs.{place_in}
 use Rattle.btree_index.specs.Steps.{Alters, CopiesCell, TakesAt, Filling, Trimming, IsHalf, Halves, Crowns}
 use Rattle.btree_index.specs.declared.halves.Half.{Half}
 use Rattle.btree_index.proofs.FindLemmas.{drop_here}
 use Rattle.btree_index.proofs.ParentLemmas.{cut_at}
-
--- the place of a key among cells, walked over
-pub place_here : (key : Key) (cells : List (List ℕ)) (i : ℕ) (c : List ℕ) → slice_get cells i ≡ Some c → before (key_of c) key ≡ false
-    → place_in key cells ≡ i + place_in key (drop i cells) → i ≡ place_in key cells
-place_here key cells i c here above so_far =
-    let none : place_in key (drop i cells) ≡ 0 =
-    ap (place_in key) (drop_here cells i c here) ∙ ap (λ (t : Bool). if t then suc (place_in key (drop (suc i) cells)) else zero) above in
-    omega arith
-
-pub place_past : (key : Key) (cells : List (List ℕ)) (i : ℕ) (c : List ℕ) → slice_get cells i ≡ Some c → before (key_of c) key ≡ true
-    → place_in key cells ≡ i + place_in key (drop i cells) → place_in key cells ≡ i + 1 + place_in key (drop (i + 1) cells)
-place_past key cells i c here less so_far =
-    let one : place_in key (drop i cells) ≡ suc (place_in key (drop (suc i) cells)) =
-    ap (place_in key) (drop_here cells i c here) ∙ ap (λ (t : Bool). if t then suc (place_in key (drop (suc i) cells)) else zero) less in
-    let same : place_in key (drop (i + 1) cells) ≡ place_in key (drop (suc i) cells) = ap (λ (n : ℕ). place_in key (drop n cells)) (add-one i) in
-    omega arith
 
 pub place_end : (key : Key) (cells : List (List ℕ)) (i : ℕ) → length cells ≤ i → place_in key cells ≡ i + place_in key (drop i cells) → i ≡ place_in key cells
 place_end key cells i all so_far =

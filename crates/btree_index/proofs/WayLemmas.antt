@@ -1,15 +1,16 @@
 -- The way down to a key: at each level, the page below which it may stand.
-use Rattle.std.proofs.Common.{◌≡◌, inl, inr, ℕ, zero, suc, Bool, true, false, List, [], ◌∷◌, ◌++◌, map, Option, None, Some, if◌then◌else◌, refl, sym, ap, ◌∙◌, subst, append_assoc}
+use Rattle.std.proofs.Common.{◌≡◌, inl, inr, ℕ, zero, suc, ◌≤◌, true, false, List, [], ◌∷◌, ◌++◌, map, Option, None, Some, if◌then◌else◌, refl, sym, ap, ◌∙◌, subst, append_assoc, arith}
 use Rattle.std.specs.List.{AllByRecursion}
 use Rattle.page_store.specs.Image.{Image}
 use Rattle.page_store.specs.declared.pages.PageKind.TheVariants.{Leaf, Inner}
 use Rattle.page_workspace.specs.Spare.{IsIn}
 use Rattle.btree_index.specs.Keys.{Key, before, same_key}
 use Rattle.btree_index.specs.Cells.{key_of, value_of, child_of}
-use Rattle.btree_index.specs.Pairs.{value_at, cell_value, chosen, choice}
+use Rattle.btree_index.specs.Pairs.{value_at, cell_value, turn, child_from, choice}
 use Rattle.btree_index.specs.Trees.{AreLinked, page_of, pages_of, Entry, entry_of, below, spread, leaves, cells_of, IsShaped, IsLeafPage, IsInnerPage, BeginsEmpty, IsUnder, IsUpTo, AreFenced, top, pair_of, TreeList}
 use Rattle.btree_index.specs.Ways.{IsAt, OnWay}
 use Rattle.btree_index.proofs.ApartLaws.{in_right}
+use Rattle.btree_index.proofs.ChoiceLemmas.{IsTurn, is_turn, turn_later}
 use Rattle.btree_index.proofs.KeyLaws.{atmost_atmost, before_atmost, not_same_before, not_same_behind, none_before_empty}
 
 at_more : (ys xs : List Entry) (key : Key) (page : ℕ) → IsAt xs key page → IsAt (ys ++ xs) key page
@@ -23,22 +24,23 @@ at_more ys xs key page h = record {
 }
 
 -- the page that is chosen among cells
-chosen_at : (cells : List (List ℕ)) (key low : Key) (child : ℕ) (others : List Entry) → before key low ≡ false → IsUnder key others
-    → IsAt (record { low = low; page = child } ∷ (map entry_of cells ++ others)) key (chosen key child cells)
-chosen_at [] key low child others from to = record { front = []; low = low; others = others; is = refl; from = from; to = to }
-chosen_at (c ∷ cs) key low child others from to =
-    go (λ e. chosen_at cs key (key_of c) (child_of c) others e to) (before key (key_of c)) refl
+child_at : (cells : List (List ℕ)) (key low : Key) (child : ℕ) (others : List Entry) (at : ℕ) → IsTurn key cells at → (at ≡ 0 → before key low ≡ false)
+    → IsUnder key others → IsAt (record { low = low; page = child } ∷ (map entry_of cells ++ others)) key (child_from child cells at)
+child_at [] key low child others zero turn from to = record { front = []; low = low; others = others; is = refl; from = from refl; to = to }
+child_at [] key low child others (suc at) turn from to = absurd (none turn.within)
   where
-    go : (before key (key_of c) ≡ false → IsAt (map entry_of (c ∷ cs) ++ others) key (chosen key (child_of c) cs)) → (t : Bool)
-        → before key (key_of c) ≡ t → IsAt (record { low = low; page = child } ∷ (map entry_of (c ∷ cs) ++ others)) key (if t then child else chosen key (child_of c) cs)
-    go further true e = record { front = []; low = low; others = map entry_of (c ∷ cs) ++ others; is = refl; from = from; to = e }
-    go further false e =
-        at_more (record { low = low; page = child } ∷ []) (map entry_of (c ∷ cs) ++ others) key (chosen key (child_of c) cs) (further e)
+    none : suc at ≤ 0 → ⊥
+    none h = omega arith
+child_at (c ∷ cs) key low child others zero turn from to =
+    record { front = []; low = low; others = map entry_of (c ∷ cs) ++ others; is = refl; from = from refl; to = turn.to c refl }
+child_at (c ∷ cs) key low child others (suc at) turn from to =
+    at_more (record { low = low; page = child } ∷ []) (map entry_of (c ∷ cs) ++ others) key (child_from (child_of c) cs at)
+    (child_at cs key (key_of c) (child_of c) others at (turn_later key c cs at turn) (λ z. turn.from 0 c (ap (λ (n : ℕ). suc n) (sym z)) refl) to)
 
 choice_at : (cells : List (List ℕ)) (key low : Key) (others : List Entry) → BeginsEmpty cells → before key low ≡ false
     → IsUnder key others → IsAt (below low cells ++ others) key (choice key cells)
 choice_at [] key low others some from to = absurd some
-choice_at (c ∷ cs) key low others some from to = chosen_at cs key low (child_of c) others from to
+choice_at (c ∷ cs) key low others some from to = child_at cs key low (child_of c) others (turn key cs) (is_turn key cs) (λ z. from) to
 
 under_below : (low key : Key) (cells : List (List ℕ)) (others : List Entry) → BeginsEmpty cells → before key low ≡ true
     → IsUnder key (below low cells ++ others)

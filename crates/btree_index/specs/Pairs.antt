@@ -1,5 +1,5 @@
 -- Lists of pairs in the order of their keys, as a tree holds them.
-use Rattle.std.specs.Prelude.{ℕ, zero, suc, Bool, List, [], ◌∷◌, ◌⊎◌, not, true, false, ◌≡◌, ◌&&◌, if◌then◌else◌, Option, Some, None}
+use Rattle.std.specs.Prelude.{ℕ, zero, suc, ◌+◌, ◌-◌, ◌/◌, nat_lt, length, Bool, List, [], ◌∷◌, ◌⊎◌, not, true, false, ◌≡◌, ◌&&◌, if◌then◌else◌, Option, Some, None}
 use Rattle.std.specs.List.{filter, slice_get}
 use Rattle.btree_index.specs.Keys.{Key, before, same_key}
 use Rattle.btree_index.specs.Cells.{key_of, value_of, child_of}
@@ -39,14 +39,40 @@ abbrev pub cell_value : Key → List (List ℕ) → Option (List ℕ)
 cell_value key [] = None
 cell_value key (cell ∷ cells) = if same_key key (key_of cell) then Some (value_of cell) else cell_value key cells
 
--- the child below which a key may stand, of a page above the leaves: that of the last cell whose key is not above it
-abbrev pub chosen : Key → ℕ → List (List ℕ) → ℕ
-chosen key child [] = child
-chosen key child (cell ∷ cells) = if before key (key_of cell) then child else chosen key (child_of cell) cells
+-- a cell that is there is above the key
+abbrev pub is_above : Key → Option (List ℕ) → Bool
+is_above key None = false
+is_above key (Some cell) = before key (key_of cell)
 
+-- the place in the middle between two
+abbrev pub middle : ℕ → ℕ → ℕ
+middle low high = low + (high - low) / 2
+
+-- where the cells that are not above the key end, between two places: found by halves, so many at most
+abbrev pub halved : Key → List (List ℕ) → ℕ → ℕ → ℕ → ℕ
+halved key cells zero low high = low
+halved key cells (suc turns) low high =
+    if nat_lt low high then
+    (if is_above key (slice_get cells (middle low high)) then halved key cells turns low (middle low high)
+    else halved key cells turns (middle low high + 1) high)
+    else low
+
+-- how many cells are not above the key, as halves find it: in front of this place stands none that is above, and behind it
+-- none that is not, where keys do not fall
+abbrev pub turn : Key → List (List ℕ) → ℕ
+turn key cells = halved key cells (length cells) 0 (length cells)
+
+-- the child of a cell and then of cells, so many cells on
+abbrev pub child_from : ℕ → List (List ℕ) → ℕ → ℕ
+child_from child cells zero = child
+child_from child [] (suc at) = child
+child_from child (cell ∷ cells) (suc at) = child_from (child_of cell) cells at
+
+-- the child below which a key may stand, of a page above the leaves: that of the first cell, or of the last one behind it
+-- whose key is not above it
 abbrev pub choice : Key → List (List ℕ) → ℕ
 choice key [] = 0
-choice key (cell ∷ cells) = chosen key (child_of cell) cells
+choice key (cell ∷ cells) = child_from (child_of cell) cells (turn key cells)
 
 -- some cell has a key that is not below the high one
 abbrev pub HasBeyond : Option Key → List (List ℕ) → Type 0

@@ -3,12 +3,13 @@ ghost use Rattle.page_store.specs.Sources.{IsExcused};
 ghost use Rattle.btree_index.specs.Keys.{Key};
 ghost use Rattle.btree_index.specs.Pairs.{value_at, cell_value, choice};
 ghost use Rattle.btree_index.specs.Steps.{IsBelow};
-ghost use Rattle.btree_index.specs.Trees.{IsInnerPage, TreeList};
+ghost use Rattle.btree_index.specs.Trees.{Ascends, IsInnerPage, TreeList};
 ghost use Rattle.btree_index.specs.Ways.{OnWay};
 ghost use Rattle.page_store.specs.declared.pages.PageKind.TheVariants.{Leaf};
 
 use crate::cells::{child_in, key_in, value_in};
-use crate::keys::{is_before, is_same};
+use crate::keys::is_same;
+use crate::places::{count_before, turn_for};
 use page_store::{Cell, Page, PageFault, PageKind, PageSource};
 use std::alloc::{AllocError, Global};
 
@@ -81,17 +82,15 @@ pub(crate) fn turns_from(level: u8) -> u64
     }
 }
 
-/// The value of a key in the cells of a leaf.
+/// The value of a key in the cells of a leaf, where their keys rise.
 fn look_up(alloc: Global, page: &Page, key: &[u8]) -> Result<Option<Cell>, AllocError>
-    ensures { IfOk result (λ v. v ≡ cell_value key.now page.now.cells) }
+    ensures { Ascends page.now.cells → IfOk result (λ v. v ≡ cell_value key.now page.now.cells) }
 {
-    'looking: for at in 0..page.count() {
-        let Some(cell) = page.cell(at) else {
-            return Ok(None);
-        };
-        if is_same(key, key_in(cell)) {
-            return Ok(Some(Cell::from_slice(alloc, value_in(cell))?));
-        }
+    let Some(cell) = page.cell(count_before(page, key)) else {
+        return Ok(None);
+    };
+    if is_same(key, key_in(cell)) {
+        return Ok(Some(Cell::from_slice(alloc, value_in(cell))?));
     }
     Ok(None)
 }
@@ -111,15 +110,7 @@ pub(crate) fn child_below(page: &Page, key: &[u8]) -> Option<Below>
     ensures place { IfSome result (IsBelow page.now) }
     ensures some { (height : ℕ) → IsInnerPage height page.now → IsSome result }
 {
-    let child = child_in(page.cell(0)?)?;
-    let mut below = Below { at: 0, child };
-    'choosing: for at in 1..page.count() {
-        let cell = page.cell(at)?;
-        if is_before(key, key_in(cell)) {
-            return Some(below);
-        }
-        let child = child_in(cell)?;
-        below = Below { at, child };
-    }
-    Some(below)
+    let at = turn_for(page, key);
+    let child = child_in(page.cell(at)?)?;
+    Some(Below { at, child })
 }

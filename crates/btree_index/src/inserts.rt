@@ -7,12 +7,12 @@ ghost use Rattle.btree_index.specs.Cells.{leaf_cell};
 ghost use Rattle.btree_index.specs.Steps.{Alters};
 ghost use Rattle.btree_index.specs.Pairs.{place_in, value_at, with_pair};
 ghost use Rattle.btree_index.specs.Fits.{IsFullUnder};
-ghost use Rattle.btree_index.specs.Trees.{TreeList};
+ghost use Rattle.btree_index.specs.Trees.{Ascends, TreeList};
 ghost use Rattle.btree_index.specs.Changes.{Stands, Becomes, LeadsOver, IsHeld, IsInserted, IsPutAbsent, IsPassed, IsExcusedInsert};
 
-use crate::cells::{key_in, make_leaf_cell};
-use crate::keys::is_before;
+use crate::cells::make_leaf_cell;
 use crate::paths::{key_place, way_for};
+use crate::places::count_before;
 use crate::splits::{crown, split_below};
 use crate::steps::alter;
 use page_store::{Edit, Page, PageSource};
@@ -209,7 +209,8 @@ fn put_pair<P: PageSource>(
     value: &[u8],
 ) -> Result<(), EditFault>
     requires { length key.now ≤ 1630 }
-    ensures put { OnOk result (Alters (meant P.pages space.old) (meant P.pages space.new) leaf (meant P.pages space.old leaf).head
+    ensures put { Ascends (meant P.pages space.old leaf).cells →
+        OnOk result (Alters (meant P.pages space.old) (meant P.pages space.new) leaf (meant P.pages space.old leaf).head
         (insert (meant P.pages space.old leaf).cells (place_in key.now (meant P.pages space.old leaf).cells) (leaf_cell key.now value.now))) }
     ensures room { OnOk result (HasRoom (meant P.pages space.new leaf).cells) }
     ensures fit { taken (meant P.pages space.old leaf).cells + (6 + length key.now + length value.now) ≤ room →
@@ -218,7 +219,7 @@ fn put_pair<P: PageSource>(
     ensures excused { IsExcused result (P.losses space.old.base) (P.losses space.new.base) }
 {
     space.load_to_edit(leaf)?;
-    let at = place_for(space.page(), key);
+    let at = count_before(space.page(), key);
     let cell = make_leaf_cell(alloc, key, value).map_err(|_| EditFault::NoMemory)?;
     alter(space, leaf, Edit::PutCell { at, cell })?;
     Ok(())
@@ -245,19 +246,4 @@ fn make_room<P: PageSource>(
         Some(parent) => split_below(alloc, space, parent, key),
         None => crown(alloc, space, root),
     }
-}
-
-/// How many cells of a leaf come before a key.
-fn place_for(page: &Page, key: &[u8]) -> u16
-    ensures { result ≡ place_in key.now page.now.cells }
-{
-    'passing: for at in 0..page.count() {
-        let Some(cell) = page.cell(at) else {
-            return at;
-        };
-        if !is_before(key_in(cell), key) {
-            return at;
-        }
-    }
-    page.count()
 }

@@ -14,5 +14,5 @@ pub fn is_before(a: &[u8], b: &[u8]) -> bool
 pub(crate) fn is_same(a: &[u8], b: &[u8]) -> bool
     ensures { result ≡ same_key a.now b.now }
 {
-    a.cmp(b).is_eq()
+    a == b
 }

@@ -55,6 +55,7 @@ mod inserts;
 mod keys;
 mod laws;
 mod paths;
+mod places;
 mod removes;
 mod scans;
 mod splits;

@@ -1,7 +1,7 @@
 ghost use Rattle.std.specs.Prelude.{ℕ, ◌≡◌, ◌⊎◌, List, Some, None, IfOk, MatchOption};
 ghost use Rattle.page_workspace.specs.Drafts.{meant, IsExcused, IsNotUnfit};
 ghost use Rattle.btree_index.specs.Keys.{Key};
-ghost use Rattle.btree_index.specs.Trees.{TreeList};
+ghost use Rattle.btree_index.specs.Trees.{Ascends, TreeList};
 ghost use Rattle.btree_index.specs.Fits.{HasSpare, IsFull};
 ghost use Rattle.btree_index.specs.Pairs.{cell_value, HasKeyAt};
 ghost use Rattle.btree_index.specs.Changes.{IsBelow, IsWay};
@@ -9,6 +9,7 @@ ghost use Rattle.btree_index.specs.Changes.{IsBelow, IsWay};
 use crate::cells::key_in;
 use crate::finds::{child_for, turns_from};
 use crate::keys::is_same;
+use crate::places::count_before;
 use page_store::{Page, PageKind, PageSource};
 use page_workspace::{EditFault, Workspace};
 
@@ -72,15 +73,17 @@ fn roomier(page: &Page, id: u64, before: Option<u64>) -> Option<u64>
     }
 }
 
-/// The place of a key in the cells of a leaf.
+/// The place of a key in the cells of a leaf. `None` says that it is not there, where their keys rise.
 pub(crate) fn key_place(page: &Page, key: &[u8]) -> Option<u16>
-    ensures { MatchOption result (cell_value key.now page.now.cells ≡ None) (λ at. HasKeyAt key.now page.now.cells at) }
+    ensures { MatchOption result (Ascends page.now.cells → cell_value key.now page.now.cells ≡ None)
+        (λ at. HasKeyAt key.now page.now.cells at) }
 {
-    'looking: for at in 0..page.count() {
-        let cell = page.cell(at)?;
-        if is_same(key, key_in(cell)) {
-            return Some(at);
-        }
+    let at = count_before(page, key);
+    let Some(cell) = page.cell(at) else {
+        return None;
+    };
+    if is_same(key, key_in(cell)) {
+        return Some(at);
     }
     None
 }

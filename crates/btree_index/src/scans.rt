@@ -2,11 +2,12 @@ ghost use Rattle.std.specs.Prelude.{ℕ, ◌≡◌, [], ◌∷◌, ◌++◌, Lis
 ghost use Rattle.page_store.specs.Sources.{IsExcused};
 ghost use Rattle.btree_index.specs.Keys.{Key};
 ghost use Rattle.btree_index.specs.Pairs.{between, is_below, HasBeyond};
-ghost use Rattle.btree_index.specs.Trees.{TreeList, pair_of};
+ghost use Rattle.btree_index.specs.Trees.{Ascends, TreeList, pair_of};
 
 use crate::cells::{key_in, value_in};
 use crate::finds::leaf_for;
 use crate::keys::is_before;
+use crate::places::count_before;
 use page_store::{Cell, Page, PageFault, PageSource};
 use std::alloc::{AllocError, Global};
 
@@ -43,7 +44,8 @@ pub fn scan<P: PageSource>(
     Err(PageFault::NoMemory)
 }
 
-/// Adds the pairs of a leaf that are between, and tells whether all its keys are below the high one.
+/// Adds the pairs of a leaf that are between, where its keys rise, and tells whether all its keys are below the high
+/// one.
 fn add_between(
     alloc: Global,
     page: &Page,
@@ -51,38 +53,30 @@ fn add_between(
     high: Option<&[u8]>,
     found: &mut Vec<(Cell, Cell)>,
 ) -> Result<bool, AllocError>
-    ensures pairs { OnOk result (found.new.items ≡ found.old.items ++ between low.now (option_copied high.entry) (map pair_of page.now.cells)) }
+    ensures pairs { Ascends page.now.cells →
+        OnOk result (found.new.items
+        ≡ found.old.items ++ between low.now (option_copied high.entry) (map pair_of page.now.cells)) }
     ensures beyond { IfOk result (λ goes_on. goes_on ≡ false → HasBeyond (option_copied high.entry) page.now.cells) }
 {
-    let mut goes_on = true;
-    'adding: for at in 0..page.count() {
+    'adding: for at in count_before(page, low)..page.count() {
         let Some(cell) = page.cell(at) else {
-            return Ok(goes_on);
+            return Ok(true);
         };
-        add_cell(alloc, cell, low, high, found)?;
         if !is_key_below(key_in(cell), high) {
-            goes_on = false;
+            return Ok(false);
         }
+        add_cell(alloc, cell, found)?;
     }
-    Ok(goes_on)
+    Ok(true)
 }
 
-/// Adds the pair of a cell where its key is between.
-fn add_cell(
-    alloc: Global,
-    cell: &[u8],
-    low: &[u8],
-    high: Option<&[u8]>,
-    found: &mut Vec<(Cell, Cell)>,
-) -> Result<(), AllocError>
-    ensures { OnOk result (found.new.items ≡ found.old.items ++ between low.now (option_copied high.entry) (pair_of cell.now ∷ [])) }
+/// Adds the pair of a cell.
+fn add_cell(alloc: Global, cell: &[u8], found: &mut Vec<(Cell, Cell)>) -> Result<(), AllocError>
+    ensures { OnOk result (found.new.items ≡ found.old.items ++ pair_of cell.now ∷ []) }
 {
-    let key = key_in(cell);
-    if !is_before(key, low) && is_key_below(key, high) {
-        let key = Cell::from_slice(alloc, key)?;
-        let value = Cell::from_slice(alloc, value_in(cell))?;
-        found.push((key, value))?;
-    }
+    let key = Cell::from_slice(alloc, key_in(cell))?;
+    let value = Cell::from_slice(alloc, value_in(cell))?;
+    found.push((key, value))?;
     Ok(())
 }
 

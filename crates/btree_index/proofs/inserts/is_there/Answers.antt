@@ -5,6 +5,8 @@ use Rattle.std.specs.Option.{is_some}
 use Rattle.page_store.specs.Image.{Image}
 use Rattle.page_workspace.specs.Drafts.{meant}
 use Rattle.btree_index.specs.Pairs.{cell_value, HasKeyAt}
+use Rattle.btree_index.specs.Trees.{Ascends}
+use Rattle.btree_index.proofs.PlaceLemmas.{leaf_rises}
 use Rattle.btree_index.proofs.StandLemmas.{found_there, value_there}
 use Rattle.btree_index.proofs.inserts.is_there.Goals as goal
 
@@ -42,7 +44,9 @@ returns-in-None-clause-there g c = λ own free list stands.
     let said = c.in_ok-way_for.ensures in
     let image = c.page.result.now in
     let is : image ≡ old leaf = same_Some image (old leaf) (sym c.page.ensures ∙ said.loaded) in
-    let none : cell_value c.args.key.now (old leaf).cells ≡ None = ap (λ (i : Image). cell_value c.args.key.now i.cells) (sym is) ∙ c.in-None.ensures in
+    let rises : Ascends image.cells =
+    subst (λ (i : Image). Ascends i.cells) (sym is) (leaf_rises old c.args.root c.args.key.now leaf said.way.leaf said.way.kind own free list stands) in
+    let none : cell_value c.args.key.now (old leaf).cells ≡ None = ap (λ (i : Image). cell_value c.args.key.now i.cells) (sym is) ∙ c.in-None.ensures rises in
     sym (ap is_some (value_there old c.args.root c.args.key.now leaf said.way.leaf said.way.kind own free list stands ∙ none))
 
 pub returns-in_err-way_for-clause-fit : goal.returns-in_err-way_for-clause-fit

@@ -9,7 +9,9 @@ use Rattle.btree_index.specs.Pairs.{cell_value, place_in}
 use Rattle.btree_index.specs.Changes.{Stands, Becomes, LeadsOver}
 use Rattle.btree_index.specs.Fits.{IsFull, IsFullUnder}
 use Rattle.btree_index.specs.Steps.{Alters}
+use Rattle.btree_index.specs.Trees.{Ascends}
 use Rattle.btree_index.proofs.DepthLemmas.{stands_tree, until_under}
+use Rattle.btree_index.proofs.PlaceLemmas.{leaf_rises}
 use Rattle.btree_index.proofs.StandLemmas.{value_there, puts}
 use Rattle.btree_index.proofs.inserts.pass_once.Goals as goal
 
@@ -25,7 +27,9 @@ returns-then-has_room-clause-passed g c = λ own free list stands absent.
     sym (value_there old c.args.root key way.leaf said.way.leaf said.way.kind own free list stands) ∙ absent in
     let put : Alters old new way.leaf (old way.leaf).head (insert (old way.leaf).cells (place_in key (old way.leaf).cells) (leaf_cell key value)) =
     subst (λ (f : ℕ → Image). Alters f new way.leaf (f way.leaf).head (insert (f way.leaf).cells (place_in key (f way.leaf).cells) (leaf_cell key value)))
-    said.pages c.in_ok-put_pair.ensures.put in
+    said.pages
+    (c.in_ok-put_pair.ensures.put
+    (subst (λ (f : ℕ → Image). Ascends (f way.leaf).cells) (sym said.pages) (leaf_rises old c.args.root key way.leaf said.way.leaf said.way.kind own free list stands))) in
     (puts old new c.args.root key value way.leaf said.way.leaf said.way.kind none c.requires.key c.requires.cell
     (record { is = put.is; head = put.head_is; others = put.others }) (subst HasRoom put.is c.in_ok-put_pair.ensures.room) own free list stands).1
 

@@ -7,20 +7,24 @@ use Rattle.page_store.specs.Edits.{IsFit}
 use Rattle.page_store.specs.declared.edits.Edit.TheVariants.{TakeCell}
 use Rattle.page_workspace.specs.Drafts.{meant, edited}
 use Rattle.btree_index.specs.Pairs.{cell_value, HasKeyAt}
+use Rattle.btree_index.specs.Trees.{Ascends}
 use Rattle.btree_index.proofs.FitLemmas.{take_fits, not_unfit}
+use Rattle.btree_index.proofs.PlaceLemmas.{leaf_rises}
 use Rattle.btree_index.proofs.StandLemmas.{removes, removes_none, takes_cell}
 use Rattle.btree_index.proofs.removes.take_key.Goals as goal
 
 pub returns-in_default-clause-removed : goal.returns-in_default-clause-removed
-returns-in_default-clause-removed g c =
+returns-in_default-clause-removed g c = λ own free list stands.
     let pages = meant g.P.PageSource.pages c.args.space.now in
     let way = c.in_ok-way.way in
     let said = c.in_ok-way.ensures in
     let page = c.page-page.result.now in
     let now : page ≡ pages way.leaf = same_Some page (pages way.leaf) (sym c.page-page.ensures ∙ said.loaded) in
     let none : cell_value c.args.key.now (pages way.leaf).cells ≡ None =
-    ap (λ (i : Image). cell_value c.args.key.now i.cells) (sym now) ∙ c.in_default.ensures in
-    removes_none pages (meant g.P.PageSource.pages c.way_for.new.space) c.args.root c.args.key.now way.leaf said.pages said.way.leaf said.way.kind none
+    ap (λ (i : Image). cell_value c.args.key.now i.cells) (sym now)
+    ∙ c.in_default.ensures
+    (subst (λ (i : Image). Ascends i.cells) (sym now) (leaf_rises pages c.args.root c.args.key.now way.leaf said.way.leaf said.way.kind own free list stands)) in
+    removes_none pages (meant g.P.PageSource.pages c.way_for.new.space) c.args.root c.args.key.now way.leaf said.pages said.way.leaf said.way.kind none own free list stands
 
 pub returns-clause-removed : goal.returns-clause-removed
 returns-clause-removed g c =

@@ -6,7 +6,7 @@ use Rattle.page_store.specs.Image.{Image}
 use Rattle.page_store.specs.declared.pages.Head.{Head}
 use Rattle.btree_index.specs.Keys.{Key}
 use Rattle.btree_index.specs.Pairs.{between, HasBeyond}
-use Rattle.btree_index.specs.Trees.{pair_of}
+use Rattle.btree_index.specs.Trees.{Ascends, pair_of}
 use Rattle.btree_index.specs.Ways.{OnRow}
 use Rattle.btree_index.proofs.FindLemmas.{ok_before}
 use Rattle.btree_index.proofs.RowLemmas.{row_begins, leaf_next, leaf_end, leaf_stop}
@@ -32,7 +32,7 @@ pub returns-then-right-eq0-clause-found : goal.returns-then-right-eq0-clause-fou
 returns-then-right-eq0-clause-found g c = λ list tree.
     let now = same_Some c.page-page.result.now (g.P.PageSource.pages c.args.pages.now c.along.id) (sym c.page-page.ensures ∙ c.along.invariant.loaded) in
     let ok = ok_before c.add_between.result c.map_err.result _ c.in_ok-goes_on.goes_on c.map_err.ensures.cases c.in_ok-goes_on.was in
-    let added : c.add_between.new.found.items ≡ c.along.found.items ++ between c.args.low.now (option_copied c.args.high) (map pair_of c.page-page.result.now.cells) = rw ok at c.add_between.ensures.pairs in
+    let added : c.add_between.new.found.items ≡ c.along.found.items ++ between c.args.low.now (option_copied c.args.high) (map pair_of c.page-page.result.now.cells) = (rw ok at c.add_between.ensures.pairs) (subst (λ (i : Image). Ascends i.cells) (sym now) (c.along.invariant.row list tree).fenced.0.ascends) in
     let row = c.along.invariant.row list tree in
     elim c.then-right-eq0.branch [
       | then-right-eq0-via-then-right-eq0 w ↦
@@ -49,7 +49,6 @@ pub along-preserved : goal.along-preserved
 along-preserved g c =
     let now = same_Some c.page-page.result.now (g.P.PageSource.pages c.args.pages.now c.along.id) (sym c.page-page.ensures ∙ c.along.invariant.loaded) in
     let ok = ok_before c.add_between.result c.map_err.result _ c.in_ok-goes_on.goes_on c.map_err.ensures.cases c.in_ok-goes_on.was in
-    let added : c.add_between.new.found.items ≡ c.along.found.items ++ between c.args.low.now (option_copied c.args.high) (map pair_of c.page-page.result.now.cells) = rw ok at c.add_between.ensures.pairs in
     let rose : g.P.PageSource.losses c.along.pages ≤ g.P.PageSource.losses c.load.new.self = c.in_ok-load.ensures.excused in
     let right = ap (λ (h : Head). h.right) c.head-right.ensures in
     record {
@@ -58,7 +57,10 @@ along-preserved g c =
       losses = omega arith;
       loaded = c.in_ok-load.ensures.loaded ∙ ap (λ (f : ℕ → Image). Some (f c.head-right.result.right)) c.along.invariant.pages;
       row = λ list tree.
-          (let P : ℕ → Type 0 = λ n. OnRow (g.P.PageSource.pages c.args.pages.now) c.args.low.now (option_copied c.args.high) n c.add_between.new.found.items (between c.args.low.now (option_copied c.args.high) list) in
+          (let rises : Ascends c.page-page.result.now.cells = subst (λ (i : Image). Ascends i.cells) (sym now) (c.along.invariant.row list tree).fenced.0.ascends in
+          let added : c.add_between.new.found.items ≡ c.along.found.items ++ between c.args.low.now (option_copied c.args.high) (map pair_of c.page-page.result.now.cells) =
+          (rw ok at c.add_between.ensures.pairs) rises in
+          let P : ℕ → Type 0 = λ n. OnRow (g.P.PageSource.pages c.args.pages.now) c.args.low.now (option_copied c.args.high) n c.add_between.new.found.items (between c.args.low.now (option_copied c.args.high) list) in
           subst P (sym right)
           (leaf_next (g.P.PageSource.pages c.args.pages.now) c.args.low.now (option_copied c.args.high) c.along.id c.along.found.items c.add_between.new.found.items
           (between c.args.low.now (option_copied c.args.high) list) c.page-page.result.now (c.along.invariant.row list tree) now
