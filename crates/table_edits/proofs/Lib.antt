@@ -3,6 +3,7 @@ mod GenidLemmas
 mod StateLemmas
 mod FitLemmas
 mod ForestLemmas
+mod KeptLemmas
 mod StepLemmas
 mod BrokenLemmas
 mod PassLemmas

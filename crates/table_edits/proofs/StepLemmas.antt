@@ -1,19 +1,19 @@
 -- One tree more: it was changed, or no operation names its table.
-use Rattle.std.proofs.Common.{◌≡◌, ℕ, suc, ◌+◌, ◌<◌, ◌^◌, ◌==◌, Bool, true, false, if◌then◌else◌, List, [], ◌∷◌, ◌++◌, length, Option, Some, None, refl, sym, ap, ◌∙◌, subst, arith, append_assoc, length-append}
+use Rattle.std.proofs.Common.{◌≡◌, ℕ, suc, ◌+◌, ◌<◌, ◌==◌, Bool, true, false, if◌then◌else◌, List, [], ◌∷◌, ◌++◌, length, Option, Some, None, refl, sym, ap, ◌∙◌, subst, arith, append_assoc, length-append}
 use Rattle.std.specs.Prelude.{Result, Ok, Err}
 use Rattle.std.specs.List.{slice_get, slice_set, list_any}
 use Rattle.page_store.specs.Image.{Image}
-use Rattle.page_workspace.specs.Spare.{next_genid, count_of}
-use Rattle.btree_index.specs.Changes.{Stands as StandsAlone, Becomes}
+use Rattle.btree_index.specs.Changes.{Stands as StandsAlone, Changes, LosesNone, Becomes}
 use Rattle.btree_index.specs.declared.inserts.InsertFault.{InsertFault}
 use Rattle.btree_index.specs.declared.inserts.InsertFault.TheVariants.{Duplicate, Gone, NoMemory}
+use Rattle.btree_index.proofs.StandLemmas.{changes_none, changes_after, loses_none, loses_after}
 use Rattle.cdb_values.specs.Rows.{Rows, version, versions_of, apply_all}
 use Rattle.cdb_values.specs.declared.rows.RowOp.{RowOp}
 use Rattle.cdb_values.specs.declared.rows.RowOp.TheVariants.{Insert, Update, Delete}
 use Rattle.cdb_values.specs.declared.rows.RowRef.TheVariants.{Base, Own}
 use Rattle.cdb_values.specs.declared.rows.Version.{Version}
 use Rattle.cdb_values.specs.declared.tables.KeyDef.{KeyDef}
-use Rattle.table_store.specs.Forests.{Pair, IsTree, AreTrees, Forest}
+use Rattle.table_store.specs.Forests.{Pair, IsTree, AreTrees, joined, Forest}
 use Rattle.table_store.specs.Listings.{Lists, AreLists}
 use Rattle.table_store.specs.Plans.{Planned}
 use Rattle.table_store.specs.States.{AreVersions}
@@ -22,6 +22,8 @@ use Rattle.table_changes.specs.Changed.{IsPut}
 use Rattle.table_edits.specs.Answers.{TellsOne}
 use Rattle.table_edits.specs.Fits.{names}
 use Rattle.table_edits.specs.Halfway.{IsHalfway}
+use Rattle.table_edits.specs.Kept.{Store, LeavesUnnamed}
+use Rattle.table_edits.proofs.KeptLemmas.{forest_changes, forest_loses, unnamed_beside, unnamed_after, unnamed_none}
 use Rattle.table_edits.proofs.ListLemmas.{get_middle, set_middle, set_none, get_some, or_false}
 use Rattle.table_edits.proofs.StateLemmas.{versions_at}
 
@@ -106,7 +108,7 @@ next_from laws pages rows p left owns free before (list ∷ rest) root r f h =
       alone = subst (λ (n : ℕ). StandsAlone pages n found.0 free list) (sym r) (laws.stands pages 1 (length before) owns free found.0 (before ++ list ∷ rest) list f found.1 there);
     }
 
-next_tree : Laws → (start pages : ℕ → Image) (rows : Rows) (ops : List RowOp) (plan : List Planned) (next root : ℕ) (p : Planned) (left : List Planned)
+next_tree : Laws → (start : Store) (pages : ℕ → Image) (rows : Rows) (ops : List RowOp) (plan : List Planned) (next root : ℕ) (p : Planned) (left : List Planned)
     → (h : IsHalfway start pages rows ops plan next root (p ∷ left)) → IsNext pages rows p left h.owns h.free h.before h.behind root
 next_tree laws start pages rows ops plan next root p left h =
     let long = lists_long (apply_all rows ops) h.done h.before h.changed in
@@ -117,16 +119,17 @@ tree_of : (pages : ℕ → Image) (root : ℕ) (own free : List ℕ) (list : Lis
 tree_of pages root own free list s = record { height = s.height; cells = s.cells; holds = s.holds; own_is = s.own_is; pairs = s.pairs }
 
 -- what the pages are after it
-record IsAfter (old new : ℕ → Image) (before behind : List (List Pair)) (after : List Pair) : Type 0 where
+record IsAfter (old new : ℕ → Image) (first : List (List ℕ)) (unused : List ℕ) (plan : List Planned) (ops : List RowOp) (before behind : List (List Pair)) (after : List Pair) : Type 0 where
   owns : List (List ℕ)
   free : List ℕ
   forest : Forest new 1 owns free ((before ++ after ∷ []) ++ behind)
-  genid : next_genid new ≡ next_genid old
-  few : count_of old < 2 ^ 62 → count_of new < 2 ^ 62
+  changes : Changes old new (joined first) (joined owns) unused free
+  lost : LosesNone old new (joined first) (joined owns) unused free
+  unnamed : LeavesUnnamed (record { pages = old; owns = first; free = unused }) (record { pages = new; owns = owns; free = free }) plan ops
 
-advanced : (start old new : ℕ → Image) (rows : Rows) (ops : List RowOp) (plan : List Planned) (next root later : ℕ) (p : Planned) (left : List Planned)
+advanced : (start : Store) (old new : ℕ → Image) (rows : Rows) (ops : List RowOp) (plan : List Planned) (next root later : ℕ) (p : Planned) (left : List Planned)
     → later ≡ root + 1 → (h : IsHalfway start old rows ops plan next root (p ∷ left)) → (rest : List (List Pair)) → AreLists rows left rest
-    → (after : List Pair) → Lists p.key (versions_of (apply_all rows ops) p.table) after → IsAfter old new h.before rest after
+    → (after : List Pair) → Lists p.key (versions_of (apply_all rows ops) p.table) after → IsAfter old new h.owns h.free plan ops h.before rest after
     → IsHalfway start new rows ops plan next later left
 advanced start old new rows ops plan next root later p left e h rest same after listed a =
     let is : root ≡ 1 + length h.done = h.root_is in
@@ -145,15 +148,19 @@ advanced start old new rows ops plan next root later p left e h rest same after 
       forest = a.forest;
       changed = lists_more (apply_all rows ops) h.done h.before p after h.changed listed;
       same = same;
-      genid = a.genid ∙ h.genid;
-      few = λ s. a.few (h.few s);
+      genid = a.changes.genid ∙ h.genid;
+      changes = changes_after start.pages old new (joined start.owns) (joined h.owns) (joined a.owns) start.free h.free a.free h.changes a.changes;
+      lost = loses_after start.pages old new (joined start.owns) (joined h.owns) (joined a.owns) start.free h.free a.free h.lost a.lost;
+      unnamed = unnamed_after start (record { pages = old; owns = h.owns; free = h.free }) (record { pages = new; owns = a.owns; free = a.free }) plan ops h.unnamed a.unnamed;
     }
 
 -- the tree was changed
 became : Laws → (old new : ℕ → Image) (root : ℕ) (owns : List (List ℕ)) (free own : List ℕ) (before behind rest : List (List Pair)) (list after : List Pair)
+    (plan : List Planned) (ops : List RowOp) (p : Planned)
     → root ≡ 1 + length before → behind ≡ list ∷ rest → slice_get owns (length before) ≡ Some own → slice_get (before ++ behind) (length before) ≡ Some list
-    → Forest old 1 owns free (before ++ behind) → Becomes old new root own free after → IsAfter old new before rest after
-became laws old new root owns free own before behind rest list after r is own_at list_at f b =
+    → Forest old 1 owns free (before ++ behind) → slice_get plan (length before) ≡ Some p → list_any (names p.table) ops ≡ true → Becomes old new root own free after
+    → IsAfter old new owns free plan ops before rest after
+became laws old new root owns free own before behind rest list after plan ops p r is own_at list_at f here named b =
     let c : Becomes old new (1 + length before) own free after = subst (λ (n : ℕ). Becomes old new n own free after) r b in
     let set : slice_set (before ++ behind) (length before) after ≡ (before ++ after ∷ []) ++ rest =
     ap (λ (l : List (List Pair)). slice_set (before ++ l) (length before) after) is ∙ set_middle before list after rest in
@@ -162,16 +169,17 @@ became laws old new root owns free own before behind rest list after r is own_at
       free = c.spare;
       forest = subst (λ (l : List (List Pair)). Forest new 1 (slice_set owns (length before) c.more) c.spare l) set
           (laws.keeps old new 1 (length before) owns free own (before ++ behind) list after f own_at list_at c);
-      genid = b.changes.genid;
-      few = b.changes.few;
+      changes = forest_changes old new (1 + length before) (length before) owns own free after own_at c;
+      lost = forest_loses old new (1 + length before) (length before) owns own free after own_at c;
+      unnamed = unnamed_beside old new (1 + length before) (length before) owns own free (before ++ behind) after plan ops p f own_at c here named;
     }
 
-pub stepped : Laws → (start old new : ℕ → Image) (rows : Rows) (ops : List RowOp) (plan : List Planned) (next root later : ℕ) (p : Planned) (left : List Planned)
-    → later ≡ root + 1 → p.table < length rows.tables → IsHalfway start old rows ops plan next root (p ∷ left) → (result : Result (Unit {0}) InsertFault)
+pub stepped : Laws → (start : Store) (old new : ℕ → Image) (rows : Rows) (ops : List RowOp) (plan : List Planned) (next root later : ℕ) (p : Planned) (left : List Planned)
+    → later ≡ root + 1 → p.table < length rows.tables → list_any (names p.table) ops ≡ true → IsHalfway start old rows ops plan next root (p ∷ left) → (result : Result (Unit {0}) InsertFault)
     → ((own free : List ℕ) (list : List Pair) → StandsAlone old root own free list
     → IsPut old new root own free (put_all p.key (born p.table next ops) (removed p.key (gone p.table ops) list)) result)
     → TellsOne result (IsHalfway start new rows ops plan next later left) (breaks_in p.key (versions_of (apply_all rows ops) p.table))
-stepped laws start old new rows ops plan next root later p left e known h result put =
+stepped laws start old new rows ops plan next root later p left e known named h result put =
     go (put_all p.key (born p.table next ops) (removed p.key (gone p.table ops) n.list)) refl result (put n.own h.free n.list n.alone)
   where
     n : IsNext old rows p left h.owns h.free h.before h.behind root
@@ -194,13 +202,19 @@ stepped laws start old new rows ops plan next root later p left e known h result
         omega (arith, is, long)
         )
 
+    here : slice_get plan (length h.before) ≡ Some p
+    here = (
+        let long : length h.done ≡ length h.before = lists_long (apply_all rows ops) h.done h.before h.changed in
+        ap (λ (k : ℕ). slice_get plan k) (sym long) ∙ ap (λ (ps : List Planned). slice_get ps (length h.done)) (sym h.whole) ∙ get_middle h.done p left
+        )
+
     go : (o : Option (List Pair)) → put_all p.key (born p.table next ops) (removed p.key (gone p.table ops) n.list) ≡ o → (r : Result (Unit {0}) InsertFault)
         → IsPut old new root n.own h.free o r
         → TellsOne r (IsHalfway start new rows ops plan next later left) (breaks_in p.key (versions_of (apply_all rows ops) p.table))
     go (Some after) same (Ok x) b = (
       advanced start old new rows ops plan next root later p left e h n.rest n.same after
           (laws.listed old root p.table n.own n.list after p.key rows ops tree n.lists are known (h.able p.table known) (whole (Some after) same))
-          (became laws old new root h.owns h.free n.own h.before h.behind n.rest n.list after root_is n.is n.own_at n.list_at h.forest b),
+          (became laws old new root h.owns h.free n.own h.before h.behind n.rest n.list after plan ops p root_is n.is n.own_at n.list_at h.forest here named b),
       laws.kept old root p.table n.own n.list after p.key rows ops tree n.lists are known (h.able p.table known) (whole (Some after) same),
     )
     go None same (Ok x) b = absurd b
@@ -244,7 +258,7 @@ unnamed table (Delete place (Own write) old ∷ ops) next h =
     record { gone_none = rest.gone_none; born_none = rest.born_none }
 
 -- a tree of a table that no operation names
-pub skipped : Laws → (start pages : ℕ → Image) (rows : Rows) (ops : List RowOp) (plan : List Planned) (next root later : ℕ) (p : Planned) (left : List Planned)
+pub skipped : Laws → (start : Store) (pages : ℕ → Image) (rows : Rows) (ops : List RowOp) (plan : List Planned) (next root later : ℕ) (p : Planned) (left : List Planned)
     → later ≡ root + 1 → p.table < length rows.tables → IsUntouched p.table next ops → IsHalfway start pages rows ops plan next root (p ∷ left)
     → IsHalfway start pages rows ops plan next later left × (breaks_in p.key (versions_of (apply_all rows ops) p.table) ≡ false)
 skipped laws start pages rows ops plan next root later p left e known u h =
@@ -262,8 +276,9 @@ skipped laws start pages rows ops plan next root later p left e known u h =
             owns = h.owns;
             free = h.free;
             forest = subst (λ (l : List (List Pair)). Forest pages 1 h.owns h.free l) lists h.forest;
-            genid = refl;
-            few = λ s. s;
+            changes = changes_none pages (joined h.owns) h.free;
+            lost = loses_none pages (joined h.owns) h.free;
+            unnamed = unnamed_none (record { pages = pages; owns = h.owns; free = h.free }) plan ops;
           }),
       laws.kept pages root p.table n.own n.list n.list p.key rows ops tree n.lists are known (h.able p.table known) put,
     )

@@ -7,26 +7,28 @@
 --     done      the rows of t       root 1   before ∷ []           the state after
 --     left      the key k of t      root 2   behind                the state before
 --               the rows of u       root 3
-use Rattle.std.specs.Prelude.{◌≡◌, ℕ, ◌+◌, ◌<◌, ◌^◌, List, ◌++◌, length, Option}
+use Rattle.std.specs.Prelude.{◌≡◌, ℕ, ◌+◌, List, ◌++◌, length, Option}
 use Rattle.std.specs.List.{AllByRecursion}
 use Rattle.page_store.specs.Image.{Image}
-use Rattle.page_workspace.specs.Spare.{next_genid, count_of}
+use Rattle.page_workspace.specs.Spare.{next_genid}
+use Rattle.btree_index.specs.Changes.{Changes, LosesNone}
 use Rattle.cdb_values.specs.Rows.{Rows, apply_all}
 use Rattle.cdb_values.specs.declared.rows.RowOp.{RowOp}
 use Rattle.cdb_values.specs.declared.tables.KeyDef.{KeyDef}
-use Rattle.table_store.specs.Forests.{Pair, Forest}
+use Rattle.table_store.specs.Forests.{Pair, joined, Forest}
 use Rattle.table_store.specs.Listings.{AreLists}
 use Rattle.table_store.specs.Plans.{Planned}
 use Rattle.table_store.specs.States.{AreVersions}
 use Rattle.table_edits.specs.Fits.{AreAllDoable}
+use Rattle.table_edits.specs.Kept.{Store, LeavesUnnamed}
 
 -- the tree of a table's rows, or of one of its keys
 abbrev pub planned : ℕ → Option KeyDef → Planned
 planned table key = record { table = table; key = key }
 
--- from the pages at the start, operations on a state were done on the trees of the plan but for those that are left, of
--- which the first has this root
-pub record IsHalfway (start pages : ℕ → Image) (rows : Rows) (ops : List RowOp) (plan : List Planned) (next root : ℕ) (left : List Planned) : Type 0 where
+-- from a store at the start, operations on a state were done on the trees of the plan but for those that are left, of which
+-- the first has this root
+pub record IsHalfway (start : Store) (pages : ℕ → Image) (rows : Rows) (ops : List RowOp) (plan : List Planned) (next root : ℕ) (left : List Planned) : Type 0 where
   pub able : AreAllDoable rows ops
   pub versions : AllByRecursion (AreVersions rows.next) rows.tables
   pub next_is : rows.next ≡ next
@@ -41,4 +43,6 @@ pub record IsHalfway (start pages : ℕ → Image) (rows : Rows) (ops : List Row
   pub changed : AreLists (apply_all rows ops) done before
   pub same : AreLists rows left behind
   pub genid : next_genid pages ≡ rows.next
-  pub few : count_of start < 2 ^ 62 → count_of pages < 2 ^ 62
+  pub changes : Changes start.pages pages (joined start.owns) (joined owns) start.free free
+  pub lost : LosesNone start.pages pages (joined start.owns) (joined owns) start.free free
+  pub unnamed : LeavesUnnamed start (record { pages = pages; owns = owns; free = free }) plan ops

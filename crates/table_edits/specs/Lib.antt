@@ -3,3 +3,4 @@ pub mod Genids
 pub mod Broken
 pub mod Halfway
 pub mod Answers
+pub mod Kept

@@ -9,6 +9,7 @@ ghost use Rattle.table_edits.specs.Answers.{Tells, TellsBroken, IsExcused, AreWi
 ghost use Rattle.table_edits.specs.Broken.{broken_place};
 ghost use Rattle.table_edits.specs.Fits.{WritesFitting, AreAllDoable};
 ghost use Rattle.table_edits.specs.Genids.{SetsGenid};
+ghost use Rattle.table_edits.specs.Kept.{Leaves};
 
 use crate::faults::OpsFault;
 use crate::genids::{next_behind, read_next, set_genid};
@@ -40,6 +41,9 @@ pub fn ops_to_edits<P: PageSource + Drop>(
         TellsBroken result (broken_place (apply_all rows ops.now) 0 schema.now) }
     ensures within { (rows : Rows) → Stands (P.pages pages) schema.now rows → AreAllDoable rows ops.now →
         IfOk result (λ edits. AreWithin (P.pages pages) (edited_by edits.items (P.pages pages))) }
+    ensures kept { (rows : Rows) → (stands : Stands (P.pages pages) schema.now rows) → AreAllDoable rows ops.now →
+        IfOk result (λ edits. Leaves (P.pages pages) (edited_by edits.items (P.pages pages))
+        schema.now rows ops.now stands) }
     ensures excused { (later : P) × (P.pages later ≡ P.pages pages) × IsExcused result (P.losses pages) (P.losses later) }
 {
     let mut space = Workspace::new(alloc, pages);
@@ -64,6 +68,9 @@ pub fn change_rows<P: PageSource>(
         TellsBroken result (broken_place (apply_all rows ops.now) 0 schema.now) }
     ensures within { (rows : Rows) → Stands (meant P.pages space.old) schema.now rows → AreAllDoable rows ops.now →
         OnOk result (AreWithin (meant P.pages space.old) (meant P.pages space.new)) }
+    ensures kept { (rows : Rows) → (stands : Stands (meant P.pages space.old) schema.now rows) →
+        AreAllDoable rows ops.now →
+        OnOk result (Leaves (meant P.pages space.old) (meant P.pages space.new) schema.now rows ops.now stands) }
     ensures base { P.pages space.new.base ≡ P.pages space.old.base }
     ensures excused { IsExcused result (P.losses space.old.base) (P.losses space.new.base) }
 {
@@ -84,8 +91,9 @@ fn change_from<P: PageSource>(
 ) -> Result<(), OpsFault>
     requires fit { AllByRecursion (WritesFitting schema.now) ops.now }
     requires next { next ≡ next_genid (meant P.pages space.old) }
-    ensures done { (rows : Rows) → Stands (meant P.pages space.old) schema.now rows → AreAllDoable rows ops.now →
-        Tells result (λ _. Stands (meant P.pages space.new) schema.now (apply_all rows ops.now) × AreWithin (meant P.pages space.old) (meant P.pages space.new))
+    ensures done { (rows : Rows) → (stands : Stands (meant P.pages space.old) schema.now rows) →
+        AreAllDoable rows ops.now →
+        Tells result (λ _. Leaves (meant P.pages space.old) (meant P.pages space.new) schema.now rows ops.now stands)
         (broken_place (apply_all rows ops.now) 0 schema.now) }
     ensures base { P.pages space.new.base ≡ P.pages space.old.base }
     ensures excused { IsExcused result (P.losses space.old.base) (P.losses space.new.base) }

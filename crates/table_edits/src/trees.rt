@@ -1,8 +1,7 @@
 //! The trees of a schema, one after the other in the order of the plan.
-ghost use Rattle.std.specs.Prelude.{ℕ, ◌≡◌, ◌+◌, ◌≤◌, ◌<◌, ◌^◌, ◌∷◌, ◌++◌, [], List as Many, None, Some, IfOk, length};
+ghost use Rattle.std.specs.Prelude.{ℕ, ◌≡◌, ◌+◌, ◌≤◌, ◌<◌, ◌^◌, ◌∷◌, ◌++◌, [], List as Many, None, Some, IfOk, length, true};
 ghost use Rattle.std.specs.List.{AllByRecursion, list_any};
 ghost use Rattle.std.specs.Option.{option_copied};
-ghost use Rattle.page_store.specs.Image.{Image};
 ghost use Rattle.page_workspace.specs.Drafts.{meant};
 ghost use Rattle.btree_index.specs.Changes.{IsExcusedInsert};
 ghost use Rattle.cdb_values.specs.Rows.{Rows, versions_of, apply_all};
@@ -13,6 +12,7 @@ ghost use Rattle.table_edits.specs.Answers.{Tells, TellsOne, IsExcused};
 ghost use Rattle.table_edits.specs.Broken.{broken_from, broken_place, or_later};
 ghost use Rattle.table_edits.specs.Fits.{WritesFitting, names as names_of};
 ghost use Rattle.table_edits.specs.Halfway.{planned, IsHalfway};
+ghost use Rattle.table_edits.specs.Kept.{Store};
 
 use crate::faults::OpsFault;
 use btree_index::InsertFault;
@@ -34,7 +34,7 @@ pub(crate) fn change_tables<P: PageSource>(
 ) -> Result<(), OpsFault>
     requires few { next + length ops.now < 2 ^ 64 }
     requires fit { AllByRecursion (WritesFitting schema.now) ops.now }
-    ensures changed { (start : ℕ → Image) (rows : Rows) → length rows.tables ≡ length schema.now →
+    ensures changed { (start : Store) (rows : Rows) → length rows.tables ≡ length schema.now →
         IsHalfway start (meant P.pages space.old) rows ops.now (plan_from 0 schema.now) next 1 (plan_from 0 schema.now) →
         Tells result (λ _. (root : ℕ) × IsHalfway start (meant P.pages space.new) rows ops.now (plan_from 0 schema.now) next root [])
         (broken_place (apply_all rows ops.now) 0 schema.now) }
@@ -72,7 +72,7 @@ fn change_table<P: PageSource>(
     requires room { root + 9 < 2 ^ 64 }
     requires row_fits { AllByRecursion (IsPuttable None) (born place next ops.now) }
     requires keys_fit { AllByRecursion (λ key. AllByRecursion (IsPuttable (Some key)) (born place next ops.now)) keys.now }
-    ensures changed { (start : ℕ → Image) (rows : Rows) (plan left : Many Planned) → place < length rows.tables →
+    ensures changed { (start : Store) (rows : Rows) (plan left : Many Planned) → place < length rows.tables →
         IsHalfway start (meant P.pages space.old) rows ops.now plan next root (planned place None ∷ (key_trees place keys.now ++ left)) →
         Tells result (λ behind. IsHalfway start (meant P.pages space.new) rows ops.now plan next behind left)
         (or_later place (broken_from 0 (versions_of (apply_all rows ops.now) place) keys.now) None) }
@@ -118,9 +118,10 @@ fn change_rows_tree<P: PageSource>(
     next: u64,
     ops: &[RowOp],
 ) -> Result<(), OpsFault>
+    requires named { list_any (names_of place) ops.now ≡ true }
     requires few { next + length ops.now < 2 ^ 64 }
     requires fit { AllByRecursion (IsPuttable None) (born place next ops.now) }
-    ensures changed { (start : ℕ → Image) (rows : Rows) (plan left : Many Planned) → place < length rows.tables →
+    ensures changed { (start : Store) (rows : Rows) (plan left : Many Planned) → place < length rows.tables →
         IsHalfway start (meant P.pages space.old) rows ops.now plan next root (planned place None ∷ left) →
         Tells result (λ _. IsHalfway start (meant P.pages space.new) rows ops.now plan next (root + 1) left) None }
     ensures base { P.pages space.new.base ≡ P.pages space.old.base }
@@ -145,11 +146,12 @@ fn change_keys<P: PageSource>(
     next: u64,
     ops: &[RowOp],
 ) -> Result<u64, OpsFault>
+    requires named { list_any (names_of place) ops.now ≡ true }
     requires few { next + length ops.now < 2 ^ 64 }
     requires keys { length keys.now ≤ 8 }
     requires room { root + 8 < 2 ^ 64 }
     requires fit { AllByRecursion (λ key. AllByRecursion (IsPuttable (Some key)) (born place next ops.now)) keys.now }
-    ensures changed { (start : ℕ → Image) (rows : Rows) (plan left : Many Planned) → place < length rows.tables →
+    ensures changed { (start : Store) (rows : Rows) (plan left : Many Planned) → place < length rows.tables →
         IsHalfway start (meant P.pages space.old) rows ops.now plan next root (key_trees place keys.now ++ left) →
         Tells result (λ behind. IsHalfway start (meant P.pages space.new) rows ops.now plan next behind left)
         (or_later place (broken_from 0 (versions_of (apply_all rows ops.now) place) keys.now) None) }
@@ -182,9 +184,10 @@ fn change_key<P: PageSource>(
     next: u64,
     ops: &[RowOp],
 ) -> Result<(), OpsFault>
+    requires named { list_any (names_of place) ops.now ≡ true }
     requires few { next + length ops.now < 2 ^ 64 }
     requires fit { AllByRecursion (IsPuttable (Some key.now)) (born place next ops.now) }
-    ensures changed { (start : ℕ → Image) (rows : Rows) (plan left : Many Planned) → place < length rows.tables →
+    ensures changed { (start : Store) (rows : Rows) (plan left : Many Planned) → place < length rows.tables →
         IsHalfway start (meant P.pages space.old) rows ops.now plan next root (planned place (Some key.now) ∷ left) →
         Tells result (λ _. IsHalfway start (meant P.pages space.new) rows ops.now plan next (root + 1) left)
         (or_later place (broken_from at (versions_of (apply_all rows ops.now) place) (key.now ∷ [])) None) }
@@ -212,9 +215,10 @@ fn change_one<P: PageSource>(
     next: u64,
     ops: &[RowOp],
 ) -> Result<(), InsertFault>
+    requires named { list_any (names_of place) ops.now ≡ true }
     requires few { next + length ops.now < 2 ^ 64 }
     requires fit { AllByRecursion (IsPuttable (option_copied key)) (born place next ops.now) }
-    ensures changed { (start : ℕ → Image) (rows : Rows) (plan left : Many Planned) → place < length rows.tables →
+    ensures changed { (start : Store) (rows : Rows) (plan left : Many Planned) → place < length rows.tables →
         IsHalfway start (meant P.pages space.old) rows ops.now plan next root (planned place (option_copied key.entry) ∷ left) →
         TellsOne result (IsHalfway start (meant P.pages space.new) rows ops.now plan next (root + 1) left)
         (breaks_in (option_copied key.entry) (versions_of (apply_all rows ops.now) place)) }
