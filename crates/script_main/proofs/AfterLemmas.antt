@@ -15,7 +15,6 @@ use Rattle.cdb_values.specs.declared.rows.Level.{Level}
 use Rattle.cdb_values.specs.declared.tables.TableDef.{TableDef}
 use Rattle.log_replay.specs.Answers.{schema_of}
 use Rattle.log_rows.specs.History.{rows_over, IsCommit}
-use Rattle.page_workspace.specs.Spare.{count_of}
 use Rattle.phys_log.specs.Logs.{pages_of}
 use Rattle.phys_log.specs.declared.entries.CommitId.{CommitId}
 use Rattle.phys_log.specs.declared.entries.Entry.{Entry}
@@ -239,13 +238,11 @@ module _ (script : Script) (start : Start) (generation : ℕ) (entries : List En
         within : base start ≤ length history
         within = let b : length history ≡ length start.before + length told.told.made = behind in omega arith
 
-    -- where a run began behind a sound log, in a later generation, its log is sound in this generation, as long as the next
-    -- genid and the number of pages are below 2^62
+    -- where a run began behind a sound log, in a later generation, its log is sound in this generation
     pub sound_again : (accepted : ℕ) → accepted < generation → IsSound accepted start.before → AllByRecursion HasColumns tables
         → (Stands (pages_of history) tables (rows_over (ground_of start) history) → AllFit tables (rows_over (ground_of start) history).tables
-        → IsGood tables (rows_over (ground_of start) history).tables)
-        → (rows_over (ground_of start) history).next < 2 ^ 62 → count_of (pages_of history) < 2 ^ 62 → IsSound generation history
-    sound_again accepted later sound columns good next few =
+        → IsGood tables (rows_over (ground_of start) history).tables) → IsSound generation history
+    sound_again accepted later sound columns good =
         subst (λ (es : List Entry). IsSound generation es) (sym told.told.behind)
         (sound_on accepted generation start.before told.told.made tables (rows_over (ground_of start) history) later sound
         (subst (λ (es : List Entry). schema_of es ≡ Some tables) told.told.behind told.schema) columns
@@ -255,6 +252,6 @@ module _ (script : Script) (start : Start) (generation : ℕ) (entries : List En
         (subst (λ (es : List Entry). HasState (pages_of es) tables (rows_over (ground_of start) history)) told.told.behind (record {
           stands = stands;
           good = good stands fit;
-          next = next;
-          count = few;
+          next = subst (λ (n : ℕ). n < 2 ^ 62) stands.genid told.small.genid;
+          count = told.small.count;
         })))

@@ -25,7 +25,6 @@ use Rattle.table_state.specs.States.{HasState}
 use Rattle.table_store.specs.Stored.{Stands}
 use Rattle.script_main.proofs.AfterLemmas.{sound_again}
 use Rattle.script_main.proofs.ScriptLemmas.{tables_with}
-use Rattle.script_main.specs.Runs.{IsSoundBelow}
 use Rattle.script_main.specs.Stores.{with_tables, HasRows}
 
 -- no generation is accepted above the promised one
@@ -76,11 +75,11 @@ columns_with script a (e ∷ es) can (inr sound) has = subst (λ (ts : List Tabl
 -- whatever lines tell it
 pub sound_behind : (script : Script) (c : ℕ) (bytes : List ℕ) (p a : ℕ) (before : List Entry) (start : Start) (entries : List EntryLine) (made : List Entry) → KeepTheirKeys → AllByRecursion HasColumns (tables_of (with_tables script before)) →
     start.before ≡ before → StandsForGood 1 c bytes (tables_of script) p a before → HasRows before start.rows → IsHistory (with_tables script before) start (p + 1) entries made →
-    IsSoundBelow start (p + 1) made
-sound_behind script c bytes p a before start entries made law columns behind stood has told next few =
+    IsSound (p + 1) made
+sound_behind script c bytes p a before start entries made law columns behind stood has told =
     let whole = with_tables script before in
     let l : a ≤ p = accepted_within c bytes p a before stood.stands in
     sound_again whole start (p + 1) entries made told
     (subst (λ (es : List Entry). 1 ≤ length es → HasState (pages_of es) (tables_of whole) start.rows) (sym behind) (state_of script before start.rows stood.good.tables has))
     a (omega arith) (subst (λ (es : List Entry). IsSound a es) (sym behind) stood.good.sound) columns
-    (λ stands fit. law (pages_of made) (tables_of whole) (history.rows_over (ground_of start) made) stands fit) next few
+    (λ stands fit. law (pages_of made) (tables_of whole) (history.rows_over (ground_of start) made) stands fit)

@@ -95,15 +95,21 @@ not_other : (given : List TableDef) (a : ℕ) (es : List Entry) (place : ℕ) �
 not_other given a es place (inl none) o = let s : 1 ≤ 0 = subst (λ (fs : List Entry). 1 ≤ length fs) none o.some in omega arith
 not_other given a es place (inr matched) o = not_matched given (tables_of es) place matched o.difference
 
+pub log_not_other : (c : ℕ) (bytes : List ℕ) (given : List TableDef) (p a : ℕ) (es : List Entry) (place : ℕ) → c < 2 ^ 128 → StandsFor 1 c bytes (Log p a es) → HasTables given es → WasOther 1 c bytes given place → ⊥
+log_not_other c bytes given p a es place below stands tables o =
+    let s = one_log c bytes p o.promised a o.accepted es o.entries below stands o.stood in
+    not_other given o.accepted o.entries place (subst (HasTables given) s.entries tables) o.other
+
+pub log_not_unsound : (c : ℕ) (bytes : List ℕ) (p a : ℕ) (es : List Entry) → c < 2 ^ 128 → StandsFor 1 c bytes (Log p a es) → IsSound a es → WasUnsound 1 c bytes → ⊥
+log_not_unsound c bytes p a es below stands sound u =
+    let s = one_log c bytes p u.promised a u.accepted es u.entries below stands u.stood in
+    u.unsound (subst (λ (n : ℕ). IsSound n u.entries) s.accepted (subst (IsSound a) s.entries sound))
+
 pub good_not_other : (c : ℕ) (bytes : List ℕ) (given : List TableDef) (p a : ℕ) (es : List Entry) (place : ℕ) → c < 2 ^ 128 → StandsForGood 1 c bytes given p a es → WasOther 1 c bytes given place → ⊥
-good_not_other c bytes given p a es place below g o =
-    let s = one_log c bytes p o.promised a o.accepted es o.entries below g.stands o.stood in
-    not_other given o.accepted o.entries place (subst (HasTables given) s.entries g.good.tables) o.other
+good_not_other c bytes given p a es place below g o = log_not_other c bytes given p a es place below g.stands g.good.tables o
 
 pub good_not_unsound : (c : ℕ) (bytes : List ℕ) (given : List TableDef) (p a : ℕ) (es : List Entry) → c < 2 ^ 128 → StandsForGood 1 c bytes given p a es → WasUnsound 1 c bytes → ⊥
-good_not_unsound c bytes given p a es below g u =
-    let s = one_log c bytes p u.promised a u.accepted es u.entries below g.stands u.stood in
-    u.unsound (subst (λ (n : ℕ). IsSound n u.entries) s.accepted (subst (IsSound a) s.entries g.good.sound))
+good_not_unsound c bytes given p a es below g u = log_not_unsound c bytes p a es below g.stands g.good.sound u
 
 pub other_not_unsound : (c : ℕ) (bytes : List ℕ) (given : List TableDef) (place : ℕ) → c < 2 ^ 128 → WasOther 1 c bytes given place → WasUnsound 1 c bytes → ⊥
 other_not_unsound c bytes given place below o u =

@@ -1,6 +1,6 @@
 -- A run can begin behind a log that was taken up: its rows fit their tables, have genids below the next one, and are rows
 -- that can be told.
-use Rattle.std.proofs.Common.{◌≡◌, ◌≢◌, ◌≤◌, ◌+◌, inl, inr, ℕ, List, [], ◌∷◌, length, refl, sym, ap, ◌∙◌, subst, arith}
+use Rattle.std.proofs.Common.{◌≡◌, ◌≢◌, ◌≤◌, ◌<◌, ◌+◌, ◌^◌, inl, inr, ℕ, List, [], ◌∷◌, length, refl, sym, ap, ◌∙◌, subst, arith}
 use Rattle.std.proofs.lemmas.Str.{is_utf8-from_IsUtf8}
 use Rattle.std.specs.List.{AllByRecursion}
 use Rattle.blkseq_table.specs.Known.{AreApart, IsAbsent}
@@ -14,6 +14,7 @@ use Rattle.cdb_values.specs.declared.values.Value.{Value}
 use Rattle.cdb_values.specs.declared.values.Value.TheVariants.{Null, Int, Text, Blob}
 use Rattle.key_code.specs.Codes.{IsRowValue, IsText}
 use Rattle.log_rows.specs.History.{tables_of}
+use Rattle.log_rows.specs.Sizes.{IsSmall}
 use Rattle.node_opening.specs.Up.{GoesOn}
 use Rattle.phys_log.specs.Logs.{pages_of}
 use Rattle.phys_log.specs.declared.entries.CommitId.{CommitId}
@@ -107,6 +108,7 @@ can_begin accepted e es sound bytes = record {
     told_rows (tables_of (e ∷ es)) sound.rows.next sound.rows.tables sound.columns state.good.rows_fit state.stands.state.versions
         (bytes sound.rows state),
   );
+  small = record { genid = subst (λ (n : ℕ). n < 2 ^ 62) (sym state.stands.genid) state.next; count = state.count };
 }
   where
     state : HasState (pages_of (e ∷ es)) (tables_of (e ∷ es)) sound.rows
@@ -159,6 +161,7 @@ opened_behind given tables generation [] log same (entry, begin, is) = record {
     records = begin.setup.0;
     is = is ∙ ap (λ (e : Entry). e ∷ []) begin.setup.1;
     stands = subst (λ (l : List Entry). Stands (pages_of l) given (no_rows given)) (sym is) begin.pages;
+    small = subst IsSmall (sym is) begin.small;
   });
   later = λ some. absurd (no some);
 }

@@ -6,6 +6,8 @@ pub mod WrittenLemmas
 pub mod BeginLemmas
 pub mod AfterLemmas
 pub mod AgainLemmas
+pub mod FirstLemmas
 pub mod KnownLemmas
 pub mod BegunLemmas
 pub mod RanLemmas
+pub mod SoundLemmas

@@ -3,17 +3,20 @@ use Rattle.std.proofs.Common.{◌⊎◌, ◌≡◌, ℕ, ◌+◌, ◌-◌, ◌<�
 use Rattle.std.proofs.Math.Logic.{∥∥₁_map}
 use Rattle.block_processor.specs.Changed.{changed_in}
 use Rattle.cdb_outside.specs.Faults.{Rose}
-use Rattle.cdb_values.specs.Rows.{Rows}
+use Rattle.cdb_values.specs.Rows.{Rows, no_rows}
 use Rattle.cdb_values.specs.declared.tables.TableDef.{TableDef}
 use Rattle.log_replay.specs.Answers.{schema_of}
 use Rattle.log_rows.specs.History.{rows_over_at, IsFrom, StandsOver}
+use Rattle.log_rows.specs.Sizes.{IsSmall}
 use Rattle.node_log.specs.Logged.{Logged, Leaves, Stand, StandForOne}
 use Rattle.node_opening.specs.declared.up.WhyNotUp.{WhyNotUp}
 use Rattle.node_opening.specs.declared.up.WhyNotUp.TheVariants as why
 use Rattle.node_opening.specs.Goods.{StandsForGood}
-use Rattle.node_opening.specs.Left.{IsLeft}
+use Rattle.node_opening.specs.Left.{IsLeft, StandsPartway, StopsPartway}
+use Rattle.node_opening.specs.Up.{IsBegin}
 use Rattle.node_opening.specs.Why.{HasRisen, IsWhy}
 use Rattle.page_store.specs.Image.{Image}
+use Rattle.phys_log.specs.Logs.{pages_of}
 use Rattle.phys_log.specs.declared.entries.Entry.{Entry}
 use Rattle.report_laws.specs.History.{changes_at, rows_at}
 use Rattle.report_laws.specs.Lawful.{Lawful}
@@ -35,14 +38,19 @@ use Rattle.script_play.proofs.PlayLaws.{given_first}
 use Rattle.store_log.specs.declared.standings.Standing.TheVariants.{Log}
 use Rattle.store_log.specs.Held.{StandsFor}
 use Rattle.store_log.specs.Keeps.{Stored}
-use Rattle.script_main.proofs.AgainLemmas.{all_columns, columns_with, sound_behind, KeepTheirKeys}
+use Rattle.script_main.proofs.AgainLemmas.{accepted_within, all_columns, columns_with, sound_behind, KeepTheirKeys}
 use Rattle.script_main.proofs.BegunLemmas.{before_is, begins_at, begun_at}
+use Rattle.std.specs.List.{AllByRecursion}
+use Rattle.sound_log.specs.Columns.{HasColumns}
+use Rattle.sound_log.specs.Sound.{IsSound}
+use Rattle.sound_log.proofs.GrowthLemmas.{sound_first, sound_later}
 use Rattle.table_store.specs.Stored.{Stands}
 use Rattle.script_main.proofs.KnownLemmas.{only_state}
+use Rattle.script_main.proofs.SoundLemmas.{alike_again}
 use Rattle.script_main.proofs.ReportedLemmas.{one_such, spelled_over, told_in_grammar}
 use Rattle.script_main.specs.Known.{IsKnown}
 use Rattle.script_main.specs.Run.{IsTextOver}
-use Rattle.script_main.specs.Runs.{IsCutOff, IsLeftBy, IsMore, IsRun, IsSoundBelow, IsSoundFurther, IsSoundMore, Keeps}
+use Rattle.script_main.specs.Runs.{IsCutOff, IsLeftBy, IsMore, IsRun, IsSoundAgain, IsSoundFurther, IsSoundMore, IsSoundStore, Keeps}
 use Rattle.script_main.specs.Steps.{log_before, IsBegunAt, IsLeftBehind, IsLeftFrom, IsLeftOf, IsNotUpText, IsOpened, IsPlaceIn, IsPlayedText, IsReportText, IsRunText}
 use Rattle.script_main.specs.Stores.{cluster_of, start_at, with_tables, HasRows}
 use Rattle.script_main.specs.declared.statuses.Status.{Status}
@@ -180,6 +188,7 @@ its_history script start generation report history told = record {
   changed = told.changed;
   rows = told.rows;
   stands = told.stands;
+  small = told.small;
 }
 
 -- what is told of a run, by where it began
@@ -187,8 +196,8 @@ pub its_told : (script : Script) (start : Start) (generation : ℕ) (report : Re
     AreTold start.before generation report.entries history → schema_of history ≡ Some (tables_of script) →
     ((k : ℕ) → b < k → k ≤ length history → unwrap_or (slice_get (changed_in history) (k - 1)) [] ≡ changes_at (from_start script start) report.entries k) →
     ((k : ℕ) → IsFrom b k → k ≤ length history → rows_over_at (ground_of start) history k ≡ rows_at (from_start script start) report.entries k) →
-    StandsOver (ground_of start) (tables_of script) history → IsTold script start generation report history
-its_told script start generation report history b at lawful in_order entries schema changed rows stands = record {
+    StandsOver (ground_of start) (tables_of script) history → IsSmall history → IsTold script start generation report history
+its_told script start generation report history b at lawful in_order entries schema changed rows stands small = record {
   lawful = lawful;
   in_order = in_order;
   entries = entries;
@@ -196,6 +205,7 @@ its_told script start generation report history b at lawful in_order entries sch
   changed = λ k first within. changed k (let e = at in omega (arith, e, first)) within;
   rows = λ k from within. rows k (from.0, let e = at in let f = from.1 in omega (arith, e, f)) within;
   stands = stands;
+  small = small;
 }
 
 -- of a run that is told
@@ -247,7 +257,7 @@ is_run law script old new base log before s text can names o same rows begun pla
     let whole = with_tables script before in
     let start = start_at before rows in
     let sound_further = IsSoundFurther whole start (o.taken.old_promise + 1) played.report in
-    let sound : (entries : List EntryLine) (made : List Entry) → IsHistory whole start (o.taken.old_promise + 1) entries made → IsSoundBelow start (o.taken.old_promise + 1) made = λ entries made told.
+    let sound : (entries : List EntryLine) (made : List Entry) → IsHistory whole start (o.taken.old_promise + 1) entries made → IsSound (o.taken.old_promise + 1) made = λ entries made told.
     sound_behind script (cluster_of script) old.synced o.taken.old_promise o.taken.old_accepted before start entries made law (all_columns whole.tables can.columns) refl
     (subst (λ (es : List Entry). StandsForGood 1 (cluster_of script) old.synced (tables_of script) o.taken.old_promise o.taken.old_accepted es) (sym same) o.taken.stood) begun.has_rows told in
     let basis = from_start whole (start_at before rows) in
@@ -300,19 +310,58 @@ pub opened_known : (script : Script) (old : Stored) (base : ℕ) (log : Logged) 
 opened_known script old base log o one =
     ∣ record { rows = (begins_at script old base log o).rows; has = (begun_at script old base log o).has_rows; one = only_state (log_before base log) one } ∣₁
 
+-- what is left of a store whose node stopped at the opening is sound again
+setup_sound : KeepTheirKeys → (accepted generation : ℕ) (tables : List TableDef) (entry : Entry) → AllByRecursion HasColumns tables → IsBegin generation tables entry → IsSound accepted (entry ∷ [])
+setup_sound law accepted generation tables entry columns begin =
+    sound_first accepted generation tables entry (law (pages_of (entry ∷ [])) tables (no_rows tables)) begin.setup columns begin.pages begin.small.count
+
+partway_again : KeepTheirKeys → (script : Script) (old new : Stored) → CanRun script → StopsPartway 1 (cluster_of script) old.synced new.synced (tables_of script) → IsSoundAgain script old new
+partway_again law script old new can stops was = ∥∥₁_map stops.stands pick
+  where
+    p : ℕ
+    p = stops.promised
+
+    a : ℕ
+    a = stops.accepted
+
+    es : List Entry
+    es = stops.entries
+
+    sound : IsSound a es
+    sound = stops.stood.good.sound
+
+    later : a ≤ p + 1
+    later = let l = accepted_within (cluster_of script) old.synced p a es stops.stood.stands in omega (arith, l)
+
+    pick : StandsPartway 1 (cluster_of script) new.synced (tables_of script) p a es → IsSoundStore script new
+    pick (inl stands) = record { promised = p; accepted = a; entries = es; stands = stands; sound = sound }
+    pick (inr (inl stands)) = record { promised = p + 1; accepted = a; entries = es; stands = stands; sound = sound }
+    pick (inr (inr (inl stands))) = record { promised = p + 1; accepted = p + 1; entries = es; stands = stands; sound = sound_later a (p + 1) es later sound }
+    pick (inr (inr (inr begun))) = record {
+      promised = p + 1;
+      accepted = p + 1;
+      entries = begun.entry ∷ [];
+      stands = begun.stands;
+      sound = setup_sound law (p + 1) (p + 1) (tables_of script) begun.entry (all_columns script.tables can.columns) begun.begin;
+    }
+
+fault_again : KeepTheirKeys → (script : Script) (size : ℕ) (old new : Stored) → CanRun script → IsLeft (why.StoreFault size) 1 (cluster_of script) old.synced new.synced (tables_of script) → IsSoundAgain script old new
+fault_again law script size old new can (inl alike) = alike_again script old new alike
+fault_again law script size old new can (inr fails) = partway_again law script old new can fails.partway
+
 -- what is told of a node that is not up
-pub not_up_text : (script : Script) (w : WhyNotUp) (old new : Stored) (s : Status) (text : List ℕ) → IsWhy w 1 (cluster_of script) old.synced (tables_of script) old.faults new.faults →
-    IsLeft w 1 (cluster_of script) old.synced new.synced (tables_of script) → IsNotUpText script w s text → IsTextOver script old new s text
-not_up_text script (why.StoreFault size) old new s text is left told =
-    subst (λ (t : Status). IsTextOver script old new t text) (sym told.0) (inr (record { size = size; told = told.1; fault = is; left = left }))
-not_up_text script (why.Refused at) old new s text is left told =
+pub not_up_text : KeepTheirKeys → (script : Script) (w : WhyNotUp) (old new : Stored) (s : Status) (text : List ℕ) → IsWhy w 1 (cluster_of script) old.synced (tables_of script) old.faults new.faults →
+    IsLeft w 1 (cluster_of script) old.synced new.synced (tables_of script) → CanRun script → IsNotUpText script w s text → IsTextOver script old new s text
+not_up_text law script (why.StoreFault size) old new s text is left can told =
+    subst (λ (t : Status). IsTextOver script old new t text) (sym told.0) (inr (record { size = size; told = told.1; fault = is; left = left; again = fault_again law script size old new can left }))
+not_up_text law script (why.Refused at) old new s text is left can told =
     subst (λ (t : Status). IsTextOver script old new t text) (sym told.0) (refl, is, left, told.1)
-not_up_text script why.Unsound old new s text is left told =
+not_up_text law script why.Unsound old new s text is left can told =
     subst (λ (t : Status). IsTextOver script old new t text) (sym told.0) (refl, is, left, told.1)
-not_up_text script (why.Differs place) old new s text is left told =
+not_up_text law script (why.Differs place) old new s text is left can told =
     subst (λ (t : Status). IsTextOver script old new t text) (sym told.status_is)
     (record { place = place; other = is; said = told.said; at = told.at; line_is = refl }, refl, left, told.text_is)
-not_up_text script why.NoMemory old new s text is left told = absurd told
+not_up_text law script why.NoMemory old new s text is left can told = absurd told
 
 -- the place of a table that differs is that of one of the script's
 pub place_in : (script : Script) (w : WhyNotUp) (old : List ℕ) (before now : ℕ) → IsWhy w 1 (cluster_of script) old (tables_of script) before now → IsPlaceIn w (tables_of script)
@@ -342,14 +391,14 @@ run_text script old new s text r = subst (λ (t : Status). IsTextOver script old
 pub same_cut : (script : Script) (old new : Stored) → new ≡ old → IsCutOff script old new
 same_cut script old new same = subst (λ (s : Stored). IsCutOff script old s) (sym same) (inl (λ s stands. stands))
 
-pub left_cut : (script : Script) (w : WhyNotUp) (old new : Stored) → IsLeft w 1 (cluster_of script) old.synced new.synced (tables_of script) → IsCutOff script old new
-left_cut script (why.StoreFault size) old new (inl alike) = inl alike
-left_cut script (why.StoreFault size) old new (inr fails) = inr (inl fails.partway)
-left_cut script (why.Refused at) old new alike = inl alike
-left_cut script why.Unsound old new alike = inl alike
-left_cut script (why.Differs place) old new alike = inl alike
-left_cut script why.NoMemory old new (inl alike) = inl alike
-left_cut script why.NoMemory old new (inr partway) = inr (inl partway)
+pub left_cut : KeepTheirKeys → (script : Script) (w : WhyNotUp) (old new : Stored) → CanRun script → IsLeft w 1 (cluster_of script) old.synced new.synced (tables_of script) → IsCutOff script old new
+left_cut law script (why.StoreFault size) old new can (inl alike) = inl alike
+left_cut law script (why.StoreFault size) old new can (inr fails) = inr (inl (record { partway = fails.partway; again = partway_again law script old new can fails.partway }))
+left_cut law script (why.Refused at) old new can alike = inl alike
+left_cut law script why.Unsound old new can alike = inl alike
+left_cut law script (why.Differs place) old new can alike = inl alike
+left_cut law script why.NoMemory old new can (inl alike) = inl alike
+left_cut law script why.NoMemory old new can (inr partway) = inr (inl (record { partway = partway; again = partway_again law script old new can partway }))
 
 pub run_cut : KeepTheirKeys → (script : Script) (old new : Stored) (base : ℕ) (log : Logged) → CanRun script → IsOpened script old base log → IsLeftBehind script (log_before base log) log new → IsCutOff script old new
 run_cut law script old new base log can o l =
@@ -359,7 +408,7 @@ run_cut law script old new base log can o l =
     let sound_more = IsSoundMore whole l.start made l.entries in
     let stood : StandsForGood 1 (cluster_of script) old.synced (tables_of script) o.taken.old_promise o.taken.old_accepted before =
     subst (λ (es : List Entry). StandsForGood 1 (cluster_of script) old.synced (tables_of script) o.taken.old_promise o.taken.old_accepted es) (sym (before_is script old base log o)) o.taken.stood in
-    let sound : (entries : List EntryLine) (history : List Entry) → IsHistory whole l.start made entries history → IsSoundBelow l.start made history = λ entries history told.
+    let sound : (entries : List EntryLine) (history : List Entry) → IsHistory whole l.start made entries history → IsSound made history = λ entries history told.
     sound_behind script (cluster_of script) old.synced o.taken.old_promise o.taken.old_accepted before l.start entries history law
     (columns_with script o.taken.old_accepted before can stood.good.sound stood.good.tables) l.behind stood l.has_rows told in
     let told : IsHistory whole l.start made l.entries l.history = subst (λ (g : ℕ). IsHistory whole l.start g l.entries l.history) o.taken.accepted l.told in

@@ -7,8 +7,8 @@ use Rattle.script_form.specs.CanRun.{tables_of}
 use Rattle.script_form.specs.declared.scripts.Script.{Script}
 use Rattle.script_form.specs.declared.scripts.TableLine.{TableLine}
 use Rattle.store_log.specs.Keeps.{Stored}
-use Rattle.script_main.proofs.ApartLemmas.{good_not_other, good_not_unsound, log_not_refused, one_offset, other_not_unsound, same_place}
-use Rattle.script_main.specs.Run.{IsAnyFault, IsFault, IsFaultBy, IsRefusalText, IsRefusedAt, IsStoreBadAt, IsStoreUnsound, IsText, IsTextOver, IsUsageText, IsWritten, TellsRefusal, TellsStoreRefused, TellsUnsound, TellsUsage, Writes}
+use Rattle.script_main.proofs.ApartLemmas.{good_not_other, good_not_unsound, log_not_other, log_not_refused, log_not_unsound, one_offset, other_not_unsound, same_place}
+use Rattle.script_main.specs.Run.{Completes, IsAnyFault, IsFault, IsFaultBy, IsGoodAt, IsGoodStore, IsRefusalText, IsRefusedAt, IsStoreBadAt, IsStoreUnsound, IsText, IsTextOver, IsUsageText, IsWritten, TellsRefusal, TellsStoreRefused, TellsUnsound, TellsUsage, Writes}
 use Rattle.script_main.specs.Stores.{cluster_of, HasId, IsBadAt, IsOtherAt, IsUnsound}
 use Rattle.script_main.specs.declared.statuses.Status.{Status}
 use Rattle.script_main.specs.declared.statuses.Status.TheVariants as status
@@ -263,3 +263,46 @@ pub tells_unsound : (play : Bool) (count consumers : ℕ) (stores stores' : List
 tells_unsound play count consumers stores stores' None old new result w = tt
 tells_unsound play count consumers stores stores' (Some bytes) old new result w =
     subst (λ (s : Result Script Refusal). TellsUnsound play s stores stores' result) w.is_script (unsound_told play w.script stores stores' result w.text w.is_written)
+
+-- a script over a good store is done
+
+good_over : (script : Script) (o n : Stored) (s : Status) (text : List ℕ) → HasId script → IsGoodStore script o → IsTextOver script o n s text → s ≡ status.Done
+good_over script o n status.Done text id good t = refl
+good_over script o n status.Usage text id good t = absurd t
+good_over script o n (status.Refused line why) text id good t =
+    absurd (log_not_other (cluster_of script) o.synced (tables_of script) good.promised good.accepted good.entries t.0.place id good.stands good.tables t.0.other)
+good_over script o n status.ReadFault text id good t = absurd t
+good_over script o n status.WriteFault text id good t = absurd t
+good_over script o n (status.StoreRefused node at) text id good t =
+    absurd (log_not_refused (cluster_of script) o.synced good.promised good.accepted good.entries at id good.stands t.1)
+good_over script o n (status.Unsound node) text id good t =
+    absurd (log_not_unsound (cluster_of script) o.synced good.promised good.accepted good.entries id good.stands good.sound t.1)
+good_over script o n status.NoMemory text id good t = absurd t
+
+done_always : (play : Bool) (script : Result Script Refusal) (old new : List Stored) (s : Status) (text : List ℕ) → play ≡ true → IsGoodAt script old → IsText play script old new s text → s ≡ status.Done
+done_always false script old new s text on good is = absurd (not_both false on refl)
+done_always true (Err r) old new s text on good is = absurd good
+done_always true (Ok script) [] new s text on good is = absurd is
+done_always true (Ok script) (o ∷ os) [] s text on good is = absurd is
+done_always true (Ok script) (o ∷ os) (n ∷ ns) s text on good is = good_over script o n s text is.1 good is.0
+
+completes_by : (play : Bool) (script : Result Script Refusal) (old new : List Stored) (result : Status) (text : List ℕ) → IsWritten play script old new result text →
+    (result ≡ status.ReadFault → ⊥) → (result ≡ status.WriteFault → ⊥) → Completes play script old result
+completes_by play script old new result text w read written on good = go (text_or_fault play script old new result text w)
+  where
+    go : TextOrFault play script old new result text → (result ≡ status.Done) ⊎ (result ≡ status.NoMemory)
+    go (inl t) = inl (done_always play script old new result text on good t)
+    go (inr (inl fault)) = absurd (read fault)
+    go (inr (inr (inl fault))) = absurd (written fault)
+    go (inr (inr (inr none))) = inr none
+
+pub completes : (play : Bool) (count consumers : ℕ) (stores stores' : List Stored) (input old new : Option (List ℕ)) (result : Status) → Writes play count consumers stores stores' input old new result →
+    (result ≡ status.ReadFault → ⊥) → (result ≡ status.WriteFault → ⊥) → IfSome input (λ bytes. Completes play (script_of count consumers bytes) stores result)
+completes play count consumers stores stores' None old new result w read written = tt
+completes play count consumers stores stores' (Some bytes) old new result w read written =
+    subst (λ (s : Result Script Refusal). Completes play s stores result) w.is_script (completes_by play w.script stores stores' result w.text w.is_written read written)
+
+-- words that are no command play nothing
+pub completes_off : (play : Bool) (count consumers : ℕ) (stores : List Stored) (input : Option (List ℕ)) (result : Status) → play ≡ false → IfSome input (λ bytes. Completes play (script_of count consumers bytes) stores result)
+completes_off play count consumers stores None result off = tt
+completes_off play count consumers stores (Some bytes) result off = λ on. absurd (not_both play on off)

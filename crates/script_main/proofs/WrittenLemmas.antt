@@ -165,6 +165,10 @@ answer_says play count consumers stores stores' input left old new before now wa
     writes_text play count consumers stores stores' input old new before now wanted result text answers.script answers.is_script
     (subst (λ (p : Bool). IsText p answers.script stores stores' wanted text) (sym is) answers.is_text) fin
 
+-- a run that stopped wrote nothing, so no write failed
+pub stop_written : (s : Status) (script : Result Script Refusal) (stores stores' : List Stored) → IsStop s script stores stores' → s ≡ status.WriteFault → ⊥
+stop_written s script stores stores' stop fault = subst (λ (t : Status). IsStop t script stores stores') fault stop
+
 -- nothing is written by a run that stopped
 pub stop_says : (play : Bool) (count consumers : ℕ) (stores stores' : List Stored) (input taken : Option (List ℕ)) (result : Status) → play ≡ true → StopsAt count consumers stores stores' input result → Writes play count consumers stores stores' input taken taken result
 stop_says play count consumers stores stores' input taken result is stops = record {

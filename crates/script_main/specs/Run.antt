@@ -5,10 +5,16 @@ use Rattle.cdb_outside.specs.Parts.{IsFront, AppendsFront}
 use Rattle.cdb_outside.specs.Faults.{Rose}
 use Rattle.script_read.specs.Answers.{Refusal, refusal}
 use Rattle.script_read.specs.ScriptText.{script_of}
+use Rattle.script_form.specs.CanRun.{tables_of}
 use Rattle.script_form.specs.declared.scripts.Script.{Script}
+use Rattle.node_opening.specs.Goods.{HasTables}
+use Rattle.phys_log.specs.declared.entries.Entry.{Entry}
+use Rattle.sound_log.specs.Sound.{IsSound}
+use Rattle.store_log.specs.declared.standings.Standing.TheVariants.{Log}
+use Rattle.store_log.specs.Held.{StandsFor}
 use Rattle.store_log.specs.Keeps.{Stored}
-use Rattle.script_main.specs.Runs.{IsCutOff, IsRun, IsDownFirst}
-use Rattle.script_main.specs.Stores.{IsAlike, IsBadAt, IsOtherAt, IsUnsound, FirstRose, HasId}
+use Rattle.script_main.specs.Runs.{IsCutOff, IsRun, IsDownFirst, IsSoundAgain}
+use Rattle.script_main.specs.Stores.{cluster_of, IsAlike, IsBadAt, IsOtherAt, IsUnsound, FirstRose, HasId}
 use Rattle.script_main.specs.Texts.{refused_text, store_text, unsound_text, usage_text}
 use Rattle.script_main.specs.declared.statuses.Status.{Status}
 use Rattle.script_main.specs.declared.statuses.Status.TheVariants as status
@@ -144,6 +150,33 @@ pub record TellsStoreRefused (play : Bool) (script : Result Script Refusal) (old
 pub record TellsUnsound (play : Bool) (script : Result Script Refusal) (old new : List Stored) (result : Status) : Type 0 where
   pub only : (node : ℕ) → result ≡ status.Unsound node → (node ≡ 1) × IsStoreUnsound script old
   pub always : play ≡ true → IsStoreUnsound script old → (result ≡ status.Unsound 1) ⊎ IsAnyFault old new result
+
+-- the store stands for a sound log that has the script's tables or no entry; a script that says no table has those of
+-- the log
+pub record IsGoodStore (script : Script) (store : Stored) : Type 0 where
+  pub promised : ℕ
+  pub accepted : ℕ
+  pub entries : List Entry
+  pub stands : StandsFor 1 (cluster_of script) store.synced (Log promised accepted entries)
+  pub sound : IsSound accepted entries
+  pub tables : HasTables (tables_of script) entries
+
+abbrev pub IsGoodAt : Result Script Refusal → List Stored → Type 0
+IsGoodAt (Err refused) stores = ⊥
+IsGoodAt (Ok script) [] = ⊥
+IsGoodAt (Ok script) (store ∷ others) = IsGoodStore script store
+
+-- a script that is valid, over such a store, is played to its end, unless memory runs out
+abbrev pub Completes : Bool → Result Script Refusal → List Stored → Status → Type 0
+Completes play script old result =
+    play ≡ true → IsGoodAt script old → (result ≡ status.Done) ⊎ (result ≡ status.NoMemory)
+
+-- where the first store stood for a sound log, it stands for one again
+abbrev pub AreSoundAgain : Result Script Refusal → List Stored → List Stored → Type 0
+AreSoundAgain (Err refused) old new = new ≡ old
+AreSoundAgain (Ok script) [] new = new ≡ []
+AreSoundAgain (Ok script) (o ∷ os) [] = ⊥
+AreSoundAgain (Ok script) (o ∷ os) (n ∷ ns) = IsSoundAgain script o n
 
 -- a run that leaves the stores as they were, bit for bit: no store was called
 abbrev pub LeavesStores : Status → Type 0

@@ -3,16 +3,13 @@
 -- The run begins behind the log for which the store stands, at the rows for which that log's pages stand, in the generation
 -- above the promised one. Where the store fails at the opening, the node is down from there on: no transaction begins, and
 -- the report is that of a run behind the log that was read, or behind none.
-use Rattle.std.specs.Prelude.{◌≡◌, ◌≢◌, ◌⊎◌, ℕ, ◌+◌, ◌<◌, ◌^◌, List, [], ◌∷◌, ◌++◌}
+use Rattle.std.specs.Prelude.{◌≡◌, ◌≢◌, ◌⊎◌, ℕ, ◌+◌, List, [], ◌∷◌, ◌++◌}
 use Rattle.std.specs.List.{AllByRecursion}
 use Rattle.cdb_values.specs.Rows.{Rows}
 use Rattle.node_opening.specs.declared.up.WhyNotUp.TheVariants as why
 use Rattle.node_opening.specs.Goods.{StandsForGood}
 use Rattle.node_opening.specs.Left.{IsLeft, StopsPartway}
 use Rattle.node_opening.specs.Why.{HasRisen, IsFault}
-use Rattle.log_rows.specs.History.{rows_over}
-use Rattle.page_workspace.specs.Spare.{count_of}
-use Rattle.phys_log.specs.Logs.{pages_of}
 use Rattle.phys_log.specs.declared.entries.Entry.{Entry}
 use Rattle.report_laws.specs.History.{Basis}
 use Rattle.report_laws.specs.Lawful.{Lawful}
@@ -29,7 +26,7 @@ use Rattle.script_form.specs.declared.scripts.Script.{Script}
 use Rattle.script_play.specs.Basis.{from_base, from_start}
 use Rattle.script_play.specs.Played.{IsFurther, IsHistory, IsTold}
 use Rattle.script_play.specs.Serial.{AreSerial}
-use Rattle.script_play.specs.Start.{Start, ground_of}
+use Rattle.script_play.specs.Start.{Start}
 use Rattle.sound_log.specs.Sound.{IsSound}
 use Rattle.store_log.specs.declared.standings.Standing.TheVariants.{Log}
 use Rattle.store_log.specs.Held.{StandsFor}
@@ -49,16 +46,23 @@ AreCalled script whole = (script.tables ≢ []) ⊎ AllByRecursion IsNamedTable 
 abbrev pub Keeps : ℕ → List ℕ → ℕ → List Entry → Type 0
 Keeps cluster bytes generation history = StandsFor 1 cluster bytes (Log generation generation history)
 
--- a log is sound, as long as the next genid and the number of its pages are below 2^62
-abbrev pub IsSoundBelow : Start → ℕ → List Entry → Type 0
-IsSoundBelow start generation log =
-    (rows_over (ground_of start) log).next < 2 ^ 62 → count_of (pages_of log) < 2 ^ 62 → IsSound generation log
+-- the store stands for a sound log
+pub record IsSoundStore (script : Script) (store : Stored) : Type 0 where
+  pub promised : ℕ
+  pub accepted : ℕ
+  pub entries : List Entry
+  pub stands : StandsFor 1 (cluster_of script) store.synced (Log promised accepted entries)
+  pub sound : IsSound accepted entries
+
+-- where the store stood for a sound log, it stands for one again
+abbrev pub IsSoundAgain : Script → Stored → Stored → Type 0
+IsSoundAgain script old new = IsSoundStore script old → ∥ IsSoundStore script new ∥₁
 
 -- a log with one entry more than the history of a report, that of the transaction that was lost as the node went down; it is
 -- sound
 pub record IsSoundFurther (script : Script) (start : Start) (generation : ℕ) (report : Report) (log : List Entry) : Type 0 where
   pub further : IsFurther script start generation report log
-  pub sound : IsSoundBelow start generation log
+  pub sound : IsSound generation log
 
 -- a log that has one entry more than these lines tell: with its line they tell it
 pub record IsMore (script : Script) (start : Start) (generation : ℕ) (entries : List EntryLine) (log : List Entry) : Type 0 where
@@ -68,7 +72,7 @@ pub record IsMore (script : Script) (start : Start) (generation : ℕ) (entries 
 -- the same, and it is sound
 pub record IsSoundMore (script : Script) (start : Start) (generation : ℕ) (entries : List EntryLine) (log : List Entry) : Type 0 where
   pub more : IsMore script start generation entries log
-  pub sound : IsSoundBelow start generation log
+  pub sound : IsSound generation log
 
 -- what is left where the node went down: the history, or such a log, which has one entry more
 pub record KeepsOrMore (cluster : ℕ) (bytes : List ℕ) (generation : ℕ) (history : List Entry) (MayBe : List Entry → Type 0) : Type 0 where
@@ -101,7 +105,7 @@ pub record IsRun (script : Script) (old new : Stored) (text : List ℕ) : Type 0
   pub is_text : text ≡ report_text report
   pub left : IsLeftBy (downs report.lines) (cluster_of script) old new (promised + 1) history
       (IsSoundFurther (with_tables script before) (start_at before rows) (promised + 1) report)
-  pub sound : IsSoundBelow (start_at before rows) (promised + 1) history
+  pub sound : IsSound (promised + 1) history
 
 -- the text of a report behind a log of that size, of whatever rows, that tells of no entry, and first of all that the node went
 -- down: so no transaction begins in it
@@ -115,12 +119,19 @@ pub record IsDownText (script : Script) (size : ℕ) (text : List ℕ) : Type 0 
   pub is_report : IsReport report
   pub is_text : text ≡ report_text report
 
--- the same where the store failed at the opening, once a log of that size was read, or none; and what is left of the store
+-- the same where the store failed at the opening, once a log of that size was read, or none; and what is left of the
+-- store, which is sound again
 pub record IsDownFirst (script : Script) (old new : Stored) (text : List ℕ) : Type 0 where
   pub size : ℕ
   pub told : IsDownText script size text
   pub fault : IsFault 1 (cluster_of script) old.synced (tables_of script) size old.faults new.faults
   pub left : IsLeft (why.StoreFault size) 1 (cluster_of script) old.synced new.synced (tables_of script)
+  pub again : IsSoundAgain script old new
+
+-- what is left of the store where memory ran out at the opening, which is sound again
+pub record IsStopped (script : Script) (old new : Stored) : Type 0 where
+  pub partway : StopsPartway 1 (cluster_of script) old.synced new.synced (tables_of script)
+  pub again : IsSoundAgain script old new
 
 -- what is left of the store where the run was given up behind its opening, for want of memory: the log for which it stood, with
 -- entries of the run, whose lines tell its history. It is sound again.
@@ -138,12 +149,12 @@ pub record IsGivenUp (script : Script) (old new : Stored) : Type 0 where
   pub count : ℕ
   pub left : IsLeftBy count (cluster_of script) old new (promised + 1) history
       (IsSoundMore (with_tables script before) start (promised + 1) entries)
-  pub sound : IsSoundBelow start (promised + 1) history
+  pub sound : IsSound (promised + 1) history
 
 -- what is left of the store whatever is answered: what it stood for; that with some of what the opening appends; or what a run
 -- behind the opening leaves
 abbrev pub IsCutOff : Script → Stored → Stored → Type 0
 IsCutOff script old new =
     IsAlike script old new
-    ⊎ (StopsPartway 1 (cluster_of script) old.synced new.synced (tables_of script)
+    ⊎ (IsStopped script old new
     ⊎ IsGivenUp script old new)

@@ -2,7 +2,7 @@
 use Rattle.std.specs.Prelude.{ℕ, List, Bool, Option, IfSome, vec_len}
 use Rattle.script_read.specs.ScriptText.{script_of}
 use Rattle.store_log.specs.Keeps.{Stored}
-use Rattle.script_main.specs.Run.{TellsRefusal, TellsStoreRefused, TellsUnsound, Writes}
+use Rattle.script_main.specs.Run.{AreSoundAgain, Completes, TellsRefusal, TellsStoreRefused, TellsUnsound, Writes}
 use Rattle.script_main.specs.Stores.{kept_all}
 use Rattle.script_main.specs.declared.statuses.Outside.{Outside}
 use Rattle.script_main.specs.declared.statuses.Status.{Status}
@@ -42,3 +42,13 @@ RefusesStoreSo play old new result =
 abbrev pub FindsUnsoundSo : Bool → World → World → Status → Type 0
 FindsUnsoundSo play old new result =
     IfSome old.left (λ bytes. TellsUnsound play (script_of old.places old.consumers bytes) old.stores new.stores result)
+
+-- a valid script over a sound store is played to its end
+abbrev pub CompletesSo : Bool → World → Status → Type 0
+CompletesSo play old result =
+    IfSome old.left (λ bytes. Completes play (script_of old.places old.consumers bytes) old.stores result)
+
+-- a store that stood for a sound log stands for one again
+abbrev pub StandsAgainSo : World → World → Type 0
+StandsAgainSo old new =
+    IfSome old.left (λ bytes. AreSoundAgain (script_of old.places old.consumers bytes) old.stores new.stores)

@@ -6,7 +6,8 @@ ghost use Rattle.cdb_outside.specs.Faults.{Rose};
 ghost use Rattle.script_read.specs.ScriptText.{script_of};
 ghost use Rattle.script_main.specs.Run.{AnswersSource, AreLeft, Finishes, IsText, LeavesStores, StopsAt, TellsUsage};
 ghost use Rattle.script_main.specs.Stores.{kept_all, IsFirstAlone};
-ghost use Rattle.script_main.specs.World.{world, FindsUnsoundSo, RefusesSo, RefusesStoreSo, WritesSo};
+ghost use Rattle.script_main.specs.World.{world, CompletesSo, FindsUnsoundSo, RefusesSo, RefusesStoreSo};
+ghost use Rattle.script_main.specs.World.{StandsAgainSo, WritesSo};
 ghost use Rattle.script_main.specs.Words.{is_play};
 
 use super::answers::{Answer, answer_script};
@@ -21,7 +22,11 @@ const USAGE: &[u8] = b"usage: cdb play|run|fill N [--stores DIR]\n";
 
 /// Runs a command over the outside world. The one command is `play`: the script that the source holds is played over the first of
 /// the stores, and its report written to the sink. At every return the stores stand in their places, and nothing is pending in
-/// them; those behind the first are as they were, and so are the consumers.
+/// them; those behind the first are as they were, and so are the consumers. A first store that stood for a sound log
+/// stands for one again.
+///
+/// A valid script over a first store that stands for a sound log, of the script's tables or without entries, is played
+/// to its end, unless a count of the source or of the sink rose or memory ran out.
 pub fn run<S: Source, K: Sink, D: LogStore + Send + Drop>(
     alloc: Global,
     words: &[String],
@@ -38,6 +43,11 @@ pub fn run<S: Source, K: Sink, D: LogStore + Send + Drop>(
         (world S.left K.taken D.synced D.pending D.faults outside.new) result }
     ensures unsound { FindsUnsoundSo (is_play words.now) (world S.left K.taken D.synced D.pending D.faults outside.old)
         (world S.left K.taken D.synced D.pending D.faults outside.new) result }
+    ensures complete { (Rose (S.faults outside.old.source) (S.faults outside.new.source) → ⊥)
+        → (Rose (K.faults outside.old.sink) (K.faults outside.new.sink) → ⊥)
+        → CompletesSo (is_play words.now) (world S.left K.taken D.synced D.pending D.faults outside.old) result }
+    ensures again { StandsAgainSo (world S.left K.taken D.synced D.pending D.faults outside.old)
+        (world S.left K.taken D.synced D.pending D.faults outside.new) }
     ensures read { result ≡ Status.ReadFault → Rose (S.faults outside.old.source) (S.faults outside.new.source) }
     ensures write { result ≡ Status.WriteFault → Rose (K.faults outside.old.sink) (K.faults outside.new.sink) }
     ensures whole { result ≡ Status.Done → IsAtEnd (S.left outside.new.source) }

@@ -232,6 +232,7 @@ further_told script start generation lines entries log report says has is = reco
     changed = λ k first within. is.stored.changed_are k first (omega (arith, count, within)) ∙ sym (ap (λ (es : List EntryLine). changes_at (from_start script start) (es ++ is.line ∷ []) k) has);
     rows = λ k from within. is.stored.rows_are k from (omega (arith, count, within)) ∙ sym (ap (λ (es : List EntryLine). rows_at (from_start script start) (es ++ is.line ∷ []) k) has);
     stands = is.logged.stands;
+    small = is.logged.small;
   };
 }
   where

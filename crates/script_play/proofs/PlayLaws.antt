@@ -119,6 +119,7 @@ done_so script start opened lines entries log states now = record {
     changed = λ k first within. now.before.so_far.stored.changed_are k first (let n = now.logged.count in omega (arith, n, within));
     rows = λ k from within. now.before.so_far.stored.rows_are k from (let n = now.logged.count in omega (arith, n, within));
     stands = now.logged.stands;
+    small = now.logged.small;
   };
   faults = downs_at log.failed script lines (map state_in states) now.before.so_far.node;
   held = now.held;
@@ -144,6 +145,7 @@ history_so script start generation entries log stored logged told = record {
   changed = λ k first within. stored.changed_are k first (let n = logged.count in omega (arith, n, within));
   rows = λ k from within. stored.rows_are k from (let n = logged.count in omega (arith, n, within));
   stands = logged.stands;
+  small = logged.small;
 }
 
 -- a run is given up before the first line of the script

@@ -9,6 +9,7 @@ use Rattle.cdb_values.specs.declared.rows.Change.{Change}
 use Rattle.cdb_values.specs.declared.tables.TableDef.{TableDef}
 use Rattle.log_rows.proofs.HistoryLemmas.{rows_ground, rows_whole, stand_begun}
 use Rattle.log_rows.specs.History.{rows_over, rows_over_at, IsFrom, StandsOver}
+use Rattle.log_rows.specs.Sizes.{IsSmall}
 use Rattle.phys_log.specs.Logs.{page_at, pages_of}
 use Rattle.phys_log.specs.declared.entries.Entry.{Entry}
 use Rattle.phys_log.specs.declared.entries.Entry.TheVariants as log
@@ -139,10 +140,11 @@ first_is script start changed seen states can starts stored =
 
 opens_first : (script : Script) (rows : Rows) (generation : ℕ) (records : List LogRecord) (states : List SessionAt) → CanRun script → states ≡ map (λ _. at_start) script.sessions →
     Stands (pages_of (log.Setup generation (tables_of script) records ∷ [])) (tables_of script) (no_rows (tables_of script)) →
+    IsSmall (log.Setup generation (tables_of script) records ∷ []) →
     Opens script (at_nothing rows) generation (Setup 1 ∷ []) (log.Setup generation (tables_of script) records ∷ []) states
-opens_first script rows generation records states can starts at_one = record {
+opens_first script rows generation records states can starts at_one small = record {
   before_line = first_is script (at_nothing rows) ([] ∷ []) (seen_in (at_nothing rows) one) states can starts (stored_first script rows (seen_in (at_nothing rows) one) refl refl);
-  logged_so = record { count = refl; schema = refl; commits = tt; stands = stands };
+  logged_so = record { count = refl; schema = refl; commits = tt; stands = stands; small = small };
   told = record { made = one; behind = refl; told = refl; in_it = (refl, tt) };
 }
   where
@@ -166,6 +168,7 @@ opens_later script start generation states can starts some goes = record {
     schema = goes.schema;
     commits = goes.commits;
     stands = stand_begun (ground_of start) (tables_of script) start.before refl (λ long. goes.stands);
+    small = goes.small;
   };
   told = record { made = []; behind = sym (append-nil start.before); told = refl; in_it = tt };
 }
@@ -183,7 +186,7 @@ pub opens : (script : Script) (tables : List TableDef) (before : List Entry) (ro
 opens script tables [] rows generation entries logged states can are begin is starts =
     subst (λ (es : List EntryLine). Opens script (at_nothing rows) generation es logged states) (sym found.0)
     (subst (λ (es : List Entry). Opens script (at_nothing rows) generation (Setup 1 ∷ []) es states) (sym its)
-    (opens_first script rows generation found.1.records states can starts at_one))
+    (opens_first script rows generation found.1.records states can starts at_one (subst IsSmall its found.1.small)))
   where
     found : (entries ≡ Setup 1 ∷ []) × IsOpenedLog tables generation logged
     found = is.first refl

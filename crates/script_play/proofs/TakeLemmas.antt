@@ -129,6 +129,7 @@ module _ (start : Start) (tables : List TableDef) (log : List Entry) (now : ℕ)
       schema = schema_front log (entry ∷ []) some ∙ logged.schema;
       commits = behind_first log some logged.commits;
       stands = stand_more (ground_of start) tables log entry logged.stands is.stands;
+      small = is.small logged.small;
     };
   }
     where

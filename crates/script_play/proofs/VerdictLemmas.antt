@@ -182,4 +182,5 @@ module _ (start : Start) (generation : ℕ) (tables : List TableDef) (now : ℕ)
         rows = is.rows ∙ ap (λ (o : List RowOp). apply_all (rows_over (ground_of start) log) o) ops_are;
         changes = ap (λ (e : Entry). changes_in e) is.made ∙ ap (λ (o : List RowOp). changes_of o (rows_over (ground_of start) log).next) ops_are;
         fresh = its_fresh;
+        small = λ was. record { genid = is.within.genid; count = is.within.count was.count };
       }

@@ -7,6 +7,7 @@ use Rattle.cdb_values.specs.declared.rows.Level.{Level}
 use Rattle.cdb_values.specs.declared.rows.RowOp.{RowOp}
 use Rattle.cdb_values.specs.declared.tables.TableDef.{TableDef}
 use Rattle.log_rows.specs.History.{rows_over, IsCommit}
+use Rattle.log_rows.specs.Sizes.{IsSmall}
 use Rattle.phys_log.specs.Logs.{pages_of, Fits}
 use Rattle.phys_log.specs.declared.entries.CommitId.{CommitId}
 use Rattle.phys_log.specs.declared.entries.Entry.{Entry}
@@ -51,7 +52,7 @@ abbrev pub IsFreshIn : List Entry → Entry → Type 0
 IsFreshIn log entry = (position : ℕ) (id : CommitId) → id_of entry ≡ Some id → HasId log position id → ⊥
 
 -- an entry is the next of a log, names that transaction, which no entry before it names, and makes of the rows what these
--- operations make of them
+-- operations make of them; the numbers that its pages tell stay below 2^62
 pub record IsEntryOf (start : Start) (tables : List TableDef) (log : List Entry) (entry : Entry) (named : Named) (ops : List RowOp) : Type 0 where
   pub names : (position : ℕ) → line_of position entry ≡ Commit position named.session named.number named.begin named.level
   pub of_its : IsOfIts named entry
@@ -61,6 +62,7 @@ pub record IsEntryOf (start : Start) (tables : List TableDef) (log : List Entry)
   pub rows : rows_over (ground_of start) (log ++ entry ∷ []) ≡ apply_all (rows_over (ground_of start) log) ops
   pub changes : changes_in entry ≡ changes_of ops (rows_over (ground_of start) log).next
   pub fresh : IsFreshIn log entry
+  pub small : IsSmall log → IsSmall (log ++ entry ∷ [])
 
 -- the entry that is to be appended, where operations are committed
 abbrev pub IsAdded : Start → List TableDef → List Entry → Option Entry → Named → List (List RowOp) → Type 0

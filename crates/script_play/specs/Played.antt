@@ -4,6 +4,7 @@ use Rattle.block_processor.specs.Changed.{changed_in}
 use Rattle.cdb_values.specs.declared.rows.Change.{Change}
 use Rattle.log_replay.specs.Answers.{schema_of}
 use Rattle.log_rows.specs.History.{rows_over_at, IsFrom, StandsOver}
+use Rattle.log_rows.specs.Sizes.{IsSmall}
 use Rattle.node_log.specs.Logged.{Logged}
 use Rattle.phys_log.specs.declared.entries.Entry.{Entry}
 use Rattle.report_laws.specs.History.{rows_at, changes_at, IsEntryAfter}
@@ -29,7 +30,7 @@ downs_by true = 1
 abbrev pub changed_at : List Entry → ℕ → List Change
 changed_at log k = unwrap_or (slice_get (changed_in log) (k - 1)) []
 
--- what a report tells of a history: that of a log from where the run began
+-- what a report tells of a history: that of a log from where the run began; its pages tell numbers below 2^62
 pub record IsTold (script : Script) (start : Start) (generation : ℕ) (report : Report) (history : List Entry) : Type 0 where
   pub lawful : Lawful (from_start script start) report
   pub in_order : InPlayOrder (from_start script start) report
@@ -38,8 +39,9 @@ pub record IsTold (script : Script) (start : Start) (generation : ℕ) (report :
   pub changed : (k : ℕ) → base start < k → k ≤ length history → changed_at history k ≡ changes_at (from_start script start) report.entries k
   pub rows : (k : ℕ) → IsFrom (base start) k → k ≤ length history → rows_over_at (ground_of start) history k ≡ rows_at (from_start script start) report.entries k
   pub stands : StandsOver (ground_of start) (tables_of script) history
+  pub small : IsSmall history
 
--- lines tell the history of a log from where the run began
+-- lines tell the history of a log from where the run began; its pages tell numbers below 2^62
 pub record IsHistory (script : Script) (start : Start) (generation : ℕ) (entries : List EntryLine) (log : List Entry) : Type 0 where
   pub lawful : EachAfter (IsEntryAfter (from_start script start)) [] entries
   pub told : AreTold start.before generation entries log
@@ -47,6 +49,7 @@ pub record IsHistory (script : Script) (start : Start) (generation : ℕ) (entri
   pub changed : (k : ℕ) → base start < k → k ≤ length log → changed_at log k ≡ changes_at (from_start script start) entries k
   pub rows : (k : ℕ) → IsFrom (base start) k → k ≤ length log → rows_over_at (ground_of start) log k ≡ rows_at (from_start script start) entries k
   pub stands : StandsOver (ground_of start) (tables_of script) log
+  pub small : IsSmall log
 
 -- a log with one entry more than the history of a report: that of the transaction that is lost by the line that the node went
 -- down. No one was told of it; with its line, the history would be that of the log

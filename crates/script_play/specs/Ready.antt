@@ -11,6 +11,7 @@ use Rattle.cdb_values.specs.declared.tables.TableDef.{TableDef}
 use Rattle.live_operations.specs.Live.{AreLive}
 use Rattle.log_replay.specs.Answers.{schema_of}
 use Rattle.log_rows.specs.History.{rows_over, rows_over_at, IsFrom, StandsOver, IsCommit}
+use Rattle.log_rows.specs.Sizes.{IsSmall}
 use Rattle.phys_log.specs.Logs.{pages_of}
 use Rattle.phys_log.specs.declared.entries.CommitId.{CommitId}
 use Rattle.phys_log.specs.declared.entries.Entry.{Entry}
@@ -35,13 +36,15 @@ abbrev pub IsAskable : TableDef → Type 0
 IsAskable table = HasDistinctColumns table × HasColumns table
 
 -- a log that has entries can be gone on with over these tables: its first entry is their setup, all others are those of
--- transactions, each once, and its pages stand for these rows, which are sound, with texts of UTF-8
+-- transactions, each once, and its pages stand for these rows, which are sound, with texts of UTF-8, and tell numbers
+-- below 2^62
 pub record GoesOn (tables : List TableDef) (log : List Entry) (rows : Rows) : Type 0 where
   pub schema : schema_of log ≡ Some tables
   pub commits : AllByRecursion IsCommit (drop 1 log)
   pub apart : AreApart (identities_of log)
   pub stands : Stands (pages_of log) tables rows
   pub kept : AreKept tables rows.next rows.tables
+  pub small : IsSmall log
 
 -- a run can begin behind a log, whose pages stand for these rows; there are none where the log has no entry
 abbrev pub CanBegin : List TableDef → List Entry → Rows → Type 0
@@ -52,12 +55,14 @@ CanBegin tables (e ∷ es) rows = GoesOn tables (e ∷ es) rows
 abbrev pub AreEarlier : ℕ → List Entry → Type 0
 AreEarlier generation log = (position : ℕ) (id : CommitId) → HasId log position id → id.began < generation
 
--- a log begins with the schema, goes on with commits, and its pages stand for its rows at each position from the start on
+-- a log begins with the schema, goes on with commits, its pages stand for its rows at each position from the start on,
+-- and tell numbers below 2^62
 pub record IsLogged (start : Start) (tables : List TableDef) (now : ℕ) (log : List Entry) : Type 0 where
   pub count : length log ≡ now
   pub schema : schema_of log ≡ Some tables
   pub commits : AllByRecursion IsCommit (drop 1 log)
   pub stands : StandsOver (ground_of start) tables log
+  pub small : IsSmall log
 
 -- the log and the rows from the start up to a last position
 pub record IsReady (start : Start) (tables : List TableDef) (now : ℕ) (log : List Entry) : Type 0 where

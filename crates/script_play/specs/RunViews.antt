@@ -6,6 +6,7 @@ use Rattle.block_processor.specs.Changed.{changed_in}
 use Rattle.cdb_values.specs.declared.rows.RowOp.{RowOp}
 use Rattle.cdb_values.specs.declared.tables.TableDef.{TableDef}
 use Rattle.log_rows.specs.History.{rows_over, rows_over_at}
+use Rattle.log_rows.specs.Sizes.{IsSmall}
 use Rattle.cdb_values.specs.Rows.{no_rows}
 use Rattle.phys_log.specs.Logs.{pages_of}
 use Rattle.phys_log.specs.declared.entries.CommitId.{CommitId}
@@ -77,11 +78,13 @@ IsOfText tables meant = (text : List ℕ) × (is_utf8 text ≡ true) × (meant �
 abbrev pub IsSameHistory : Run → Run → Type 0
 IsSameHistory r r' = (r'.entries ≡ r.entries) × (r'.log ≡ r.log)
 
--- a log that has the setup of a schema alone, in a generation; its pages stand for tables without rows
+-- a log that has the setup of a schema alone, in a generation; its pages stand for tables without rows, with numbers
+-- below 2^62
 pub record IsOpenedLog (tables : List TableDef) (generation : ℕ) (log : List Entry) : Type 0 where
   pub records : List LogRecord
   pub is : log ≡ Setup generation tables records ∷ []
   pub stands : Stands (pages_of log) tables (no_rows tables)
+  pub small : IsSmall log
 
 -- the log of a node at the opening of a run: where there was none before, it has the setup of the schema alone; any other
 -- one is as it was

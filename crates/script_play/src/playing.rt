@@ -5,6 +5,7 @@ ghost use Rattle.blkseq_table.specs.OfLogs.{identities_of};
 ghost use Rattle.cdb_values.specs.Rows.{Rows};
 ghost use Rattle.log_replay.specs.Answers.{schema_of as schema_told};
 ghost use Rattle.log_rows.specs.History.{rows_over_at, IsFrom, StandsOver};
+ghost use Rattle.log_rows.specs.Sizes.{IsSmall};
 ghost use Rattle.node_log.specs.Logged.{Leaves};
 ghost use Rattle.report_laws.specs.History.{rows_at, changes_at};
 ghost use Rattle.report_laws.specs.Lawful.{Lawful, base_line};
@@ -62,8 +63,9 @@ pub struct Played<D: LogStore> {
 /// are printed, of the node's generation, in which their transactions began; and one more, which no one was told of, where the
 /// node went down: that of the transaction that was lost by it, at the begin that it was told, with which the history would be
 /// lawful too. Each entry of the history changes what it does there, and from the last position of the opened log on the
-/// pages of the log stand for the rows of the history. As long as the node is up its store stands for the log; else what a stop
-/// leaves of it stands for the log of the history, or for one entry more.
+/// pages of the log stand for the rows of the history; the next genid and the number of pages stay below 2^62. As long
+/// as the node is up its store stands for the log; else what a stop leaves of it stands for the log of the history, or
+/// for one entry more.
 ///
 /// The error is want of memory, with the log: it has the entries before the run and such as tell its history, which is lawful,
 /// and is held as the log of a run that is done.
@@ -91,6 +93,7 @@ pub fn play<D: LogStore + Drop>(
         → rows_over_at (ground_of start) (history_of p.log) k
         ≡ rows_at (from_start script.now start) p.report.entries k) }
     ensures stands { IfOk result (λ p. StandsOver (ground_of start) (tables_of script.now) (history_of p.log)) }
+    ensures small { IfOk result (λ p. IsSmall (history_of p.log)) }
     ensures faults { IfOk result (λ p. downs p.report.lines ≡ downs_by p.log.failed) }
     ensures cause { IfOk result (λ p. IsCaused p.log.failed log.store.faults p.log.store.faults) }
     ensures made { IfOk result (λ p. p.log.failed ≡ false → p.log.accepted ≡ log.accepted) }

@@ -50,9 +50,9 @@ returns-in-Err-clause-text g c =
     (λ a. IsNotUpText script down.why a.status a.text)
     (λ a. IsTextOver script old (kept_by g.D.LogStore.synced g.D.LogStore.pending g.D.LogStore.faults c.refuse.result.store) a.status a.text)
     (λ a is. subst (λ store. IsTextOver script old (kept_by g.D.LogStore.synced g.D.LogStore.pending g.D.LogStore.faults store) a.status a.text) (sym c.refuse.ensures.store)
-    (not_up_text script down.why old new a.status a.text
+    (not_up_text c.pages_that_stand_keep_their_keys.ensures.good script down.why old new a.status a.text
     (why_of script down.why c.args.cluster c.args.schema.now old.synced old.faults new.faults c.requires.cluster c.requires.schema told.why)
-    (left_as script down.why c.args.cluster c.args.schema.now old.synced new.synced c.requires.cluster c.requires.schema told.left) is))
+    (left_as script down.why c.args.cluster c.args.schema.now old.synced new.synced c.requires.cluster c.requires.schema told.left) c.requires.runs is))
     c.refuse.ensures.answer
 
 pub returns-in-Ok-clause-left : goal.returns-in-Ok-clause-left
@@ -71,4 +71,4 @@ returns-in-Err-clause-left g c =
     let old = kept_by g.D.LogStore.synced g.D.LogStore.pending g.D.LogStore.faults c.args.store in
     let new = kept_by g.D.LogStore.synced g.D.LogStore.pending g.D.LogStore.faults down.store in
     subst (λ store. IsCutOff script old (kept_by g.D.LogStore.synced g.D.LogStore.pending g.D.LogStore.faults store)) (sym c.refuse.ensures.store)
-    (left_cut script down.why old new (left_as script down.why c.args.cluster c.args.schema.now old.synced new.synced c.requires.cluster c.requires.schema c.in-Err.ensures.left))
+    (left_cut c.pages_that_stand_keep_their_keys.ensures.good script down.why old new c.requires.runs (left_as script down.why c.args.cluster c.args.schema.now old.synced new.synced c.requires.cluster c.requires.schema c.in-Err.ensures.left))

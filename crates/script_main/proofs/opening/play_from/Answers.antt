@@ -39,7 +39,7 @@ returns-in-Ok-clause-text g c =
     let b = c.requires.1.1.1 in
     let new = kept_by g.D.LogStore.synced g.D.LogStore.pending g.D.LogStore.faults c.told.result.store in
     let is_told = its_told c.args.script.now g.start c.args.begun.log.accepted c.in-Ok.played.report (history_of c.in-Ok.played.log) c.args.begun.base
-    (b.place ∙ ap (λ (es : List Entry). length es) (sym c.requires.1.1.0)) p.lawful p.in_order p.entries p.schema p.changed p.rows p.stands in
+    (b.place ∙ ap (λ (es : List Entry). length es) (sym c.requires.1.1.0)) p.lawful p.in_order p.entries p.schema p.changed p.rows p.stands p.small in
     IfOk-weaker c.told.result.answer (λ a. IsReportText c.in-Ok.played.report a.status a.text)
     (λ a. IsPlayedText c.args.script.now g.start c.args.begun.log new a.status a.text)
     (λ a is. played_text c.args.script.now g.start c.args.begun.log c.in-Ok.played.log c.in-Ok.played.report new a.status a.text p.owner b.node b.same is_told p.serial p.faults p.cause p.kept p.further
@@ -51,7 +51,7 @@ returns-in-Ok-clause-left g c =
     let p = c.in-Ok.ensures in
     let b = c.requires.1.1.1 in
     let is_told = its_told c.args.script.now g.start c.args.begun.log.accepted c.in-Ok.played.report (history_of c.in-Ok.played.log) c.args.begun.base
-    (b.place ∙ ap (λ (es : List Entry). length es) (sym c.requires.1.1.0)) p.lawful p.in_order p.entries p.schema p.changed p.rows p.stands in
+    (b.place ∙ ap (λ (es : List Entry). length es) (sym c.requires.1.1.0)) p.lawful p.in_order p.entries p.schema p.changed p.rows p.stands p.small in
     told_left c.args.script.now g.start c.args.begun.log c.in-Ok.played.log c.in-Ok.played.report (kept_by g.D.LogStore.synced g.D.LogStore.pending g.D.LogStore.faults c.told.result.store)
     (subst (λ (es : List Entry). HasRows es g.start.rows) (sym c.requires.1.1.0) b.has_rows) p.owner b.node b.same is_told p.cause p.kept p.further c.told.ensures.left
 

@@ -30,6 +30,9 @@ returns-clause-rows g c =
 pub returns-clause-stands : goal.returns-clause-stands
 returns-clause-stands g c = if_ok c.play_behind.result (λ p played. played.told.stands) c.play_behind.ensures.played
 
+pub returns-clause-small : goal.returns-clause-small
+returns-clause-small g c = if_ok c.play_behind.result (λ p played. played.told.small) c.play_behind.ensures.played
+
 pub returns-clause-faults : goal.returns-clause-faults
 returns-clause-faults g c = if_ok c.play_behind.result (λ p played. played.faults) c.play_behind.ensures.played
 
