@@ -1,7 +1,9 @@
 #!/usr/bin/env python3
-"""The cases of crates/play_cases: those written by hand in play_cases.hand, the examples, and scripts that are drawn."""
+"""The cases of crates/play_cases: those written by hand in play_cases.hand, the examples, the scripts of pages in docs/, and
+scripts that are drawn."""
 
 import random
+import re
 
 import cases
 import play_model
@@ -10,6 +12,7 @@ import statement_draws
 
 SEED = 1
 EXAMPLES = cases.ROOT / "examples"
+PAGES = ["docs/promises.md", "docs/report.md", "docs/script.md"]
 REFUSALS = {"refused": 3, "store": 6, "unsound": 9}
 
 
@@ -65,6 +68,16 @@ def example_cases():
         said.append("")
         report = (folder / "report").read_text()
         told += [name] + cases.lines_of(report) + ["exit %d" % exit_of(report)]
+    return said, told
+
+
+def page_cases():
+    """The first two blocks of each page: a script, and its report, whose lines may have their numbers in front."""
+    said, told = [], []
+    for page in PAGES:
+        script, report = re.findall(r"^```text\n(.*?)^```$", (cases.ROOT / page).read_text(), re.S | re.M)[:2]
+        said += ["case " + page] + quoted(script.encode()) + [""]
+        told += ["case " + page] + [re.sub(r"^ *\d+  ", "", line) for line in cases.lines_of(report)] + ["exit 0"]
     return said, told
 
 
@@ -254,8 +267,8 @@ KINDS = [
 def written():
     """Both files: cases by hand, examples, and drawn ones."""
     said, told = cases.read_by_hand((cases.HERE / "play_cases.hand").read_text(), is_said)
-    more_said, more_told = example_cases()
-    stdin, stdout = texts(said + more_said, with_exits(told) + more_told)
+    examples, pages = example_cases(), page_cases()
+    stdin, stdout = texts(said + examples[0] + pages[0], with_exits(told) + examples[1] + pages[1])
     files = [(stdin, stdout), one_entry(), drawn(SEED)]
     assert all(kind in files[-1][1] for kind in KINDS), [kind for kind in KINDS if kind not in files[-1][1]]
     return "".join(said for said, _ in files), "".join(told for _, told in files)

@@ -13,13 +13,13 @@ use table_state::{State, state_of};
 
 /// Pages in memory, and the numbers of those that may be other than blank.
 #[derive(Drop)]
-pub struct Numbered {
-    pub source: MemPages,
-    pub edited: Vec<u64>,
+struct Numbered {
+    source: MemPages,
+    edited: Vec<u64>,
 }
 
 /// The pages of a list, numbered from 0, with blank ones past its end. The error is want of memory.
-pub fn number_pages(alloc: Global, pages: Vec<Page>) -> Result<Numbered, AllocError>
+fn number_pages(alloc: Global, pages: Vec<Page>) -> Result<Numbered, AllocError>
     ensures pages { IfOk result (λ found. found.source.pages ≡ pages.items) }
     ensures others { IfOk result (λ found. (n : ℕ) → (IsIn n found.edited.items → ⊥) →
         pages_of pages.items n ≡ blank_image) }
@@ -31,7 +31,7 @@ pub fn number_pages(alloc: Global, pages: Vec<Page>) -> Result<Numbered, AllocEr
 
 /// The state of a schema for which the pages of a list stand, numbered from 0, with blank ones past its end. `None`
 /// exactly where they stand for none. The error is want of memory.
-pub fn state_on(
+pub(crate) fn state_on(
     alloc: Global,
     pages: Vec<Page>,
     schema: &Schema,

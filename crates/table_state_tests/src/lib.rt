@@ -1,13 +1,10 @@
-//! Tests of the state that pages have: a store of two tables written by hand, whole and with one fault each. What is
-//! public is there for other tests.
+//! Only tests: the state that pages have, by a store of two tables that was written by hand, whole and with one fault each.
 #![tactic(auto)]
-
-mod found;
-
-pub use found::{Numbered, number_pages, state_on};
 
 #[cfg(test)]
 mod faults;
+#[cfg(test)]
+mod found;
 #[cfg(test)]
 mod stores;
 #[cfg(test)]

@@ -1,4 +1,5 @@
-//! What crates of tests and measures share: numbers that are drawn, and sample entries and records of a log.
+//! What programs of cases and of measures share: numbers that are drawn, sample entries and records of a log, whether
+//! operations write rows that fit, and the state at the end of a log.
 //!
 //! ```text
 //! next_number   x -> x * 6364136223846793005 + 1442695040888963407, of 64 bits
@@ -8,8 +9,12 @@
 //! ```
 #![tactic(auto)]
 
+mod fits;
+mod heads;
 mod logs;
 mod numbers;
 
+pub use fits::all_fit;
+pub use heads::state_at_end;
 pub use logs::{commit_entry, record_over};
 pub use numbers::next_number;

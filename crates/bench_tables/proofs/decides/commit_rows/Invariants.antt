@@ -1,7 +1,0 @@
-use Rattle.std.proofs.Common.{◌≡◌, ◌≤◌, length}
-use Rattle.blkseq_table.specs.OfLogs.{identities_of}
-use Rattle.block_processor_tests.specs.Begun.{IsBegun}
-use Rattle.bench_tables.proofs.decides.commit_rows.Given as goal
-
-abbrev pub invariant-rows : goal.invariant-rows
-invariant-rows l = IsBegun l.schema l.log × (l.known ≡ identities_of l.log) × (length l.fn.log ≤ length l.log)

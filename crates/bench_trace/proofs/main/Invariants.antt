@@ -1,4 +1,0 @@
-use Rattle.bench_trace.proofs.main.Given as goal
-
-abbrev pub ghosts-run : goal.ghosts-run
-ghosts-run g a = record { table = a.opened.table; actors = a.opened.actors }

@@ -1,5 +1,0 @@
-//! Only tests: operations on rows with ample memory.
-#![tactic(auto)]
-
-#[cfg(test)]
-mod tests;

@@ -1,9 +1,0 @@
--- the tables so far, before those that are left, are all
-use Rattle.std.proofs.Common.{◌≡◌, ◌++◌, length}
-use Rattle.osql_session_tests.proofs.tests.copied.Given as goal
-
-abbrev pub invariant-tables : goal.invariant-tables
-invariant-tables l = l.copies ++ l.rest ≡ l.tables
-
-abbrev pub decreases-tables : goal.decreases-tables
-decreases-tables l = length l.rest

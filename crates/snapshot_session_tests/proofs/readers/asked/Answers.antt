@@ -1,5 +1,0 @@
-use Rattle.std.proofs.lemmas.Str.{is_utf8-from_IsUtf8}
-use Rattle.snapshot_session_tests.proofs.readers.asked.Goals as goal
-
-pub statement_text-requires-clause-utf8 : goal.statement_text-requires-clause-utf8
-statement_text-requires-clause-utf8 g c = is_utf8-from_IsUtf8 c.as_bytes.result.now c.as_bytes.ensures.utf8
