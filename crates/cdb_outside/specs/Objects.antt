@@ -18,12 +18,13 @@ pub record Kept : Type 0 where
   pub waiting : List ℕ
 
 -- a store in memory: its synced and its pending bytes, how many pending bytes a halt keeps, how many more
--- bytes are appended before it stops, if it is to stop, and which calls fail
+-- bytes are appended before it stops, if it is to stop, how many calls wrote to it, and which calls fail
 pub record HeldStore : Type 0 where
   pub durable : List ℕ
   pub waiting : List ℕ
   pub keeps : ℕ
   pub left : Option ℕ
+  pub writes : ℕ
   pub plan : Planned
 
 -- a reader or a writer of std, and how many of its calls failed

@@ -4,6 +4,7 @@
 -- there is room and fails, and from the last of these bytes on every call fails, until a halt. A halt ends the
 -- stop; a stop that was not reached by then is still to come.
 use Rattle.std.specs.Prelude.{◌≡◌, ℕ, ◌-◌, ◌<◌, ◌⊎◌, ◌++◌, [], List, Option, Some, None, length, take, option_map, min, if◌then◌else◌, ◌==◌}
+use Rattle.cdb_outside.specs.Faults.{count_after}
 use Rattle.cdb_outside.specs.Objects.{HeldStore}
 use Rattle.cdb_outside.specs.Plans.{FailsNext, after_success, after_failure}
 
@@ -28,17 +29,27 @@ passed s = record s { plan = after_success s.plan }
 abbrev pub refused : HeldStore → HeldStore
 refused s = record s { plan = after_failure s.plan }
 
+-- with one call more that writes
+abbrev pub written : HeldStore → HeldStore
+written s = record s { writes = count_after s.writes }
+
 -- behind an append
 abbrev pub appended : HeldStore → List ℕ → HeldStore
 appended s bytes = record s {
   waiting = s.waiting ++ bytes;
   left = left_behind s.left (length bytes);
+  writes = count_after s.writes;
   plan = after_success s.plan;
 }
 
 -- behind an append in which the store stopped, with so many bytes taken
 abbrev pub stopped : HeldStore → List ℕ → HeldStore
-stopped s front = record s { waiting = s.waiting ++ front; left = Some 0; plan = after_failure s.plan }
+stopped s front = record s {
+  waiting = s.waiting ++ front;
+  left = Some 0;
+  writes = count_after s.writes;
+  plan = after_failure s.plan;
+}
 
 -- the store stops inside an append of these bytes
 pub record StopsIn (s : HeldStore) (bytes : List ℕ) (now : HeldStore) : Type 0 where

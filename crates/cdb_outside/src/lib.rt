@@ -15,7 +15,8 @@
 //! call that succeeds leaves it.** It is a u64 that stands still at its last value, so a count that has
 //! this value after a call that failed counts as one that rose (`Rose`, `HasCause`). An answer above that
 //! blames the outside can so be traced to an object that was handed in, and one that hides a call that
-//! failed shows in the count.
+//! failed shows in the count. A store counts the calls that write to it too, failed or not, so whoever finds that count as it
+//! was knows that nobody wrote.
 //!
 //! Where bytes are kept, at the calls of a store that held "ab" synced and keeps one pending byte:
 //!
@@ -32,7 +33,7 @@
 //! 1 over the calls of the trait that can fail, and a store may be told to stop after so many appended
 //! bytes, until it is halted. Otherwise they fail only where they find no memory for their own bytes.
 //! `ReadSource` and `WriteSink` stand over a reader and a writer of std. `KeptBytes` is what a store of
-//! one's own keeps in memory.
+//! one's own keeps in memory. `Status` is how a run ended, as the world is told.
 #![tactic(auto)]
 
 mod adapters;
@@ -45,6 +46,7 @@ mod mem_source;
 mod mem_store;
 mod sink;
 mod source;
+mod statuses;
 mod store;
 
 pub use adapters::{ReadSource, WriteSink};
@@ -56,4 +58,5 @@ pub use mem_source::MemSource;
 pub use mem_store::MemStore;
 pub use sink::{Sink, write_whole};
 pub use source::{ReadStop, Source, read_up_to};
+pub use statuses::Status;
 pub use store::LogStore;

@@ -1,12 +1,12 @@
 //! A store of a log in memory, which fails as planned, and stops inside a write where it is told to.
 ghost use Rattle.std.specs.Prelude.{◌≡◌, ◌-◌, ◌<◌, ◌≤◌, ◌↔◌, ◌⊎◌, IsTrue, [], ◌++◌, min, length, take, drop, IfOk, OnOk, OnErr};
 ghost use Rattle.std.specs.Io.{ReadsAtMost, StartsWith};
-ghost use Rattle.cdb_outside.specs.Faults.{HasCause};
+ghost use Rattle.cdb_outside.specs.Faults.{HasCause, Rose};
 ghost use Rattle.cdb_outside.specs.Parts.{IsFront, IsFrontFrom};
 ghost use Rattle.cdb_outside.specs.Plans.{fresh};
 ghost use Rattle.cdb_outside.specs.Stores.{GivesFrom};
 ghost use Rattle.cdb_outside.specs.Objects.{HeldStore};
-ghost use Rattle.cdb_outside.specs.Stops.{IsRefused, StopsIn, room_in, left_behind, passed, refused, appended, halted};
+ghost use Rattle.cdb_outside.specs.Stops.{IsRefused, StopsIn, room_in, left_behind, passed, refused, written, appended, halted};
 
 use crate::faults::FaultPlan;
 use crate::kept::KeptBytes;
@@ -21,6 +21,7 @@ pub struct MemStore {
     kept: KeptBytes,
     keeps: u64,
     left: Option<u64>,
+    writes: u64,
     plan: FaultPlan,
 }
 
@@ -32,6 +33,7 @@ impl Model for MemStore {
       waiting = s.kept.waiting;
       keeps = s.keeps;
       left = s.left;
+      writes = s.writes;
       plan = s.plan;
     } };
 }
@@ -41,12 +43,20 @@ impl MemStore {
     /// many bytes are appended before it stops; none where it does not. `keeps` is how many pending bytes a halt keeps;
     /// it keeps all of them where they are fewer.
     pub fn new(bytes: Vec<u8>, fails: Vec<u64>, stop_after: Option<u64>, keeps: u64) -> MemStore
-        ensures { result ≡ record { durable = bytes.items; waiting = []; keeps = keeps; left = stop_after; plan = fresh fails.items } }
+        ensures { result ≡ record {
+          durable = bytes.items;
+          waiting = [];
+          keeps = keeps;
+          left = stop_after;
+          writes = 0;
+          plan = fresh fails.items;
+        } }
     {
         MemStore {
             kept: KeptBytes::new(bytes),
             keeps,
             left: stop_after,
+            writes: 0,
             plan: FaultPlan::new(fails),
         }
     }
@@ -93,6 +103,8 @@ impl LogStore for MemStore {
 
     ghost faults = { λ s. s.plan.failures };
 
+    ghost writes = { λ s. s.writes };
+
     /// Gives as many bytes as the buffer has room for and stand there.
     fn read(&mut self, at: u64, buf: &mut [u8]) -> Result<usize, Failed>
         ensures bound { ReadsAtMost result buf.new }
@@ -117,16 +129,20 @@ impl LogStore for MemStore {
     fn append(&mut self, bytes: &[u8]) -> Result<(), Failed>
         ensures part { OnErr result (IsFront self.new.waiting (self.old.waiting ++ bytes.now)) }
         ensures cause { HasCause self.old.plan.failures self.new.plan.failures result }
+        ensures wrote { Rose self.old.writes self.new.writes }
 
         ensures passes { OnOk result ((IsRefused self.old → ⊥) × (room_in self.old.left (length bytes.now) ≡ length bytes.now)) }
         ensures success { OnOk result (self.new ≡ appended self.old bytes.now) }
-        ensures failure { OnErr result ((self.new ≡ refused self.old) ⊎ StopsIn self.old bytes.now self.new) }
+        ensures failure { OnErr result ((self.new ≡ refused (written self.old)) ⊎ StopsIn self.old bytes.now self.new) }
     {
-        if self.refuses() {
+        let refuses = self.refuses();
+        let room = self.room(bytes.len());
+        self.writes = self.writes.saturating_add(1);
+        if refuses {
             self.plan.count_failure();
             return Err(Failed);
         }
-        let (front, over) = bytes.split_at(self.room(bytes.len()));
+        let (front, over) = bytes.split_at(room);
         if !self.kept.add(front) {
             self.plan.count_failure();
             return Err(Failed);
@@ -143,12 +159,15 @@ impl LogStore for MemStore {
     fn sync(&mut self) -> Result<(), Failed>
         ensures part { OnErr result (IsFront self.new.waiting self.old.waiting) }
         ensures cause { HasCause self.old.plan.failures self.new.plan.failures result }
+        ensures wrote { Rose self.old.writes self.new.writes }
 
         ensures passes { OnOk result ((IsRefused self.old → ⊥)
-            × (self.new ≡ record (passed self.old) { durable = self.old.durable ++ self.old.waiting; waiting = [] })) }
-        ensures fails { OnErr result (IsRefused self.old × (self.new ≡ refused self.old)) }
+            × (self.new ≡ record (passed (written self.old)) { durable = self.old.durable ++ self.old.waiting; waiting = [] })) }
+        ensures fails { OnErr result (IsRefused self.old × (self.new ≡ refused (written self.old))) }
     {
-        if self.refuses() {
+        let refuses = self.refuses();
+        self.writes = self.writes.saturating_add(1);
+        if refuses {
             self.plan.count_failure();
             return Err(Failed);
         }
@@ -162,12 +181,15 @@ impl LogStore for MemStore {
         requires within { at ≤ length self.old.durable }
         ensures part { OnErr result (IsFrontFrom at self.new.durable self.old.durable) }
         ensures cause { HasCause self.old.plan.failures self.new.plan.failures result }
+        ensures wrote { Rose self.old.writes self.new.writes }
 
         ensures passes { OnOk result ((IsRefused self.old → ⊥)
-            × (self.new ≡ record (passed self.old) { durable = take at self.old.durable })) }
-        ensures fails { OnErr result (IsRefused self.old × (self.new ≡ refused self.old)) }
+            × (self.new ≡ record (passed (written self.old)) { durable = take at self.old.durable })) }
+        ensures fails { OnErr result (IsRefused self.old × (self.new ≡ refused (written self.old))) }
     {
-        if self.refuses() {
+        let refuses = self.refuses();
+        self.writes = self.writes.saturating_add(1);
+        if refuses {
             self.plan.count_failure();
             return Err(Failed);
         }

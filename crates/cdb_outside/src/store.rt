@@ -1,7 +1,7 @@
 //! Where a node keeps its log.
 ghost use Rattle.std.specs.Prelude.{◌≡◌, ◌<◌, ◌≤◌, ℕ, List, [], ◌++◌, length, take, IfOk, OnOk, OnErr};
 ghost use Rattle.std.specs.Io.{ReadsAtMost};
-ghost use Rattle.cdb_outside.specs.Faults.{HasCause};
+ghost use Rattle.cdb_outside.specs.Faults.{HasCause, Rose};
 ghost use Rattle.cdb_outside.specs.Parts.{IsFront, IsFrontFrom};
 ghost use Rattle.cdb_outside.specs.Stores.{GivesFrom, JoinsFront};
 
@@ -18,6 +18,10 @@ pub trait LogStore {
     /// How many of its calls have failed. It rises exactly in a call that fails.
     ghost faults: { Self → ℕ };
 
+    /// How many calls of `append`, `sync` and `cut` were made, failed or not. Whoever finds it as it was knows that nobody
+    /// wrote to the store since.
+    ghost writes: { Self → ℕ };
+
     /// Reads synced bytes from the offset `at` on into the front of the buffer and says how many: at
     /// least one where there is one and the buffer has room, and none past the end.
     fn read(&mut self, at: u64, buf: &mut [u8]) -> Result<usize, Failed>
@@ -26,6 +30,7 @@ pub trait LogStore {
         ensures some { at < length (synced self.old) → 0 < length buf.old → IfOk result (λ n. 0 < n) }
         ensures synced { synced self.new ≡ synced self.old }
         ensures pending { pending self.new ≡ pending self.old }
+        ensures unwritten { writes self.new ≡ writes self.old }
         ensures cause { HasCause (faults self.old) (faults self.new) result };
 
     /// Adds the bytes to the pending ones. After `Failed` a front of the old pending bytes and these is
@@ -34,6 +39,7 @@ pub trait LogStore {
         ensures appended { OnOk result (pending self.new ≡ pending self.old ++ bytes.now) }
         ensures part { OnErr result (IsFront (pending self.new) (pending self.old ++ bytes.now)) }
         ensures synced { synced self.new ≡ synced self.old }
+        ensures wrote { Rose (writes self.old) (writes self.new) }
         ensures cause { HasCause (faults self.old) (faults self.new) result };
 
     /// Makes the pending bytes synced. After `Failed` the synced bytes are as before, and a front of the
@@ -43,6 +49,7 @@ pub trait LogStore {
         ensures settled { OnOk result (pending self.new ≡ []) }
         ensures synced { OnErr result (synced self.new ≡ synced self.old) }
         ensures part { OnErr result (IsFront (pending self.new) (pending self.old)) }
+        ensures wrote { Rose (writes self.old) (writes self.new) }
         ensures cause { HasCause (faults self.old) (faults self.new) result };
 
     /// Leaves the first `at` synced bytes, synced. After `Failed` more of their front may be left.
@@ -52,6 +59,7 @@ pub trait LogStore {
         ensures cut { OnOk result (synced self.new ≡ take at (synced self.old)) }
         ensures part { OnErr result (IsFrontFrom at (synced self.new) (synced self.old)) }
         ensures settled { pending self.new ≡ [] }
+        ensures wrote { Rose (writes self.old) (writes self.new) }
         ensures cause { HasCause (faults self.old) (faults self.new) result };
 
     /// Stops the node that the store belongs to: a front of the pending bytes becomes synced, and the
@@ -59,5 +67,6 @@ pub trait LogStore {
     fn halt(&mut self)
         ensures joined { JoinsFront (synced self.old) (pending self.old) (synced self.new) }
         ensures settled { pending self.new ≡ [] }
-        ensures calm { faults self.new ≡ faults self.old };
+        ensures calm { faults self.new ≡ faults self.old }
+        ensures unwritten { writes self.new ≡ writes self.old };
 }

@@ -3,13 +3,14 @@ use Rattle.std.specs.Prelude.{ℕ, ◌==◌, List, length, Option, Some, if◌th
 use Rattle.file_store.specs.declared.files.FileState.{FileState}
 use Rattle.file_store.specs.declared.files.CutOff.{CutOff}
 
--- a store in a file: its synced and its pending bytes, how the file stands to the synced ones, what was cut off last, and how
--- many calls failed
+-- a store in a file: its synced and its pending bytes, how the file stands to the synced ones, what was cut off last, how many
+-- calls wrote to it, and how many failed
 pub record HeldFile : Type 0 where
   pub durable : List ℕ
   pub waiting : List ℕ
   pub state : FileState
   pub cut_off : Option CutOff
+  pub writes : ℕ
   pub failures : ℕ
 
 -- what was cut off last, once a cut at an offset took these bytes off, where there was this before

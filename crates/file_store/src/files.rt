@@ -1,7 +1,7 @@
 //! A store of a log in a file.
 ghost use Rattle.std.specs.Prelude.{◌≡◌, ◌≢◌, ◌-◌, ◌<◌, ◌≤◌, ◌↔◌, IsTrue, None, [], ◌++◌, min, length, take, drop, IsErr, IfOk, OnOk, OnErr};
 ghost use Rattle.std.specs.Io.{ReadsAtMost};
-ghost use Rattle.cdb_outside.specs.Faults.{HasCause, count_after};
+ghost use Rattle.cdb_outside.specs.Faults.{HasCause, Rose, count_after};
 ghost use Rattle.cdb_outside.specs.Parts.{IsFront, IsFrontFrom};
 ghost use Rattle.cdb_outside.specs.Stores.{GivesFrom, JoinsFront};
 ghost use Rattle.file_store.specs.Files.{HeldFile, last_cut};
@@ -43,6 +43,7 @@ pub struct FileStore<'a, R: Files> {
     kept: KeptBytes,
     state: FileState,
     cut_off: Option<CutOff>,
+    writes: u64,
     faults: u64,
 }
 
@@ -54,6 +55,7 @@ impl<'a, R: Files> Model for FileStore<'a, R> {
       waiting = s.kept.waiting;
       state = s.state;
       cut_off = s.cut_off;
+      writes = s.writes;
       failures = s.faults;
     } };
 }
@@ -82,6 +84,7 @@ impl<'a, R: Files + AllocGlobal> FileStore<'a, R> {
             kept: KeptBytes::new(bytes),
             state,
             cut_off: None,
+            writes: 0,
             faults: 0,
         }
     }
@@ -250,6 +253,8 @@ impl<'a, R: Files + AllocGlobal> LogStore for FileStore<'a, R> {
 
     ghost faults = { λ s. s.failures };
 
+    ghost writes = { λ s. s.writes };
+
     /// Gives as many bytes as the buffer has room for and stand there, of those in memory.
     fn read(&mut self, at: u64, buf: &mut [u8]) -> Result<usize, Failed>
         ensures bound { ReadsAtMost result buf.new }
@@ -257,6 +262,7 @@ impl<'a, R: Files + AllocGlobal> LogStore for FileStore<'a, R> {
         ensures some { at < length self.old.durable → 0 < length buf.old → IfOk result (λ n. 0 < n) }
         ensures synced { self.new.durable ≡ self.old.durable }
         ensures pending { self.new.waiting ≡ self.old.waiting }
+        ensures unwritten { self.new.writes ≡ self.old.writes }
         ensures cause { HasCause self.old.failures self.new.failures result }
 
         ensures count { IfOk result (λ n. n ≡ min (length buf.old) (length self.old.durable - at)) }
@@ -273,18 +279,22 @@ impl<'a, R: Files + AllocGlobal> LogStore for FileStore<'a, R> {
         ensures appended { OnOk result (self.new.waiting ≡ self.old.waiting ++ bytes.now) }
         ensures part { OnErr result (IsFront self.new.waiting (self.old.waiting ++ bytes.now)) }
         ensures synced { self.new.durable ≡ self.old.durable }
+        ensures wrote { Rose self.old.writes self.new.writes }
         ensures cause { HasCause self.old.failures self.new.failures result }
 
         ensures unread { self.old.state ≡ FileState.Unread → IsErr result }
         ensures success { OnOk result (self.new ≡ record self.old {
           waiting = self.old.waiting ++ bytes.now;
           state = FileState.Equal;
+          writes = count_after self.old.writes;
         }) }
         ensures failure { OnErr result (self.new ≡ record self.old {
           state = self.new.state;
+          writes = count_after self.old.writes;
           failures = count_after self.old.failures;
         }) }
     {
+        self.writes = self.writes.saturating_add(1);
         self.catch_up()?;
         if !self.kept.add(bytes) {
             self.faults = self.faults.saturating_add(1);
@@ -300,6 +310,7 @@ impl<'a, R: Files + AllocGlobal> LogStore for FileStore<'a, R> {
         ensures settled { OnOk result (self.new.waiting ≡ []) }
         ensures synced { OnErr result (self.new.durable ≡ self.old.durable) }
         ensures part { OnErr result (IsFront self.new.waiting self.old.waiting) }
+        ensures wrote { Rose self.old.writes self.new.writes }
         ensures cause { HasCause self.old.failures self.new.failures result }
 
         ensures unread { self.old.state ≡ FileState.Unread → IsErr result }
@@ -307,13 +318,16 @@ impl<'a, R: Files + AllocGlobal> LogStore for FileStore<'a, R> {
           durable = self.old.durable ++ self.old.waiting;
           waiting = [];
           state = FileState.Equal;
+          writes = count_after self.old.writes;
         }) }
         ensures failure { OnErr result (self.new ≡ record self.old {
           state = self.new.state;
+          writes = count_after self.old.writes;
           failures = count_after self.old.failures;
         }) }
         ensures behind { OnErr result (self.new.state ≢ FileState.Equal) }
     {
+        self.writes = self.writes.saturating_add(1);
         self.catch_up()?;
         if self.write_pending().is_err() {
             self.state = FileState::Behind;
@@ -331,20 +345,24 @@ impl<'a, R: Files + AllocGlobal> LogStore for FileStore<'a, R> {
         ensures cut { OnOk result (self.new.durable ≡ take at self.old.durable) }
         ensures part { OnErr result (IsFrontFrom at self.new.durable self.old.durable) }
         ensures emptied { self.new.waiting ≡ [] }
+        ensures wrote { Rose self.old.writes self.new.writes }
         ensures cause { HasCause self.old.failures self.new.failures result }
 
         ensures unread { self.old.state ≡ FileState.Unread → IsErr result }
         ensures success { OnOk result (self.new ≡ record self.old {
           durable = take at self.old.durable;
           state = FileState.Equal;
+          writes = count_after self.old.writes;
           cut_off = last_cut at (drop at self.old.durable) self.old.cut_off;
         }) }
         ensures failure { OnErr result (self.new ≡ record self.old {
           state = self.new.state;
+          writes = count_after self.old.writes;
           failures = count_after self.old.failures;
         }) }
         ensures behind { OnErr result (self.new.state ≢ FileState.Equal) }
     {
+        self.writes = self.writes.saturating_add(1);
         self.catch_up()?;
         if self.shorten(at).is_err() {
             self.state = FileState::Behind;
@@ -361,6 +379,7 @@ impl<'a, R: Files + AllocGlobal> LogStore for FileStore<'a, R> {
         ensures joined { JoinsFront self.old.durable self.old.waiting self.new.durable }
         ensures settled { self.new.waiting ≡ [] }
         ensures calm { self.new.failures ≡ self.old.failures }
+        ensures unwritten { self.new.writes ≡ self.old.writes }
 
         ensures dropped { self.new ≡ record self.old { waiting = [] } }
     {

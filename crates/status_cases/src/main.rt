@@ -1,7 +1,7 @@
 //! The sentence on each reason and on each status, one a line. The file `stdout` has what they must be.
 #![tactic(auto)]
 
-use script_main::Status;
+use cdb_outside::Status;
 use status_words::status_words;
 use std::io;
 use std::io::Write;

@@ -2,8 +2,8 @@
 -- helps. What stands between is free.
 use Rattle.std.specs.Prelude.{◌≡◌, ◌==◌, ℕ, ◌++◌, ◌∷◌, [], List, if◌then◌else◌, codes}
 use Rattle.std.specs.Fmt.{decimal}
-use Rattle.script_main.specs.declared.statuses.Status.{Status}
-use Rattle.script_main.specs.declared.statuses.Status.TheVariants as status
+use Rattle.cdb_outside.specs.declared.statuses.Status.{Status}
+use Rattle.cdb_outside.specs.declared.statuses.Status.TheVariants as status
 
 -- the store of a node, and the byte in it
 abbrev pub byte_place : ℕ → ℕ → List ℕ

@@ -3,8 +3,8 @@ ghost use Rattle.std.specs.Prelude.{◌≡◌, ◌++◌, IfOk, OnOk};
 ghost use Rattle.std.specs.Fmt.{decimal};
 ghost use Rattle.status_words.specs.Sentence.{IsSentence, byte_place, page_of, place_of, reason_end, reason_page};
 
+use cdb_outside::Status;
 use cdb_values::Bytes;
-use script_main::Status;
 use std::alloc::{AllocError, Global};
 
 /// The sentence on a status. It says where it is, what it is and which page helps, and ends with its line.

@@ -15,5 +15,5 @@ returns-then-not-add-clause-part c =
 
 pub returns-then-not-is_empty-clause-part : goal.returns-then-not-is_empty-clause-part
 returns-then-not-is_empty-clause-part c =
-    let kept : c.add.new.self.waiting ≡ c.args.self.now.waiting ++ take c.room.result c.args.bytes.now = search rules in
-    subst (λ w. IsFront w (c.args.self.now.waiting ++ c.args.bytes.now)) (sym kept) (front_part c.room.result _ _)
+    let kept : c.add.new.self.waiting ≡ c.args.self.now.waiting ++ take c.room-room.result c.args.bytes.now = search rules in
+    subst (λ w. IsFront w (c.args.self.now.waiting ++ c.args.bytes.now)) (sym kept) (front_part c.room-room.result _ _)

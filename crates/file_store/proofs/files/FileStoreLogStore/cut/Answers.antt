@@ -10,5 +10,5 @@ returns-in_err-catch_up-clause-part g c =
 
 pub returns-then-is_err-clause-part : goal.returns-then-is_err-clause-part
 returns-then-is_err-clause-part g c =
-    let kept : c.self.inside.kept.durable ≡ c.args.self.now.durable = search rules in
+    let kept : c.self-2.inside.kept.durable ≡ c.args.self.now.durable = search rules in
     subst (λ d. IsFrontFrom c.args.at d c.args.self.now.durable) (sym kept) (front_from_whole _ _ c.requires.within)

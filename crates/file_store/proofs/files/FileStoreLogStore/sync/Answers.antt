@@ -10,5 +10,5 @@ returns-in_err-catch_up-clause-part g c =
 
 pub returns-then-is_err-clause-part : goal.returns-then-is_err-clause-part
 returns-then-is_err-clause-part g c =
-    let kept : c.self.inside.kept.waiting ≡ c.args.self.now.waiting = search rules in
+    let kept : c.self-2.inside.kept.waiting ≡ c.args.self.now.waiting = search rules in
     subst (λ w. IsFront w c.args.self.now.waiting) (sym kept) (front_whole _)
