@@ -17,6 +17,7 @@
 //! |---|---|
 //! | lines, and the text of a line | `specs/Lines.antt` |
 //! | pieces, names and numbers | `specs/Words.antt` |
+//! | what sessions, tables and keys may be named | `specs/Names.antt` |
 //! | what an answer says of a reading | `specs/Answers.antt` |
 //! | numbers of fixed width | `big_bytes` of `byteorder` |
 #![tactic(auto)]

@@ -15,12 +15,14 @@
 //! | two rows with the same values at a key | `KeyDef::has_same_values` | `specs/Good.antt` |
 //! | a lawful table, and the limits of a schema | `Schema::add`, `limits` | `specs/Tables.antt` |
 //! | a table by its name, and a column by its name | `Schema::named`, `TableDef::column` | `specs/Named.antt`, `specs/Columns.antt` |
+//! | what a session is answered | `Reply` | |
 #![tactic(auto)]
 
 mod items;
 mod laws;
 pub mod limits;
 mod lists;
+mod replies;
 mod rows;
 mod schemas;
 mod tables;
@@ -30,6 +32,7 @@ pub use byte_lists::{Bytes, Name, Text};
 pub use items::{Edge, GenidItem, Interval, Item};
 pub use laws::{genids_rise, the_changes_take_what_the_operations_take, views_are_applied};
 pub use lists::List;
+pub use replies::Reply;
 pub use rows::{Change, Level, Row, RowOp, RowRef, StatementError, Version};
 pub use schemas::{AddFault, Found, Schema};
 pub use tables::{ColumnDef, ColumnType, KeyDef, TableDef};

@@ -13,13 +13,11 @@ ghost use Rattle.edit_records.specs.Numbered.{records_behind, raised, lsns_over,
 ghost use Rattle.std.specs.Prelude as std;
 
 use cdb_values::List;
+use cdb_values::limits::LSN_LIMIT;
 use page_store::{Edit, PageFault, PageSource};
 use phys_log::LogRecord;
 use std::alloc::Global;
 use std::collections::{HashMap, VecDeque};
-
-/// The LSNs end here: a record with one at or above it is answered by want of memory.
-const LSN_END: u64 = 0x4000_0000_0000_0000;
 
 /// The edits, each with the number of its page, as the records behind a last LSN: they are numbered from `last + 1` on, and
 /// each tells the LSN that its page has by then. The edits are moved, and a page is loaded once.
@@ -99,7 +97,7 @@ fn number_one<P: PageSource>(
     ensures pages { P.pages pages.new ≡ P.pages pages.old }
     ensures excused { IsExcused result (P.losses pages.old) (P.losses pages.new) }
 {
-    if last >= LSN_END - 1 {
+    if last >= LSN_LIMIT - 1 {
         return Err(PageFault::NoMemory);
     }
     let lsn = last + 1;

@@ -5,13 +5,14 @@ use Rattle.std.specs.Fmt.{decimal}
 use Rattle.cdb_values.specs.declared.rows.Level as levels
 use Rattle.report_text.specs.declared.reports.Line.{Line}
 use Rattle.report_text.specs.declared.reports.Line.TheVariants as line
-use Rattle.report_text.specs.declared.reports.ReplyLine.{ReplyLine}
+use Rattle.cdb_values.specs.declared.replies.Reply.{Reply}
 use Rattle.report_text.specs.declared.reports.EntryLine.{EntryLine}
 use Rattle.report_text.specs.declared.reports.EntryLine.TheVariants.{Setup, Commit}
 use Rattle.report_text.specs.declared.reports.FeedLine.{FeedLine}
 use Rattle.report_read.specs.declared.drafts.Item.{Item}
 use Rattle.report_read.specs.declared.drafts.Item.TheVariants as item
-use Rattle.report_text.specs.Grammar.{is_ending, IsNumber, IsName, IsReply, IsLine, IsEntry, IsFeed}
+use Rattle.byte_words.specs.Names.{IsName}
+use Rattle.report_text.specs.Grammar.{is_ending, IsNumber, IsReply, IsLine, IsEntry, IsFeed}
 use Rattle.report_text.specs.Text.{reply_text, cause_text, level_text, words_of, entry_words, feed_words, ended}
 use Rattle.byte_words.specs.Words.{◌>>=◌}
 use Rattle.report_read.specs.Reading.{Read, behind_word, before, only, name_then_at, numbered_at, counted_at, numbered_line_at, reply_at, session_at, cause_at, down_at, barrier_at, node_line_at, setup_at, commit_at, feed_line, is_table, feed_at, mark_at, entry_at, item_at}
@@ -134,7 +135,7 @@ sound_item = sound_either sound_mark (sound_either (sound_as item.Entry item_tex
 
 -- ---- a line of a session is read as one
 
-session_again : (name : List ℕ) (txn : ℕ) (r : ReplyLine) (rest : List ℕ) → IsName name → IsNumber txn → IsReply r → session_at (session_front name txn (reply_text r ++ (10 ∷ rest))) ≡ Some (line.Session name txn r, rest)
+session_again : (name : List ℕ) (txn : ℕ) (r : Reply) (rest : List ℕ) → IsName name → IsNumber txn → IsReply r → session_at (session_front name txn (reply_text r ++ (10 ∷ rest))) ≡ Some (line.Session name txn r, rest)
 unfolding session_at
 session_again name txn r rest is fits has =
     let one = exact_name_then.again name ((decimal txn ++ (32 ∷ [])) ++ (reply_text r ++ (10 ∷ rest))) is (next_none ((decimal txn ++ (32 ∷ [])) ++ (reply_text r ++ (10 ∷ rest)))) in
@@ -143,7 +144,7 @@ session_again name txn r rest is fits has =
     let four = word_again (10 ∷ []) rest in
     rw (one, two, three, four) refl
 
-session_no_down : (name : List ℕ) (txn : ℕ) (r : ReplyLine) (rest : List ℕ) → IsName name → IsNumber txn → down_at (session_front name txn (reply_text r ++ (10 ∷ rest))) ≡ None
+session_no_down : (name : List ℕ) (txn : ℕ) (r : Reply) (rest : List ℕ) → IsName name → IsNumber txn → down_at (session_front name txn (reply_text r ++ (10 ∷ rest))) ≡ None
 unfolding down_at
 session_no_down name txn r rest is fits = elim (counted_or_not (codes "down") name txn (reply_text r ++ (10 ∷ rest)) refl is fits) [
   | inl h ↦ rw h refl
@@ -163,7 +164,7 @@ unfolding barrier_at
 session_no_barrier name txn after is =
     line_word_none (behind_word (codes "barrier") (session_front name txn after)) line.Barrier (no_line_word (codes "barrier") name ((decimal txn ++ (32 ∷ [])) ++ after) refl is.bytes)
 
-session_no_mark : (name : List ℕ) (txn : ℕ) (r : ReplyLine) (rest : List ℕ) → IsName name → IsNumber txn → mark_at (session_front name txn (reply_text r ++ (10 ∷ rest))) ≡ None
+session_no_mark : (name : List ℕ) (txn : ℕ) (r : Reply) (rest : List ℕ) → IsName name → IsNumber txn → mark_at (session_front name txn (reply_text r ++ (10 ∷ rest))) ≡ None
 unfolding mark_at node_line_at
 session_no_mark name txn r rest is fits =
     let base = no_numbered_line (codes "base") name txn (reply_text r ++ (10 ∷ rest)) refl is fits in
@@ -174,21 +175,21 @@ session_no_mark name txn r rest is fits =
     let fed = no_numbered_line (codes "fed") name txn (reply_text r ++ (10 ∷ rest)) refl is fits in
     rw (base, end, down, up, barrier, fed) refl
 
-session_no_entry : (name : List ℕ) (txn : ℕ) (r : ReplyLine) (rest : List ℕ) → IsName name → IsNumber txn → IsReply r → entry_at (session_front name txn (reply_text r ++ (10 ∷ rest))) ≡ None
+session_no_entry : (name : List ℕ) (txn : ℕ) (r : Reply) (rest : List ℕ) → IsName name → IsNumber txn → IsReply r → entry_at (session_front name txn (reply_text r ++ (10 ∷ rest))) ≡ None
 unfolding entry_at setup_at commit_at
 session_no_entry name txn r rest is fits has = elim (counted_or_not (codes "entry") name txn (reply_text r ++ (10 ∷ rest)) refl is fits) [
   | inl h ↦ rw h refl
   | inr h ↦ let schema = reply_no_schema r rest in let none = (no_rest r rest has).commit in rw (h, schema, none) refl
 ]
 
-session_no_feed : (name : List ℕ) (txn : ℕ) (r : ReplyLine) (rest : List ℕ) → IsName name → IsNumber txn → IsReply r → feed_at (session_front name txn (reply_text r ++ (10 ∷ rest))) ≡ None
+session_no_feed : (name : List ℕ) (txn : ℕ) (r : Reply) (rest : List ℕ) → IsName name → IsNumber txn → IsReply r → feed_at (session_front name txn (reply_text r ++ (10 ∷ rest))) ≡ None
 unfolding feed_at
 session_no_feed name txn r rest is fits has = elim (counted_or_not (codes "feed") name txn (reply_text r ++ (10 ∷ rest)) refl is fits) [
   | inl h ↦ rw h refl
   | inr h ↦ let none = (no_rest r rest has).feed in rw (h, none) refl
 ]
 
-session_item : (name : List ℕ) (txn : ℕ) (r : ReplyLine) (rest : List ℕ) → IsName name → IsNumber txn → IsReply r → item_at (session_front name txn (reply_text r ++ (10 ∷ rest))) ≡ Some (item.Event (line.Session name txn r), rest)
+session_item : (name : List ℕ) (txn : ℕ) (r : Reply) (rest : List ℕ) → IsName name → IsNumber txn → IsReply r → item_at (session_front name txn (reply_text r ++ (10 ∷ rest))) ≡ Some (item.Event (line.Session name txn r), rest)
 unfolding item_at
 session_item name txn r rest is fits has =
     let mark = session_no_mark name txn r rest is fits in

@@ -11,10 +11,11 @@ use Rattle.cdb_values.specs.declared.rows.Level as levels
 use Rattle.cdb_values.specs.declared.rows.Level.TheVariants.{Snapshot, Serializable}
 use Rattle.cdb_values.specs.declared.rows.StatementError as errors
 use Rattle.cdb_values.specs.declared.rows.StatementError.TheVariants as error
-use Rattle.report_text.specs.declared.reports.ReplyLine.{ReplyLine}
-use Rattle.report_text.specs.declared.reports.ReplyLine.TheVariants as reply
+use Rattle.cdb_values.specs.declared.replies.Reply.{Reply}
+use Rattle.cdb_values.specs.declared.replies.Reply.TheVariants as reply
 use Rattle.byte_words.specs.Words.{is_digit, is_lower, ◌>>=◌}
-use Rattle.report_text.specs.Grammar.{is_name_byte, is_begun, IsNumber, IsName, IsValue, IsReply}
+use Rattle.byte_words.specs.Names.{is_name_byte, begins_lower, IsName}
+use Rattle.report_text.specs.Grammar.{IsNumber, IsValue, IsReply}
 use Rattle.report_text.specs.Text.{quoted, hexadecimal, value_text, more_values, values_text, error_text, level_text, reply_text}
 use Rattle.report_read.specs.Reading.{Read, behind_word, before, both, only, is_table, number_within, number_at, name_at, number_then_at, name_then_at, numbered_at, counted_at, numbered_line_at, level_at}
 use Rattle.report_read.proofs.ReaderLaws.{next_none}
@@ -92,7 +93,7 @@ or_cases true b h = inl refl
 or_cases false b h = inr h
 
 -- a digit begins no name
-digit_begins_none : (b : ℕ) (bs : List ℕ) → is_begun (b ∷ bs) ≡ true → is_digit b ≡ true → ⊥
+digit_begins_none : (b : ℕ) (bs : List ℕ) → begins_lower (b ∷ bs) ≡ true → is_digit b ≡ true → ⊥
 digit_begins_none b bs h d =
     let digit = and_parts (nat_le 48 b) (nat_le b 57) d in
     let top : b ≤ 57 = leb-true b 57 digit.1 in
@@ -108,14 +109,14 @@ not_true : (t : Bool) → (t ≡ true → ⊥) → t ≡ false
 not_true false h = refl
 not_true true h = absurd (h refl)
 
-begun_no_digit : (b : ℕ) (bs : List ℕ) → is_begun (b ∷ bs) ≡ true → is_digit b ≡ false
+begun_no_digit : (b : ℕ) (bs : List ℕ) → begins_lower (b ∷ bs) ≡ true → is_digit b ≡ false
 begun_no_digit b bs h = not_true (is_digit b) (λ d. digit_begins_none b bs h d)
 
-name_no_number : (name after : List ℕ) → is_begun name ≡ true → number_at ((name ++ (32 ∷ [])) ++ after) ≡ None
+name_no_number : (name after : List ℕ) → begins_lower name ≡ true → number_at ((name ++ (32 ∷ [])) ++ after) ≡ None
 name_no_number [] after h = absurd cc
 name_no_number (b ∷ bs) after h = no_digit_first b ((bs ++ (32 ∷ [])) ++ after) (begun_no_digit b bs h)
 
-name_no_number_then : (name after : List ℕ) → is_begun name ≡ true → number_then_at ((name ++ (32 ∷ [])) ++ after) ≡ None
+name_no_number_then : (name after : List ℕ) → begins_lower name ≡ true → number_then_at ((name ++ (32 ∷ [])) ++ after) ≡ None
 name_no_number_then [] after h = absurd cc
 name_no_number_then (b ∷ bs) after h = no_digit_then b ((bs ++ (32 ∷ [])) ++ after) (begun_no_digit b bs h)
 
@@ -148,7 +149,7 @@ level_no_number Snapshot rest = refl
 level_no_number Serializable rest = refl
 
 -- a reply begins with a letter
-pub reply_no_number : (r : ReplyLine) (rest : List ℕ) → number_then_at (reply_text r ++ (10 ∷ rest)) ≡ None
+pub reply_no_number : (r : Reply) (rest : List ℕ) → number_then_at (reply_text r ++ (10 ∷ rest)) ≡ None
 unfolding number_then_at number_at number_within
 reply_no_number (reply.Begin n) rest = refl
 reply_no_number (reply.Row row) rest = refl
@@ -165,7 +166,7 @@ reply_no_number (reply.Lost node down) rest = refl
 reply_no_number (reply.NoMajority up nodes) rest = refl
 reply_no_number reply.NoMemory rest = refl
 
-pub reply_no_schema : (r : ReplyLine) (rest : List ℕ) → behind_word (codes "schema") (reply_text r ++ (10 ∷ rest)) ≡ None
+pub reply_no_schema : (r : Reply) (rest : List ℕ) → behind_word (codes "schema") (reply_text r ++ (10 ∷ rest)) ≡ None
 unfolding behind_word
 reply_no_schema (reply.Begin n) rest = refl
 reply_no_schema (reply.Row row) rest = refl
@@ -218,7 +219,7 @@ ending_word word n first after h e some none = record { commit = rw (h, some, no
 last_word : (bytes : List ℕ) → name_then_at bytes ≡ None → IsNoRest bytes
 last_word bytes h = record { commit = rw h refl; feed = rw h refl }
 
-pub no_rest : (r : ReplyLine) (rest : List ℕ) → IsReply r → IsNoRest (reply_text r ++ (10 ∷ rest))
+pub no_rest : (r : Reply) (rest : List ℕ) → IsReply r → IsNoRest (reply_text r ++ (10 ∷ rest))
 unfolding name_then_at name_at behind_word
 no_rest (reply.Begin n) rest is = one_word (codes "begin") (decimal n ++ (10 ∷ rest)) refl (number_stops n 10 rest is refl refl)
 no_rest (reply.Row []) rest is = absurd is

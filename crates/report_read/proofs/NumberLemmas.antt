@@ -8,7 +8,7 @@ use Rattle.std.proofs.lemmas.Option.{some_pair_parts, same_Some}
 use Rattle.std.proofs.lemmas.Str.Parse.{IsNumeralModel, numerals_by_fold}
 use Rattle.std.proofs.lemmas.Fmt.{digits_decimal, digits_value-decimal, decimal-digits_value, decimal_digit, decimal_nonempty, first_decimal}
 use Rattle.byte_words.specs.Words.{is_digit, front, behind, is_numeral, value_from, at_most, numeral_of}
-use Rattle.report_text.specs.Grammar.{is_name_byte, is_begun, IsName}
+use Rattle.byte_words.specs.Names.{is_name_byte, begins_lower, IsName}
 use Rattle.report_read.specs.Reading.{behind_word, number_within, number_at, name_of, name_at}
 use Rattle.report_read.proofs.ReaderLaws.{Exact, next_is, bind_some, guard_some}
 
@@ -137,10 +137,10 @@ exact_whole = record {
 
 -- ---- names
 
-name_is : (word name : List ℕ) → name_of word ≡ Some name → (is_begun word ≡ true) × (length word ≤ 32) × (word ≡ name)
+name_is : (word name : List ℕ) → name_of word ≡ Some name → (begins_lower word ≡ true) × (length word ≤ 32) × (word ≡ name)
 name_is word name h =
-    let g = guard_some (is_begun word && nat_le (length word) 32) (Some word) name h in
-    let parts = and_both (is_begun word) (nat_le (length word) 32) g.0 in
+    let g = guard_some (begins_lower word && nat_le (length word) 32) (Some word) name h in
+    let parts = and_both (begins_lower word) (nat_le (length word) 32) g.0 in
     (parts.0, leb-true (length word) 32 parts.1, same_Some word name g.1)
 
 name_again : (name : List ℕ) → IsName name → name_of name ≡ Some name

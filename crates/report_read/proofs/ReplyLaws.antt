@@ -6,10 +6,11 @@ use Rattle.cdb_values.specs.declared.rows.Level as levels
 use Rattle.cdb_values.specs.declared.rows.Level.TheVariants.{Snapshot, Serializable}
 use Rattle.cdb_values.specs.declared.rows.StatementError as errors
 use Rattle.cdb_values.specs.declared.rows.StatementError.TheVariants as error
-use Rattle.report_text.specs.declared.reports.ReplyLine.{ReplyLine}
-use Rattle.report_text.specs.declared.reports.ReplyLine.TheVariants as reply
+use Rattle.cdb_values.specs.declared.replies.Reply.{Reply}
+use Rattle.cdb_values.specs.declared.replies.Reply.TheVariants as reply
 use Rattle.byte_words.specs.Words.{is_digit}
-use Rattle.report_text.specs.Grammar.{is_name_byte, IsNumber, IsName, IsKey, IsError, IsReply}
+use Rattle.byte_words.specs.Names.{is_name_byte, IsName, IsKey}
+use Rattle.report_text.specs.Grammar.{IsNumber, IsError, IsReply}
 use Rattle.report_text.specs.Text.{level_text, error_text, reply_text}
 use Rattle.report_read.specs.Reading.{behind_word, number_then_at, name_then_at, numbered_at, counted_at, pair_at, level_at, bound_error_at, row_error_at, syntax_at, error_at, answer_at, outcome_at, genid_at, range_at, is_one_key, key_at, duplicate_at, row_at, told_at, reply_at}
 use Rattle.report_read.proofs.ReaderLaws.{Exact, Sound, next_is, no_byte, next_none, exact_after, exact_before, exact_both, exact_only, sound_of, sound_after, sound_as, sound_either, sound_word}
@@ -193,7 +194,7 @@ majority_again up nodes rest is =
     let two = exact_whole.again nodes (10 ∷ rest) is.1 refl in
     ap reply_at regrouped ∙ rw (one, two) refl
 
-pub reply_again : (x : ReplyLine) (rest : List ℕ) → IsReply x → reply_at (reply_text x ++ (10 ∷ rest)) ≡ Some (x, 10 ∷ rest)
+pub reply_again : (x : Reply) (rest : List ℕ) → IsReply x → reply_at (reply_text x ++ (10 ∷ rest)) ≡ Some (x, 10 ∷ rest)
 unfolding reply_at answer_at outcome_at told_at row_at numbered_at counted_at pair_at behind_word
 reply_again (reply.Begin n) rest is = let read = exact_whole.again n (10 ∷ rest) is refl in rw read refl
 reply_again (reply.Row row) rest is = let read = values_again row rest is in rw read refl

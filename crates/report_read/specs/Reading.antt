@@ -16,8 +16,8 @@ use Rattle.cdb_values.specs.declared.rows.StatementError.TheVariants as error
 use Rattle.report_text.specs.declared.reports.Report.{Report}
 use Rattle.report_text.specs.declared.reports.Line.{Line}
 use Rattle.report_text.specs.declared.reports.Line.TheVariants as line
-use Rattle.report_text.specs.declared.reports.ReplyLine.{ReplyLine}
-use Rattle.report_text.specs.declared.reports.ReplyLine.TheVariants as reply
+use Rattle.cdb_values.specs.declared.replies.Reply.{Reply}
+use Rattle.cdb_values.specs.declared.replies.Reply.TheVariants as reply
 use Rattle.report_text.specs.declared.reports.EntryLine.{EntryLine}
 use Rattle.report_text.specs.declared.reports.EntryLine.TheVariants.{Setup, Commit}
 use Rattle.report_text.specs.declared.reports.FeedLine.{FeedLine}
@@ -27,7 +27,8 @@ use Rattle.report_read.specs.declared.drafts.Draft.{Draft}
 use Rattle.report_read.specs.declared.coded.Piece.{Piece}
 use Rattle.report_read.specs.declared.coded.Piece.TheVariants as piece
 use Rattle.byte_words.specs.Words.{◌>>=◌, is_digit, front, behind, numeral_of}
-use Rattle.report_text.specs.Grammar.{is_name_byte, is_begun, is_ending}
+use Rattle.byte_words.specs.Names.{is_name_byte, begins_lower}
+use Rattle.report_text.specs.Grammar.{is_ending}
 
 -- what was read, and the bytes behind it
 abbrev pub Read : Type 0 → Type 0
@@ -79,7 +80,7 @@ unfoldable pub number_at : List ℕ → Read ℕ
 number_at bytes = number_within 18_446_744_073_709_551_615 bytes
 
 abbrev pub name_of : List ℕ → Option (List ℕ)
-name_of word = if is_begun word && nat_le (length word) 32 then Some word else None
+name_of word = if begins_lower word && nat_le (length word) 32 then Some word else None
 
 unfoldable pub name_at : List ℕ → Read (List ℕ)
 name_at bytes = name_of (front is_name_byte bytes) >>= (λ name. Some (name, behind is_name_byte bytes))
@@ -181,7 +182,7 @@ unfoldable pub error_at : List ℕ → Read errors.StatementError
 error_at bytes = either syntax_at (either bound_error_at row_error_at) bytes
 
 -- what a session was answered: to a statement
-unfoldable pub answer_at : List ℕ → Read ReplyLine
+unfoldable pub answer_at : List ℕ → Read Reply
 answer_at bytes = either (as_of reply.Begin (numbered_at (codes "begin "))) (either (as_of reply.Done (numbered_at (codes "done "))) (either (as_of reply.Changed (numbered_at (codes "changed "))) (either (as_of reply.Error (after (codes "error ") error_at)) (as_of reply.Level (after (codes "level ") level_at))))) bytes
 
 -- two numbers behind a word
@@ -189,14 +190,14 @@ unfoldable pub pair_at : List ℕ → List ℕ → Read (ℕ × ℕ)
 pair_at word bytes = both (counted_at word) number_at bytes
 
 -- to the end of a transaction, where no name is told
-unfoldable pub outcome_at : List ℕ → Read ReplyLine
+unfoldable pub outcome_at : List ℕ → Read Reply
 outcome_at bytes = either (as_of reply.Committed (numbered_at (codes "committed "))) (either (word_as (codes "rolledback") reply.RolledBack) (either (word_as (codes "nomemory") reply.NoMemory) (either (as_of (λ x. reply.Lost x.0 x.1) (pair_at (codes "lost "))) (as_of (λ x. reply.NoMajority x.0 x.1) (pair_at (codes "nomajority ")))))) bytes
 
 -- and where one is told
-unfoldable pub genid_at : List ℕ → Read ReplyLine
+unfoldable pub genid_at : List ℕ → Read Reply
 genid_at bytes = as_of (λ x. reply.ConflictGenid x.0 x.1.0 x.1.1) (both (counted_at (codes "conflict ")) (after (codes "genid ") (both name_then_at number_at))) bytes
 
-unfoldable pub range_at : List ℕ → Read ReplyLine
+unfoldable pub range_at : List ℕ → Read Reply
 range_at bytes = as_of (λ x. reply.ConflictRange x.0 x.1.0 x.1.1) (both (counted_at (codes "conflict ")) (after (codes "range ") (both name_then_at name_at))) bytes
 
 abbrev pub is_one_key : List ℕ → Bool
@@ -205,16 +206,16 @@ is_one_key key = not (bytes_eq (codes "all") key)
 unfoldable pub key_at : List ℕ → Read (List ℕ)
 key_at bytes = only is_one_key name_at bytes
 
-unfoldable pub duplicate_at : List ℕ → Read ReplyLine
+unfoldable pub duplicate_at : List ℕ → Read Reply
 duplicate_at bytes = as_of (λ x. reply.Duplicate x.0 x.1.0 x.1.1) (both (counted_at (codes "duplicate ")) (both name_then_at key_at)) bytes
 
-unfoldable pub row_at : List ℕ → Read ReplyLine
+unfoldable pub row_at : List ℕ → Read Reply
 row_at bytes = as_of reply.Row (after (codes "row ") values_at) bytes
 
-unfoldable pub told_at : List ℕ → Read ReplyLine
+unfoldable pub told_at : List ℕ → Read Reply
 told_at bytes = either row_at (either genid_at (either range_at duplicate_at)) bytes
 
-unfoldable pub reply_at : List ℕ → Read ReplyLine
+unfoldable pub reply_at : List ℕ → Read Reply
 reply_at bytes = either answer_at (either outcome_at told_at) bytes
 
 -- a line of a session, with its end, as each line below

@@ -9,16 +9,13 @@ use super::words::{
     ended, take_counted, take_name_then, take_number, take_number_then, take_numbered_line,
     take_word,
 };
-use cdb_values::Name;
-use report_text::{EntryLine, FeedLine, Line, ReplyLine};
+use cdb_values::{Name, Reply};
+use report_text::{EntryLine, FeedLine, Line};
 use std::alloc::{AllocError, Global};
 
 /// What a session was told in a transaction of that number, to the end of the line, and what stands
 /// behind it.
-fn read_reply_line(
-    alloc: Global,
-    bytes: &[u8],
-) -> Result<Option<((u64, ReplyLine), &[u8])>, AllocError>
+fn read_reply_line(alloc: Global, bytes: &[u8]) -> Result<Option<((u64, Reply), &[u8])>, AllocError>
     ensures { Gives (λ x. (x.0, x.1.now)) result (both number_then_at (before reply_at (10 ∷ [])) bytes.now) }
 {
     let Some((txn, rest)) = take_number_then(bytes) else {

@@ -7,8 +7,7 @@ use super::words::{
     take_counted, take_name, take_name_then, take_number, take_number_within, take_numbered,
     take_pair, take_word,
 };
-use cdb_values::{Level, Name, StatementError};
-use report_text::ReplyLine;
+use cdb_values::{Level, Name, Reply, StatementError};
 use std::alloc::{AllocError, Global};
 
 /// A level, and what stands behind it.
@@ -104,49 +103,49 @@ fn take_chosen_level(bytes: &[u8]) -> Option<(Level, &[u8])>
 
 /// An answer to a statement that is no row, and what stands behind it.
 #[tactic(auto, unfolding(crate::specs::Reading::answer_at))]
-fn take_answer(bytes: &[u8]) -> Option<(ReplyLine, &[u8])>
+fn take_answer(bytes: &[u8]) -> Option<(Reply, &[u8])>
     ensures { Finds (λ x. (x.0, x.1.now)) result (answer_at bytes.now) }
 {
     if let Some((position, rest)) = take_numbered(b"begin ", bytes) {
-        return Some((ReplyLine::Begin(position), rest));
+        return Some((Reply::Begin(position), rest));
     }
     if let Some((rows, rest)) = take_numbered(b"done ", bytes) {
-        return Some((ReplyLine::Done(rows), rest));
+        return Some((Reply::Done(rows), rest));
     }
     if let Some((rows, rest)) = take_numbered(b"changed ", bytes) {
-        return Some((ReplyLine::Changed(rows), rest));
+        return Some((Reply::Changed(rows), rest));
     }
     if let Some((cause, rest)) = take_refusal(bytes) {
-        return Some((ReplyLine::Error(cause), rest));
+        return Some((Reply::Error(cause), rest));
     }
     let (level, rest) = take_chosen_level(bytes)?;
-    Some((ReplyLine::Level(level), rest))
+    Some((Reply::Level(level), rest))
 }
 
 /// How a transaction ended, where no name is told, and what stands behind it.
 #[tactic(auto, unfolding(crate::specs::Reading::outcome_at))]
-fn take_outcome(bytes: &[u8]) -> Option<(ReplyLine, &[u8])>
+fn take_outcome(bytes: &[u8]) -> Option<(Reply, &[u8])>
     ensures { Finds (λ x. (x.0, x.1.now)) result (outcome_at bytes.now) }
 {
     if let Some((position, rest)) = take_numbered(b"committed ", bytes) {
-        return Some((ReplyLine::Committed(position), rest));
+        return Some((Reply::Committed(position), rest));
     }
     if let Some(rest) = take_word(b"rolledback", bytes) {
-        return Some((ReplyLine::RolledBack, rest));
+        return Some((Reply::RolledBack, rest));
     }
     if let Some(rest) = take_word(b"nomemory", bytes) {
-        return Some((ReplyLine::NoMemory, rest));
+        return Some((Reply::NoMemory, rest));
     }
     if let Some(((node, down), rest)) = take_pair(b"lost ", bytes) {
-        return Some((ReplyLine::Lost { node, down }, rest));
+        return Some((Reply::Lost { node, down }, rest));
     }
     let ((up, nodes), rest) = take_pair(b"nomajority ", bytes)?;
-    Some((ReplyLine::NoMajority { up, nodes }, rest))
+    Some((Reply::NoMajority { up, nodes }, rest))
 }
 
 /// A conflict over a version, and what stands behind it.
 #[tactic(auto, unfolding(crate::specs::Reading::genid_at))]
-fn read_genid(alloc: Global, bytes: &[u8]) -> Result<Option<(ReplyLine, &[u8])>, AllocError>
+fn read_genid(alloc: Global, bytes: &[u8]) -> Result<Option<(Reply, &[u8])>, AllocError>
     ensures { Gives (λ x. (x.0, x.1.now)) result (genid_at bytes.now) }
 {
     let Some((position, rest)) = take_counted(b"conflict ", bytes) else {
@@ -162,7 +161,7 @@ fn read_genid(alloc: Global, bytes: &[u8]) -> Result<Option<(ReplyLine, &[u8])>,
         return Ok(None);
     };
     let table = Name::copied(alloc, table)?;
-    let conflict = ReplyLine::ConflictGenid {
+    let conflict = Reply::ConflictGenid {
         position,
         table,
         genid,
@@ -172,7 +171,7 @@ fn read_genid(alloc: Global, bytes: &[u8]) -> Result<Option<(ReplyLine, &[u8])>,
 
 /// A conflict over a range, and what stands behind it.
 #[tactic(auto, unfolding(crate::specs::Reading::range_at))]
-fn read_range(alloc: Global, bytes: &[u8]) -> Result<Option<(ReplyLine, &[u8])>, AllocError>
+fn read_range(alloc: Global, bytes: &[u8]) -> Result<Option<(Reply, &[u8])>, AllocError>
     ensures { Gives (λ x. (x.0, x.1.now)) result (range_at bytes.now) }
 {
     let Some((position, rest)) = take_counted(b"conflict ", bytes) else {
@@ -189,7 +188,7 @@ fn read_range(alloc: Global, bytes: &[u8]) -> Result<Option<(ReplyLine, &[u8])>,
     };
     let table = Name::copied(alloc, table)?;
     let key = Name::copied(alloc, key)?;
-    let conflict = ReplyLine::ConflictRange {
+    let conflict = Reply::ConflictRange {
         position,
         table,
         key,
@@ -219,7 +218,7 @@ fn take_key(bytes: &[u8]) -> Option<(&[u8], &[u8])>
 
 /// A broken key, and what stands behind it.
 #[tactic(auto, unfolding(crate::specs::Reading::duplicate_at))]
-fn read_duplicate(alloc: Global, bytes: &[u8]) -> Result<Option<(ReplyLine, &[u8])>, AllocError>
+fn read_duplicate(alloc: Global, bytes: &[u8]) -> Result<Option<(Reply, &[u8])>, AllocError>
     ensures { Gives (λ x. (x.0, x.1.now)) result (duplicate_at bytes.now) }
 {
     let Some((position, rest)) = take_counted(b"duplicate ", bytes) else {
@@ -233,7 +232,7 @@ fn read_duplicate(alloc: Global, bytes: &[u8]) -> Result<Option<(ReplyLine, &[u8
     };
     let table = Name::copied(alloc, table)?;
     let key = Name::copied(alloc, key)?;
-    let duplicate = ReplyLine::Duplicate {
+    let duplicate = Reply::Duplicate {
         position,
         table,
         key,
@@ -243,7 +242,7 @@ fn read_duplicate(alloc: Global, bytes: &[u8]) -> Result<Option<(ReplyLine, &[u8
 
 /// A row, and what stands behind it.
 #[tactic(auto, unfolding(crate::specs::Reading::row_at))]
-fn read_row(alloc: Global, bytes: &[u8]) -> Result<Option<(ReplyLine, &[u8])>, AllocError>
+fn read_row(alloc: Global, bytes: &[u8]) -> Result<Option<(Reply, &[u8])>, AllocError>
     ensures { Gives (λ x. (x.0, x.1.now)) result (row_at bytes.now) }
 {
     let Some(rest) = take_word(b"row ", bytes) else {
@@ -252,12 +251,12 @@ fn read_row(alloc: Global, bytes: &[u8]) -> Result<Option<(ReplyLine, &[u8])>, A
     let Some((row, rest)) = read_values(alloc, rest)? else {
         return Ok(None);
     };
-    Ok(Some((ReplyLine::Row(row), rest)))
+    Ok(Some((Reply::Row(row), rest)))
 }
 
 /// A reply that takes memory, and what stands behind it.
 #[tactic(auto, unfolding(crate::specs::Reading::told_at))]
-fn read_told(alloc: Global, bytes: &[u8]) -> Result<Option<(ReplyLine, &[u8])>, AllocError>
+fn read_told(alloc: Global, bytes: &[u8]) -> Result<Option<(Reply, &[u8])>, AllocError>
     ensures { Gives (λ x. (x.0, x.1.now)) result (told_at bytes.now) }
 {
     if let Some(found) = read_row(alloc, bytes)? {
@@ -274,7 +273,7 @@ fn read_told(alloc: Global, bytes: &[u8]) -> Result<Option<(ReplyLine, &[u8])>, 
 
 /// A reply, and what stands behind it; `None` where none is. The error is want of memory.
 #[tactic(auto, unfolding(crate::specs::Reading::reply_at))]
-pub fn read_reply(alloc: Global, bytes: &[u8]) -> Result<Option<(ReplyLine, &[u8])>, AllocError>
+pub fn read_reply(alloc: Global, bytes: &[u8]) -> Result<Option<(Reply, &[u8])>, AllocError>
     ensures { Gives (λ x. (x.0, x.1.now)) result (reply_at bytes.now) }
 {
     if let Some(found) = take_answer(bytes) {

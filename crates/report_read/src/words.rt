@@ -1,6 +1,6 @@
 ghost use Rattle.std.specs.Prelude.{◌≡◌, ◌≤◌, ◌∷◌, [], Some, IfSome};
 ghost use Rattle.byte_words.specs.Answers.{Finds};
-ghost use Rattle.report_text.specs.Grammar.{is_name_byte, is_begun};
+ghost use Rattle.byte_words.specs.Names.{is_name_byte, begins_lower};
 ghost use Rattle.report_read.specs.Reading.{before, behind_word, number_within, number_at, name_of, name_at, number_then_at, name_then_at, numbered_at, counted_at, pair_at, numbered_line_at};
 
 use byte_words::{Digit, Kind, is_lower_case, numeral_value, split_while};
@@ -66,7 +66,7 @@ fn as_name(word: &[u8]) -> Option<&[u8]>
 
 /// Whether a letter or the underscore comes first.
 fn is_begun_as_name(word: &[u8]) -> bool
-    ensures { result ≡ is_begun word.now }
+    ensures { result ≡ begins_lower word.now }
 {
     match word.split_first() {
         None => false,

@@ -1,48 +1,28 @@
 -- The reports of the grammar.
 --
--- A name is 1 to 32 lower-case letters, digits and underscores, with no digit at its front, as in
--- scripts. Sessions, tables and keys may be named by any word, but for four: a key that a commit breaks
+-- Sessions, tables and keys may be named by any word, but for four: a key that a commit breaks
 -- is not `all`, which stands for a whole table, and a feed's table is none of `lost`, `nomajority` and
 -- `tooold`. A number fits 64 bits, the offset of a syntax error 32, and an integer 64 with its sign. A
 -- row has a value, and a text is UTF-8.
-use Rattle.std.specs.Prelude.{◌≡◌, ℕ, ◌<◌, ◌≤◌, ◌^◌, ◌==◌, ◌∷◌, [], List, length, Bool, true, false, ◌&&◌, ◌||◌, pos, negsuc, codes, bytes_eq, IfSome}
-use Rattle.std.specs.List.{list_all, AllByRecursion}
+use Rattle.std.specs.Prelude.{◌≡◌, ℕ, ◌<◌, ◌^◌, ◌∷◌, [], List, Bool, true, false, ◌||◌, pos, negsuc, codes, bytes_eq, IfSome}
+use Rattle.std.specs.List.{AllByRecursion}
 use Rattle.std.specs.Str.{is_utf8}
 use Rattle.cdb_values.specs.declared.values.Value.{Value}
 use Rattle.cdb_values.specs.declared.values.Value.TheVariants.{Null, Int, Text, Blob}
 use Rattle.cdb_values.specs.declared.rows.StatementError as errors
 use Rattle.cdb_values.specs.declared.rows.StatementError.TheVariants as error
-use Rattle.byte_words.specs.Words.{is_digit, is_lower}
+use Rattle.byte_words.specs.Names.{IsName, IsKey}
 use Rattle.report_text.specs.declared.reports.Report.{Report}
 use Rattle.report_text.specs.declared.reports.Line.{Line}
 use Rattle.report_text.specs.declared.reports.Line.TheVariants as line
-use Rattle.report_text.specs.declared.reports.ReplyLine.{ReplyLine}
-use Rattle.report_text.specs.declared.reports.ReplyLine.TheVariants as reply
+use Rattle.cdb_values.specs.declared.replies.Reply.{Reply}
+use Rattle.cdb_values.specs.declared.replies.Reply.TheVariants as reply
 use Rattle.report_text.specs.declared.reports.EntryLine.{EntryLine}
 use Rattle.report_text.specs.declared.reports.EntryLine.TheVariants.{Setup, Commit}
 use Rattle.report_text.specs.declared.reports.FeedLine.{FeedLine}
 
--- a byte of a name
-abbrev pub is_name_byte : ℕ → Bool
-is_name_byte b = is_lower b || (is_digit b || (b == 95))
-
--- the first byte of a name is no digit; unlike `is_begun` of `byte_words`, it is no upper-case letter either
-abbrev pub is_begun : List ℕ → Bool
-is_begun [] = false
-is_begun (b ∷ bs) = is_lower b || (b == 95)
-
-pub record IsName (name : List ℕ) : Type 0 where
-  pub bytes : list_all is_name_byte name ≡ true
-  pub begun : is_begun name ≡ true
-  pub short : length name ≤ 32
-
 abbrev pub IsNumber : ℕ → Type 0
 IsNumber n = n < 2 ^ 64
-
--- a key that a commit may break
-pub record IsKey (key : List ℕ) : Type 0 where
-  pub name : IsName key
-  pub one : bytes_eq (codes "all") key ≡ false
 
 -- a word behind which two numbers say how a transaction of a session named `feed` ended
 abbrev pub is_ending : List ℕ → Bool
@@ -63,7 +43,7 @@ abbrev pub IsError : errors.StatementError → Type 0
 IsError (error.Syntax at) = at < 2 ^ 32
 IsError _ = Unit {0}
 
-abbrev pub IsReply : ReplyLine → Type 0
+abbrev pub IsReply : Reply → Type 0
 IsReply (reply.Begin position) = IsNumber position
 IsReply (reply.Row row) = IsRow row
 IsReply (reply.Done rows) = IsNumber rows

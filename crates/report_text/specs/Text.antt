@@ -14,8 +14,8 @@ use Rattle.cdb_values.specs.declared.rows.StatementError.TheVariants as error
 use Rattle.report_text.specs.declared.reports.Report.{Report}
 use Rattle.report_text.specs.declared.reports.Line.{Line}
 use Rattle.report_text.specs.declared.reports.Line.TheVariants as line
-use Rattle.report_text.specs.declared.reports.ReplyLine.{ReplyLine}
-use Rattle.report_text.specs.declared.reports.ReplyLine.TheVariants as reply
+use Rattle.cdb_values.specs.declared.replies.Reply.{Reply}
+use Rattle.cdb_values.specs.declared.replies.Reply.TheVariants as reply
 use Rattle.report_text.specs.declared.reports.EntryLine.{EntryLine}
 use Rattle.report_text.specs.declared.reports.EntryLine.TheVariants.{Setup, Commit}
 use Rattle.report_text.specs.declared.reports.FeedLine.{FeedLine}
@@ -69,7 +69,7 @@ error_text error.State = codes "state"
 abbrev pub number_then : ℕ → List ℕ → List ℕ
 number_then n rest = decimal n ++ (32 ∷ rest)
 
-abbrev pub reply_text : ReplyLine → List ℕ
+abbrev pub reply_text : Reply → List ℕ
 reply_text (reply.Begin position) = codes "begin " ++ decimal position
 reply_text (reply.Row row) = codes "row " ++ values_text row
 reply_text (reply.Done rows) = codes "done " ++ decimal rows

@@ -9,8 +9,8 @@ use Rattle.report_text.specs.Grammar.{IsNumber, IsError}
 use Rattle.report_text.specs.declared.reports.Report.{Report}
 use Rattle.report_text.specs.declared.reports.Line.{Line}
 use Rattle.report_text.specs.declared.reports.Line.TheVariants as line
-use Rattle.report_text.specs.declared.reports.ReplyLine.{ReplyLine}
-use Rattle.report_text.specs.declared.reports.ReplyLine.TheVariants as reply
+use Rattle.cdb_values.specs.declared.replies.Reply.{Reply}
+use Rattle.cdb_values.specs.declared.replies.Reply.TheVariants as reply
 use Rattle.report_text.specs.declared.reports.EntryLine.{EntryLine}
 use Rattle.report_text.specs.declared.reports.EntryLine.TheVariants.{Setup, Commit}
 use Rattle.report_text.specs.declared.reports.FeedLine.{FeedLine}
@@ -25,7 +25,7 @@ FitsValue (Int n) = FitsInteger n
 FitsValue (Text text) = Unit {0}
 FitsValue (Blob blob) = Unit {0}
 
-abbrev pub FitsReply : ReplyLine → Type 0
+abbrev pub FitsReply : Reply → Type 0
 FitsReply (reply.Begin position) = IsNumber position
 FitsReply (reply.Row row) = AllByRecursion FitsValue row
 FitsReply (reply.Done rows) = IsNumber rows

@@ -1,4 +1,4 @@
-//! The report of a run: its types, its one spelling and its printer.
+//! The report of a run: its lines as data, its one spelling and its printer.
 //!
 //! A report is what a run tells: the lines of its sessions and nodes in the order in which they came
 //! about, then the base, the committed history after it, the feeds, and the length of the history.
@@ -61,4 +61,4 @@ mod printing;
 mod reports;
 
 pub use printing::print;
-pub use reports::{EntryLine, FeedLine, Line, ReplyLine, Report};
+pub use reports::{EntryLine, FeedLine, Line, Report};

@@ -5,8 +5,8 @@ ghost use Rattle.report_text.specs.Grammar.{IsNumber, IsError};
 ghost use Rattle.report_text.specs.Text.{value_text, values_text, more_values, quoted, hexadecimal, hex_digit, level_text, error_text, reply_text, number_then, cause_text, words_of, entry_words, feed_words, ended, base_text, end_text, lines_text, entries_text, feeds_text, report_text};
 ghost use Rattle.report_text.specs.Types.{FitsValue, FitsReply, FitsLine, FitsEntry, FitsFeed, FitsTypes};
 
-use super::reports::{EntryLine, FeedLine, Line, ReplyLine, Report};
-use cdb_values::{Bytes, Level, Name, StatementError, Value};
+use super::reports::{EntryLine, FeedLine, Line, Report};
+use cdb_values::{Bytes, Level, Name, Reply, StatementError, Value};
 use std::alloc::{AllocError, Global};
 
 /// The text of a report, its one spelling.
@@ -75,37 +75,37 @@ fn put_cause(out: &mut Vec<u8>, fault: bool) -> Result<(), AllocError>
 }
 
 /// What a session was answered.
-fn put_reply(alloc: Global, out: &mut Vec<u8>, reply: &ReplyLine) -> Result<(), AllocError>
+fn put_reply(alloc: Global, out: &mut Vec<u8>, reply: &Reply) -> Result<(), AllocError>
     ensures text { OnOk result (out.new.items ≡ out.old.items ++ reply_text reply.now) }
     ensures fits { OnOk result (FitsReply reply.now) }
 {
     match reply {
-        ReplyLine::Begin(position) => put_numbered(alloc, out, b"begin ", *position),
-        ReplyLine::Row(row) => put_row(alloc, out, row.as_slice()),
-        ReplyLine::Done(rows) => put_numbered(alloc, out, b"done ", *rows),
-        ReplyLine::Changed(rows) => put_numbered(alloc, out, b"changed ", *rows),
-        ReplyLine::Error(cause) => put_error(alloc, out, *cause),
-        ReplyLine::Level(level) => put_level_line(out, *level),
-        ReplyLine::RolledBack => put_bytes(out, b"rolledback"),
-        ReplyLine::Committed(position) => put_numbered(alloc, out, b"committed ", *position),
-        ReplyLine::ConflictGenid {
+        Reply::Begin(position) => put_numbered(alloc, out, b"begin ", *position),
+        Reply::Row(row) => put_row(alloc, out, row.as_slice()),
+        Reply::Done(rows) => put_numbered(alloc, out, b"done ", *rows),
+        Reply::Changed(rows) => put_numbered(alloc, out, b"changed ", *rows),
+        Reply::Error(cause) => put_error(alloc, out, *cause),
+        Reply::Level(level) => put_level_line(out, *level),
+        Reply::RolledBack => put_bytes(out, b"rolledback"),
+        Reply::Committed(position) => put_numbered(alloc, out, b"committed ", *position),
+        Reply::ConflictGenid {
             position,
             table,
             genid,
         } => put_genid(alloc, out, *position, table, *genid),
-        ReplyLine::ConflictRange {
+        Reply::ConflictRange {
             position,
             table,
             key,
         } => put_range(alloc, out, *position, table, key),
-        ReplyLine::Duplicate {
+        Reply::Duplicate {
             position,
             table,
             key,
         } => put_duplicate(alloc, out, *position, table, key),
-        ReplyLine::Lost { node, down } => put_pair(alloc, out, b"lost ", *node, *down),
-        ReplyLine::NoMajority { up, nodes } => put_pair(alloc, out, b"nomajority ", *up, *nodes),
-        ReplyLine::NoMemory => put_bytes(out, b"nomemory"),
+        Reply::Lost { node, down } => put_pair(alloc, out, b"lost ", *node, *down),
+        Reply::NoMajority { up, nodes } => put_pair(alloc, out, b"nomajority ", *up, *nodes),
+        Reply::NoMemory => put_bytes(out, b"nomemory"),
     }
 }
 
@@ -269,7 +269,7 @@ fn put_genid(
     table: &Name,
     genid: u64,
 ) -> Result<(), AllocError>
-    ensures text { OnOk result (out.new.items ≡ out.old.items ++ reply_text (ReplyLine.ConflictGenid position table.now genid)) }
+    ensures text { OnOk result (out.new.items ≡ out.old.items ++ reply_text (Reply.ConflictGenid position table.now genid)) }
     ensures fits { OnOk result (IsNumber position × IsNumber genid) }
 {
     put_bytes(out, b"conflict ")?;
@@ -287,7 +287,7 @@ fn put_range(
     table: &Name,
     key: &Name,
 ) -> Result<(), AllocError>
-    ensures text { OnOk result (out.new.items ≡ out.old.items ++ reply_text (ReplyLine.ConflictRange position table.now key.now)) }
+    ensures text { OnOk result (out.new.items ≡ out.old.items ++ reply_text (Reply.ConflictRange position table.now key.now)) }
     ensures fits { OnOk result (IsNumber position) }
 {
     put_bytes(out, b"conflict ")?;
@@ -305,7 +305,7 @@ fn put_duplicate(
     table: &Name,
     key: &Name,
 ) -> Result<(), AllocError>
-    ensures text { OnOk result (out.new.items ≡ out.old.items ++ reply_text (ReplyLine.Duplicate position table.now key.now)) }
+    ensures text { OnOk result (out.new.items ≡ out.old.items ++ reply_text (Reply.Duplicate position table.now key.now)) }
     ensures fits { OnOk result (IsNumber position) }
 {
     put_bytes(out, b"duplicate ")?;

@@ -1,4 +1,4 @@
-use cdb_values::{Level, List, Name, Row, StatementError};
+use cdb_values::{Level, List, Name, Reply};
 
 /// What a run tells: the lines of its sessions and nodes in the order in which they came about,
 /// the committed history after the base, and what each feed place took.
@@ -18,74 +18,15 @@ pub struct Report {
 #[derive(Clone, Drop)]
 pub enum Line {
     /// A session was answered. `txn` is the number of its transaction, or 0 outside one.
-    Session {
-        name: Name,
-        txn: u64,
-        reply: ReplyLine,
-    },
+    Session { name: Name, txn: u64, reply: Reply },
     /// A node went down: by the operator or an armed stop, or by a fault of its store.
-    Down {
-        count: u64,
-        node: u64,
-        fault: bool,
-    },
+    Down { count: u64, node: u64, fault: bool },
     /// A node came up after the opening.
-    Up {
-        node: u64,
-    },
+    Up { node: u64 },
     /// All earlier lines of the script were done.
     Barrier,
     /// The feeds were offered the changes up to a position.
-    Fed {
-        position: u64,
-    },
-}
-
-/// What a session was answered.
-#[derive(Clone, Drop)]
-pub enum ReplyLine {
-    /// The begin position of the transaction.
-    Begin(u64),
-    Row(Row),
-    /// How many rows the select gave.
-    Done(u64),
-    /// How many rows the write changed.
-    Changed(u64),
-    Error(StatementError),
-    Level(Level),
-    RolledBack,
-    /// The position of the transaction in the history; its begin position if it changed nothing.
-    Committed(u64),
-    /// A later commit took a version away that this transaction used.
-    ConflictGenid {
-        position: u64,
-        table: Name,
-        genid: u64,
-    },
-    /// A later commit changed what this transaction read.
-    ConflictRange {
-        position: u64,
-        table: Name,
-        key: Name,
-    },
-    /// At a position of the history the operations break a key.
-    Duplicate {
-        position: u64,
-        table: Name,
-        key: Name,
-    },
-    /// The node went down, by the down line of that number.
-    Lost {
-        node: u64,
-        down: u64,
-    },
-    /// Fewer than a majority of the nodes were up.
-    NoMajority {
-        up: u64,
-        nodes: u64,
-    },
-    /// Want of memory.
-    NoMemory,
+    Fed { position: u64 },
 }
 
 /// A position of the history.

@@ -1,6 +1,6 @@
--- What runs: a script of one node without watches, of lawful tables with columns, whose body is texts of declared
--- sessions, of UTF-8. What else the texts are is nothing to it: each of them is answered, if by an error.
-use Rattle.std.specs.Prelude.{◌≡◌, ◌≢◌, ℕ, ◌≤◌, ◌∷◌, ◌++◌, [], List, length, map, true, false, None, ◌⊎◌}
+-- What runs: a script of one node without watches, of lawful tables, whose body is texts of declared sessions, of UTF-8. What
+-- else the texts are is nothing to it: each of them is answered, if by an error.
+use Rattle.std.specs.Prelude.{◌≡◌, ℕ, ◌≤◌, ◌∷◌, ◌++◌, [], List, length, map, true, false, None, ◌⊎◌}
 use Rattle.std.specs.List.{AllByRecursion}
 use Rattle.std.specs.Str.{is_utf8}
 use Rattle.cdb_values.specs.Tables.{add_fault}
@@ -39,5 +39,4 @@ pub record CanRun (script : Script) : Type 0 where
   pub few_sessions : length script.sessions ≤ 64
   pub no_hasql : AllByRecursion (λ s. (s.node ≡ 1) × (s.hasql ≡ false)) script.sessions
   pub tables_lawful : AreTaken [] (tables_of script)
-  pub columns : AllByRecursion (λ t. t.table.columns ≢ []) script.tables
   pub said : AllByRecursion (λ l. IsSaid script.sessions l.act) script.body

@@ -18,7 +18,8 @@ use Rattle.script_read.specs.Answers.{Refusal}
 use Rattle.script_read.specs.Bodies.{said_of, say_said, stop_said, start_said, arm_of, arm_said, barrier_said, feed_said}
 use Rattle.script_read.specs.Built.{is_built}
 use Rattle.script_form.specs.CanRun.{AreTaken, IsSaid, CanRun}
-use Rattle.script_form.specs.Named.{IsName, IsNamedTable, SaysNamed, IsNamed}
+use Rattle.byte_words.specs.Names.{IsName}
+use Rattle.script_form.specs.Named.{IsNamedTable, SaysNamed, IsNamed}
 use Rattle.script_read.specs.Heads.{only_number, only_fitting, is_declared, is_node, nodes_said, cluster_said, workers_said, session_of, session_said, tabled, table_said, watched, watch_said}
 use Rattle.script_read.specs.Kinds.{kind_of, keyword_part, part_of, may_come}
 use Rattle.script_read.specs.Lawful.{AreNew, IsNode, NamesDeclared, Rise, IsLawful}
@@ -525,7 +526,6 @@ going_can_run draft line g = record {
   few_sessions = g.few;
   no_hasql = g.sessions;
   tables_lawful = subst (λ ts. AreTaken [] ts) g.schema g.taken;
-  columns = g.columns;
   said = g.texts;
 }
 
@@ -564,6 +564,7 @@ going_is_named : (draft : Draft) (line : ℕ) → Going draft line → IsNamed (
 going_is_named draft line g = record {
   sessions = g.session_names;
   tables = g.table_names;
+  columns = g.columns;
   body = all_map (λ l. IsSaid draft.sessions l.act) (λ l. SaysNamed l.act) draft.body (λ l h. says_named draft.sessions l.act g.session_names h) g.texts;
 }
 

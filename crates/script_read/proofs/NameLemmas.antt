@@ -8,7 +8,8 @@ use Rattle.table_read.specs.Verdict.{table_of}
 use Rattle.table_read.proofs.TokenNameLaws.{IsTokenName}
 use Rattle.table_read.proofs.WrittenNameLaws.{tables_named}
 use Rattle.script_form.specs.CanRun.{IsDeclared, IsSaid}
-use Rattle.script_form.specs.Named.{is_name_byte, is_begun, IsName, IsFreeKey, IsNamedTable, SaysNamed}
+use Rattle.byte_words.specs.Names.{is_name_byte, begins_lower, IsName, IsKey}
+use Rattle.script_form.specs.Named.{IsNamedTable, SaysNamed}
 use Rattle.script_form.specs.declared.scripts.Act.{Act}
 use Rattle.script_form.specs.declared.scripts.Act.TheVariants as acts
 use Rattle.script_form.specs.declared.scripts.SessionLine.{SessionLine}
@@ -43,7 +44,7 @@ name_bytes (b ∷ bs) h none =
     let one : is_name_byte b ≡ true = name_byte (words.is_lower b) (words.is_upper b) (words.is_digit b) _ (and_first (words.is_word_byte b) _ h) (none_first (words.is_upper b) _ none) in
     ap₂ (λ x y. x && y) one (name_bytes bs (and_second (words.is_word_byte b) _ h) (none_second (words.is_upper b) _ none))
 
-name_begun : (name : List ℕ) → words.is_begun name ≡ true → list_any words.is_upper name ≡ false → is_begun name ≡ true
+name_begun : (name : List ℕ) → words.is_begun name ≡ true → list_any words.is_upper name ≡ false → begins_lower name ≡ true
 name_begun [] h none = h
 name_begun (b ∷ bs) h none = first_byte (words.is_lower b) (words.is_upper b) _ h (none_first (words.is_upper b) _ none)
 
@@ -63,15 +64,15 @@ well_formed name h =
     }
 
 -- a name that a token may have, and that of a primary key
-token_is_free : (name : List ℕ) → IsTokenName name → IsFreeKey name
+token_is_free : (name : List ℕ) → IsTokenName name → IsKey name
 token_is_free name t = record { name = record { bytes = t.bytes; begun = t.begun; short = t.short }; one = t.free }
 
-primary_is_free : IsFreeKey (codes "pk")
+primary_is_free : IsKey (codes "pk")
 primary_is_free = record { name = record { bytes = refl; begun = refl; short = omega arith }; one = refl }
 
 -- a table that is read, and the names of its keys
 pub table_named : (tables : List TableDef) (text : List ℕ) (table : TableDef) → table_of tables text ≡ Ok table → IsNamedTable table
-table_named tables text table e = let named = tables_named IsFreeKey token_is_free primary_is_free tables text table e in (named.0.name, named.1)
+table_named tables text table e = let named = tables_named IsKey token_is_free primary_is_free tables text table e in (named.0.name, named.1)
 
 declared_named : (name : List ℕ) (sessions : List SessionLine) → AllByRecursion (λ s. IsName s.name) sessions → IsDeclared name sessions → IsName name
 declared_named name [] all h = absurd h

@@ -19,7 +19,8 @@ pub fn scripts_can_run()
     ensures { (stores consumers : ℕ) (bytes : List ℕ) (script : Script) → script_of stores consumers bytes ≡ Ok script → CanRun script }
 {}
 
-/// Of a script that is read, the names of sessions, tables and keys are names, and no key is named `all`.
+/// Of a script that is read, the names of sessions, tables and keys are names, no key is named `all`, and each table has a
+/// column.
 pub fn scripts_have_names()
     ensures { (stores consumers : ℕ) (bytes : List ℕ) (script : Script) → script_of stores consumers bytes ≡ Ok script → IsNamed script }
 {}

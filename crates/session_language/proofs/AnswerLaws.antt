@@ -5,7 +5,7 @@ use Rattle.cdb_values.specs.declared.rows.RowOp.{RowOp}
 use Rattle.cdb_values.specs.declared.rows.Version.{Version}
 use Rattle.cdb_values.specs.declared.tables.TableDef.{TableDef}
 use Rattle.session_language.specs.Language.{Language, alone_from}
-use Rattle.report_text.specs.declared.reports.ReplyLine.{ReplyLine}
+use Rattle.cdb_values.specs.declared.replies.Reply.{Reply}
 
 module _ (language : Language) (tables : List TableDef) (versions : List (List Version)) where
   -- the replies are those before, and then those to the text
@@ -14,7 +14,7 @@ module _ (language : Language) (tables : List TableDef) (versions : List (List V
       ≡ (alone_from language tables versions done texts).replies ++ (language.answer tables versions (alone_from language tables versions done texts).ops text).replies
   replies_more done [] text = append-nil (language.answer tables versions done text).replies
   replies_more done (first ∷ texts) text =
-      ap (λ (rest : List ReplyLine). (language.answer tables versions done first).replies ++ rest) (replies_more (language.answer tables versions done first).ops texts text)
+      ap (λ (rest : List Reply). (language.answer tables versions done first).replies ++ rest) (replies_more (language.answer tables versions done first).ops texts text)
       ∙ sym (append_assoc (language.answer tables versions done first).replies (alone_from language tables versions (language.answer tables versions done first).ops texts).replies _)
 
   -- the operations are those after the text
@@ -29,5 +29,5 @@ module _ (language : Language) (tables : List TableDef) (versions : List (List V
       ≡ (alone_from language tables versions done texts).replies ++ (alone_from language tables versions (alone_from language tables versions done texts).ops more).replies
   replies_append done [] more = refl
   replies_append done (first ∷ texts) more =
-      ap (λ (rest : List ReplyLine). (language.answer tables versions done first).replies ++ rest) (replies_append (language.answer tables versions done first).ops texts more)
+      ap (λ (rest : List Reply). (language.answer tables versions done first).replies ++ rest) (replies_append (language.answer tables versions done first).ops texts more)
       ∙ sym (append_assoc (language.answer tables versions done first).replies (alone_from language tables versions (language.answer tables versions done first).ops texts).replies _)

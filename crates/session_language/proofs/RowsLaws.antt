@@ -30,14 +30,14 @@ abbrev pub touches : List TableDef → Interval → Rows → List RowOp → Bool
 touches tables interval rows [] = false
 touches tables interval rows (o ∷ ops) = op_touches tables interval rows o || touches tables interval (apply rows o) ops
 
-filter_true : {A : Type 0} (p : A → Bool) (x : A) (xs : List A) → p x ≡ true → filter p (x ∷ xs) ≡ x ∷ filter p xs
+pub filter_true : {A : Type 0} (p : A → Bool) (x : A) (xs : List A) → p x ≡ true → filter p (x ∷ xs) ≡ x ∷ filter p xs
 filter_true p x xs is = ap (λ b. cond b (x ∷ filter p xs) (filter p xs)) is
 
-filter_false : {A : Type 0} (p : A → Bool) (x : A) (xs : List A) → p x ≡ false → filter p (x ∷ xs) ≡ filter p xs
+pub filter_false : {A : Type 0} (p : A → Bool) (x : A) (xs : List A) → p x ≡ false → filter p (x ∷ xs) ≡ filter p xs
 filter_false p x xs is = ap (λ b. cond b (x ∷ filter p xs) (filter p xs)) is
 
 -- a table's list is set to one that a filter does not tell from the old
-set_stays : (p : Version → Bool) (tables : List (List Version)) (t k : ℕ) (new : List Version) → (t ≡ k → filter p new ≡ filter p (unwrap_or (slice_get tables t) [])) →
+pub set_stays : (p : Version → Bool) (tables : List (List Version)) (t k : ℕ) (new : List Version) → (t ≡ k → filter p new ≡ filter p (unwrap_or (slice_get tables t) [])) →
     filter p (unwrap_or (slice_get (slice_set tables t new) k) []) ≡ filter p (unwrap_or (slice_get tables k) [])
 set_stays p [] t k new same = refl
 set_stays p (vs ∷ tables) zero zero new same = same refl
@@ -45,7 +45,7 @@ set_stays p (vs ∷ tables) zero (suc k) new same = refl
 set_stays p (vs ∷ tables) (suc t) zero new same = refl
 set_stays p (vs ∷ tables) (suc t) (suc k) new same = set_stays p tables t k new (λ is. same (ap suc is))
 
-without_step : (p : Version → Bool) (genid : ℕ) (v : Version) (vs : List Version) (b : Bool) → eqb v.genid genid ≡ b → (eqb v.genid genid && p v) ≡ false →
+pub without_step : (p : Version → Bool) (genid : ℕ) (v : Version) (vs : List Version) (b : Bool) → eqb v.genid genid ≡ b → (eqb v.genid genid && p v) ≡ false →
     filter p (without genid vs) ≡ filter p vs → filter p (without genid (v ∷ vs)) ≡ filter p (v ∷ vs)
 without_step p genid v vs true test is same =
     let off : p v ≡ false = sym (ap (λ b. b && p v) test) ∙ is in
@@ -53,13 +53,13 @@ without_step p genid v vs true test is same =
 without_step p genid v vs false test is same =
     ap (filter p) (filter_true (λ (v : Version). not (eqb v.genid genid)) v vs (ap not test)) ∙ ap (λ rest. cond (p v) (v ∷ rest) rest) same
 
-without_stays : (p : Version → Bool) (genid : ℕ) (vs : List Version) → list_any (λ v. eqb v.genid genid && p v) vs ≡ false → filter p (without genid vs) ≡ filter p vs
+pub without_stays : (p : Version → Bool) (genid : ℕ) (vs : List Version) → list_any (λ v. eqb v.genid genid && p v) vs ≡ false → filter p (without genid vs) ≡ filter p vs
 without_stays p genid [] is = refl
 without_stays p genid (v ∷ vs) is =
     let none = or_parts (eqb v.genid genid && p v) (list_any (λ v. eqb v.genid genid && p v) vs) is in
     without_step p genid v vs (eqb v.genid genid) refl none.0 (without_stays p genid vs none.1)
 
-in_table : (table k : ℕ) (b : Bool) → (eqb table k && b) ≡ false → table ≡ k → b ≡ false
+pub in_table : (table k : ℕ) (b : Bool) → (eqb table k && b) ≡ false → table ≡ k → b ≡ false
 in_table table k b is same = sym (ap (λ t. t && b) (eq-eqb table k same)) ∙ is
 
 taken_stays : (tables : List TableDef) (interval : Interval) (rows : Rows) (table genid : ℕ) → leaves tables interval rows table genid ≡ false → HoldsTheSame tables rows (taken rows table genid) interval

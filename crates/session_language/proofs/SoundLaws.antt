@@ -21,7 +21,7 @@ pub all_filter : {A : Type 0} (P : A → Type 0) (p : A → Bool) (xs : List A) 
 all_filter P p [] a = tt
 all_filter P p (x ∷ xs) a = cond_both (p x) (x ∷ filter p xs) (filter p xs) (AllByRecursion P) (λ _. (a.0, all_filter P p xs a.1)) (λ _. all_filter P p xs a.1)
 
-set_all : (P : Version → Type 0) (tables : List (List Version)) (t k : ℕ) (new : List Version) → (t ≡ k → AllByRecursion P (unwrap_or (slice_get tables t) []) → AllByRecursion P new) →
+pub set_all : (P : Version → Type 0) (tables : List (List Version)) (t k : ℕ) (new : List Version) → (t ≡ k → AllByRecursion P (unwrap_or (slice_get tables t) []) → AllByRecursion P new) →
     AllByRecursion P (unwrap_or (slice_get tables k) []) → AllByRecursion P (unwrap_or (slice_get (slice_set tables t new) k) [])
 set_all P [] t k new gives a = a
 set_all P (vs ∷ tables) zero zero new gives a = gives refl a
@@ -30,16 +30,16 @@ set_all P (vs ∷ tables) (suc t) zero new gives a = a
 set_all P (vs ∷ tables) (suc t) (suc k) new gives a = set_all P tables t k new (λ is. gives (ap suc is)) a
 
 -- what holds of each version of a table holds after an operation, where it holds of the version that is added
-taken_all : (P : Version → Type 0) (rows : Rows) (t genid k : ℕ) → AllByRecursion P (versions_of rows k) → AllByRecursion P (versions_of (taken rows t genid) k)
+pub taken_all : (P : Version → Type 0) (rows : Rows) (t genid k : ℕ) → AllByRecursion P (versions_of rows k) → AllByRecursion P (versions_of (taken rows t genid) k)
 taken_all P rows t genid k a = set_all P rows.tables t k (without genid (versions_of rows t)) (λ _ a. all_filter P _ (versions_of rows t) a) a
 
-added_all : (P : Version → Type 0) (rows : Rows) (t : ℕ) (row : List Value) (k : ℕ) → (t ≡ k → P (version rows.next row)) → AllByRecursion P (versions_of rows k) → AllByRecursion P (versions_of (added rows t row) k)
+pub added_all : (P : Version → Type 0) (rows : Rows) (t : ℕ) (row : List Value) (k : ℕ) → (t ≡ k → P (version rows.next row)) → AllByRecursion P (versions_of rows k) → AllByRecursion P (versions_of (added rows t row) k)
 added_all P rows t row k new a = set_all P rows.tables t k (versions_of rows t ++ version rows.next row ∷ []) (λ is a. all_append P (versions_of rows t) (version rows.next row ∷ []) a (new is, tt)) a
 
-taken_keeps : (rows : Rows) (t g table genid : ℕ) (old : List Value) → IsRowOf rows table genid old → IsRowOf (taken rows t g) table genid old
+pub taken_keeps : (rows : Rows) (t g table genid : ℕ) (old : List Value) → IsRowOf rows table genid old → IsRowOf (taken rows t g) table genid old
 taken_keeps rows t g table genid old was = record { below = was.below; same = taken_all (λ v. v.genid ≡ genid → v.row ≡ old) rows t g table was.same }
 
-added_keeps : (rows : Rows) (t : ℕ) (row : List Value) (table genid : ℕ) (old : List Value) → IsRowOf rows table genid old → IsRowOf (added rows t row) table genid old
+pub added_keeps : (rows : Rows) (t : ℕ) (row : List Value) (table genid : ℕ) (old : List Value) → IsRowOf rows table genid old → IsRowOf (added rows t row) table genid old
 added_keeps rows t row table genid old was =
     let below : genid < rows.next = was.below in
     record {
@@ -47,7 +47,7 @@ added_keeps rows t row table genid old was =
       same = added_all (λ v. v.genid ≡ genid → v.row ≡ old) rows t row table (λ _ is. absurd (omega (arith, below, is))) was.same;
     }
 
-keeps : (rows : Rows) (o : RowOp) (table genid : ℕ) (old : List Value) → IsRowOf rows table genid old → IsRowOf (apply rows o) table genid old
+pub keeps : (rows : Rows) (o : RowOp) (table genid : ℕ) (old : List Value) → IsRowOf rows table genid old → IsRowOf (apply rows o) table genid old
 keeps rows (op.Insert t row) table genid old was = added_keeps rows t row table genid old was
 keeps rows (op.Update t (Base g) o row) table genid old was = added_keeps (taken rows t g) t row table genid old (taken_keeps rows t g table genid old was)
 keeps rows (op.Update t (Own w) o row) table genid old was = was
@@ -55,11 +55,11 @@ keeps rows (op.Delete t (Base g) o) table genid old was = taken_keeps rows t g t
 keeps rows (op.Delete t (Own w) o) table genid old was = was
 
 -- an operation that names its target's row rightly does so after each other one
-target_keeps : (rows : Rows) (o : RowOp) (table : ℕ) (target : RowRef) (old : List Value) → IsTrueTarget rows table target old → IsTrueTarget (apply rows o) table target old
+pub target_keeps : (rows : Rows) (o : RowOp) (table : ℕ) (target : RowRef) (old : List Value) → IsTrueTarget rows table target old → IsTrueTarget (apply rows o) table target old
 target_keeps rows o table (Base genid) old was = keeps rows o table genid old was
 target_keeps rows o table (Own write) old was = tt
 
-op_keeps : (rows : Rows) (o p : RowOp) → IsTrueOp rows p → IsTrueOp (apply rows o) p
+pub op_keeps : (rows : Rows) (o p : RowOp) → IsTrueOp rows p → IsTrueOp (apply rows o) p
 op_keeps rows o (op.Insert table row) was = tt
 op_keeps rows o (op.Update table target old row) was = target_keeps rows o table target old was
 op_keeps rows o (op.Delete table target old) was = target_keeps rows o table target old was
@@ -74,7 +74,7 @@ taken_sound rows t g sound table =
     all_map (λ v. IsRowOf rows table v.genid v.row) (λ v. IsRowOf (taken rows t g) table v.genid v.row) (λ v. taken_keeps rows t g table v.genid v.row) (versions_of (taken rows t g) table)
     (taken_all (λ v. IsRowOf rows table v.genid v.row) rows t g table (sound table))
 
-new_same : (rows : Rows) (table : ℕ) (row : List Value) (vs : List Version) → AllByRecursion (λ v. IsRowOf rows table v.genid v.row) vs → AllByRecursion (λ v. v.genid ≡ rows.next → v.row ≡ row) vs
+pub new_same : (rows : Rows) (table : ℕ) (row : List Value) (vs : List Version) → AllByRecursion (λ v. IsRowOf rows table v.genid v.row) vs → AllByRecursion (λ v. v.genid ≡ rows.next → v.row ≡ row) vs
 new_same rows table row [] a = tt
 new_same rows table row (v ∷ vs) a = let below : v.genid < rows.next = a.0.below in (λ is. absurd (omega (arith, below, is)), new_same rows table row vs a.1)
 
@@ -116,7 +116,7 @@ leaves_not tables interval rows table genid old was off = step (eqb table interv
         ap (λ b. b && list_any (λ v. eqb v.genid genid && lies tables interval v.row) (versions_of rows table)) is
         ∙ none_leaves tables interval genid old (versions_of rows table) was.same (sym (ap (λ b. b && lies tables interval old) is) ∙ off)
 
-neither : (a b : Bool) → a ≡ false → b ≡ false → (a || b) ≡ false
+pub neither : (a b : Bool) → a ≡ false → b ≡ false → (a || b) ≡ false
 neither a b x y = ap (λ c. c || b) x ∙ y
 
 -- operations whose changes touch no interval by the rows that they name touch none

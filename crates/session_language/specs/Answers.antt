@@ -7,11 +7,11 @@ use Rattle.cdb_values.specs.declared.rows.Version.{Version}
 use Rattle.cdb_values.specs.declared.tables.TableDef.{TableDef}
 use Rattle.session_language.specs.Language.{Language}
 use Rattle.session_language.specs.Replies.{are_up_to, is_last_of}
-use Rattle.report_text.specs.declared.reports.ReplyLine.{ReplyLine}
-use Rattle.report_text.specs.declared.reports.ReplyLine.TheVariants as reply
+use Rattle.cdb_values.specs.declared.replies.Reply.{Reply}
+use Rattle.cdb_values.specs.declared.replies.Reply.TheVariants as reply
 
 -- a reply that names no position, ends nothing and stands for no loss
-abbrev pub IsPlain : ReplyLine → Type 0
+abbrev pub IsPlain : Reply → Type 0
 IsPlain (reply.Begin position) = ⊥
 IsPlain (reply.Row row) = Unit {0}
 IsPlain (reply.Done rows) = Unit {0}
@@ -27,7 +27,7 @@ IsPlain (reply.Lost node down) = ⊥
 IsPlain (reply.NoMajority up nodes) = ⊥
 IsPlain reply.NoMemory = ⊥
 
-abbrev pub ArePlain : List ReplyLine → Type 0
+abbrev pub ArePlain : List Reply → Type 0
 ArePlain rs = AllByRecursion IsPlain rs
 
 pub record Answers (language : Language) : Type 0 where

@@ -13,7 +13,7 @@ use Rattle.cdb_values.specs.declared.rows.Version.{Version}
 use Rattle.cdb_values.specs.declared.tables.TableDef.{TableDef}
 use Rattle.cdb_values.specs.declared.items.GenidItem.{GenidItem}
 use Rattle.cdb_values.specs.declared.items.Interval.{Interval}
-use Rattle.report_text.specs.declared.reports.ReplyLine.{ReplyLine}
+use Rattle.cdb_values.specs.declared.replies.Reply.{Reply}
 
 -- what a text is to transactions: it begins one, commits or rolls back one, sets the level of later
 -- ones, or is any other text
@@ -25,7 +25,7 @@ pub data Kind : Type 0 where
   OtherText : Kind
 
 pub record Answered : Type 0 where
-  pub replies : List ReplyLine
+  pub replies : List Reply
   pub ops : List RowOp
   pub uses : List GenidItem
   pub ranges : List Interval

@@ -1,5 +1,5 @@
--- What the grammar of reports asks of what is told: names are names, rows are rows; and a language that gives
--- such replies over such rows.
+-- What the grammar of reports asks of what is told: names are names, rows have values that can be told, and one at least; and a
+-- language that gives such replies. What is kept of rows asks no value: a table of a store may have no column.
 use Rattle.std.specs.Prelude.{◌≡◌, ℕ, ◌<◌, ◌∷◌, [], List, true}
 use Rattle.std.specs.List.{AllByRecursion}
 use Rattle.std.specs.Str.{is_utf8}
@@ -10,25 +10,30 @@ use Rattle.cdb_values.specs.declared.tables.TableDef.{TableDef}
 use Rattle.cdb_values.specs.declared.values.Value.{Value}
 use Rattle.cdb_values.specs.declared.values.Value.TheVariants.{Null, Int, Text, Blob}
 use Rattle.session_language.specs.Language.{Language}
-use Rattle.report_text.specs.Grammar.{IsName, IsKey}
-use Rattle.report_text.specs.declared.reports.ReplyLine.{ReplyLine}
-use Rattle.report_text.specs.declared.reports.ReplyLine.TheVariants as reply
+use Rattle.byte_words.specs.Names.{IsName, IsKey}
+use Rattle.cdb_values.specs.declared.replies.Reply.{Reply}
+use Rattle.cdb_values.specs.declared.replies.Reply.TheVariants as reply
 
--- a row of the grammar, but for the sizes of its integers: those that are told stand in 64 bits anyway
+-- a value of the grammar, but for the sizes of integers: those that are told stand in 64 bits anyway
 abbrev pub IsToldValue : Value → Type 0
 IsToldValue Null = Unit {0}
 IsToldValue (Int n) = Unit {0}
 IsToldValue (Text text) = is_utf8 text ≡ true
 IsToldValue (Blob blob) = AllByRecursion (λ b. b < 256) blob
 
+-- each value of a row can be told. A row of a table without columns has none
 abbrev pub IsToldRow : List Value → Type 0
-IsToldRow [] = ⊥
-IsToldRow (v ∷ vs) = IsToldValue v × AllByRecursion IsToldValue vs
+IsToldRow row = AllByRecursion IsToldValue row
 
--- a reply names tables and keys of the grammar, and tells such rows
-abbrev pub SpellsReply : ReplyLine → Type 0
+-- a row of the grammar, which has a value or more
+abbrev pub SpellsRow : List Value → Type 0
+SpellsRow [] = ⊥
+SpellsRow (v ∷ vs) = IsToldRow (v ∷ vs)
+
+-- a reply names tables and keys of the grammar, and tells rows of it
+abbrev pub SpellsReply : Reply → Type 0
 SpellsReply (reply.Begin position) = Unit {0}
-SpellsReply (reply.Row row) = IsToldRow row
+SpellsReply (reply.Row row) = SpellsRow row
 SpellsReply (reply.Done rows) = Unit {0}
 SpellsReply (reply.Changed rows) = Unit {0}
 SpellsReply (reply.Error cause) = Unit {0}
@@ -42,7 +47,7 @@ SpellsReply (reply.Lost node down) = Unit {0}
 SpellsReply (reply.NoMajority up nodes) = Unit {0}
 SpellsReply reply.NoMemory = Unit {0}
 
--- an operation writes such a row, if it writes one
+-- an operation writes a row of values that can be told, if it writes one
 abbrev pub WritesRow : RowOp → Type 0
 WritesRow (Insert table row) = IsToldRow row
 WritesRow (Update table target old row) = IsToldRow row

@@ -10,7 +10,7 @@ ghost use Rattle.cdb_values.specs.declared.rows.Level.TheVariants.{Snapshot};
 ghost use Rattle.cdb_values.specs.declared.rows.RowOp.{RowOp};
 ghost use Rattle.cdb_values.specs.declared.rows.Version.{Version};
 ghost use Rattle.cdb_values.specs.declared.tables.TableDef.{TableDef};
-ghost use Rattle.report_text.specs.declared.reports.ReplyLine.{ReplyLine};
+ghost use Rattle.cdb_values.specs.declared.replies.Reply.{Reply};
 ghost use Rattle.session_language.specs.Intervals.{changes_touch, HoldsTheSame};
 ghost use Rattle.session_language.specs.Language.{Language, Answered, alone, alone_from};
 ghost use Rattle.session_language.specs.Replies.{are_up_to};
@@ -29,7 +29,7 @@ pub fn texts_are_answered_in_order()
 /// what a line is told ends at one place, and no line is told nothing.
 #[tactic(auto, using(crate::proofs::UpToLaws::up_to_same))]
 pub fn replies_end_at_one_place()
-    ensures same { (is_last : ReplyLine → Bool) (replies others more rest : List ReplyLine) → are_up_to is_last replies ≡ true → are_up_to is_last others ≡ true → replies ++ more ≡ others ++ rest → replies ≡ others }
+    ensures same { (is_last : Reply → Bool) (replies others more rest : List Reply) → are_up_to is_last replies ≡ true → are_up_to is_last others ≡ true → replies ++ more ≡ others ++ rest → replies ≡ others }
 {}
 
 /// At level snapshot a transaction uses versions alone: the first that changes touch is the first that they take away.

@@ -1,8 +1,8 @@
 //! What is told of a text that is read as a report.
 
-use cdb_values::{Level, Name, StatementError, Value};
+use cdb_values::{Level, Name, Reply, StatementError, Value};
 use report_read::read_report;
-use report_text::{EntryLine, Line, ReplyLine, Report, print};
+use report_text::{EntryLine, Line, Report, print};
 use std::alloc::{AllocError, Global};
 
 /// Adds a word and a number.
@@ -68,31 +68,31 @@ fn put_value(out: &mut Vec<u8>, value: &Value) -> Result<(), AllocError> {
 }
 
 /// Adds a reply by its names.
-fn put_reply(alloc: Global, out: &mut Vec<u8>, reply: &ReplyLine) -> Result<(), AllocError> {
+fn put_reply(alloc: Global, out: &mut Vec<u8>, reply: &Reply) -> Result<(), AllocError> {
     match reply {
-        ReplyLine::Begin(begin) => put_number(alloc, out, "Begin", *begin),
-        ReplyLine::Row(row) => {
+        Reply::Begin(begin) => put_number(alloc, out, "Begin", *begin),
+        Reply::Row(row) => {
             put_word(out, "Row")?;
             for value in row.as_slice() {
                 put_value(out, value)?;
             }
             Ok(())
         }
-        ReplyLine::Done(rows) => put_number(alloc, out, "Done", *rows),
-        ReplyLine::Changed(rows) => put_number(alloc, out, "Changed", *rows),
-        ReplyLine::Error(error) => put_error(alloc, out, *error),
-        ReplyLine::Level(level) => put_level(out, *level),
-        ReplyLine::RolledBack => put_word(out, "RolledBack"),
-        ReplyLine::Committed(position) => put_number(alloc, out, "Committed", *position),
-        ReplyLine::NoMemory => put_word(out, "NoMemory"),
+        Reply::Done(rows) => put_number(alloc, out, "Done", *rows),
+        Reply::Changed(rows) => put_number(alloc, out, "Changed", *rows),
+        Reply::Error(error) => put_error(alloc, out, *error),
+        Reply::Level(level) => put_level(out, *level),
+        Reply::RolledBack => put_word(out, "RolledBack"),
+        Reply::Committed(position) => put_number(alloc, out, "Committed", *position),
+        Reply::NoMemory => put_word(out, "NoMemory"),
         _ => put_refusal(alloc, out, reply),
     }
 }
 
 /// Adds a reply that says why a transaction does not stand, by its names.
-fn put_refusal(alloc: Global, out: &mut Vec<u8>, reply: &ReplyLine) -> Result<(), AllocError> {
+fn put_refusal(alloc: Global, out: &mut Vec<u8>, reply: &Reply) -> Result<(), AllocError> {
     match reply {
-        ReplyLine::ConflictGenid {
+        Reply::ConflictGenid {
             position,
             table,
             genid,
@@ -101,7 +101,7 @@ fn put_refusal(alloc: Global, out: &mut Vec<u8>, reply: &ReplyLine) -> Result<()
             put_name(out, "table", table)?;
             put_number(alloc, out, "genid", *genid)
         }
-        ReplyLine::ConflictRange {
+        Reply::ConflictRange {
             position,
             table,
             key,
@@ -110,7 +110,7 @@ fn put_refusal(alloc: Global, out: &mut Vec<u8>, reply: &ReplyLine) -> Result<()
             put_name(out, "table", table)?;
             put_name(out, "key", key)
         }
-        ReplyLine::Duplicate {
+        Reply::Duplicate {
             position,
             table,
             key,
@@ -119,11 +119,11 @@ fn put_refusal(alloc: Global, out: &mut Vec<u8>, reply: &ReplyLine) -> Result<()
             put_name(out, "table", table)?;
             put_name(out, "key", key)
         }
-        ReplyLine::Lost { node, down } => {
+        Reply::Lost { node, down } => {
             put_number(alloc, out, "Lost node", *node)?;
             put_number(alloc, out, "down", *down)
         }
-        ReplyLine::NoMajority { up, nodes } => {
+        Reply::NoMajority { up, nodes } => {
             put_number(alloc, out, "NoMajority up", *up)?;
             put_number(alloc, out, "nodes", *nodes)
         }
