@@ -10,7 +10,7 @@ use Rattle.std.proofs.lemmas.Map.Steps.{length-le_from_distinct_below}
 use Rattle.std.specs.List.{AllByRecursion, IsDistinct, list_any}
 use Rattle.page_store.specs.Image.{Image}
 use Rattle.page_store.specs.declared.pages.PageKind.TheVariants.{Leaf, Inner}
-use Rattle.page_workspace.specs.Spare.{IsIn, AreApart, count_of}
+use Rattle.page_workspace.specs.Spare.{IsIn, AreApart, IsChain, IsFreePage, count_of, first_free}
 use Rattle.btree_index.specs.Keys.{Key}
 use Rattle.btree_index.specs.Pairs.{choice}
 use Rattle.btree_index.specs.Trees.{Entry, page_of, leaves, pages_of, spread, IsShaped, IsLeafPage, IsInnerPage, top, TreeList}
@@ -264,7 +264,13 @@ stands_next pages root own free list stands =
       meta = stands.spare.meta;
       some = λ none. omega (arith, rooted, none);
       blank = ap (λ (i : Image). i.cells) (stands.spare.past (count_of pages) (omega arith));
+      kept = λ some. first_kept pages (first_free pages) free stands.spare.chain stands.spare.kept some;
     }
+  where
+    first_kept : (pages : ℕ → Image) (next : ℕ) (ids : List ℕ) → IsChain pages next ids → AllByRecursion (λ id. IsFreePage (pages id)) ids
+        → (next ≡ 0 → ⊥) → (pages next).cells ≡ []
+    first_kept pages next [] chain kept some = absurd (some chain)
+    first_kept pages next (x ∷ xs) chain kept some = ap (λ (n : ℕ). (pages n).cells) chain.0 ∙ kept.0.cells
 
 stands_stays : (pages : ℕ → Image) (root : ℕ) (own free : List ℕ) (list : List (Key × List ℕ)) → (stands : Stands pages root own free list) (n : ℕ)
     → IsIn n (pages_of pages stands.height (top root)) → Stays pages n
@@ -274,7 +280,16 @@ stands_stays pages root own free list stands n i =
     record {
       some = λ e. stands.off_meta (subst (λ (k : ℕ). IsIn k own) e own_in);
       off = λ e. omega (arith, below, e);
+      off_free = λ e. first_off (first_in pages (first_free pages) free stands.spare.chain) own_in e;
     }
+  where
+    first_in : (pages : ℕ → Image) (next : ℕ) (ids : List ℕ) → IsChain pages next ids → (next ≡ 0) ⊎ IsIn next ids
+    first_in pages next [] chain = inl chain
+    first_in pages next (x ∷ xs) chain = inr (inl chain.0)
+
+    first_off : (first_free pages ≡ 0) ⊎ IsIn (first_free pages) free → IsIn n own → n ≡ first_free pages → ⊥
+    first_off (inl z) own_in e = stands.off_meta (subst (λ (k : ℕ). IsIn k own) (e ∙ z) own_in)
+    first_off (inr j) own_in e = stands.off_free n own_in (subst (λ (k : ℕ). IsIn k free) (sym e) j)
 
 pub stands_tree : (pages : ℕ → Image) (root : ℕ) (own free : List ℕ) (list : List (Key × List ℕ)) → Stands pages root own free list → TreeList pages root list
 stands_tree pages root own free list stands = record {

@@ -12,7 +12,7 @@ use Rattle.page_store.proofs.RoomLaws.{slots_taken, taken_insert, taken_remove}
 use Rattle.page_workspace.specs.declared.workspaces.EditFault.{EditFault}
 use Rattle.page_workspace.specs.declared.workspaces.EditFault.TheVariants.{Unfit, Gone, NoMemory}
 use Rattle.page_workspace.specs.Drafts.{TellsFit, IsNotUnfit}
-use Rattle.page_workspace.specs.Takes.{TakesPage}
+use Rattle.page_workspace.specs.Takes.{TakesNew, TakesFree, TakesPage}
 use Rattle.btree_index.specs.Keys.{Key, before}
 use Rattle.btree_index.specs.Cells.{key_of, value_of, child_of, key_size, inner_cell, IsLeafCell, IsInnerCell}
 use Rattle.btree_index.specs.Pairs.{place_in}
@@ -216,12 +216,21 @@ pub stays_same : (old mid : ℕ → Image) (fresh page : ℕ) → TakesPage old 
 stays_same old mid fresh page takes stays = takes.others page stays.some
 
 pub stays_off : (old mid : ℕ → Image) (fresh page : ℕ) → TakesPage old mid fresh → Stays old page → page ≡ fresh → ⊥
-stays_off old mid fresh page takes stays e = stays.off (e ∙ takes.number)
+stays_off old mid fresh page takes stays e = go takes.way
+  where
+    go : TakesFree old mid fresh ⊎ TakesNew old mid fresh → ⊥
+    go (inl w) = stays.off_free (e ∙ w.number)
+    go (inr w) = stays.off (e ∙ w.number)
 
 -- and the taken one has no cells
 pub fresh_blank : (old mid : ℕ → Image) (fresh : ℕ) → TakesPage old mid fresh → HasNext old → (mid fresh).cells ≡ []
-fresh_blank old mid fresh takes next =
-    ap (λ (i : Image). i.cells) (takes.others fresh (λ e. next.some (sym takes.number ∙ e))) ∙ ap (λ (n : ℕ). (old n).cells) takes.number ∙ next.blank
+fresh_blank old mid fresh takes next = go takes.way
+  where
+    go : TakesFree old mid fresh ⊎ TakesNew old mid fresh → (mid fresh).cells ≡ []
+    go (inl w) =
+        ap (λ (i : Image). i.cells) (takes.others fresh w.some) ∙ ap (λ (n : ℕ). (old n).cells) w.number ∙ next.kept (λ e. w.some (w.number ∙ e))
+    go (inr w) =
+        ap (λ (i : Image). i.cells) (takes.others fresh (λ e. next.some (sym w.number ∙ e))) ∙ ap (λ (n : ℕ). (old n).cells) w.number ∙ next.blank
 
 -- the edits of a root that is raised
 pub raise_fill : (mid p1 : ℕ → Image) (root fresh : ℕ) (before : Head) → (root ≡ fresh → ⊥) → IsTreePage (mid root) → Alters mid p1 fresh before []

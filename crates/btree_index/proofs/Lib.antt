@@ -19,3 +19,6 @@ pub mod FitLemmas
 pub mod DepthLemmas
 pub mod PlaceLemmas
 pub mod ChoiceLemmas
+pub mod LoneLemmas
+pub mod ForkLemmas
+pub mod PruneLemmas

@@ -4,8 +4,10 @@ use Rattle.std.specs.List.{AllByRecursion, insert, slice_get}
 use Rattle.page_store.specs.Image.{Image, HasRoom, taken}
 use Rattle.page_store.specs.declared.pages.Head.{Head}
 use Rattle.page_store.specs.declared.pages.PageKind.TheVariants.{Inner}
-use Rattle.page_workspace.specs.Spare.{IsIn, AreApart, IsChain, count_of, first_free}
+use Rattle.page_workspace.specs.Spare.{IsIn, AreApart, count_of}
+use Rattle.page_workspace.specs.Chains.{LeavesFree}
 use Rattle.page_workspace.specs.Takes.{TakesPage}
+use Rattle.page_workspace.proofs.ChainLaws.{free_less}
 use Rattle.btree_index.specs.Keys.{Key}
 use Rattle.btree_index.specs.Cells.{child_of, inner_cell, IsLeafCell, IsInnerCell}
 use Rattle.btree_index.specs.Trees.{Entry, page_of, below, spread, leaves, pages_of, IsShaped, IsLeafPage, IsInnerPage, BeginsEmpty, IsFenced, Holds, top}
@@ -18,22 +20,13 @@ use Rattle.btree_index.proofs.LevelLemmas.{Grown, SameOn, climb, uppers, all_pag
 use Rattle.btree_index.proofs.LeafLaws.{holds_same}
 use Rattle.btree_index.proofs.HalfLemmas.{half_level}
 use Rattle.btree_index.proofs.ParentLemmas.{half_parent, level_inside, child_inside}
-use Rattle.btree_index.proofs.StandLemmas.{IsFresh, becomes, chain_same, kept_same}
+use Rattle.btree_index.proofs.StandLemmas.{IsFresh, becomes}
 use Rattle.btree_index.proofs.WayLemmas.{not_leaf}
 
 -- the root is one of the tree's pages
 pub root_in : (pages : ℕ → Image) (height root : ℕ) → IsIn root (pages_of pages height (top root))
 root_in pages zero root = inl refl
 root_in pages (suc height) root = inl refl
-
-written_in : (count : ℕ) (ids : List ℕ) (n : ℕ) → AllByRecursion (λ id. id < count) ids → IsIn n ids → n < count
-written_in count [] n h i = absurd i
-written_in count (x ∷ xs) n h (inl e) = subst (λ (k : ℕ). k < count) (sym e) h.0
-written_in count (x ∷ xs) n h (inr i) = written_in count xs n h.1 i
-
-written_more : (count more : ℕ) (ids : List ℕ) → count ≤ more → AllByRecursion (λ id. id < count) ids → AllByRecursion (λ id. id < more) ids
-written_more count more [] le h = tt
-written_more count more (x ∷ xs) le h = (omega (arith, h.0), written_more count more xs le h.1)
 
 pub pages_same : (old new : ℕ → Image) (height : ℕ) (level : List Entry) → SameOn old new (pages_of old height level)
     → pages_of new height level ≡ pages_of old height level
@@ -46,9 +39,11 @@ pages_same old new (suc height) level same =
 
 -- a page was taken, and the tree stands as before
 pub record Took (old new : ℕ → Image) (root : ℕ) (own free : List ℕ) (list : List (Key × List ℕ)) (fresh : ℕ) : Type 0 where
-  pub stands : Stands new root own free list
-  pub changes : Changes old new own own free free
-  pub fresh_is : IsFresh old new free fresh
+  pub rest : List ℕ
+  pub stands : Stands new root own rest list
+  pub changes : Changes old new own own free rest
+  pub fresh_is : IsFresh old new free rest fresh
+  pub kept : (n : ℕ) → IsIn n free → (n ≡ fresh) ⊎ IsIn n rest
   pub only : (n : ℕ) → count_of old ≤ n → n < count_of new → n ≡ fresh
   pub off : IsIn fresh own → ⊥
   pub same : SameOn old new own
@@ -59,55 +54,40 @@ took old new root fresh own free list takes stands =
     let same : SameOn old new own = λ n i. takes.others n (λ e. stands.off_meta (subst (λ (k : ℕ). IsIn k own) e i)) in
     let pages : SameOn old new (pages_of old stands.height (top root)) = λ n i. same n (subst (λ (l : List ℕ). IsIn n l) stands.own_is i) in
     let grown = holds_same old new stands.height (top root) stands.cells pages stands.holds in
-    let number : fresh ≡ count_of old = takes.number in
-    let count : count_of new ≡ fresh + 1 = takes.count in
     let rooted : root < count_of old = stands.below root (subst (λ (l : List ℕ). IsIn root l) stands.own_is (root_in old stands.height root)) in
+    let l : LeavesFree old new fresh free = free_less old new fresh free stands.spare takes (λ e. omega (arith, e, rooted)) in
+    let more : count_of old ≤ count_of new = l.count in
     record {
+      rest = l.rest;
       stands = record {
         height = stands.height;
         cells = stands.cells;
         holds = grown.holds;
         own_is = pages_same old new stands.height (top root) pages ∙ stands.own_is;
         pairs = stands.pairs;
-        spare = record {
-          meta = takes.meta stands.spare.meta;
-          chain = subst (λ (n : ℕ). IsChain new n free) (sym takes.free)
-              (chain_same old new (first_free old) free (λ n i. takes.others n (λ e. chained old (first_free old) free stands.spare.chain n i e)) stands.spare.chain);
-          apart = stands.spare.apart;
-          written = written_more (count_of old) (count_of new) free (omega arith) stands.spare.written;
-          kept = kept_same old new free (λ n i. takes.others n (λ e. chained old (first_free old) free stands.spare.chain n i e)) stands.spare.kept;
-          past = λ n h.
-              (let past : count_of old ≤ n = omega arith in
-              let some : n ≡ 0 → ⊥ = λ e. omega arith in
-              takes.others n some ∙ stands.spare.past n past);
-        };
+        spare = l.spare;
         off_meta = stands.off_meta;
-        off_free = stands.off_free;
+        off_free = λ n i j. stands.off_free n i (l.from n j);
         below = λ n i. (let b : n < count_of old = stands.below n i in omega arith);
       };
       changes = record {
         genid = takes.genid;
-        count = omega arith;
-        few = λ h. takes.few;
+        count = l.count;
+        few = l.few;
         others = λ n h some off_own off_free. takes.others n some;
         tree = λ n i. inl i;
-        unused = λ n i. inr (inl i);
+        unused = λ n i. inr (inl (l.from n i));
       };
-      fresh_is = record {
-        past = omega arith;
-        below = omega arith;
-        some = λ e. omega arith;
-        off = λ i. (let b : fresh < count_of old = written_in (count_of old) free fresh stands.spare.written i in omega arith);
-      };
-      only = λ n a b. omega arith;
-      off = λ i. (let b : fresh < count_of old = stands.below fresh i in omega arith);
+      fresh_is = record { was = l.was; below = l.below; some = l.some; off = l.off };
+      kept = l.keeps;
+      only = l.only;
+      off = λ i. off i l.was;
       same = same;
     }
   where
-    chained : (pages : ℕ → Image) (next : ℕ) (ids : List ℕ) → IsChain pages next ids → (n : ℕ) → IsIn n ids → n ≡ 0 → ⊥
-    chained pages next [] h n i e = i
-    chained pages next (x ∷ xs) h n (inl k) e = h.1 (sym k ∙ e)
-    chained pages next (x ∷ xs) h n (inr i) e = chained pages (pages x).head.right xs h.2 n i e
+    off : IsIn fresh own → IsIn fresh free ⊎ (count_of old ≤ fresh) → ⊥
+    off i (inl j) = stands.off_free fresh i j
+    off i (inr p) = let b : fresh < count_of old = stands.below fresh i in omega (arith, b, p)
 
 -- the way is as before, where no page of the tree changed
 leaves_same : (old new : ℕ → Image) (depth : ℕ) (level : List Entry) → SameOn old new (uppers old depth level) → leaves new depth level ≡ leaves old depth level
@@ -248,8 +228,8 @@ splits old new root key parent s leads inner own free list stands =
     split_tree path.depth path.rest path.tall path.at holds own_is t.off (path_inside path own_is) t.same in
     let parent_own : IsIn parent own = subst (λ (l : List ℕ). IsIn parent l) own_is tree.parent_in in
     let child_own : IsIn (child_of s.cell) own = subst (λ (l : List ℕ). IsIn (child_of s.cell) l) own_is tree.child_in in
-    becomes old s.taken new (λ n. n ≡ s.fresh) root own free list list t.stands t.changes
-    (λ n e. subst (λ (k : ℕ). IsFresh old s.taken free k) (sym e) t.fresh_is) stands.height stands.cells tree.grown.holds
+    becomes old s.taken new (λ n. n ≡ s.fresh) root own free t.rest list list t.stands t.changes
+    (λ n e. subst (λ (k : ℕ). IsFresh old s.taken free t.rest k) (sym e) t.fresh_is) t.kept stands.height stands.cells tree.grown.holds
     (λ n i. subst (λ (l : List ℕ). IsIn n l ⊎ (n ≡ s.fresh)) own_is (tree.grown.from n i))
     (λ n i. tree.grown.keeps n (subst (λ (l : List ℕ). IsIn n l) (sym own_is) i)) tree.grown.has t.only
     (λ n off far. s.puts.others n (λ k. off (subst (λ (j : ℕ). IsIn j own) (sym k) parent_own))
@@ -432,8 +412,8 @@ crowns old new root s own free list stands =
     let has : IsIn s.fresh (pages_of new stands.height (spread new (top root))) =
     subst (λ (l : List Entry). IsIn s.fresh (pages_of new stands.height l)) (sym next_is) lowered.has in
     let root_own : IsIn root own = subst (λ (l : List ℕ). IsIn root l) own_is (root_in mid stands.height root) in
-    becomes old mid new (λ n. n ≡ s.fresh) root own free list list t.stands t.changes
-    (λ n e. subst (λ (k : ℕ). IsFresh old mid free k) (sym e) t.fresh_is) (suc stands.height) stands.cells
+    becomes old mid new (λ n. n ≡ s.fresh) root own free t.rest list list t.stands t.changes
+    (λ n e. subst (λ (k : ℕ). IsFresh old mid free t.rest k) (sym e) t.fresh_is) t.kept (suc stands.height) stands.cells
     (record { shaped = ((shaped, tt), low_holds.shaped); fenced = low_holds.fenced; linked = low_holds.linked; apart = (apart, low_holds.apart); is = low_holds.is })
     (λ n i. up n i from own_is root_own)
     (λ n i. keeps n (subst (λ (l : List ℕ). IsIn n l) (sym own_is) i))

@@ -11,8 +11,9 @@ use Rattle.page_store.specs.declared.pages.PageKind.TheVariants.{Leaf}
 use Rattle.page_store.specs.Edits.{after_edit}
 use Rattle.page_store.specs.declared.edits.Edit.TheVariants.{PutCell, TakeCell}
 use Rattle.page_workspace.specs.Drafts.{edited}
+use Rattle.page_workspace.proofs.ChainLaws.{chain_same, kept_same}
 use Rattle.page_workspace.proofs.DraftLaws.{edited_here, edited_other}
-use Rattle.page_workspace.specs.Spare.{IsIn, IsChain, IsMeta, IsFreePage, next_genid, count_of, first_free, first_cell}
+use Rattle.page_workspace.specs.Spare.{IsIn, IsChain, IsMeta, next_genid, count_of, first_free, first_cell}
 use Rattle.btree_index.specs.Keys.{Key, same_key}
 use Rattle.btree_index.specs.Cells.{key_of, value_of, leaf_cell, IsLeafCell}
 use Rattle.btree_index.specs.Pairs.{value_at, cell_value, with_pair, place_in, without_key, HasKeyAt}
@@ -24,22 +25,6 @@ use Rattle.btree_index.proofs.PairLemmas.{with_pair-cells, fenced_insert, all_in
 use Rattle.btree_index.proofs.RowLemmas.{fenced_rest}
 use Rattle.btree_index.proofs.WayLemmas.{here_from, value-pairs}
 
-pub chain_same : (old new : ℕ → Image) (next : ℕ) (ids : List ℕ) → ((n : ℕ) → IsIn n ids → new n ≡ old n) → IsChain old next ids → IsChain new next ids
-chain_same old new next [] same h = h
-chain_same old new next (id ∷ ids) same h = (
-  h.0,
-  h.1,
-  subst (λ (n : ℕ). IsChain new n ids) (sym (ap (λ (i : Image). i.head.right) (same id (inl refl))))
-      (chain_same old new (old id).head.right ids (λ n i. same n (inr i)) h.2),
-)
-
--- free pages that stay are free
-pub kept_same : (old new : ℕ → Image) (ids : List ℕ) → ((n : ℕ) → IsIn n ids → new n ≡ old n) → AllByRecursion (λ id. IsFreePage (old id)) ids
-    → AllByRecursion (λ id. IsFreePage (new id)) ids
-kept_same old new [] same h = tt
-kept_same old new (id ∷ ids) same h =
-    (subst IsFreePage (sym (same id (inl refl))) h.0, kept_same old new ids (λ n i. same n (inr i)) h.1)
-
 pub changes_none : (pages : ℕ → Image) (own free : List ℕ) → Changes pages pages own own free free
 changes_none pages own free = record {
   genid = refl;
@@ -50,23 +35,24 @@ changes_none pages own free = record {
   unused = λ n i. inr (inl i);
 }
 
--- a page that was not of the tree before
-pub record IsFresh (first old : ℕ → Image) (free : List ℕ) (n : ℕ) : Type 0 where
-  pub past : count_of first ≤ n
+-- a page that was not of the tree before: it was free, or never written
+pub record IsFresh (first old : ℕ → Image) (free spare : List ℕ) (n : ℕ) : Type 0 where
+  pub was : IsIn n free ⊎ (count_of first ≤ n)
   pub below : n < count_of old
   pub some : n ≡ 0 → ⊥
-  pub off : IsIn n free → ⊥
+  pub off : IsIn n spare → ⊥
 
 -- a change of the tree's pages and of fresh ones alone
-pub becomes : (first old new : ℕ → Image) (Fresh : ℕ → Type 0) (root : ℕ) (own free : List ℕ) (list after : List (Key × List ℕ))
-    → Stands old root own free list → Changes first old own own free free → ((n : ℕ) → Fresh n → IsFresh first old free n)
+pub becomes : (first old new : ℕ → Image) (Fresh : ℕ → Type 0) (root : ℕ) (own free spare : List ℕ) (list after : List (Key × List ℕ))
+    → Stands old root own spare list → Changes first old own own free spare → ((n : ℕ) → Fresh n → IsFresh first old free spare n)
+    → ((n : ℕ) → IsIn n free → Fresh n ⊎ IsIn n spare)
     → (height : ℕ) (cells : List (List ℕ)) → Holds new height (top root) cells
     → ((n : ℕ) → IsIn n (pages_of new height (top root)) → IsIn n own ⊎ Fresh n)
     → ((n : ℕ) → IsIn n own → IsIn n (pages_of new height (top root))) → ((n : ℕ) → Fresh n → IsIn n (pages_of new height (top root)))
     → ((n : ℕ) → count_of first ≤ n → n < count_of old → Fresh n)
     → ((n : ℕ) → (IsIn n own → ⊥) → (Fresh n → ⊥) → new n ≡ old n) → map pair_of cells ≡ after
     → Becomes first new root own free after
-becomes first old new Fresh root own free list after stands changes fresh height cells holds from keeps has taken same pairs =
+becomes first old new Fresh root own free spare list after stands changes fresh kept height cells holds from keeps has taken same pairs =
     let zeroth : new 0 ≡ old 0 = same 0 stands.off_meta (λ f. (fresh 0 f).some refl) in
     let count : count_of new ≡ count_of old = ap (λ (i : Image). big_number 8 (drop 8 (first_cell i.cells))) zeroth in
     let genid : next_genid new ≡ next_genid old = ap (λ (i : Image). big_number 8 (first_cell i.cells)) zeroth in
@@ -74,7 +60,7 @@ becomes first old new Fresh root own free list after stands changes fresh height
     let earlier : count_of first ≤ count_of old = changes.count in
     record {
       more = pages_of new height (top root);
-      spare = free;
+      spare = spare;
       stands = record {
         height = height;
         cells = cells;
@@ -83,11 +69,11 @@ becomes first old new Fresh root own free list after stands changes fresh height
         pairs = pairs;
         spare = record {
           meta = subst IsMeta (sym zeroth) stands.spare.meta;
-          chain = subst (λ (n : ℕ). IsChain new n free) (sym free_is)
-              (chain_same old new (first_free old) free (λ n i. same n (λ j. stands.off_free n j i) (λ f. (fresh n f).off i)) stands.spare.chain);
+          chain = subst (λ (n : ℕ). IsChain new n spare) (sym free_is)
+              (chain_same old new (first_free old) spare (λ n i. same n (λ j. stands.off_free n j i) (λ f. (fresh n f).off i)) stands.spare.chain);
           apart = stands.spare.apart;
-          written = subst (λ (c : ℕ). AllByRecursion (λ id. id < c) free) (sym count) stands.spare.written;
-          kept = kept_same old new free (λ n i. same n (λ j. stands.off_free n j i) (λ f. (fresh n f).off i)) stands.spare.kept;
+          written = subst (λ (c : ℕ). AllByRecursion (λ id. id < c) spare) (sym count) stands.spare.written;
+          kept = kept_same old new spare (λ n i. same n (λ j. stands.off_free n j i) (λ f. (fresh n f).off i)) stands.spare.kept;
           past = λ n h.
               (let past : count_of old ≤ n = omega arith in
               same n (λ i. off n past (stands.below n i)) (λ f. off n past (fresh n f).below) ∙ stands.spare.past n past);
@@ -101,14 +87,14 @@ becomes first old new Fresh root own free list after stands changes fresh height
         count = omega arith;
         few = λ h. subst (λ (c : ℕ). c < 2 ^ 62) (sym count) (changes.few h);
         others = λ n h some off_own off_free.
-            same n off_own (λ f. off n (fresh n f).past h) ∙ changes.others n h some off_own off_free;
+            same n off_own (λ f. never n h off_free (fresh n f).was) ∙ changes.others n h some off_own off_free;
         tree = λ n i. tree n (from n i);
         unused = changes.unused;
       };
       lost = record {
-        tree = keeps;
-        unused = λ n i. inr i;
-        taken = λ n a b. has n (taken n a (subst (λ (c : ℕ). n < c) count b));
+        tree = λ n i. inl (keeps n i);
+        unused = λ n i. stay n (kept n i);
+        taken = λ n a b. inl (has n (taken n a (subst (λ (c : ℕ). n < c) count b)));
       };
     }
   where
@@ -119,7 +105,15 @@ becomes first old new Fresh root own free list after stands changes fresh height
     meta (inl i) = stands.off_meta i
     meta (inr f) = (fresh 0 f).some refl
 
-    apart : (n : ℕ) → IsIn n free → IsIn n own ⊎ Fresh n → ⊥
+    never : (n : ℕ) → n < count_of first → (IsIn n free → ⊥) → IsIn n free ⊎ (count_of first ≤ n) → ⊥
+    never n h off_free (inl i) = off_free i
+    never n h off_free (inr p) = off n p h
+
+    stay : (n : ℕ) → Fresh n ⊎ IsIn n spare → IsIn n (pages_of new height (top root)) ⊎ IsIn n spare
+    stay n (inl f) = inl (has n f)
+    stay n (inr i) = inr i
+
+    apart : (n : ℕ) → IsIn n spare → IsIn n own ⊎ Fresh n → ⊥
     apart n j (inl i) = stands.off_free n i j
     apart n j (inr f) = (fresh n f).off j
 
@@ -129,7 +123,7 @@ becomes first old new Fresh root own free list after stands changes fresh height
 
     tree : (n : ℕ) → IsIn n own ⊎ Fresh n → IsIn n own ⊎ IsIn n free ⊎ (count_of first ≤ n)
     tree n (inl i) = inl i
-    tree n (inr f) = inr (inr (fresh n f).past)
+    tree n (inr f) = inr (fresh n f).was
 
 -- a leaf with other cells
 pub leaf_becomes : (old new : ℕ → Image) (root : ℕ) (key : Key) (page : ℕ) (own free : List ℕ) (list after : List (Key × List ℕ)) (cells : List (List ℕ))
@@ -138,7 +132,7 @@ pub leaf_becomes : (old new : ℕ → Image) (root : ℕ) (key : Key) (page : �
     → map pair_of (cells_of old r.front ++ (cells ++ cells_of old r.others)) ≡ after → Becomes old new root own free after
 leaf_becomes old new root key page own free list after cells stands changes r room each fence pairs =
     let grown = r.grown room each fence in
-    becomes old old new (λ _. ⊥) root own free list after stands (changes_none old own free) (λ n f. absurd f) stands.height
+    becomes old old new (λ _. ⊥) root own free free list after stands (changes_none old own free) (λ n f. absurd f) (λ n i. inr i) stands.height
     (cells_of old r.front ++ (cells ++ cells_of old r.others)) grown.holds
     (λ n i. subst (λ (l : List ℕ). IsIn n l ⊎ ⊥) stands.own_is (grown.from n i))
     (λ n i. grown.keeps n (subst (λ (l : List ℕ). IsIn n l) (sym stands.own_is) i)) (λ n f. absurd f) (λ n a b. omega arith)
@@ -205,7 +199,7 @@ removes_none old new root key page same leads leaf none own free list stands =
     let value : value_at key list ≡ None = ap (value_at key) (sym stands.pairs) ∙ value-pairs key stands.cells ∙ absent in (
       sym (ap is_some value),
       subst (λ (f : ℕ → Image). Becomes old f root own free (without_key key list)) (sym same)
-          (becomes old old old (λ _. ⊥) root own free list (without_key key list) stands (changes_none old own free) (λ n f. absurd f) stands.height stands.cells stands.holds
+          (becomes old old old (λ _. ⊥) root own free free list (without_key key list) stands (changes_none old own free) (λ n f. absurd f) (λ n i. inr i) stands.height stands.cells stands.holds
           (λ n i. inl (subst (λ (l : List ℕ). IsIn n l) stands.own_is i))
           (λ n i. subst (λ (l : List ℕ). IsIn n l) (sym stands.own_is) i) (λ n f. absurd f) (λ n a b. omega arith) (λ n off f. refl)
           (sym (without-absent key stands.cells absent) ∙ ap (without_key key) stands.pairs)),
@@ -234,7 +228,7 @@ puts_cell old new id at cell is =
 pub becomes_none : (pages : ℕ → Image) (root : ℕ) (own free : List ℕ) (list : List (Key × List ℕ)) → Stands pages root own free list
     → Becomes pages pages root own free list
 becomes_none pages root own free list stands =
-    becomes pages pages pages (λ _. ⊥) root own free list list stands (changes_none pages own free) (λ n f. absurd f) stands.height stands.cells stands.holds
+    becomes pages pages pages (λ _. ⊥) root own free free list list stands (changes_none pages own free) (λ n f. absurd f) (λ n i. inr i) stands.height stands.cells stands.holds
     (λ n i. inl (subst (λ (l : List ℕ). IsIn n l) stands.own_is i))
     (λ n i. subst (λ (l : List ℕ). IsIn n l) (sym stands.own_is) i) (λ n f. absurd f) (λ n a b. omega arith) (λ n off f. refl) stands.pairs
 
@@ -267,7 +261,7 @@ changes_after a b c own more most free spare left first second =
     back n (inr (inr k)) = let early : count_of a ≤ count_of b = first.count in inr (inr (omega arith))
 
 pub loses_none : (pages : ℕ → Image) (own free : List ℕ) → LosesNone pages pages own own free free
-loses_none pages own free = record { tree = λ n i. i; unused = λ n i. inr i; taken = λ n from to. absurd (past n from to) }
+loses_none pages own free = record { tree = λ n i. inl i; unused = λ n i. inr i; taken = λ n from to. absurd (past n from to) }
   where
     past : (n : ℕ) → count_of pages ≤ n → n < count_of pages → ⊥
     past n from to = omega arith
@@ -275,17 +269,17 @@ loses_none pages own free = record { tree = λ n i. i; unused = λ n i. inr i; t
 pub loses_after : (a b c : ℕ → Image) (own more most free spare left : List ℕ) → LosesNone a b own more free spare → LosesNone b c more most spare left
     → LosesNone a c own most free left
 loses_after a b c own more most free spare left first second = record {
-  tree = λ n i. second.tree n (first.tree n i);
+  tree = λ n i. later n (first.tree n i);
   unused = λ n i. later n (first.unused n i);
   taken = λ n from to. either n from to (cases_lt n (count_of b));
 }
   where
     later : (n : ℕ) → IsIn n more ⊎ IsIn n spare → IsIn n most ⊎ IsIn n left
-    later n (inl i) = inl (second.tree n i)
+    later n (inl i) = second.tree n i
     later n (inr i) = second.unused n i
 
-    either : (n : ℕ) → count_of a ≤ n → n < count_of c → (n < count_of b) ⊎ (count_of b ≤ n) → IsIn n most
-    either n from to (inl h) = second.tree n (first.taken n from h)
+    either : (n : ℕ) → count_of a ≤ n → n < count_of c → (n < count_of b) ⊎ (count_of b ≤ n) → IsIn n most ⊎ IsIn n left
+    either n from to (inl h) = later n (first.taken n from h)
     either n from to (inr h) = second.taken n h to
 
 pub becomes_after : (a b c : ℕ → Image) (root : ℕ) (own free : List ℕ) (one two : List (Key × List ℕ)) → (first : Becomes a b root own free one)

@@ -39,12 +39,12 @@ pub record Changes (old new : ℕ → Image) (own more free spare : List ℕ) : 
   pub tree : (n : ℕ) → IsIn n more → IsIn n own ⊎ IsIn n free ⊎ (count_of old ≤ n)
   pub unused : (n : ℕ) → IsIn n spare → IsIn n own ⊎ IsIn n free ⊎ (count_of old ≤ n)
 
--- no page is lost: each page of the tree is one still, each free page is free still or of the tree now, and each page
--- that was taken from the end is of the tree now
+-- no page is lost: each page of the tree and each free page is of the tree or free now, and so is each page that was taken
+-- from the end
 pub record LosesNone (old new : ℕ → Image) (own more free spare : List ℕ) : Type 0 where
-  pub tree : (n : ℕ) → IsIn n own → IsIn n more
+  pub tree : (n : ℕ) → IsIn n own → IsIn n more ⊎ IsIn n spare
   pub unused : (n : ℕ) → IsIn n free → IsIn n more ⊎ IsIn n spare
-  pub taken : (n : ℕ) → count_of old ≤ n → n < count_of new → IsIn n more
+  pub taken : (n : ℕ) → count_of old ≤ n → n < count_of new → IsIn n more ⊎ IsIn n spare
 
 -- the tree of another list stands below the root, after such a change, and no page is lost
 pub record Becomes (old new : ℕ → Image) (root : ℕ) (own free : List ℕ) (list : List (Key × List ℕ)) : Type 0 where

@@ -1,7 +1,7 @@
 -- What the steps of a change need of the pages, so that each of their edits fits.
 use Rattle.std.specs.Prelude.{◌≡◌, ◌⊎◌, ℕ, ◌+◌, ◌<◌, ◌≤◌, [], Option, None, Some}
 use Rattle.page_store.specs.Image.{Image, taken, room}
-use Rattle.page_workspace.specs.Spare.{IsMeta, count_of}
+use Rattle.page_workspace.specs.Spare.{IsMeta, count_of, first_free}
 use Rattle.btree_index.specs.Keys.{Key}
 use Rattle.btree_index.specs.Pairs.{choice}
 use Rattle.btree_index.specs.Trees.{IsLeafPage, IsInnerPage}
@@ -32,11 +32,13 @@ pub record HasNext (pages : ℕ → Image) : Type 0 where
   pub meta : IsMeta (pages 0)
   pub some : count_of pages ≡ 0 → ⊥
   pub blank : (pages (count_of pages)).cells ≡ []
+  pub kept : (first_free pages ≡ 0 → ⊥) → (pages (first_free pages)).cells ≡ []
 
 -- a page that stays when one is taken
 pub record Stays (pages : ℕ → Image) (page : ℕ) : Type 0 where
   pub some : page ≡ 0 → ⊥
   pub off : page ≡ count_of pages → ⊥
+  pub off_free : page ≡ first_free pages → ⊥
 
 -- a root that can be raised
 pub record IsRaisable (pages : ℕ → Image) (root : ℕ) : Type 0 where

@@ -6,3 +6,4 @@ pub mod Ways
 pub mod Fits
 pub mod Changes
 pub mod Steps
+pub mod Prunes

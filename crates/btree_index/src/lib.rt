@@ -38,6 +38,17 @@
 //! one child, and it stands one level higher under its own number. So after the split of that child the cells of a root
 //! stand on two new pages.
 //!
+//! A remove leaves a leaf that became empty where it is; `free_empty_leaf` takes it out of the tree, with each page above
+//! it that has no other child, and puts them in front of the free pages, from where the next split takes its fresh page.
+//! The leaf before gets the right link of the one that goes:
+//!
+//! ```text
+//! page 1, inner, level 1:   "" -> page 2       "m" -> page 3
+//! page 2, leaf, right 3:    a, c
+//! page 3, leaf, right 0:    m, z
+//! page 4, free, right 0
+//! ```
+//!
 //! The first cell of a page above the leaves has the empty key; each further key is at most every key below its child
 //! and above every key before it. Leaves are joined by their right links, 0 at the end. Keys are ordered byte by byte,
 //! a beginning before what it begins. A leaf may be empty.
@@ -50,12 +61,14 @@
 
 mod cells;
 mod finds;
+mod frees;
 mod halves;
 mod inserts;
 mod keys;
 mod laws;
 mod paths;
 mod places;
+mod prunes;
 mod removes;
 mod scans;
 mod splits;
@@ -63,6 +76,7 @@ mod steps;
 
 pub use cells::{key_in, value_in};
 pub use finds::find;
+pub use frees::free_empty_leaf;
 pub use inserts::{InsertFault, insert};
 pub use keys::is_before;
 pub use laws::trees_have_one_list;

@@ -131,7 +131,7 @@ pub(crate) fn trim<P: PageSource>(
 }
 
 /// Takes the cell at a place away. `Unfit` comes only where there is none.
-fn take_at<P: PageSource>(
+pub(crate) fn take_at<P: PageSource>(
     alloc: Global,
     space: &mut Workspace<P>,
     id: u64,

@@ -73,3 +73,10 @@ excused_after (Ok x) a b h k = h
 excused_after (Err Unfit) a b h k = h
 excused_after (Err Gone) a b h k = (h, rose_after a b h k.1)
 excused_after (Err NoMemory) a b h k = h
+
+-- an edit that fits is not told as one that does not
+pub fit_told : {T : Type 0} (r : Result T EditFault) (fit : Type 0) → TellsFit r fit → fit → IsNotUnfit r
+fit_told (Ok x) fit h f = tt
+fit_told (Err Unfit) fit h f = h f
+fit_told (Err Gone) fit h f = tt
+fit_told (Err NoMemory) fit h f = tt

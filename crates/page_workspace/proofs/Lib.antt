@@ -1,3 +1,4 @@
+pub mod ChainLaws
 pub mod DraftLaws
+pub mod MetaLaws
 pub mod OwnLaws
-pub mod TakeLemmas

@@ -1,11 +1,12 @@
 -- The pages that are in no tree. Page 0 is the meta page: its one cell of 24 bytes has the next genid, the number of
 -- pages and the first free page, each in eight bytes. Free pages are of kind free, of level 0 and without cells, and
 -- are chained by their right links, 0 at the end. Pages from the number of pages on were never written.
-use Rattle.std.specs.Prelude.{◌≡◌, ◌⊎◌, ℕ, ◌≤◌, ◌<◌, List, [], ◌∷◌, length, drop}
+use Rattle.std.specs.Prelude.{◌≡◌, ◌⊎◌, ℕ, ◌≤◌, ◌<◌, ◌==◌, ◌&&◌, Bool, true, false, List, [], ◌∷◌, length, drop}
 use Rattle.std.specs.List.{AllByRecursion}
 use Rattle.byteorder.specs.Endian.{big_number}
 use Rattle.page_store.specs.Image.{Image, blank_image}
-use Rattle.page_store.specs.declared.pages.PageKind.TheVariants.{Free, Meta}
+use Rattle.page_store.specs.declared.pages.PageKind.{PageKind}
+use Rattle.page_store.specs.declared.pages.PageKind.TheVariants.{Free, Leaf, Inner, Meta}
 
 -- a number is among these
 abbrev pub IsIn : ℕ → List ℕ → Type 0
@@ -36,6 +37,16 @@ pub record IsMeta (image : Image) : Type 0 where
   pub kind : image.head.kind ≡ Meta
   pub one : image.cells ≡ first_cell image.cells ∷ []
   pub size : length (first_cell image.cells) ≡ 24
+
+-- the same as a test
+abbrev pub is_meta_kind : PageKind → Bool
+is_meta_kind Free = false
+is_meta_kind Leaf = false
+is_meta_kind Inner = false
+is_meta_kind Meta = true
+
+abbrev pub is_meta : Image → Bool
+is_meta image = is_meta_kind image.head.kind && ((length image.cells == 1) && (length (first_cell image.cells) == 24))
 
 -- pages chained by their right links from a first one
 abbrev pub IsChain : (ℕ → Image) → ℕ → List ℕ → Type 0

@@ -1,32 +1,19 @@
-ghost use Rattle.std.specs.Prelude.{ℕ, ◌≡◌, ◌+◌, ◌<◌, ◌^◌, IfOk, OnErr, length};
+ghost use Rattle.std.specs.Prelude.{ℕ, ◌≡◌, IfOk, OnErr, OnOk};
+ghost use Rattle.page_store.specs.declared.pages.PageKind.TheVariants.{Free};
 ghost use Rattle.page_workspace.specs.Drafts.{meant, IsExcused, IsNotUnfit};
+ghost use Rattle.page_workspace.specs.Metas.{TellsMeta};
 ghost use Rattle.page_workspace.specs.Spare.{IsMeta};
-ghost use Rattle.page_workspace.specs.Takes.{with_count, IsCounted, TakesPage};
+ghost use Rattle.page_workspace.specs.Takes.{FreesPage, TakesPage};
 
+use crate::metas::{COUNT_LIMIT, Meta};
 use crate::workspaces::{EditFault, Workspace};
-use byte_words::put_u64;
-use byteorder::{BigEndian, ByteOrder};
-use page_store::{Cell, Edit, Page, PageSource};
-use std::alloc::{AllocError, Global};
-
-/// The bytes of the meta page's cell.
-const META_SIZE: usize = 24;
-
-/// What the number of pages stays below.
-const COUNT_LIMIT: u64 = 1 << 62;
-
-/// The number of pages, the cell of the meta page that says it, and the cell with one more.
-#[derive(Drop)]
-struct Counted {
-    count: u64,
-    before: Cell,
-    after: Cell,
-}
+use page_store::{Edit, Head, PageKind, PageSource};
+use std::alloc::Global;
 
 impl<P: PageSource> Workspace<P> {
-    /// Takes the first page that was never written, by the meta page, and gives its number. The number of pages stays
-    /// below 2^62: want of memory is the answer where it would not, too. `Unfit` comes only where page 0 is no meta page,
-    /// `Gone` only where the source lost its pages.
+    /// Takes the first free page, or the first one that was never written where none is free, by the meta page, and
+    /// gives its number. The number of pages stays below 2^62: want of memory is the answer where it would not, too.
+    /// `Unfit` comes only where page 0 is no meta page, `Gone` only where the source lost its pages.
     pub fn take_page(&mut self, alloc: Global) -> Result<u64, EditFault>
         ensures taken { IfOk result (TakesPage (meant P.pages self.old) (meant P.pages self.new)) }
         ensures fit { IsMeta (meant P.pages self.old 0) → IsNotUnfit result }
@@ -34,56 +21,94 @@ impl<P: PageSource> Workspace<P> {
         ensures base { P.pages self.new.base ≡ P.pages self.old.base }
         ensures excused { IsExcused result (P.losses self.old.base) (P.losses self.new.base) }
     {
-        self.load_to_edit(0)?;
-        let counted = read_count(alloc, self.page())?;
-        let count = counted.count;
-        self.edit(
-            0,
-            Edit::SwapCell {
-                at: 0,
-                before: counted.before,
-                after: counted.after,
-            },
-        )?;
-        Ok(count)
+        let meta = self.meta()?;
+        if meta.free == 0 {
+            take_new(self, alloc, meta)
+        } else {
+            take_free(self, alloc, meta)
+        }
+    }
+
+    /// Gives a page back: it goes in front of the free pages, and keeps its cells. `Unfit` comes only for page 0, and where
+    /// page 0 is no meta page; `Gone` only where the source lost its pages. After an error the workspace may only be
+    /// dropped.
+    pub fn free_page(&mut self, alloc: Global, id: u64) -> Result<(), EditFault>
+        ensures freed { OnOk result (FreesPage (meant P.pages self.old) (meant P.pages self.new) id) }
+        ensures fit { (id ≡ 0 → ⊥) → IsMeta (meant P.pages self.old 0) → IsNotUnfit result }
+        ensures base { P.pages self.new.base ≡ P.pages self.old.base }
+        ensures excused { IsExcused result (P.losses self.old.base) (P.losses self.new.base) }
+    {
+        if id == 0 {
+            return Err(EditFault::Unfit);
+        }
+        let meta = self.meta()?;
+        self.load_to_edit(id)?;
+        let page = self.page();
+        // the cells fit, since they are those of a page
+        let _space = page.space();
+        let before = page.head();
+        let after = free_head(meta.free);
+        self.edit(id, Edit::SetHead { before, after })?;
+        self.set_meta(alloc, Meta { free: id, ..meta })
     }
 }
 
-/// What the meta page says of the number of pages.
-fn read_count(alloc: Global, page: &Page) -> Result<Counted, EditFault>
-    ensures counted { IfOk result (IsCounted page.now) }
-    ensures fit { IsMeta page.now → IsNotUnfit result }
-    ensures excused { (count : ℕ) → IsExcused result count count }
+/// The head of a free page before this one.
+fn free_head(right: u64) -> Head
+    ensures { result ≡ record { kind = Free; level = 0; right = right } }
 {
-    let Some(cell) = page.cell(0) else {
-        return Err(EditFault::Unfit);
-    };
-    if cell.len() != META_SIZE {
-        return Err(EditFault::Unfit);
+    Head {
+        kind: PageKind::Free,
+        level: 0,
+        right,
     }
-    let (_, behind) = cell.split_at(8);
-    let count = BigEndian::read_u64(behind);
-    if count >= COUNT_LIMIT - 1 {
+}
+
+/// Takes the first page that was never written.
+fn take_new<P: PageSource>(
+    space: &mut Workspace<P>,
+    alloc: Global,
+    meta: Meta,
+) -> Result<u64, EditFault>
+    ensures taken { TellsMeta (meant P.pages space.old) meta → meta.free ≡ 0 →
+        IfOk result (TakesPage (meant P.pages space.old) (meant P.pages space.new)) }
+    ensures fit { IsMeta (meant P.pages space.old 0) → IsNotUnfit result }
+    ensures unchanged { OnErr result (space.new.edits ≡ space.old.edits) }
+    ensures base { P.pages space.new.base ≡ P.pages space.old.base }
+    ensures excused { IsExcused result (P.losses space.old.base) (P.losses space.new.base) }
+{
+    if meta.count >= COUNT_LIMIT - 1 {
         return Err(EditFault::NoMemory);
     }
-    let before = Cell::from_slice(alloc, cell).map_err(|_| EditFault::NoMemory)?;
-    let after = counting(alloc, cell, count + 1).map_err(|_| EditFault::NoMemory)?;
-    Ok(Counted {
-        count,
-        before,
-        after,
-    })
+    let raised = Meta {
+        count: meta.count + 1,
+        ..meta
+    };
+    space.set_meta(alloc, raised)?;
+    Ok(meta.count)
 }
 
-/// The cell of the meta page with another number of pages.
-fn counting(alloc: Global, cell: &[u8], count: u64) -> Result<Cell, AllocError>
-    requires { length cell.now ≡ 24 }
-    ensures { IfOk result (λ c. c ≡ with_count cell.now count) }
+/// Takes the first free page: the one behind it is the first then.
+fn take_free<P: PageSource>(
+    space: &mut Workspace<P>,
+    alloc: Global,
+    meta: Meta,
+) -> Result<u64, EditFault>
+    ensures taken { TellsMeta (meant P.pages space.old) meta → (meta.free ≡ 0 → ⊥) →
+        IfOk result (TakesPage (meant P.pages space.old) (meant P.pages space.new)) }
+    ensures fit { IsMeta (meant P.pages space.old 0) → IsNotUnfit result }
+    ensures unchanged { OnErr result (space.new.edits ≡ space.old.edits) }
+    ensures base { P.pages space.new.base ≡ P.pages space.old.base }
+    ensures excused { IsExcused result (P.losses space.old.base) (P.losses space.new.base) }
 {
-    let (front, _) = cell.split_at(8);
-    let (_, back) = cell.split_at(16);
-    let mut bytes = Vec::from_slice(alloc, front)?;
-    put_u64(&mut bytes, count)?;
-    bytes.extend_from_slice(back)?;
-    Ok(Cell::new(bytes))
+    space.load_to_edit(meta.free)?;
+    let right = space.page().head().right;
+    space.set_meta(
+        alloc,
+        Meta {
+            free: right,
+            ..meta
+        },
+    )?;
+    Ok(meta.free)
 }

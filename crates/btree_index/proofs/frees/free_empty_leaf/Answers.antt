@@ -1,0 +1,49 @@
+-- The pages were only read when it is known what is to be done.
+use Rattle.std.proofs.Common.{◌≡◌, ℕ, [], refl, sym, ◌∙◌, subst}
+use Rattle.std.specs.Result.{OnOk}
+use Rattle.page_store.specs.Image.{Image}
+use Rattle.page_workspace.specs.Drafts.{meant}
+use Rattle.page_workspace.proofs.OwnLaws.{ok_all}
+use Rattle.btree_index.specs.Changes.{Stands, Becomes}
+use Rattle.btree_index.specs.Prunes.{IsFound, IsFork, IsLone}
+use Rattle.btree_index.specs.Trees.{Holds, top}
+use Rattle.btree_index.specs.declared.prunes.Found.{Found}
+use Rattle.btree_index.specs.declared.prunes.Found.TheVariants.{Lone}
+use Rattle.btree_index.proofs.PruneLemmas.{pruned_after}
+use Rattle.btree_index.proofs.frees.free_empty_leaf.Goals as goal
+
+pub returns-in-Lone-clause-freed : goal.returns-in-Lone-clause-freed
+returns-in-Lone-clause-freed g c = λ own free list stands.
+    let pages = meant g.P.PageSource.pages c.args.space.now in
+    let first = meant g.P.PageSource.pages c.load_to_edit.new.self in
+    let read = meant g.P.PageSource.pages c.look_below.new.space in
+    let new = meant g.P.PageSource.pages c.flatten.new.space in
+    let root = c.args.root in
+    let one : first ≡ pages = c.in_ok-load_to_edit.ensures.pages in
+    let same : read ≡ pages = c.in_ok-found.ensures.pages ∙ one in
+    let there : IsFound pages stands.height [] [] root [] stands.cells c.in_ok-found.found =
+    subst (λ (p : ℕ → Image). IsFound p stands.height [] [] root [] stands.cells c.in_ok-found.found) one
+    (c.in_ok-found.ensures.found stands.height [] [] [] stands.cells
+    (subst (λ (p : ℕ → Image). Holds p stands.height (top root) stands.cells) (sym one) stands.holds) refl) in
+    let lone : IsFound pages stands.height [] [] root [] stands.cells (Lone c.in-Lone.field-0) =
+    subst (λ (f : Found). IsFound pages stands.height [] [] root [] stands.cells f) c.in-Lone.is there in
+    let R : (ℕ → Image) → Type 0 = λ p. (s : Stands p root own free list) → IsLone p s.height root → OnOk c.flatten.result (Becomes p new root own free list) in
+    subst R same (λ s l. c.flatten.ensures.flattened own free list s l) stands lone.0
+
+pub returns-in-Forked-clause-freed : goal.returns-in-Forked-clause-freed
+returns-in-Forked-clause-freed g c = λ own free list stands.
+    let pages = meant g.P.PageSource.pages c.args.space.now in
+    let first = meant g.P.PageSource.pages c.load_to_edit.new.self in
+    let read = meant g.P.PageSource.pages c.look_below.new.space in
+    let new = meant g.P.PageSource.pages c.cut.new.space in
+    let root = c.args.root in
+    let fork = c.in-Forked.fork in
+    let one : first ≡ pages = c.in_ok-load_to_edit.ensures.pages in
+    let same : read ≡ pages = c.in_ok-found.ensures.pages ∙ one in
+    let there : IsFound pages stands.height [] [] root [] stands.cells c.in_ok-found.found =
+    subst (λ (p : ℕ → Image). IsFound p stands.height [] [] root [] stands.cells c.in_ok-found.found) one
+    (c.in_ok-found.ensures.found stands.height [] [] [] stands.cells
+    (subst (λ (p : ℕ → Image). Holds p stands.height (top root) stands.cells) (sym one) stands.holds) refl) in
+    let forked : IsFork pages stands.height (top root) stands.cells fork =
+    subst (λ (f : Found). IsFound pages stands.height [] [] root [] stands.cells f) c.in-Forked.is there in
+    ok_all c.cut.result (λ w. pruned_after pages read new root own free list fork same stands forked w) c.cut.ensures.cut

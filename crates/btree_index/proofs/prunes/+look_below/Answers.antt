@@ -1,0 +1,57 @@
+-- What is found at a leaf, and at a page above by what is found below it.
+use Rattle.std.proofs.Common.{◌≡◌, ◌<◌, ◌≤◌, ℕ, nat_lt, List, [], ◌∷◌, ◌++◌, length, sym, ap, ◌∙◌, subst}
+use Rattle.std.proofs.lemmas.Bool.{ltb-true, ltb-false}
+use Rattle.std.proofs.lemmas.Option.{same_Some}
+use Rattle.page_store.specs.Image.{Image}
+use Rattle.page_store.specs.declared.pages.Head.{Head}
+use Rattle.page_store.specs.declared.pages.PageKind.TheVariants.{Leaf, Inner}
+use Rattle.page_workspace.specs.Drafts.{meant}
+use Rattle.btree_index.specs.Prunes.{IsFound, IsBeside, last_page}
+use Rattle.btree_index.specs.Steps.{IsBelow}
+use Rattle.btree_index.specs.Trees.{Entry, Holds}
+use Rattle.btree_index.specs.Keys.{Key}
+use Rattle.btree_index.specs.declared.prunes.Found.{Found}
+use Rattle.btree_index.specs.declared.prunes.Found.TheVariants.{Full, Lone}
+use Rattle.btree_index.proofs.ForkLemmas.{found_at_leaf, found_hung}
+use Rattle.btree_index.proofs.prunes.+look_below.Goals as goal
+
+pub returns-in-Leaf-clause-found : goal.returns-in-Leaf-clause-found
+returns-in-Leaf-clause-found g t c = λ height front others low cells h last.
+    let pages = meant g.P.PageSource.pages c.args.space.now in
+    let id = c.args.id in
+    let image = c.page-page.result.now in
+    let found = c.leaf_found.result in
+    let is : image ≡ pages id = same_Some image (pages id) (sym c.page-page.ensures ∙ c.in_ok-load_to_edit.ensures.loaded) in
+    let kind : (pages id).head.kind ≡ Leaf =
+    ap (λ (i : Image). i.head.kind) (sym is) ∙ ap (λ (h : Head). h.kind) (sym c.head.ensures) ∙ c.in-Leaf.is in
+    let R : Image → Type 0 = λ i. (i.cells ≡ [] → found ≡ Lone (record { left = c.args.left; right = i.head.right })) × ((i.cells ≡ [] → ⊥) → found ≡ Full) in
+    let told : R (pages id) = subst R is c.leaf_found.ensures in
+    found_at_leaf pages height front low id others cells c.args.left found h last kind told.0 told.1
+
+pub returns-in_ok-found-in-Inner-clause-found : goal.returns-in_ok-found-in-Inner-clause-found
+returns-in_ok-found-in-Inner-clause-found g t c = λ height front others low cells h last.
+    let pages = meant g.P.PageSource.pages c.args.space.now in
+    let read = meant g.P.PageSource.pages c.beside.new.space in
+    let id = c.args.id in
+    let image = c.page-page.result.now in
+    let below = c.in-Some.below in
+    let found = c.in_ok-found-in-Inner.found in
+    let next = c.in_ok-next-in-Inner.next in
+    let is : image ≡ pages id = same_Some image (pages id) (sym c.page-page.ensures ∙ c.in_ok-load_to_edit.ensures.loaded) in
+    let kind : (pages id).head.kind ≡ Inner =
+    ap (λ (i : Image). i.head.kind) (sym is) ∙ ap (λ (h : Head). h.kind) (sym c.head.ensures) ∙ c.in-Inner.is in
+    let at : IsBelow (pages id) below = subst (λ (i : Image). IsBelow i below) is c.in-Some.ensures.place in
+    let by : IsBeside pages id below.at c.args.left next =
+    subst (λ (p : ℕ → Image). IsBeside p id below.at c.args.left next) c.in_ok-load_to_edit.ensures.pages c.in_ok-next-in-Inner.ensures.found in
+    let same : read ≡ pages = c.in_ok-next-in-Inner.ensures.pages ∙ c.in_ok-load_to_edit.ensures.pages in
+    let count : c.count-several.result ≡ length (pages id).cells = c.count-several.ensures ∙ ap (λ (i : Image). length i.cells) is in
+    let rec : (height : ℕ) (front others : List Entry) (low : Key) (cells : List (List ℕ))
+    → Holds pages height (front ++ (record { low = low; page = below.child } ∷ others)) cells → last_page front ≡ next
+    → IsFound pages height front low below.child others cells found =
+    λ k fs os l cs holds end. subst (λ (p : ℕ → Image). IsFound p k fs l below.child os cs found) same
+    (c.in_ok-found-in-Inner.ensures.found k fs os l cs
+    (subst (λ (p : ℕ → Image). Holds p k (fs ++ (record { low = l; page = below.child } ∷ os)) cs) (sym same) holds) end) in
+    subst (λ (r : Found). IsFound pages height front low id others cells r) (sym c.hung.ensures)
+    (found_hung pages height front low id others cells c.args.left next below found (nat_lt 1 c.count-several.result) h last kind at by
+    (λ k. subst (λ (n : ℕ). 1 < n) count (ltb-true 1 c.count-several.result k))
+    (λ k. subst (λ (n : ℕ). n ≤ 1) count (ltb-false 1 c.count-several.result k)) rec)
