@@ -1,5 +1,5 @@
 -- The first broken key by its place is the first one by its names.
-use Rattle.std.proofs.Common.{◌≡◌, ℕ, zero, suc, ◌+◌, ◌-◌, ◌≤◌, ◌&&◌, Bool, true, false, if◌then◌else◌, List, [], ◌∷◌, Option, Some, None, unwrap_or, refl, sym, ap, ◌∙◌, arith}
+use Rattle.std.proofs.Common.{◌≡◌, ℕ, zero, suc, ◌+◌, ◌-◌, ◌≤◌, Bool, true, false, if◌then◌else◌, List, [], ◌∷◌, Option, Some, None, unwrap_or, refl, sym, ap, ◌∙◌, arith}
 use Rattle.std.specs.List.{slice_get}
 use Rattle.std.specs.Option.{is_some}
 use Rattle.cdb_values.specs.Good.{breaks, broken_key, first_broken, or_broken, KeyName}
@@ -8,6 +8,7 @@ use Rattle.cdb_values.specs.declared.rows.Version.{Version}
 use Rattle.cdb_values.specs.declared.tables.TableDef.{TableDef}
 use Rattle.cdb_values.specs.declared.tables.KeyDef.{KeyDef}
 use Rattle.table_edits.specs.Broken.{KeyPlace, broken_from, broken_place, or_later, key_name, name_in, named}
+use Rattle.table_store.proofs.BrokenLaws.{and_false}
 
 -- a place among all keys, and the key that is broken
 abbrev IsKeyTold : List KeyDef → List Version → List KeyDef → Option ℕ → Type 0
@@ -32,10 +33,6 @@ key_at : (all keys : List KeyDef) (n k : ℕ) → all ≡ keys → k ≡ 0 + n �
 key_at all keys n k same e =
     let here : k ≡ n = omega (arith, e) in
     ap (λ (ks : List KeyDef). slice_get ks k) same ∙ ap (λ (m : ℕ). slice_get keys m) here
-
-and_false : (t : Bool) → (t && false) ≡ false
-and_false true = refl
-and_false false = refl
 
 -- no versions break no key
 none_broken : (keys : List KeyDef) (at : ℕ) → broken_from at [] keys ≡ None

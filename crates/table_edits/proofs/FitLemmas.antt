@@ -23,7 +23,8 @@ use Rattle.table_store.specs.Listings.{keyed}
 use Rattle.table_store.specs.Operations.{born}
 use Rattle.table_changes.specs.Changed.{IsPuttable}
 use Rattle.table_edits.specs.Fits.{FitsTrees, FitsAt, WritesFitting}
-use Rattle.table_edits.proofs.ListLemmas.{all_among, among_all, get_some}
+use Rattle.table_edits.proofs.ListLemmas.{get_some}
+use Rattle.table_store.proofs.AmongLaws.{all_among, among_all}
 
 short_value : (v : Value) → row_bytes v ≤ 1600 → IsShort v
 short_value Null h = tt

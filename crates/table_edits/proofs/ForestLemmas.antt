@@ -5,36 +5,10 @@ use Rattle.page_store.specs.Image.{Image, blank_image}
 use Rattle.page_store.specs.declared.pages.PageKind.{PageKind}
 use Rattle.page_store.specs.declared.pages.PageKind.TheVariants.{Free, Meta}
 use Rattle.page_workspace.specs.Spare.{IsIn, IsChain, IsMeta, AreFree, count_of, first_free}
-use Rattle.btree_index.specs.Trees.{top, pages_of}
-use Rattle.btree_index.proofs.ApartLaws.{in_left, in_right}
-use Rattle.btree_index.proofs.LeafLaws.{holds_same}
-use Rattle.btree_index.proofs.RootLaws.{pages_same}
-use Rattle.btree_index.proofs.StandLemmas.{chain_same, kept_same}
-use Rattle.table_store.specs.Forests.{Pair, IsTree, AreTrees, joined, Forest}
+use Rattle.page_workspace.proofs.ChainLaws.{chain_same, kept_same}
+use Rattle.table_store.specs.Forests.{Pair, joined, Forest}
 use Rattle.table_edits.specs.Genids.{SetsGenid}
-
--- trees whose pages stay
-tree_same : (old new : ℕ → Image) (root : ℕ) (own : List ℕ) (list : List Pair) → ((n : ℕ) → IsIn n own → new n ≡ old n)
-    → IsTree old root own list → IsTree new root own list
-tree_same old new root own list same t =
-    let same_own : (n : ℕ) → IsIn n (pages_of old t.height (top root)) → new n ≡ old n = λ n i. same n (subst (λ (l : List ℕ). IsIn n l) t.own_is i) in
-    record {
-      height = t.height;
-      cells = t.cells;
-      holds = (holds_same old new t.height (top root) t.cells same_own t.holds).holds;
-      own_is = pages_same old new t.height (top root) same_own ∙ t.own_is;
-      pairs = t.pairs;
-    }
-
-trees_same : (old new : ℕ → Image) (root : ℕ) (owns : List (List ℕ)) (lists : List (List Pair)) → ((n : ℕ) → IsIn n (joined owns) → new n ≡ old n)
-    → AreTrees old root owns lists → AreTrees new root owns lists
-trees_same old new root [] [] same t = tt
-trees_same old new root [] (l ∷ ls) same t = absurd t
-trees_same old new root (o ∷ os) [] same t = absurd t
-trees_same old new root (o ∷ os) (l ∷ ls) same t = (
-  tree_same old new root o l (λ n i. same n (in_left n o (joined os) i)) t.0,
-  trees_same old new (suc root) os ls (λ n i. same n (in_right n o (joined os) i)) t.1,
-)
+use Rattle.table_store.proofs.ForestLaws.{trees_same}
 
 -- no free page is the meta page
 chain_off : (pages : ℕ → Image) (next : ℕ) (ids : List ℕ) (n : ℕ) → IsChain pages next ids → IsIn n ids → n ≡ 0 → ⊥

@@ -10,7 +10,7 @@ use Rattle.btree_index.proofs.ApartLaws.{in_left, in_right, in_either, apart_rig
 use Rattle.cdb_values.specs.declared.rows.RowOp.{RowOp}
 use Rattle.table_store.specs.Forests.{Pair, joined, Forest}
 use Rattle.table_store.specs.Plans.{Planned}
-use Rattle.table_store.proofs.ForestLemmas.{joined_own, joined_rest, in_set}
+use Rattle.table_store.proofs.ForestLaws.{joined_own, joined_rest, in_set}
 use Rattle.table_edits.specs.Fits.{names}
 use Rattle.table_edits.specs.Kept.{Store, LeavesUnnamed}
 
@@ -20,20 +20,29 @@ set_in n at [] own more o i = absurd (none-some own o)
 set_in n zero (x ∷ xs) own more o i = in_left n more (joined xs) i
 set_in n (suc at) (x ∷ xs) own more o i = in_right n x (joined (slice_set xs at more)) (set_in n at xs own more o i)
 
--- where it keeps its pages, so do all
-set_keeps : (n at : ℕ) (owns : List (List ℕ)) (own more : List ℕ) → slice_get owns at ≡ Some own → (IsIn n own → IsIn n more) → IsIn n (joined owns)
-    → IsIn n (joined (slice_set owns at more))
-set_keeps n at [] own more o f i = absurd (none-some own o)
-set_keeps n zero (x ∷ xs) own more o f i = go (in_either n x (joined xs) i)
+-- where its pages stay or are free, so do all
+set_keeps : (n at : ℕ) (owns : List (List ℕ)) (own more spare : List ℕ) → slice_get owns at ≡ Some own → (IsIn n own → IsIn n more ⊎ IsIn n spare)
+    → IsIn n (joined owns) → IsIn n (joined (slice_set owns at more)) ⊎ IsIn n spare
+set_keeps n at [] own more spare o f i = absurd (none-some own o)
+set_keeps n zero (x ∷ xs) own more spare o f i = go (in_either n x (joined xs) i)
   where
-    go : IsIn n x ⊎ IsIn n (joined xs) → IsIn n (joined (more ∷ xs))
-    go (inl j) = in_left n more (joined xs) (f (subst (λ (k : List ℕ). IsIn n k) (same_Some x own o) j))
-    go (inr j) = in_right n more (joined xs) j
-set_keeps n (suc at) (x ∷ xs) own more o f i = go (set_keeps n at xs own more o f) (in_either n x (joined xs) i)
+    mine : IsIn n more ⊎ IsIn n spare → IsIn n (joined (more ∷ xs)) ⊎ IsIn n spare
+    mine (inl k) = inl (in_left n more (joined xs) k)
+    mine (inr k) = inr k
+
+    go : IsIn n x ⊎ IsIn n (joined xs) → IsIn n (joined (more ∷ xs)) ⊎ IsIn n spare
+    go (inl j) = mine (f (subst (λ (k : List ℕ). IsIn n k) (same_Some x own o) j))
+    go (inr j) = inl (in_right n more (joined xs) j)
+set_keeps n (suc at) (x ∷ xs) own more spare o f i = go (set_keeps n at xs own more spare o f) (in_either n x (joined xs) i)
   where
-    go : (IsIn n (joined xs) → IsIn n (joined (slice_set xs at more))) → IsIn n x ⊎ IsIn n (joined xs) → IsIn n (joined (x ∷ slice_set xs at more))
-    go ih (inl j) = in_left n x (joined (slice_set xs at more)) j
-    go ih (inr j) = in_right n x (joined (slice_set xs at more)) (ih j)
+    deeper : IsIn n (joined (slice_set xs at more)) ⊎ IsIn n spare → IsIn n (joined (x ∷ slice_set xs at more)) ⊎ IsIn n spare
+    deeper (inl k) = inl (in_right n x (joined (slice_set xs at more)) k)
+    deeper (inr k) = inr k
+
+    go : (IsIn n (joined xs) → IsIn n (joined (slice_set xs at more)) ⊎ IsIn n spare) → IsIn n x ⊎ IsIn n (joined xs)
+        → IsIn n (joined (x ∷ slice_set xs at more)) ⊎ IsIn n spare
+    go ih (inl j) = inl (in_left n x (joined (slice_set xs at more)) j)
+    go ih (inr j) = deeper (ih j)
 
 -- the trees at other places stay
 set_beside : (at other : ℕ) (owns : List (List ℕ)) (own more : List ℕ) → (other ≡ at → ⊥) → slice_get owns other ≡ Some own
@@ -79,9 +88,9 @@ forest_changes old new root at owns own free after o b = record {
 pub forest_loses : (old new : ℕ → Image) (root at : ℕ) (owns : List (List ℕ)) (own free : List ℕ) (after : List Pair) → slice_get owns at ≡ Some own
     → (b : Becomes old new root own free after) → LosesNone old new (joined owns) (joined (slice_set owns at b.more)) free b.spare
 forest_loses old new root at owns own free after o b = record {
-  tree = λ n i. set_keeps n at owns own b.more o (b.lost.tree n) i;
+  tree = λ n i. set_keeps n at owns own b.more b.spare o (b.lost.tree n) i;
   unused = λ n i. either n (b.lost.unused n i);
-  taken = λ n from to. set_in n at owns own b.more o (b.lost.taken n from to);
+  taken = λ n from to. either n (b.lost.taken n from to);
 }
   where
     either : (n : ℕ) → IsIn n b.more ⊎ IsIn n b.spare → IsIn n (joined (slice_set owns at b.more)) ⊎ IsIn n b.spare

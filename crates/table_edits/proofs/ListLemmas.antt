@@ -1,9 +1,8 @@
 -- Lists, at places and as a whole.
-use Rattle.std.proofs.Common.{◌≡◌, inl, inr, ℕ, zero, suc, ◌<◌, ◌||◌, Bool, true, false, if◌then◌else◌, List, [], ◌∷◌, ◌++◌, length, drop, Some, unwrap_or, refl, sym, ap, subst, arith}
+use Rattle.std.proofs.Common.{◌≡◌, ℕ, zero, suc, ◌<◌, ◌||◌, Bool, true, false, if◌then◌else◌, List, [], ◌∷◌, ◌++◌, length, drop, Some, unwrap_or, refl, sym, ap, subst, arith}
 use Rattle.std.proofs.lemmas.Option.{none-some, same_Some}
 use Rattle.std.proofs.lemmas.Bool.{false≢true}
 use Rattle.std.specs.List.{AllByRecursion, slice_get, slice_set}
-use Rattle.table_store.specs.Listings.{IsAmong}
 
 pub append_none : {A : Type 0} (xs : List A) → xs ++ [] ≡ xs
 append_none [] = refl
@@ -55,15 +54,6 @@ all_or P [] zero none a = none
 all_or P [] (suc t) none a = none
 all_or P (x ∷ xs) zero none a = a.0
 all_or P (x ∷ xs) (suc t) none a = all_or P xs t none a.1
-
-pub all_among : {A : Type 0} (P : A → Type 0) (xs : List A) → ((x : A) → IsAmong x xs → P x) → AllByRecursion P xs
-all_among P [] h = tt
-all_among P (x ∷ xs) h = (h x (inl refl), all_among P xs (λ y i. h y (inr i)))
-
-pub among_all : {A : Type 0} (P : A → Type 0) (x : A) (xs : List A) → AllByRecursion P xs → IsAmong x xs → P x
-among_all P x [] h i = absurd i
-among_all P x (y ∷ ys) h (inl e) = subst P (sym e) h.0
-among_all P x (y ∷ ys) h (inr i) = among_all P x ys h.1 i
 
 pub all_none : {A : Type 0} (P : A → Type 0) (xs : List A) → xs ≡ [] → AllByRecursion P xs
 all_none P xs e = subst (AllByRecursion P) (sym e) tt

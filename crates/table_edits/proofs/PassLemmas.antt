@@ -17,7 +17,7 @@ use Rattle.table_store.specs.Forests.{Pair, joined, Forest}
 use Rattle.table_store.specs.Listings.{AreLists}
 use Rattle.table_store.specs.Plans.{Planned, key_trees, plan_from}
 use Rattle.table_store.specs.Stored.{Stands}
-use Rattle.table_store.proofs.ForestLemmas.{joined_own}
+use Rattle.table_store.proofs.ForestLaws.{joined_own}
 use Rattle.table_edits.specs.declared.faults.OpsFault.{OpsFault}
 use Rattle.table_edits.specs.declared.faults.OpsFault.TheVariants.{Duplicate, Gone, NoMemory}
 use Rattle.table_edits.specs.Answers.{Tells}

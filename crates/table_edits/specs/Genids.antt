@@ -1,27 +1,14 @@
 -- The next genid: how operations raise it, and how the meta page is told the new one.
-use Rattle.std.specs.Prelude.{◌≡◌, ℕ, List, [], ◌∷◌, ◌++◌, length, drop, Some}
-use Rattle.std.specs.List.{slice_get}
-use Rattle.byteorder.specs.Endian.{big_bytes}
+use Rattle.std.specs.Prelude.{◌≡◌, ℕ, List, [], ◌∷◌}
 use Rattle.page_store.specs.Image.{Image}
 use Rattle.page_workspace.specs.Spare.{IsMeta, next_genid, count_of, first_free}
 use Rattle.cdb_values.specs.declared.rows.RowOp.{RowOp}
 use Rattle.table_changes.specs.Changed.{next_of}
-use Rattle.table_edits.specs.declared.genids.CellSwap.{CellSwap}
 
 -- the next genid behind operations: each row that is written takes one
 abbrev pub next_after : ℕ → List RowOp → ℕ
 next_after next [] = next
 next_after next (op ∷ ops) = next_after (next_of next op) ops
-
--- the cell of the meta page with another next genid
-abbrev pub with_genid : ℕ → List ℕ → List ℕ
-with_genid genid cell = big_bytes 8 genid ++ drop 8 cell
-
--- the first cell of a page, and this cell with another next genid
-pub record IsSwap (image : Image) (genid : ℕ) (swap : CellSwap) : Type 0 where
-  pub first : slice_get image.cells 0 ≡ Some swap.before
-  pub size : length swap.before ≡ 24
-  pub after : swap.after ≡ with_genid genid swap.before
 
 -- nothing but the next genid changed
 pub record SetsGenid (old new : ℕ → Image) (next : ℕ) : Type 0 where

@@ -32,9 +32,9 @@ LeavesUnnamed old new plan ops =
 
 -- what operations leave of the pages
 pub record KeepsPages (old new : Store) (plan : List Planned) (ops : List RowOp) : Type 0 where
-  pub tree : (n : ℕ) → IsIn n (joined old.owns) → IsIn n (joined new.owns)
+  pub tree : (n : ℕ) → IsIn n (joined old.owns) → IsIn n (joined new.owns) ⊎ IsIn n new.free
   pub unused : (n : ℕ) → IsIn n old.free → IsIn n (joined new.owns) ⊎ IsIn n new.free
-  pub taken : (n : ℕ) → count_of old.pages ≤ n → n < count_of new.pages → IsIn n (joined new.owns)
+  pub taken : (n : ℕ) → count_of old.pages ≤ n → n < count_of new.pages → IsIn n (joined new.owns) ⊎ IsIn n new.free
   pub others : (n : ℕ) → n < count_of old.pages → (n ≡ 0 → ⊥) → (IsIn n (joined old.owns) → ⊥) → (IsIn n old.free → ⊥) → new.pages n ≡ old.pages n
   pub unnamed : LeavesUnnamed old new plan ops
 

@@ -14,8 +14,9 @@ use Rattle.cdb_values.specs.declared.tables.KeyDef.{KeyDef}
 use Rattle.table_store.specs.Forests.{Pair}
 use Rattle.table_store.specs.Listings.{IsAmong, pair_of_version, Lists}
 use Rattle.table_store.specs.States.{Rise}
-use Rattle.table_state.proofs.AmongLaws.{among_either, among_left, among_right, among_all, all_among}
-use Rattle.table_state.proofs.VersionLaws.{pair_tells, rise_below}
+use Rattle.table_store.proofs.AmongLaws.{among_either, among_left, among_right, among_all, all_among}
+use Rattle.table_store.proofs.ListingLaws.{pair_tells}
+use Rattle.table_store.proofs.StateLaws.{rise_below}
 use Rattle.table_state.specs.Listed.{Climb, IsPlaceOf}
 
 -- no item is there twice

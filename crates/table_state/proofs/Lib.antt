@@ -5,11 +5,9 @@ pub mod ReserveLaws
 pub mod GrownLaws
 pub mod FitLaws
 pub mod AmongLaws
-pub mod VersionLaws
 pub mod ClimbLaws
 pub mod OrderLaws
 pub mod ListedLaws
 pub mod KeyedLaws
 pub mod TableLaws
-pub mod PlanLaws
 pub mod StateLaws

@@ -13,8 +13,10 @@ use Rattle.key_code.specs.Reads.{Decodes}
 use Rattle.table_store.specs.Forests.{Pair}
 use Rattle.table_store.specs.Listings.{pair_of_version}
 use Rattle.table_store.specs.Readings.{row_pairs}
-use Rattle.table_state.proofs.VersionLaws.{genid_tells, row_pair_tells, rows_tell}
+use Rattle.table_store.proofs.ListingLaws.{genid_tells}
+use Rattle.table_store.proofs.StateLaws.{row_pair_tells, rows_tell}
 use Rattle.table_state.specs.Listed.{IsCellOf, AreCellsOf}
+use Rattle.table_store.proofs.ReadLaws.{no_pair}
 
 -- of all versions some were found; these cells have those that are left
 pub record IsLeft (table : TableDef) (least next : ℕ) (cells : List (List ℕ)) (found all : List Version) : Type 0 where
@@ -30,12 +32,6 @@ first_or p (q ∷ qs) = q
 abbrev pub others_of : List Pair → List Pair
 others_of [] = []
 others_of (q ∷ qs) = qs
-
-pub no_pair : (p : Pair) (ps : List Pair) → p ∷ ps ≡ [] → ⊥
-no_pair p ps e = none (length ps) (ap length e)
-  where
-    none : (n : ℕ) → suc n ≡ 0 → ⊥
-    none n e = omega arith
 
 -- the cells of one version and of others
 pub cells_more : (table : TableDef) (least next : ℕ) (cell : List ℕ) (cells : List (List ℕ)) (v : Version) (vs : List Version)

@@ -5,7 +5,7 @@ use Rattle.std.proofs.lemmas.Option.{none-some}
 use Rattle.page_store.specs.Image.{Image, blank_image}
 use Rattle.page_workspace.specs.Spare.{IsIn, AreApart, IsChain, AreFree, first_free, count_of}
 use Rattle.tree_walk.proofs.WrittenLaws.{apart_inside}
-use Rattle.table_state.specs.declared.counts.Counters.{Counters}
+use Rattle.page_workspace.specs.declared.metas.Meta.{Meta}
 use Rattle.table_state.specs.declared.reserves.Reserve.{Reserve}
 use Rattle.table_state.specs.Counts.{told}
 use Rattle.table_state.specs.Chains.{are_past, chain_from}
@@ -83,13 +83,13 @@ pub reserve_untold : (pages : ℕ → Image) → told (pages 0) ≡ None → Has
 reserve_untold pages none free f next count = told_none pages none f.meta next count
 
 -- a page past the end is not blank
-pub reserve_not_past : (pages : ℕ → Image) (edited : List ℕ) (c : Counters) → told (pages 0) ≡ Some c → are_past pages c.count edited ≡ false → HasNoReserve pages
+pub reserve_not_past : (pages : ℕ → Image) (edited : List ℕ) (c : Meta) → told (pages 0) ≡ Some c → are_past pages c.count edited ≡ false → HasNoReserve pages
 reserve_not_past pages edited c t wrong free f next count =
     let told = told_sound pages c t in
     false≢true (sym wrong ∙ past_full pages c.count edited (λ n late. f.past n (subst (λ (k : ℕ). k ≤ n) told.count late)))
 
 -- the chain of free pages is none
-pub reserve_unchained : (pages : ℕ → Image) (edited : List ℕ) (limit : ℕ) (c : Counters) → AreBlankBut pages edited → length edited < limit
+pub reserve_unchained : (pages : ℕ → Image) (edited : List ℕ) (limit : ℕ) (c : Meta) → AreBlankBut pages edited → length edited < limit
     → told (pages 0) ≡ Some c → chain_from pages limit c.free ≡ None → HasNoReserve pages
 reserve_unchained pages edited limit c blank enough t none free f next count =
     let few : length free ≤ suc (length edited) = free_few pages edited free blank f in
@@ -97,7 +97,7 @@ reserve_unchained pages edited limit c blank enough t none free f next count =
     ∙ chain_full pages limit (first_free pages) free f.chain f.kept (omega (arith, few, enough)))
 
 -- all is there
-pub reserve_there : (pages : ℕ → Image) (edited : List ℕ) (limit : ℕ) (c : Counters) (r : Reserve) → AreBlankBut pages edited
+pub reserve_there : (pages : ℕ → Image) (edited : List ℕ) (limit : ℕ) (c : Meta) (r : Reserve) → AreBlankBut pages edited
     → told (pages 0) ≡ Some c → are_past pages c.count edited ≡ true → chain_from pages limit c.free ≡ Some r.free.items → r.next ≡ c.next → r.count ≡ c.count
     → HasReserve pages r
 reserve_there pages edited limit c r blank t past chained next count =

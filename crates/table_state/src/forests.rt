@@ -9,6 +9,7 @@ use crate::grown::walk_trees;
 use crate::numbers::are_apart;
 use crate::reserves::{Reserve, reserve_of};
 use page_store::{PageFault, PageSource};
+use page_workspace::COUNT_LIMIT;
 use std::alloc::Global;
 use tree_walk::Walked;
 
@@ -23,9 +24,6 @@ pub(crate) struct Found {
     /// The trees, by their roots.
     pub(crate) trees: Vec<Walked>,
 }
-
-/// The number that each number of edited pages stays below: 2^62. No slice has as many.
-const LIMIT: u64 = 1 << 62;
 
 /// The trees of any pages, `trees` of them from root 1 on, with the meta page and the free pages. Each page whose number is
 /// not in `edited` is blank.
@@ -46,7 +44,7 @@ pub(crate) fn forest_of<P: PageSource>(
     ensures excused { IsExcused result (P.losses pages.old) (P.losses pages.new) }
 {
     let limit = edited.len() as u64;
-    if limit >= LIMIT {
+    if limit >= COUNT_LIMIT {
         return Err(PageFault::NoMemory);
     }
     let Some(reserve) = reserve_of(alloc, pages, edited, limit + 1)? else {

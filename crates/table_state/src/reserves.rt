@@ -6,7 +6,7 @@ ghost use Rattle.page_workspace.specs.Spare.{IsIn};
 ghost use Rattle.table_state.specs.Reserves.{IsReserve};
 
 use crate::chains::{are_past_end, chain};
-use crate::counts::read_counters;
+use crate::counts::read_meta;
 use page_store::{PageFault, PageSource};
 use std::alloc::Global;
 
@@ -33,19 +33,19 @@ pub(crate) fn reserve_of<P: PageSource>(
     ensures below { P.below pages.new ≡ P.below pages.old }
     ensures excused { IsExcused result (P.losses pages.old) (P.losses pages.new) }
 {
-    let Some(counters) = read_counters(pages)? else {
+    let Some(meta) = read_meta(pages)? else {
         return Ok(None);
     };
-    let past = are_past_end(pages, counters.count, edited)?;
+    let past = are_past_end(pages, meta.count, edited)?;
     if !past {
         return Ok(None);
     }
-    let Some(free) = chain(alloc, pages, counters.free, limit)? else {
+    let Some(free) = chain(alloc, pages, meta.free, limit)? else {
         return Ok(None);
     };
     Ok(Some(Reserve {
-        next: counters.next,
-        count: counters.count,
+        next: meta.next,
+        count: meta.count,
         free,
     }))
 }

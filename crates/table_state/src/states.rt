@@ -15,6 +15,7 @@ use crate::forests::{Found, forest_of};
 use crate::tables::read_tables;
 use cdb_values::{List, Schema, TableDef, Version};
 use page_store::{PageFault, PageSource};
+use page_workspace::COUNT_LIMIT;
 use std::alloc::{AllocError, Global};
 use std::marker::Model;
 use table_store::{pages_hold_one_forest, pages_that_stand_keep_their_keys};
@@ -35,9 +36,6 @@ impl Model for State {
 
     ghost view = { λ s. record { tables = s.tables; next = s.next } };
 }
-
-/// The number that each number of trees stays below: 2^62.
-const LIMIT: u64 = 1 << 62;
 
 /// The state of a schema for which any pages stand, those of a damaged or hostile store among them. Each page whose number
 /// is not in `edited` is blank.
@@ -109,7 +107,7 @@ fn with_table(trees: u64, keys: u64) -> Result<u64, AllocError>
     ensures count { IfOk result (λ sum. sum ≡ 1 + keys + trees) }
     ensures few { IfOk result (λ sum. sum < 2 ^ 62) }
 {
-    if keys >= LIMIT || trees + keys + 1 >= LIMIT {
+    if keys >= COUNT_LIMIT || trees + keys + 1 >= COUNT_LIMIT {
         return Err(AllocError);
     }
     Ok(1 + keys + trees)

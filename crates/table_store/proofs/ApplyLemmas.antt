@@ -10,7 +10,7 @@ use Rattle.cdb_values.specs.declared.rows.RowRef.TheVariants.{Base, Own}
 use Rattle.cdb_values.specs.declared.rows.Version.{Version}
 use Rattle.cdb_values.specs.declared.values.Value.{Value}
 use Rattle.table_store.specs.Operations.{gone, born}
-use Rattle.table_store.proofs.ListingLemmas.{without_all, differs}
+use Rattle.table_store.proofs.ListingLaws.{without_all, differs}
 
 get_here : {A : Type 0} (xs : List (List A)) (i : ℕ) (x : List A) → i < length xs → unwrap_or (slice_get (slice_set xs i x) i) [] ≡ x
 get_here [] i x h = absurd (none i h)

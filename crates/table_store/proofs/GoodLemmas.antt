@@ -10,7 +10,7 @@ use Rattle.cdb_values.specs.declared.tables.KeyDef.{KeyDef}
 use Rattle.table_store.specs.Plans.{Planned, key_trees, plan_from}
 use Rattle.table_store.specs.Stored.{Stands}
 use Rattle.table_store.specs.Operations.{breaks_in}
-use Rattle.table_store.proofs.KeptLemmas.{stands_keeps}
+use Rattle.table_store.proofs.KeptLaws.{stands_keeps}
 
 abbrev pub Keeps : Rows → Planned → Type 0
 Keeps rows p = breaks_in p.key (versions_of rows p.table) ≡ false

@@ -1,14 +1,14 @@
-mod AmongLemmas
-pub mod ForestLemmas
-mod ListingLemmas
-mod BrokenLemmas
-mod TreeLemmas
+pub mod AmongLaws
 mod ApplyLemmas
-mod StateLemmas
-mod RisingLemmas
-mod KeptLemmas
+pub mod BeginLaws
+pub mod BrokenLaws
+pub mod ForestLaws
 mod GoodLemmas
+pub mod KeptLaws
+pub mod ListingLaws
 mod OperationLemmas
+pub mod ReadLaws
+pub mod RisingLaws
+pub mod StateLaws
+mod TreeLemmas
 mod WorkedLemmas
-mod BeginLemmas
-mod ReadLemmas

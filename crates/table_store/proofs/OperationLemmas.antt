@@ -14,14 +14,14 @@ use Rattle.table_store.specs.Forests.{Pair, IsTree}
 use Rattle.table_store.specs.Listings.{IsAmong, Lists}
 use Rattle.table_store.specs.States.{Rise, AreVersions}
 use Rattle.table_store.specs.Operations.{AreDoable, gone, born, removed, put_all, NoTwice, breaks_in}
-use Rattle.table_store.proofs.AmongLemmas.{among_all, among_filter, all_among}
-use Rattle.table_store.proofs.ListingLemmas.{without_all, IsSmall}
-use Rattle.table_store.proofs.BrokenLemmas.{Ranged}
+use Rattle.table_store.proofs.AmongLaws.{among_all, among_filter, all_among}
+use Rattle.table_store.proofs.ListingLaws.{without_all, IsSmall}
+use Rattle.table_store.proofs.BrokenLaws.{Ranged}
 use Rattle.table_store.proofs.TreeLemmas.{Later, Change, tree_kept, tree_broken}
 use Rattle.table_store.proofs.ApplyLemmas.{after_all}
-use Rattle.table_store.proofs.StateLemmas.{rise_below}
-use Rattle.table_store.proofs.RisingLemmas.{tree_once}
-use Rattle.table_store.proofs.KeptLemmas.{later_from, one_genid, all_ranged}
+use Rattle.table_store.proofs.StateLaws.{rise_below}
+use Rattle.table_store.proofs.RisingLaws.{tree_once}
+use Rattle.table_store.proofs.KeptLaws.{later_from, one_genid, all_ranged}
 
 -- the next genid after operations
 abbrev pub next_after : ℕ → List RowOp → ℕ

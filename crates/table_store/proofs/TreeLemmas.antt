@@ -20,9 +20,9 @@ use Rattle.table_store.specs.Forests.{Pair}
 use Rattle.table_store.specs.Listings.{IsAmong, pair_of_version, keyed, Lists}
 use Rattle.table_store.specs.States.{Rise}
 use Rattle.table_store.specs.Operations.{put_all, removed, NoTwice, breaks_in}
-use Rattle.table_store.proofs.AmongLemmas.{among_left, among_right, among_either, among_all, value_none, value_some}
-use Rattle.table_store.proofs.ListingLemmas.{without_all, IsSmall, OneEach, OneGenid, one_without, lists_put, put_lists, pair_tells, genid_tells, tail_tells, removed_lists, each_removed}
-use Rattle.table_store.proofs.BrokenLemmas.{Ranged, same_pair, any_none, put_none, put_some}
+use Rattle.table_store.proofs.AmongLaws.{among_left, among_right, among_either, among_all, value_none, value_some}
+use Rattle.table_store.proofs.ListingLaws.{without_all, IsSmall, OneEach, OneGenid, one_without, lists_put, put_lists, pair_tells, genid_tells, tail_tells, removed_lists, each_removed}
+use Rattle.table_store.proofs.BrokenLaws.{Ranged, same_pair, any_none, put_none, put_some}
 use Rattle.byteorder.specs.Numbers.{length-bytes_high_first}
 use Rattle.std.specs.List.{filter}
 

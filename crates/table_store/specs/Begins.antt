@@ -7,13 +7,13 @@
 --     page 2   leaf without cells
 --     page 0   meta: next genid 1, 3 pages, no free page
 use Rattle.std.specs.Prelude.{◌≡◌, ℕ, zero, suc, ◌+◌, List, [], ◌∷◌, ◌++◌}
-use Rattle.byteorder.specs.Endian.{big_bytes}
 use Rattle.page_store.specs.Image.{Image, blank_image}
 use Rattle.page_store.specs.declared.pages.PageKind.{PageKind}
 use Rattle.page_store.specs.declared.pages.PageKind.TheVariants.{Free, Leaf, Meta}
 use Rattle.page_store.specs.declared.pages.Head.{Head}
 use Rattle.page_store.specs.declared.edits.Edit.{Edit}
 use Rattle.page_store.specs.declared.edits.Edit.TheVariants.{PutCell, SetHead}
+use Rattle.page_workspace.specs.Metas.{cell_of}
 
 -- no page was written
 abbrev pub AreBlank : (ℕ → Image) → Type 0
@@ -34,7 +34,7 @@ leaf_edits (suc last) = leaf_edits last ++ (suc last, turns Leaf) ∷ []
 
 -- the meta page's cell of a store that begins with so many trees
 abbrev pub first_cell_of : ℕ → List ℕ
-first_cell_of trees = big_bytes 8 1 ++ (big_bytes 8 (trees + 1) ++ big_bytes 8 0)
+first_cell_of trees = cell_of (record { next = 1; count = trees + 1; free = 0 })
 
 -- the edits that make the meta page
 abbrev pub meta_edits : ℕ → List (ℕ × Edit)

@@ -8,13 +8,10 @@ ghost use Rattle.table_store.specs.Plans.{plan_from};
 ghost use Rattle.table_store.specs.Stored.{Stands};
 ghost use Rattle.table_store.specs.Begins.{AreBlank, turns, leaf_edits, meta_edits, first_cell_of};
 
-use byte_words::put_u64;
 use cdb_values::{Schema, TableDef};
 use page_store::{Cell, Edit, Head, PageKind};
+use page_workspace::{COUNT_LIMIT, Meta};
 use std::alloc::{AllocError, Global};
-
-/// The number that each number of pages stays below: 2^62.
-const COUNT_LIMIT: u64 = 1 << 62;
 
 /// The edits, each with the number of its page, that make of pages that were never written the store of a schema:
 /// a leaf without cells for the rows of each table and for each key, and the meta page, whose next genid is 1. There are
@@ -88,11 +85,12 @@ fn make_first_cell(alloc: Global, trees: u64) -> Result<Cell, AllocError>
     requires { trees + 1 < 2 ^ 62 }
     ensures { IfOk result (λ cell. cell ≡ first_cell_of trees) }
 {
-    let mut bytes = Vec::new(alloc);
-    put_u64(&mut bytes, 1)?;
-    put_u64(&mut bytes, trees + 1)?;
-    put_u64(&mut bytes, 0)?;
-    Ok(Cell::new(bytes))
+    let meta = Meta {
+        next: 1,
+        count: trees + 1,
+        free: 0,
+    };
+    meta.cell(alloc)
 }
 
 /// The edit that makes a page of this kind of one that was never written.

@@ -1,7 +1,7 @@
 use Rattle.std.proofs.Common.{◌≡◌, ℕ, ◌+◌, List, length, ap, ◌∙◌, arith}
 use Rattle.cdb_values.specs.declared.tables.TableDef.{TableDef}
 use Rattle.table_store.specs.Plans.{plan_from}
-use Rattle.table_store.proofs.BeginLemmas.{plan_more}
+use Rattle.table_store.proofs.BeginLaws.{plan_more}
 use Rattle.table_store.proofs.creates.count_trees.Goals as goal
 
 pub tables-preserved : goal.tables-preserved

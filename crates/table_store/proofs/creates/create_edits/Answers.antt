@@ -8,7 +8,7 @@ use Rattle.cdb_values.specs.declared.tables.TableDef.{TableDef}
 use Rattle.table_store.specs.Plans.{plan_from}
 use Rattle.table_store.specs.Stored.{Stands}
 use Rattle.table_store.specs.Begins.{leaf_edits, meta_edits}
-use Rattle.table_store.proofs.BeginLemmas.{begin_counts, begin_fits, begin_stands}
+use Rattle.table_store.proofs.BeginLaws.{begin_counts, begin_fits, begin_stands}
 use Rattle.table_store.proofs.creates.create_edits.Goals as goal
 
 pub returns-clause-fit : goal.returns-clause-fit

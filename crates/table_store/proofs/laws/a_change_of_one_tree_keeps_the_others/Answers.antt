@@ -1,6 +1,6 @@
 use Rattle.std.proofs.Common.{◌+◌, refl}
-use Rattle.table_store.proofs.ForestLemmas.{stands_at, forest_step}
-use Rattle.table_store.proofs.RisingLemmas.{tree_once}
+use Rattle.table_store.proofs.ForestLaws.{stands_at, forest_step}
+use Rattle.table_store.proofs.RisingLaws.{tree_once}
 use Rattle.table_store.proofs.laws.a_change_of_one_tree_keeps_the_others.Goals as goal
 
 pub returns-clause-stands : goal.returns-clause-stands

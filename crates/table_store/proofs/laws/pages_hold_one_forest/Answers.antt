@@ -1,4 +1,4 @@
-use Rattle.table_store.proofs.ForestLemmas.{one_forest}
+use Rattle.table_store.proofs.ForestLaws.{one_forest}
 use Rattle.table_store.proofs.laws.pages_hold_one_forest.Goals as goal
 
 pub returns-clause-pages : goal.returns-clause-pages

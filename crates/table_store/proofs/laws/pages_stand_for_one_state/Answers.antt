@@ -1,4 +1,4 @@
-use Rattle.table_store.proofs.StateLemmas.{one_state}
+use Rattle.table_store.proofs.StateLaws.{one_state}
 use Rattle.table_store.proofs.laws.pages_stand_for_one_state.Goals as goal
 
 pub returns : goal.returns

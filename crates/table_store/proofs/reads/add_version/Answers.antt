@@ -4,7 +4,7 @@ use Rattle.cdb_values.specs.declared.rows.Version.{Version}
 use Rattle.cdb_values.specs.declared.values.Value.{Value}
 use Rattle.key_code.specs.Codes.{row_value, IsRowValue}
 use Rattle.key_code.specs.Reads.{Decodes}
-use Rattle.table_store.proofs.ReadLemmas.{version_read}
+use Rattle.table_store.proofs.ReadLaws.{version_read}
 use Rattle.table_store.proofs.reads.add_version.Goals as goal
 
 pub returns : goal.returns

@@ -4,7 +4,7 @@ use Rattle.cdb_values.specs.Rows.{versions_of}
 use Rattle.cdb_values.specs.declared.tables.TableDef.{TableDef}
 use Rattle.table_store.specs.Plans.{plan_from}
 use Rattle.table_store.specs.Readings.{row_pairs}
-use Rattle.table_store.proofs.ReadLemmas.{IsToRead, to_read}
+use Rattle.table_store.proofs.ReadLaws.{IsToRead, to_read}
 use Rattle.table_store.proofs.reads.read_table.Goals as goal
 
 pub returns-in-Ok-clause-versions : goal.returns-in-Ok-clause-versions

@@ -1,6 +1,6 @@
 -- One pair more, or none.
 use Rattle.std.proofs.lemmas.List.{nil_from_length}
-use Rattle.table_store.proofs.ReadLemmas.{reading_more, reading_ends}
+use Rattle.table_store.proofs.ReadLaws.{reading_more, reading_ends}
 use Rattle.table_store.proofs.reads.read_versions.Goals as goal
 
 pub reading-preserved : goal.reading-preserved

@@ -16,11 +16,11 @@ use Rattle.table_store.specs.Plans.{Planned, key_trees, plan_from}
 use Rattle.table_store.specs.Listings.{IsAmong, pair_of_version, Lists, AreLists}
 use Rattle.table_store.specs.States.{Rise, AreVersions, IsState}
 use Rattle.table_store.specs.Stored.{Stands}
-use Rattle.table_store.proofs.AmongLemmas.{among_left, among_right, among_all}
-use Rattle.table_store.proofs.ListingLemmas.{genid_tells}
-use Rattle.table_store.proofs.ForestLemmas.{one_forest}
+use Rattle.table_store.proofs.AmongLaws.{among_left, among_right, among_all}
+use Rattle.table_store.proofs.ListingLaws.{genid_tells}
+use Rattle.table_store.proofs.ForestLaws.{one_forest}
 
-no_value : (v : Value) (rest : List ℕ) → row_value v ++ rest ≡ [] → ⊥
+pub no_value : (v : Value) (rest : List ℕ) → row_value v ++ rest ≡ [] → ⊥
 no_value v rest e = row_begins v rest e
 
 pub rows_tell : (xs ys : List Value) → AllByRecursion IsRowValue xs → AllByRecursion IsRowValue ys → row_code xs ≡ row_code ys → xs ≡ ys
@@ -31,7 +31,7 @@ rows_tell (x ∷ xs) (y ∷ ys) h k e =
     let t = row_tells x y (row_code xs) (row_code ys) h.0.written k.0.written e in
     ap (λ (v : Value). v ∷ xs) t.0 ∙ ap (λ (l : List Value). y ∷ l) (rows_tell xs ys h.1 k.1 t.1)
 
-version_is : (v w : Version) → v.genid ≡ w.genid → v.row ≡ w.row → v ≡ w
+pub version_is : (v w : Version) → v.genid ≡ w.genid → v.row ≡ w.row → v ≡ w
 version_is v w e f = ap (λ (g : ℕ). record { genid = g; row = v.row }) e ∙ ap (λ (r : List Value). record { genid = w.genid; row = r }) f
 
 pub row_pair_tells : (v w : Version) → v.genid < 2 ^ 64 → w.genid < 2 ^ 64 → AllByRecursion IsRowValue v.row → AllByRecursion IsRowValue w.row
@@ -130,7 +130,7 @@ all_at P [] t h a = absurd (none t h)
 all_at P (x ∷ xs) zero h a = a.0
 all_at P (x ∷ xs) (suc t) h a = all_at P xs t (omega arith) a.1
 
-same_tables : (xs ys : List (List Version)) → length xs ≡ length ys
+pub same_tables : (xs ys : List (List Version)) → length xs ≡ length ys
     → ((t : ℕ) → t < length xs → unwrap_or (slice_get xs t) [] ≡ unwrap_or (slice_get ys t) []) → xs ≡ ys
 same_tables [] [] e h = refl
 same_tables [] (y ∷ ys) e h = absurd (none (length ys) e)

@@ -31,13 +31,13 @@ use Rattle.table_store.specs.Listings.{IsAmong, pair_of_version, Lists, AreLists
 use Rattle.table_store.specs.States.{Rise, AreVersions}
 use Rattle.table_store.specs.Stored.{Stands}
 use Rattle.table_store.specs.Readings.{IsReadable, row_pairs, IsReading}
-use Rattle.table_store.proofs.AmongLemmas.{among_all, all_among}
-use Rattle.table_store.proofs.ForestLemmas.{tree_at, joined_own}
-use Rattle.table_store.proofs.StateLemmas.{rise_below, rows_tell, all_at}
-use Rattle.table_store.proofs.RisingLemmas.{Rises, cells_rise}
+use Rattle.table_store.proofs.AmongLaws.{among_all, all_among}
+use Rattle.table_store.proofs.ForestLaws.{tree_at, joined_own}
+use Rattle.table_store.proofs.StateLaws.{rise_below, rows_tell, all_at}
+use Rattle.table_store.proofs.RisingLaws.{Rises, cells_rise}
 
 -- where the rows' tree of a table stands in the plan
-get_behind : {A : Type 0} (xs ys : List A) (n m : ℕ) → n ≡ length xs + m → slice_get (xs ++ ys) n ≡ slice_get ys m
+pub get_behind : {A : Type 0} (xs ys : List A) (n m : ℕ) → n ≡ length xs + m → slice_get (xs ++ ys) n ≡ slice_get ys m
 get_behind [] ys n m e = let f : n ≡ 0 + m = e in let same : n ≡ m = omega arith in ap (slice_get ys) same
 get_behind (x ∷ xs) ys zero m e = absurd (none (length xs) m e)
   where
@@ -61,14 +61,14 @@ rows_planned place (suc t) at (table ∷ tables) h e =
     ∙ rows_planned (suc place) t at tables (omega arith) next
 
 -- the tree at a place of the plan
-record IsPlanned (rows : Rows) (owns : List (List ℕ)) (lists : List (List Pair)) (at : ℕ) (p : Planned) : Type 0 where
-  own : List ℕ
-  list : List Pair
-  own_is : slice_get owns at ≡ Some own
-  list_is : slice_get lists at ≡ Some list
-  listed : Lists p.key (versions_of rows p.table) list
+pub record IsPlanned (rows : Rows) (owns : List (List ℕ)) (lists : List (List Pair)) (at : ℕ) (p : Planned) : Type 0 where
+  pub own : List ℕ
+  pub list : List Pair
+  pub own_is : slice_get owns at ≡ Some own
+  pub list_is : slice_get lists at ≡ Some list
+  pub listed : Lists p.key (versions_of rows p.table) list
 
-planned_at : (pages : ℕ → Image) (root : ℕ) (rows : Rows) (plan : List Planned) (owns : List (List ℕ)) (lists : List (List Pair)) (at : ℕ) (p : Planned)
+pub planned_at : (pages : ℕ → Image) (root : ℕ) (rows : Rows) (plan : List Planned) (owns : List (List ℕ)) (lists : List (List Pair)) (at : ℕ) (p : Planned)
     → slice_get plan at ≡ Some p → AreTrees pages root owns lists → AreLists rows plan lists → IsPlanned rows owns lists at p
 planned_at pages root rows [] owns lists at p e t h = absurd (none-some p e)
 planned_at pages root rows (q ∷ qs) owns [] at p e t h = absurd h
@@ -86,7 +86,7 @@ planned_at pages root rows (q ∷ qs) (o ∷ os) (l ∷ ls) (suc at) p e t h =
     record { own = i.own; list = i.list; own_is = i.own_is; list_is = i.list_is; listed = i.listed }
 
 -- each pair's key is before those of all later ones
-abbrev AreRising : List Pair → Type 0
+abbrev pub AreRising : List Pair → Type 0
 AreRising [] = Unit {0}
 AreRising (p ∷ ps) = AllByRecursion (λ (q : Pair). before p.0 q.0 ≡ true) ps × AreRising ps
 
@@ -100,7 +100,7 @@ pairs_rise (c ∷ cs) h = (each cs h.0, pairs_rise cs h.1)
     each (d ∷ ds) a = (a.0, each ds a.1)
 
 -- genids are in the order of their bytes
-genid_before : (a b : ℕ) → a < b → b < 2 ^ 64 → before (big_bytes 8 a) (big_bytes 8 b) ≡ true
+pub genid_before : (a b : ℕ) → a < b → b < 2 ^ 64 → before (big_bytes 8 a) (big_bytes 8 b) ≡ true
 unfolding before
 genid_before a b h k =
     let high : b < 256 ^ 8 = k in
@@ -114,7 +114,7 @@ genid_before a b h k =
     ap (λ (n : ℕ). nat_cmp n (b % 256 ^ 8)) first ∙ ap (nat_cmp a) second ∙ less a b h in
     ap is_lt (plain ∙ digits_order 8 a b [] [] ∙ ap (λ (o : Ordering). ordering_then o Equal) numbers)
 
-versions_rise : (vs : List Version) (next : ℕ) → next < 2 ^ 64 → Rise vs next → AreRising (row_pairs vs)
+pub versions_rise : (vs : List Version) (next : ℕ) → next < 2 ^ 64 → Rise vs next → AreRising (row_pairs vs)
 versions_rise [] next small h = tt
 versions_rise (v ∷ vs) next small h = (each vs h.1 h.2, versions_rise vs next small h.2)
   where
@@ -125,7 +125,7 @@ versions_rise (v ∷ vs) next small h = (each vs h.1 h.2, versions_rise vs next 
         (genid_before v.genid w.genid a.0 (let below : w.genid < next = r.0 in omega (arith, below, small)), each ws a.1 r.2)
 
 -- rising pairs with the same members are the same list
-pairs_same : (ps qs : List Pair) → AreRising ps → AreRising qs → ((p : Pair) → IsAmong p ps → IsAmong p qs) → ((p : Pair) → IsAmong p qs → IsAmong p ps)
+pub pairs_same : (ps qs : List Pair) → AreRising ps → AreRising qs → ((p : Pair) → IsAmong p ps → IsAmong p qs) → ((p : Pair) → IsAmong p qs → IsAmong p ps)
     → ps ≡ qs
 pairs_same [] [] h k to from = refl
 pairs_same [] (q ∷ qs) h k to from = absurd (from q (inl refl))
@@ -155,17 +155,17 @@ pairs_same (p ∷ ps) (q ∷ qs) h k to from =
     earlier u i same (inl e) =
         absurd (itself q.0 u.0 (among_all (λ (x : Pair). before q.0 x.0 ≡ true) u qs k.0 i) (ap (λ (x : Pair). x.0) (sym same ∙ sym e)))
 
-among_pairs : (v : Version) (vs : List Version) → IsAmong v vs → IsAmong (pair_of_version None v) (row_pairs vs)
+pub among_pairs : (v : Version) (vs : List Version) → IsAmong v vs → IsAmong (pair_of_version None v) (row_pairs vs)
 among_pairs v [] i = absurd i
 among_pairs v (w ∷ ws) (inl e) = inl (ap (pair_of_version None) e)
 among_pairs v (w ∷ ws) (inr i) = inr (among_pairs v ws i)
 
-record IsPairOf (p : Pair) (vs : List Version) : Type 0 where
-  found : Version
-  among : IsAmong found vs
-  is : p ≡ pair_of_version None found
+pub record IsPairOf (p : Pair) (vs : List Version) : Type 0 where
+  pub found : Version
+  pub among : IsAmong found vs
+  pub is : p ≡ pair_of_version None found
 
-pair_of_some : (p : Pair) (vs : List Version) → IsAmong p (row_pairs vs) → IsPairOf p vs
+pub pair_of_some : (p : Pair) (vs : List Version) → IsAmong p (row_pairs vs) → IsPairOf p vs
 pair_of_some p [] i = absurd i
 pair_of_some p (v ∷ vs) (inl e) = record { found = v; among = inl refl; is = e }
 pair_of_some p (v ∷ vs) (inr i) = let m = pair_of_some p vs i in record { found = m.found; among = inr m.among; is = m.is }
@@ -230,7 +230,7 @@ abbrev others_of : List Pair → List Pair
 others_of [] = []
 others_of (q ∷ qs) = qs
 
-no_pair : (p : Pair) (ps : List Pair) → p ∷ ps ≡ [] → ⊥
+pub no_pair : (p : Pair) (ps : List Pair) → p ∷ ps ≡ [] → ⊥
 no_pair p ps e = none (length ps) (ap length e)
   where
     none : (n : ℕ) → suc n ≡ 0 → ⊥

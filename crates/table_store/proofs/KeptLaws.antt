@@ -15,12 +15,12 @@ use Rattle.table_store.specs.Listings.{IsAmong, Lists, AreLists}
 use Rattle.table_store.specs.States.{Rise, AreVersions, IsState}
 use Rattle.table_store.specs.Stored.{Stands}
 use Rattle.table_store.specs.Operations.{breaks_in}
-use Rattle.table_store.proofs.AmongLemmas.{among_either, among_all, all_among}
-use Rattle.table_store.proofs.ListingLemmas.{OneEach, OneGenid}
-use Rattle.table_store.proofs.BrokenLemmas.{Ranged}
+use Rattle.table_store.proofs.AmongLaws.{among_either, among_all, all_among}
+use Rattle.table_store.proofs.ListingLaws.{OneEach, OneGenid}
+use Rattle.table_store.proofs.BrokenLaws.{Ranged}
 use Rattle.table_store.proofs.TreeLemmas.{Later, listed_apart}
-use Rattle.table_store.proofs.StateLemmas.{rise_below}
-use Rattle.table_store.proofs.RisingLemmas.{tree_once}
+use Rattle.table_store.proofs.StateLaws.{rise_below}
+use Rattle.table_store.proofs.RisingLaws.{tree_once}
 
 pub later_from : (before vs : List Version) (next : ℕ) → Rise vs next → ((w : Version) → IsAmong w before → AllByRecursion (λ v. w.genid < v.genid) vs) → Later before vs
 later_from before [] next h f = tt
@@ -72,7 +72,7 @@ tree_keeps pages root next own list (Some key) versions t h small v = go key.uni
         ap not (listed_apart key versions [] versions list e h (tree_once pages root own list t) (one_genid versions next small v.rise) (all_ranged versions v.coded)
         (λ w i. absurd i) (λ w i. i) (later_from [] versions next v.rise (λ w i. absurd i)))
 
-all_or : (P : List Version → Type 0) (xs : List (List Version)) (t : ℕ) → P [] → AllByRecursion P xs → P (unwrap_or (slice_get xs t) [])
+pub all_or : (P : List Version → Type 0) (xs : List (List Version)) (t : ℕ) → P [] → AllByRecursion P xs → P (unwrap_or (slice_get xs t) [])
 all_or P [] zero none a = none
 all_or P [] (suc t) none a = none
 all_or P (x ∷ xs) zero none a = a.0

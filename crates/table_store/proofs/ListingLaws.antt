@@ -19,7 +19,7 @@ use Rattle.key_code.proofs.ValueLaws.{front_tells}
 use Rattle.table_store.specs.Forests.{Pair}
 use Rattle.table_store.specs.Listings.{IsAmong, pair_of_version, keyed, Lists}
 use Rattle.table_store.specs.Operations.{removed, put_all, NoTwice}
-use Rattle.table_store.proofs.AmongLemmas.{among_left, among_right, among_either, among_all, among_filter, filter_among, with_among, among_with, without_among, among_without, value_none, value_some}
+use Rattle.table_store.proofs.AmongLaws.{among_left, among_right, among_either, among_all, among_filter, filter_among, with_among, among_with, without_among, among_without, value_none, value_some}
 
 -- versions without those of these genids
 abbrev pub without_all : List Version → List Version → List Version
@@ -43,7 +43,7 @@ tail_tells xs ys ps qs e h =
     let same : length xs ≡ length ys = omega (arith, all, a, b, e) in
     (front_tells xs ys ps qs same h).1
 
-keyed_tells : (unique : Bool) (c d g h : List ℕ) → length g ≡ length h → keyed unique c g ≡ keyed unique d h → g ≡ h
+pub keyed_tells : (unique : Bool) (c d g h : List ℕ) → length g ≡ length h → keyed unique c g ≡ keyed unique d h → g ≡ h
 keyed_tells true c d g h e same = ap (λ (p : Pair). p.1) same
 keyed_tells false c d g h e same = tail_tells c d g h e (ap (λ (p : Pair). p.0) same)
 

@@ -1,10 +1,8 @@
 -- The edits that make a store, and what they leave on pages that were never written.
 use Rattle.std.proofs.Common.{◌≡◌, ◌⊎◌, inl, inr, ℕ, zero, suc, ◌+◌, ◌^◌, ◌≤◌, ◌<◌, ◌==◌, Bool, true, false, List, [], ◌∷◌, ◌++◌, length, map, drop, Option, Some, None, unwrap_or, refl, sym, ap, ◌∙◌, subst, arith, length-append}
-use Rattle.std.proofs.Math.Seq.{drop-append_seam, drop-append-add}
 use Rattle.std.proofs.lemmas.Bool.{eqb-true}
 use Rattle.std.specs.List.{AllByRecursion, slice_get}
-use Rattle.byteorder.specs.Endian.{big_number, big_bytes}
-use Rattle.byteorder.specs.Numbers.{big_number-reads_back, length-bytes_high_first}
+use Rattle.byteorder.specs.Endian.{big_number}
 use Rattle.page_store.specs.Image.{Image, HasRoom, blank_image}
 use Rattle.page_store.specs.Edits.{IsFit, after_edit}
 use Rattle.page_store.specs.declared.edits.Edit.{Edit}
@@ -12,6 +10,8 @@ use Rattle.page_store.specs.declared.edits.Edit.TheVariants.{PutCell, SetHead}
 use Rattle.page_store.specs.declared.pages.PageKind.TheVariants.{Free, Leaf, Meta}
 use Rattle.page_workspace.specs.Drafts.{edited, edited_by, AreFit}
 use Rattle.page_workspace.specs.Spare.{IsIn, AreApart, AreFree, IsMeta, first_cell, next_genid, count_of, first_free}
+use Rattle.page_workspace.specs.declared.metas.Meta.{Meta as Told}
+use Rattle.page_workspace.proofs.MetaLaws.{length-cell_of, next-cell_of, count-cell_of, free-cell_of}
 use Rattle.page_workspace.proofs.DraftLaws.{edited_by-more, fit_more, edited_here, edited_other}
 use Rattle.btree_index.specs.Trees.{Holds, IsLeafPage, IsFenced, top}
 use Rattle.cdb_values.specs.Rows.{Rows, no_rows, versions_of}
@@ -26,11 +26,11 @@ use Rattle.table_store.specs.Stored.{Stands}
 use Rattle.table_store.specs.Begins.{AreBlank, lone_head, turns, leaf_edits, first_cell_of, meta_edits}
 
 -- the number of trees
-key_count : (place : ℕ) (keys : List KeyDef) → length (key_trees place keys) ≡ length keys
+pub key_count : (place : ℕ) (keys : List KeyDef) → length (key_trees place keys) ≡ length keys
 key_count place [] = refl
 key_count place (key ∷ keys) = ap (λ (n : ℕ). suc n) (key_count place keys)
 
-plan_count : (place other : ℕ) (tables : List TableDef) → length (plan_from place tables) ≡ length (plan_from other tables)
+pub plan_count : (place other : ℕ) (tables : List TableDef) → length (plan_from place tables) ≡ length (plan_from other tables)
 plan_count place other [] = refl
 plan_count place other (table ∷ tables) =
     let a = length-append (key_trees place table.keys) (plan_from (suc place) tables) in
@@ -137,14 +137,12 @@ record IsBegun (last : ℕ) (pages : ℕ → Image) : Type 0 where
   meta : pages 0 ≡ first_meta last
   past : (n : ℕ) → last < n → pages n ≡ blank_image
 
+-- what the meta page tells as it begins
+abbrev first_told : ℕ → Told
+first_told trees = record { next = 1; count = trees + 1; free = 0 }
+
 cell_length : (trees : ℕ) → length (first_cell_of trees) ≡ 24
-cell_length trees =
-    let a = length-append (big_bytes 8 1) (big_bytes 8 (trees + 1) ++ big_bytes 8 0) in
-    let b = length-append (big_bytes 8 (trees + 1)) (big_bytes 8 0) in
-    let c : length (big_bytes 8 1) ≡ 8 = length-bytes_high_first 8 1 in
-    let d : length (big_bytes 8 (trees + 1)) ≡ 8 = length-bytes_high_first 8 (trees + 1) in
-    let e : length (big_bytes 8 0) ≡ 8 = length-bytes_high_first 8 0 in
-    omega (arith, a, b, c, d, e)
+cell_length trees = length-cell_of (first_told trees)
 
 cell_fits : (trees : ℕ) (image : Image) → image ≡ after_edit blank_image (turns Meta) 0 → IsFit image (PutCell 0 (first_cell_of trees))
 cell_fits trees image e = subst (λ (i : Image). IsFit i (PutCell 0 (first_cell_of trees))) (sym e) (record { found = low; fits = room })
@@ -196,26 +194,15 @@ begin_fits pages blank last =
 
 -- what the meta page says
 genid_is : (trees : ℕ) → big_number 8 (first_cell_of trees) ≡ 1
-genid_is trees = big_number-reads_back 8 1 (big_bytes 8 (trees + 1) ++ big_bytes 8 0) (omega arith)
+genid_is trees = next-cell_of (first_told trees) (omega arith)
 
 count_is : (trees : ℕ) → trees + 1 < 2 ^ 62 → big_number 8 (drop 8 (first_cell_of trees)) ≡ trees + 1
 count_is trees few =
-    let behind = big_bytes 8 (trees + 1) ++ big_bytes 8 0 in
-    let moved : drop 8 (first_cell_of trees) ≡ behind =
-    ap (λ (k : ℕ). drop k (big_bytes 8 1 ++ behind)) (sym (length-bytes_high_first 8 1)) ∙ drop-append_seam (big_bytes 8 1) behind in
     let room : trees + 1 < 2 ^ 64 = omega arith in
-    ap (big_number 8) moved ∙ big_number-reads_back 8 (trees + 1) (big_bytes 8 0) room
+    count-cell_of (first_told trees) room
 
 free_is : (trees : ℕ) → big_number 8 (drop 16 (first_cell_of trees)) ≡ 0
-free_is trees =
-    let behind = big_bytes 8 (trees + 1) ++ big_bytes 8 0 in
-    let long : length (big_bytes 8 1) ≡ 8 = length-bytes_high_first 8 1 in
-    let sixteen : 16 ≡ length (big_bytes 8 1) + 8 = omega (arith, long) in
-    let moved : drop 16 (first_cell_of trees) ≡ big_bytes 8 0 =
-    ap (λ (k : ℕ). drop k (big_bytes 8 1 ++ behind)) sixteen
-    ∙ drop-append-add (big_bytes 8 1) behind 8
-    ∙ ap (λ (k : ℕ). drop k behind) (sym (length-bytes_high_first 8 (trees + 1))) ∙ drop-append_seam (big_bytes 8 (trees + 1)) (big_bytes 8 0) in
-    ap (big_number 8) moved
+free_is trees = free-cell_of (first_told trees) (omega arith)
 
 -- the trees
 abbrev owns_from : ℕ → ℕ → List (List ℕ)

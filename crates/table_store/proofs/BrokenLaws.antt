@@ -18,8 +18,8 @@ use Rattle.key_code.proofs.JoinedLaws.{key_order}
 use Rattle.table_store.specs.Forests.{Pair}
 use Rattle.table_store.specs.Listings.{IsAmong, pair_of_version, keyed, Lists}
 use Rattle.table_store.specs.Operations.{put_all}
-use Rattle.table_store.proofs.AmongLemmas.{among_left, among_right, among_either, among_all, value_none, value_some}
-use Rattle.table_store.proofs.ListingLemmas.{OneEach, OneGenid, lists_put, pair_tells}
+use Rattle.table_store.proofs.AmongLaws.{among_left, among_right, among_either, among_all, value_none, value_some}
+use Rattle.table_store.proofs.ListingLaws.{OneEach, OneGenid, lists_put, pair_tells}
 
 abbrev pub Ranged : Version → Type 0
 Ranged v = AllByRecursion IsInRange v.row
@@ -66,7 +66,7 @@ any_some test x (y ∷ ys) i e = go (test y) refl i (λ j. any_some test x ys j 
     go false k (inl same) more = absurd (false≢true (sym k ∙ ap test (sym same) ∙ e))
     go false k (inr j) more = more j
 
-and_false : (t : Bool) → (t && false) ≡ false
+pub and_false : (t : Bool) → (t && false) ≡ false
 and_false true = refl
 and_false false = refl
 
