@@ -4,9 +4,7 @@ ghost use Rattle.std.specs.Bool.{Decides};
 ghost use Rattle.frame_code.specs.Spelled.{IsNumber, IsNameBytes};
 
 use cdb_values::Name;
-
-/// Numbers of 8 bytes are below this number.
-const NUMBER_END: u64 = 1 << 62;
+use cdb_values::limits::NUMBER_LIMIT;
 
 /// Names have fewer bytes than this.
 const NAME_END: usize = 1 << 8;
@@ -15,7 +13,7 @@ const NAME_END: usize = 1 << 8;
 pub(crate) fn is_number(number: u64) -> bool
     ensures { Decides result (IsNumber number) }
 {
-    number < NUMBER_END
+    number < NUMBER_LIMIT
 }
 
 /// Whether the length of a name fits its byte.

@@ -24,6 +24,7 @@
 
 mod changes;
 mod entries;
+mod entry_frames;
 mod frames;
 mod laws;
 mod names;
@@ -32,6 +33,7 @@ mod parts;
 mod records;
 mod tables;
 
+pub use entry_frames::write_entry;
 pub use frame_code::{Frame, VERSION};
 pub use frames::{Reading, read_frame, write_frame};
 pub use laws::readings_are_apart;

@@ -68,7 +68,7 @@ pub fn copy_entry(alloc: Global, entry: &Entry) -> Result<Entry, AllocError>
             records,
         } => Ok(Entry::Setup {
             generation: *generation,
-            schema: copy_schema(schema)?,
+            schema: schema.clone()?,
             records: copy_records(alloc, records)?,
         }),
         Entry::Commit {
@@ -80,7 +80,7 @@ pub fn copy_entry(alloc: Global, entry: &Entry) -> Result<Entry, AllocError>
             records,
         } => Ok(Entry::Commit {
             generation: *generation,
-            id: copy_id(id)?,
+            id: id.clone()?,
             begin: *begin,
             level: *level,
             changes: copy_changes(alloc, changes)?,
@@ -94,20 +94,6 @@ pub fn copy_record(original: &LogRecord) -> Result<LogRecord, AllocError>
     ensures { IfOk result (λ r. r ≡ original.now) }
 {
     original.clone()
-}
-
-/// An equal schema.
-fn copy_schema(schema: &Schema) -> Result<Schema, AllocError>
-    ensures { IfOk result (λ s. s ≡ schema.now) }
-{
-    schema.clone()
-}
-
-/// An equal identity.
-fn copy_id(id: &CommitId) -> Result<CommitId, AllocError>
-    ensures { IfOk result (λ i. i ≡ id.now) }
-{
-    id.clone()
 }
 
 /// An equal change.
@@ -132,11 +118,7 @@ fn copy_changes(alloc: Global, changes: &List<Change>) -> Result<List<Change>, A
 fn copy_records(alloc: Global, records: &List<LogRecord>) -> Result<List<LogRecord>, AllocError>
     ensures { IfOk result (λ r. r ≡ records.now) }
 {
-    let mut copies = List::new(alloc);
-    for original in records.as_slice() {
-        copies.push(copy_record(original)?)?;
-    }
-    Ok(copies)
+    Ok(List::from_vec(Vec::from_clones(alloc, records.as_slice())?))
 }
 
 /// The LSN of the last record of these entries, 0 where they have none. Takes no memory.
