@@ -8,12 +8,8 @@ use Rattle.phys_log.specs.Logs.{records_of}
 use Rattle.log_replay.specs.declared.chains.ChainLink.{ChainLink}
 use Rattle.log_replay.specs.Chains.{links_on, chain_from}
 use Rattle.log_replay.specs.Answers.{Rises}
-use Rattle.log_replay.specs.Kept.{put_at}
+use Rattle.log_replay.specs.Kept.{link_of, put_at}
 use Rattle.log_replay.proofs.KeptLemmas.{put_at_here, put_at_off}
-
--- the link of a record in the entry at a position
-abbrev pub link_of : ℕ → LogRecord → ChainLink
-link_of position r = record { position = position; lsn = r.lsn }
 
 pub links_here : (id position : ℕ) (r : LogRecord) (rs : List LogRecord) → id ≡ r.page → links_on id position (r ∷ rs) ≡ link_of position r ∷ links_on id position rs
 links_here id position r rs h =

@@ -12,7 +12,8 @@ use Rattle.phys_log.proofs.ReplayLaws.{next_front, next_behind, newest_here, new
 use Rattle.log_replay.specs.declared.chains.ChainLink.{ChainLink}
 use Rattle.log_replay.specs.Chains.{links_on, chain_from, chain_of, in_records, in_entry, record_by, granted}
 use Rattle.log_replay.specs.Answers.{Rises}
-use Rattle.log_replay.proofs.ChainLemmas.{link_of, links_here, links_off, rises_last}
+use Rattle.log_replay.specs.Kept.{link_of}
+use Rattle.log_replay.proofs.ChainLemmas.{links_here, links_off, rises_last}
 
 append_nil : (xs : List LogRecord) → xs ++ [] ≡ xs
 append_nil [] = refl

@@ -5,4 +5,6 @@ pub mod ChainLemmas
 pub mod GrantLemmas
 pub mod LogLemmas
 pub mod AppendLemmas
+pub mod TailLemmas
 pub mod NumberLemmas
+pub mod BackLemmas

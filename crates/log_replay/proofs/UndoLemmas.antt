@@ -1,5 +1,5 @@
 -- Records taken back, the last first.
-use Rattle.std.proofs.Common.{◌≡◌, ℕ, ◌+◌, ◌<◌, arith, List, [], ◌∷◌, ◌++◌, refl, sym, ap, ◌∙◌, subst, length, inl, inr}
+use Rattle.std.proofs.Common.{◌≡◌, ℕ, ◌+◌, ◌<◌, arith, List, [], ◌∷◌, ◌++◌, refl, sym, ap, ◌∙◌, subst, length, inl, inr, Option, Some, None, IsSome}
 use Rattle.std.proofs.lemmas.Bool.{cases_eq}
 use mathlib.Core.Path.{fun_ext}
 use Rattle.page_store.specs.Image.{Image, HasRoom}
@@ -10,14 +10,11 @@ use Rattle.phys_log.specs.declared.entries.Entry.{Entry}
 use Rattle.phys_log.specs.Logs.{written, replayed, IsNext, AreNext, records_of, records_in}
 use Rattle.phys_log.proofs.ReplayLaws.{replayed-append, next_front, next_behind, written_here, written_other}
 use Rattle.phys_log.proofs.LogLaws.{records_more}
-use Rattle.log_replay.specs.Kept.{page_in, put_at, over, ArePlain, Came}
-use Rattle.log_replay.proofs.KeptLemmas.{put_at_here, put_at_off, over_none}
-use Rattle.log_replay.proofs.WriteLemmas.{plain_replayed}
-
--- pages that are those of records over a base
-pub record Backs (base : ℕ → Image) (lsn : ℕ) (pages : ℕ → Image) (records : List LogRecord) : Type 0 where
-  pub next : AreNext base lsn records
-  pub is : pages ≡ replayed base records
+use Rattle.log_replay.specs.declared.kept.KeptPage.{KeptPage}
+use Rattle.log_replay.specs.declared.kept.KeptPages.{KeptPages}
+use Rattle.log_replay.specs.Kept.{found, image_of, page_in, put_at, Came}
+use Rattle.log_replay.proofs.KeptLemmas.{put_at_here, put_at_off}
+use Rattle.log_replay.proofs.WriteLemmas.{Backs}
 
 -- each page keeps the space rule
 pub room_replayed : (base : ℕ → Image) (lsn : ℕ) (records : List LogRecord) → AreNext base lsn records → ((n : ℕ) → HasRoom (base n).cells)
@@ -52,6 +49,21 @@ last_after base lsn pages rest before r is room b =
       found = next.fits.found;
       is = ap (λ (f : ℕ → Image). f r.page) (last_written base lsn pages rest before r is b) ∙ written_here (replayed base before) r r.page refl;
     }
+
+-- so it is kept: its LSN is not 0
+pub last_held : (base : ℕ → Image) (lsn : ℕ) (pages : KeptPages) (rest before : List LogRecord) (r : LogRecord) → rest ≡ before ++ r ∷ []
+    → 0 < lsn → Backs base lsn (page_in pages) rest → IsSome (found pages r.page)
+last_held base lsn pages rest before r is some b = go (found pages r.page) refl
+  where
+    go : (o : Option KeptPage) → found pages r.page ≡ o → IsSome o
+    go (Some k) h = refl
+    go None h =
+        let next = last_next base lsn (page_in pages) rest before r is b in
+        let number : r.lsn ≡ lsn + length before = next.number in
+        let page : page_in pages r.page ≡ after_edit (replayed base before r.page) r.edit r.lsn =
+        ap (λ (f : ℕ → Image). f r.page) (last_written base lsn (page_in pages) rest before r is b) ∙ written_here (replayed base before) r r.page refl in
+        let zero_ : 0 ≡ r.lsn = ap (λ (o : Option KeptPage). (image_of o).lsn) (sym h) ∙ ap (λ (i : Image). i.lsn) page in
+        absurd (omega arith)
 
 -- a record taken back
 pub one_undone : (base pages after : ℕ → Image) (lsn : ℕ) (r : LogRecord) → IsNext base lsn r → pages ≡ written base r
@@ -102,17 +114,8 @@ entry_came pages rest before e is came =
       base = replayed came.base (records_in before);
       lsn = came.lsn + length (records_in before);
       numbered = let some : 0 < came.lsn = came.numbered in omega arith;
-      plain = plain_replayed came.base came.lsn (records_in before) came.numbered came.plain
-          (next_front came.base came.lsn (records_in before) (records_of e) (subst (λ (l : List LogRecord). AreNext came.base came.lsn l) (entry_records rest before e is) came.next));
       room = room_replayed came.base came.lsn (records_in before)
           (next_front came.base came.lsn (records_in before) (records_of e) (subst (λ (l : List LogRecord). AreNext came.base came.lsn l) (entry_records rest before e is) came.next)) came.room;
       next = b.next;
       is = b.is;
     }
-
--- pages that records are taken back from are plain
-pub plain_undone : (none p changed q : List (ℕ × Image)) (rs : List LogRecord) (came : Came (page_in p) rs) → none ≡ []
-    → ((base : ℕ → Image) (lsn : ℕ) → AreNext base lsn rs → over none p ≡ replayed base rs → over changed q ≡ base) → ArePlain (over changed q)
-plain_undone none p changed q rs came is undone =
-    let start : over none p ≡ page_in p = fun_ext (over_none none p is) in
-    subst ArePlain (sym (undone came.base came.lsn came.next (start ∙ came.is))) came.plain

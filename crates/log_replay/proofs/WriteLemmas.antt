@@ -1,49 +1,51 @@
 -- Records written in order.
-use Rattle.std.proofs.Common.{◌≡◌, ℕ, ◌+◌, ◌<◌, List, [], ◌∷◌, sym, ap, ◌∙◌, subst, arith, inl, inr}
-use Rattle.std.proofs.lemmas.Bool.{cases_eq}
+use Rattle.std.proofs.Common.{◌≡◌, ℕ, ◌+◌, ◌<◌, List, [], ◌∷◌, ◌++◌, refl, sym, ap, ◌∙◌, subst, length, Err}
 use mathlib.Core.Path.{fun_ext}
-use Rattle.page_store.specs.Image.{Image}
+use Rattle.page_store.specs.Image.{Image, HasRoom}
 use Rattle.phys_log.specs.declared.entries.LogRecord.{LogRecord}
 use Rattle.phys_log.specs.Logs.{written, replayed, IsNext, AreNext}
-use Rattle.phys_log.proofs.ReplayLaws.{written_here, written_other}
-use Rattle.log_replay.specs.Kept.{page_in, over, ArePlain}
-use Rattle.log_replay.proofs.KeptLemmas.{over_none, plain_same}
+use Rattle.phys_log.proofs.ReplayLaws.{replayed-append, next_behind, next_both}
+use Rattle.page_store.specs.declared.edits.ApplyFault.{ApplyFault}
+use Rattle.page_store.specs.declared.edits.ApplyFault.TheVariants.{Unfit, NoMemory}
+use Rattle.log_replay.specs.Kept.{Came, TellsWhether}
 
--- how far the records are written
-pub record IsGoing (first pages : ℕ → Image) (from lsn : ℕ) (records rest : List LogRecord) : Type 0 where
-  pub same : replayed pages rest ≡ replayed first records
-  pub into : AreNext pages lsn rest → AreNext first from records
-  pub outof : AreNext first from records → AreNext pages lsn rest
+-- pages that are those of records over a base
+pub record Backs (base : ℕ → Image) (lsn : ℕ) (pages : ℕ → Image) (records : List LogRecord) : Type 0 where
+  pub next : AreNext base lsn records
+  pub is : pages ≡ replayed base records
 
-pub going_on : (first pages after : ℕ → Image) (from lsn : ℕ) (records rest more : List LogRecord) (r : LogRecord) → rest ≡ r ∷ more
-    → IsGoing first pages from lsn records rest → IsNext pages lsn r → ((n : ℕ) → after n ≡ written pages r n)
-    → IsGoing first after from (lsn + 1) records more
-going_on first pages after from lsn records rest more r is going next made =
-    let G : List LogRecord → Type 0 = λ l. IsGoing first pages from lsn records l in
-    let g : IsGoing first pages from lsn records (r ∷ more) = subst G is going in
-    let w : after ≡ written pages r = fun_ext made in
+-- no record yet
+pub backs_none : (base : ℕ → Image) (lsn : ℕ) → Backs base lsn base []
+backs_none base lsn = record { next = tt; is = refl }
+
+-- one record more
+pub backs_more : (base : ℕ → Image) (lsn now : ℕ) (pages after : ℕ → Image) (done : List LogRecord) (r : LogRecord) → Backs base lsn pages done
+    → now ≡ lsn + length done → IsNext pages now r → ((n : ℕ) → after n ≡ written pages r n) → Backs base lsn after (done ++ r ∷ [])
+backs_more base lsn now pages after done r b at next made =
+    let one : IsNext (replayed base done) (lsn + length done) r =
+    subst (λ (f : ℕ → Image). IsNext f (lsn + length done) r) b.is (subst (λ (k : ℕ). IsNext pages k r) at next) in
     record {
-      same = ap (λ (f : ℕ → Image). replayed f more) w ∙ g.same;
-      into = λ h. g.into (next, subst (λ (f : ℕ → Image). AreNext f (lsn + 1) more) w h);
-      outof = λ h. subst (λ (f : ℕ → Image). AreNext f (lsn + 1) more) (sym w) (g.outof h).1;
+      next = next_both base lsn done (r ∷ []) b.next (one, tt);
+      is = fun_ext made ∙ ap (λ (f : ℕ → Image). written f r) b.is ∙ sym (replayed-append base done (r ∷ []));
     }
 
--- pages with records over plain ones are plain
-pub plain_replayed : (base : ℕ → Image) (lsn : ℕ) (rs : List LogRecord) → 0 < lsn → ArePlain base → AreNext base lsn rs → ArePlain (replayed base rs)
-plain_replayed base lsn [] some plain next = plain
-plain_replayed base lsn (r ∷ rs) some plain next = plain_replayed (written base r) (lsn + 1) rs (omega arith) (λ n zero. elim (cases_eq n r.page) [
-  | inl here ↦
-      let e : (written base r n).lsn ≡ r.lsn = ap (λ (i : Image). i.lsn) (written_here base r n here) in
-      let k : r.lsn ≡ lsn = next.0.number in
-      absurd (omega arith)
-  | inr off ↦
-      let same : written base r n ≡ base n = written_other base r n off in
-      same ∙ plain n (sym (ap (λ (i : Image). i.lsn) same) ∙ zero)
-]) next.1
+-- the record behind them is the next one
+pub backs_next : (base : ℕ → Image) (lsn now : ℕ) (pages : ℕ → Image) (done rest : List LogRecord) (r : LogRecord) → Backs base lsn pages done
+    → now ≡ lsn + length done → AreNext base lsn (done ++ r ∷ rest) → IsNext pages now r
+backs_next base lsn now pages done rest r b at all =
+    let one : IsNext (replayed base done) (lsn + length done) r = (next_behind base lsn done (r ∷ rest) all).0 in
+    subst (λ (k : ℕ). IsNext pages k r) (sym at) (subst (λ (f : ℕ → Image). IsNext f (lsn + length done) r) (sym b.is) one)
 
-pub plain_written : (none p changed q : List (ℕ × Image)) (from : ℕ) (rs : List LogRecord) → none ≡ [] → 0 < from → ArePlain (page_in p)
-    → AreNext (over none p) from rs → ((n : ℕ) → over changed q n ≡ replayed (over none p) rs n) → ArePlain (over changed q)
-plain_written none p changed q from rs is some plain next made =
-    let start : over none p ≡ page_in p = fun_ext (over_none none p is) in
-    plain_same (over changed q) (replayed (over none p) rs) made
-    (plain_replayed (over none p) from rs some (subst ArePlain (sym start) plain) next)
+-- what undoing them needs
+pub backs_came : (base : ℕ → Image) (lsn : ℕ) (pages : ℕ → Image) (done : List LogRecord) → 0 < lsn → ((n : ℕ) → HasRoom (base n).cells)
+    → Backs base lsn pages done → Came pages done
+backs_came base lsn pages done some room b = record { base = base; lsn = lsn; numbered = some; room = room; next = b.next; is = b.is }
+
+pub backs_same : (base : ℕ → Image) (lsn : ℕ) (pages after : ℕ → Image) (done : List LogRecord) → Backs base lsn pages done → ((n : ℕ) → after n ≡ pages n)
+    → Backs base lsn after done
+backs_same base lsn pages after done b same = record { next = b.next; is = fun_ext same ∙ b.is }
+
+-- the same answer, of something that asks for more
+pub whether_back : (T S : Type 0) (fault : ApplyFault) (P Q : Type 0) → (Q → P) → TellsWhether {T = T} (Err fault) P → TellsWhether {T = S} (Err fault) Q
+whether_back T S Unfit P Q f h = λ q. h (f q)
+whether_back T S NoMemory P Q f h = tt

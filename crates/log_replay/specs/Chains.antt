@@ -1,6 +1,8 @@
 -- The chain of a page: its records in LSN order, each by its LSN and the position of its entry.
 use Rattle.std.specs.Prelude.{ℕ, ◌+◌, ◌-◌, ◌==◌, nat_lt, if◌then◌else◌, List, [], ◌∷◌, ◌++◌, Option, Some, None, option_to_list}
 use Rattle.std.specs.List.{slice_get}
+use Rattle.page_store.specs.Image.{Image}
+use Rattle.page_store.specs.Edits.{IsAfter, before_edit}
 use Rattle.phys_log.specs.declared.entries.LogRecord.{LogRecord}
 use Rattle.phys_log.specs.declared.entries.Entry.{Entry}
 use Rattle.phys_log.specs.Logs.{records_of}
@@ -31,6 +33,11 @@ in_entry (Some e) lsn = in_records (records_of e) lsn
 
 abbrev pub record_by : List Entry → ChainLink → Option LogRecord
 record_by entries link = in_entry (slice_get entries (link.position - 1)) link.lsn
+
+-- each of these records made the page on which it is undone, when those before it in the list are undone
+abbrev pub CanUndo : Image → List LogRecord → Type 0
+CanUndo image [] = Unit {0}
+CanUndo image (r ∷ rs) = IsAfter r.edit image × CanUndo (before_edit image r.edit r.prev) rs
 
 -- the records of the links after a position, newest first
 abbrev pub granted : List Entry → ℕ → List ChainLink → List LogRecord

@@ -1,11 +1,12 @@
 ghost use Rattle.std.specs.Prelude.{ℕ, ◌≡◌, ◌++◌, IfOk, OnOk, OnErr, option_to_list};
 ghost use Rattle.std.specs.Option.{option_copied};
-ghost use Rattle.log_replay.specs.Chains.{record_by, granted};
+ghost use Rattle.phys_log.specs.Undone.{undone};
+ghost use Rattle.log_replay.specs.Chains.{record_by, granted, CanUndo};
 ghost use Rattle.log_replay.specs.Answers.{Rises};
 
 use crate::chains::ChainLink;
 use cdb_values::List;
-use page_store::Page;
+use page_store::{Page, undo};
 use phys_log::{Entry, LogRecord, copy_record};
 use std::alloc::{AllocError, Global};
 
@@ -63,4 +64,33 @@ pub(crate) fn later(
         rest = before;
     }
     Ok(records)
+}
+
+/// Undoes the record of a link on a page, where it is there.
+fn undo_linked(page: &mut Page, entries: &[Entry], link: ChainLink)
+    requires { CanUndo page.old (option_to_list (record_by entries.now link)) }
+    ensures { page.new ≡ undone page.old (option_to_list (record_by entries.now link)) }
+{
+    match linked_record(entries, link) {
+        Some(newest) => {
+            let _ = undo(page, &newest.edit, newest.prev);
+        }
+        None => {}
+    }
+}
+
+/// Undoes the records of the links after a position on a page, where they lie, the newest first.
+pub(crate) fn undo_later(page: &mut Page, entries: &[Entry], links: &[ChainLink], position: u64)
+    requires rising { Rises links.now }
+    requires can { CanUndo page.old (granted entries.now position links.now) }
+    ensures { page.new ≡ undone page.old (granted entries.now position links.now) }
+{
+    let mut rest = links;
+    'back: while let Some((link, before)) = rest.split_last() {
+        if link.position <= position {
+            break;
+        }
+        undo_linked(page, entries, *link);
+        rest = before;
+    }
 }

@@ -1,18 +1,14 @@
 //! What the meta page tells.
-ghost use Rattle.std.specs.Prelude.{ℕ, ◌≡◌, IfOk, IfSome, drop};
+ghost use Rattle.std.specs.Prelude.{◌≡◌, IfOk};
 ghost use Rattle.byteorder.specs.Endian.{big_number};
 ghost use Rattle.page_store.specs.Sources.{IsExcused};
 ghost use Rattle.page_workspace.specs.Drafts.{meant};
 ghost use Rattle.page_workspace.specs.Spare.{IsMeta, first_cell, count_of, next_genid as next_genid_of};
 ghost use Rattle.phys_log.specs.Logs.{pages_of};
 
-use byteorder::{BigEndian, ByteOrder};
 use log_replay::PagedLog;
 use page_store::{Page, PageFault, PageSource};
-use page_workspace::{EditFault, Workspace};
-
-/// The bytes of the meta page's cell.
-const META_SIZE: usize = 24;
+use page_workspace::{EditFault, Meta, Workspace};
 
 /// The next genid of a log, as its meta page tells it. Takes no memory.
 pub fn next_genid(log: &PagedLog) -> u64
@@ -26,14 +22,15 @@ pub fn next_genid(log: &PagedLog) -> u64
 }
 
 /// The next genid that a meta page tells.
+#[tactic(auto, using(page_workspace::proofs::MetaLaws::none_tells))]
 fn genid_in(page: &Page) -> u64
     requires { IsMeta page.now }
     ensures { result ≡ big_number 8 (first_cell page.now.cells) }
 {
-    match page.cell(0) {
-        Some(cell) => BigEndian::read_u64(cell),
-        None => unreachable!(),
-    }
+    let Some(meta) = Meta::read(page) else {
+        unreachable!()
+    };
+    meta.next
 }
 
 /// The number of pages, as the meta page of a workspace tells it. Where page 0 is no meta page the answer may be want of
@@ -44,25 +41,9 @@ pub(crate) fn page_count<P: PageSource>(space: &mut Workspace<P>) -> Result<u64,
     ensures base { P.pages space.new.base ≡ P.pages space.old.base }
     ensures excused { IsExcused result (P.losses space.old.base) (P.losses space.new.base) }
 {
-    match space.load_to_edit(0) {
-        Ok(()) => count_in(space.page()),
+    match space.meta() {
+        Ok(meta) => Ok(meta.count),
         Err(EditFault::Gone) => Err(PageFault::Gone),
-        Err(EditFault::NoMemory) => Err(PageFault::NoMemory),
-        Err(EditFault::Unfit) => unreachable!(),
+        Err(EditFault::NoMemory | EditFault::Unfit) => Err(PageFault::NoMemory),
     }
-}
-
-/// The number of pages that a meta page tells.
-fn count_in(page: &Page) -> Result<u64, PageFault>
-    ensures count { IfOk result (λ count. count ≡ big_number 8 (drop 8 (first_cell page.now.cells))) }
-    ensures excused { (count : ℕ) → IsExcused result count count }
-{
-    let Some(cell) = page.cell(0) else {
-        return Err(PageFault::NoMemory);
-    };
-    if cell.len() != META_SIZE {
-        return Err(PageFault::NoMemory);
-    }
-    let (_, behind) = cell.split_at(8);
-    Ok(BigEndian::read_u64(behind))
 }

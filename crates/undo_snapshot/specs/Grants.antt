@@ -1,9 +1,6 @@
 -- What a grant of a page speaks of: a log that begins with the first entries that the reader knows. The log may be
 -- another at each grant.
-use Rattle.std.specs.Prelude.{◌≡◌, ℕ, List, [], ◌∷◌, ◌++◌, length}
-use Rattle.page_store.specs.Image.{Image}
-use Rattle.page_store.specs.Edits.{IsAfter, before_edit}
-use Rattle.phys_log.specs.declared.entries.LogRecord.{LogRecord}
+use Rattle.std.specs.Prelude.{◌≡◌, ℕ, List, ◌++◌, length}
 use Rattle.phys_log.specs.declared.entries.Entry.{Entry}
 use Rattle.phys_log.specs.Logs.{pages_of, IsLog}
 use Rattle.phys_log.specs.Undone.{later_records}
@@ -17,8 +14,3 @@ pub record Speaks (front : List Entry) (page : ℕ) (grant : Grant) : Type 0 whe
   pub begins : log ≡ front ++ more
   pub copy : grant.copy ≡ pages_of log page
   pub chain : grant.chain ≡ later_records log (length front) page
-
--- each of these records made the page on which it is undone, when those before it in the list are undone
-abbrev pub CanUndo : Image → List LogRecord → Type 0
-CanUndo image [] = Unit {0}
-CanUndo image (r ∷ rs) = IsAfter r.edit image × CanUndo (before_edit image r.edit r.prev) rs

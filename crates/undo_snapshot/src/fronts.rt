@@ -2,11 +2,12 @@ ghost use Rattle.std.specs.Prelude as std;
 ghost use Rattle.std.specs.Prelude.{ℕ, ◌≡◌, [], IfOk};
 ghost use Rattle.page_store.specs.Sources.{IsExcused};
 ghost use Rattle.phys_log.specs.declared.entries.Entry.{Entry as OneEntry};
+ghost use Rattle.phys_log.specs.Logs.{pages_of};
 ghost use Rattle.undo_snapshot.specs.Grants.{Speaks};
 
 use crate::granters::Granter;
 use log_replay::Grant;
-use page_store::PageFault;
+use page_store::{Page, PageFault};
 use std::alloc::Global;
 use std::marker::{Brand, PhantomData};
 
@@ -48,5 +49,9 @@ impl<F: Front, G: Granter> Granter for FrontGranter<F, G> {
 
     fn grant(&mut self, alloc: Global, page: u64) -> Result<Grant, PageFault> {
         self.inner.grant(alloc, page)
+    }
+
+    fn page(&mut self, alloc: Global, page: u64) -> Result<Page, PageFault> {
+        self.inner.page(alloc, page)
     }
 }

@@ -2,10 +2,12 @@ ghost use Rattle.std.specs.Prelude as std;
 ghost use Rattle.std.specs.Prelude.{ℕ, ◌≡◌, ◌≤◌, IfOk, length, take};
 ghost use Rattle.page_store.specs.Sources.{IsExcused};
 ghost use Rattle.phys_log.specs.declared.entries.Entry.{Entry as OneEntry};
+ghost use Rattle.phys_log.specs.Logs.{pages_of};
 ghost use Rattle.undo_snapshot.specs.Grants.{Speaks};
 
+use crate::undoing::undo_grant;
 use log_replay::{Grant, PagedLog};
-use page_store::PageFault;
+use page_store::{Page, PageFault};
 use std::alloc::Global;
 use std::marker::Model;
 
@@ -25,6 +27,20 @@ pub trait Granter {
         ensures spoken { IfOk result (Speaks (front self.old) page) }
         ensures front { front self.new ≡ front self.old }
         ensures excused { IsExcused result (losses self.old) (losses self.new) };
+
+    /// The page of the first entries: a grant, undone. Who has the log at hand undoes its records where they lie. Its errors
+    /// are those of a grant.
+    fn page(&mut self, alloc: Global, page: u64) -> Result<Page, PageFault>
+        ensures page { IfOk result (λ p. p ≡ pages_of (front self.old) page) }
+        ensures front { front self.new ≡ front self.old }
+        ensures excused { IsExcused result (losses self.old) (losses self.new) }
+    {
+        let grant = self.grant(alloc, page)?;
+        match undo_grant(grant) {
+            Ok(page) => Ok(page),
+            Err(_) => Err(PageFault::NoMemory),
+        }
+    }
 }
 
 /// Grants of a log in memory to a reader at a position of it. Contracts see the entries up to the position.
@@ -67,5 +83,13 @@ impl<'a> Granter for LogGranter<'a> {
             Err(_) => return Err(PageFault::NoMemory),
         };
         Ok(grant)
+    }
+
+    fn page(&mut self, alloc: Global, page: u64) -> Result<Page, PageFault> {
+        let undone = match self.log.page_at(alloc, page, self.position) {
+            Ok(undone) => undone,
+            Err(_) => return Err(PageFault::NoMemory),
+        };
+        Ok(undone)
     }
 }

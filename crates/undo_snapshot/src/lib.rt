@@ -21,6 +21,8 @@
 //! load 0   kept: nothing is granted     kept: 0 1
 //! ```
 //!
+//! Who has the log at hand, as a `LogGranter`, copies the page alone and undoes the records where they lie.
+//!
 //! The 256 pages that were used last are kept. They outlive their `SnapshotPages` where they are taken out as `KeptPages`
 //! and handed to the next one over the same first entries. That they are the same is known by the type of a
 //! `FrontGranter`, where the source was lent to code that tells nothing of it.
@@ -28,7 +30,8 @@
 //! | Notion | Code | Definition |
 //! |---|---|---|
 //! | what a grant speaks of | `Granter::grant` | `specs/Grants.antt` |
-//! | records that can be undone, one after the other | | `specs/Grants.antt` |
+//! | a grant, undone | `Granter::page` | `Undone` of `phys_log` |
+//! | records that can be undone, one after the other | | `Chains` of `log_replay` |
 //! | the kept pages, and one of them used | `KeptPages` | `specs/Kept.antt` |
 //! | a source of undone pages | `SnapshotPages` | `specs/Snapshots.antt` |
 #![tactic(auto)]

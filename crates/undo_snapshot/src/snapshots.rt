@@ -6,7 +6,6 @@ ghost use Rattle.undo_snapshot.specs.Kept.{kept_page, used_page, AreOf};
 
 use crate::granters::Granter;
 use crate::kept::KeptPages;
-use crate::undoing::undone_page;
 use page_store::{Page, PageFault, PageSource};
 use std::alloc::{AllocError, Global};
 use std::marker::Model;
@@ -137,7 +136,7 @@ fn use_page<G: Granter>(
     if kept.touch(id) {
         return Ok(());
     }
-    let page = undone_page(granter, alloc, id)?;
+    let page = granter.page(alloc, id)?;
     match kept.keep(id, page) {
         Ok(()) => Ok(()),
         Err(_) => Err(PageFault::NoMemory),

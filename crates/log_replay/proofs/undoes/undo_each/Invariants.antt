@@ -1,15 +1,17 @@
-use Rattle.std.proofs.Common.{ℕ, ◌≡◌, length}
+use Rattle.std.proofs.Common.{ℕ, ◌≡◌, ◌++◌, List, length}
 use Rattle.page_store.specs.Image.{Image}
-use Rattle.log_replay.specs.Kept.{page_in, over, Keeps, AreHeld}
-use Rattle.log_replay.proofs.UndoLemmas.{Backs}
+use Rattle.log_replay.specs.declared.chains.ChainLink.{ChainLink}
+use Rattle.log_replay.specs.Chains.{links_on}
+use Rattle.log_replay.specs.Kept.{page_in, chain_in, Roomier}
+use Rattle.log_replay.proofs.WriteLemmas.{Backs}
 use Rattle.log_replay.proofs.undoes.undo_each.Given as goal
 
 abbrev pub invariant-back : goal.invariant-back
 invariant-back l = record {
-  back : (base : ℕ → Image) (lsn : ℕ) → Backs base lsn (over l.fn.changed.entries l.fn.pages.entries) l.records → Backs base lsn (over l.changed.entries l.pages.entries) l.rest;
-  same : (n : ℕ) → page_in l.pages.entries n ≡ page_in l.fn.pages.entries n;
-  there : Keeps l.changed.entries l.pages.entries;
-  held : AreHeld l.changed.entries l.pages.entries;
+  back : (base : ℕ → Image) (lsn : ℕ) → Backs base lsn (page_in l.fn.pages) l.records → Backs base lsn (page_in l.pages) l.rest;
+  links : (base : ℕ → List ChainLink) (position : ℕ) → ((n : ℕ) → chain_in l.fn.pages n ≡ base n ++ links_on n position l.records)
+      → (n : ℕ) → chain_in l.pages n ≡ base n ++ links_on n position l.rest;
+  roomy : Roomier l.fn.pages l.pages;
 }
 
 abbrev pub decreases-back : goal.decreases-back

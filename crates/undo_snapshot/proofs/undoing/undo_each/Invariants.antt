@@ -1,6 +1,6 @@
 use Rattle.std.proofs.Common.{◌≡◌, length}
 use Rattle.phys_log.specs.Undone.{undone}
-use Rattle.undo_snapshot.specs.Grants.{CanUndo}
+use Rattle.log_replay.specs.Chains.{CanUndo}
 use Rattle.undo_snapshot.proofs.undoing.undo_each.Given as goal
 
 abbrev pub invariant-back : goal.invariant-back

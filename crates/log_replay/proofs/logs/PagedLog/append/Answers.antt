@@ -1,7 +1,7 @@
 use Rattle.std.proofs.Common.{◌≡◌, ℕ, ◌+◌, List, ◌++◌, ◌∷◌, [], length, ap, ◌∙◌, rules}
 use Rattle.phys_log.specs.declared.entries.Entry.{Entry}
 use Rattle.phys_log.specs.Logs.{last_lsn_of}
-use Rattle.log_replay.proofs.LogLemmas.{kept_plain}
+use Rattle.log_replay.proofs.LogLemmas.{kept_room}
 use Rattle.log_replay.proofs.AppendLemmas.{kept_append}
 use Rattle.log_replay.proofs.logs.PagedLog.append.Goals as goal
 
@@ -13,12 +13,11 @@ invariant_of-self-2 c =
     let at : c.last_lsn-last.result ≡ last_lsn_of entries = search rules in
     let many : c.len.result ≡ length entries = search rules in
     kept_append entries c.push.new.self.items c.args.entry c.records.result.now c.last_lsn-last.result (c.len.result + 1)
-    c.self.inside.pages.entries c.replay.new.pages.entries c.self.inside.chains.entries c.replay.new.chains.entries
-    c.self.invariant is c.records.ensures at (ap (λ (n : ℕ). n + 1) many) c.in-Ok.ensures.next c.in-Ok.ensures.made c.replay.ensures.edited c.in-Ok.ensures.linked
+    c.self.inside.pages c.write_all.new.pages c.self.inside.blank c.see_to_blank.new.blank
+    c.self.invariant is c.records.ensures at (ap (λ (n : ℕ). n + 1) many) c.in-Ok.ensures.next c.in-Ok.ensures.made c.in-Ok.ensures.linked c.see_to_blank.ensures
 
-pub replay-requires-clause-plain : goal.replay-requires-clause-plain
-replay-requires-clause-plain c =
-    kept_plain c.self.inside.entries.items c.self.inside.pages.entries c.self.inside.chains.entries c.self.invariant
+pub write_all-requires-clause-room : goal.write_all-requires-clause-room
+write_all-requires-clause-room c = kept_room c.self.inside.entries.items c.self.inside.pages c.self.inside.blank c.self.invariant
 
-pub replay-requires-clause-edited : goal.replay-requires-clause-edited
-replay-requires-clause-edited c = c.self.invariant.edited
+pub see_to_blank-requires : goal.see_to_blank-requires
+see_to_blank-requires c = c.self.invariant.lent

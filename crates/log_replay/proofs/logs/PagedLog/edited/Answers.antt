@@ -1,49 +1,41 @@
-use Rattle.std.proofs.Common.{◌≡◌, ◌↔◌, ℕ, List, [], true, false, nat_eq, sym, ap, subst, ◌∙◌, is_some}
-use Rattle.std.proofs.lemmas.Map.Keys.{IsStrictlyIncreasing-from_sorted}
+use Rattle.std.proofs.Common.{◌≡◌, ◌↔◌, ℕ, List, [], false, nat_eq, sym, subst}
 use Rattle.std.specs.List.{list_any}
+use Rattle.std.specs.BTreeMap.{IsOrdered}
+use Rattle.std.specs.Ordering.{nat_cmp}
 use Rattle.std.specs.List.Sorted.{IsStrictlyIncreasing}
-use Rattle.std.specs.BTreeMap.{keys}
 use Rattle.page_store.specs.Image.{blank_image}
 use Rattle.phys_log.specs.declared.entries.Entry.{Entry}
 use Rattle.phys_log.specs.Logs.{pages_of}
 use Rattle.phys_log.specs.Undone.{later_records}
-use Rattle.log_replay.specs.Kept.{found}
-use Rattle.log_replay.proofs.LogLemmas.{page_missing, page_unedited, page_edited}
-use Rattle.log_replay.proofs.NumberLemmas.{not_among, none_is, some_is, among_or, is_among, if_ok_all}
+use Rattle.log_replay.specs.Kept.{edited_numbers, IsKept}
+use Rattle.log_replay.proofs.NumberLemmas.{edited_rise, others_blank, others_unedited, if_ok_all, if_ok_on}
 use Rattle.log_replay.proofs.logs.PagedLog.edited.Goals as goal
 
 pub returns-clause-rising : goal.returns-clause-rising
 returns-clause-rising c =
-    if_ok_all c.page_numbers.result (λ v. v.items ≡ keys c.self.inside.pages) (λ v. IsStrictlyIncreasing v.items)
-    (λ v is. subst (λ (l : List ℕ). IsStrictlyIncreasing l) (sym is) (IsStrictlyIncreasing-from_sorted (keys c.self.inside.pages) c.page_numbers.ensures.ordered))
-    c.page_numbers.ensures.numbers
+    let pages = c.self.inside.pages in
+    if_ok_on c.page_numbers.result (IsOrdered nat_cmp pages.far) (λ v. v.items ≡ edited_numbers pages) (λ v. IsStrictlyIncreasing v.items)
+    (λ ordered v is. subst IsStrictlyIncreasing (sym is) (edited_rise pages ordered))
+    c.page_numbers.ensures.ordered c.page_numbers.ensures.numbers
 
 pub returns-clause-others : goal.returns-clause-others
 returns-clause-others c =
-    let map = c.self.inside.pages in
-    if_ok_all c.page_numbers.result (λ v. v.items ≡ keys map)
-    (λ v. (id : ℕ) → list_any (nat_eq id) v.items ≡ false → pages_of c.args.self.now id ≡ blank_image)
-    (λ v is id out.
-    let off : list_any (nat_eq id) (keys map) ≡ false = ap (λ (l : List ℕ). list_any (nat_eq id) l) (sym is) ∙ out in
-    let none : is_some (found map.entries id) ≡ false = c.page_numbers.ensures.has id ∙ not_among (keys map) id off in
-    subst (λ (l : List Entry). pages_of l id ≡ blank_image) c.self.view_is
-    (page_missing c.self.inside.entries.items map.entries c.self.inside.chains.entries id c.self.invariant (none_is (found map.entries id) none)))
+    let entries = c.self.inside.entries.items in
+    let pages = c.self.inside.pages in
+    let kept : IsKept entries pages c.self.inside.blank = c.self.invariant in
+    let P : List ℕ → Type 0 = λ l. (id : ℕ) → list_any (nat_eq id) l ≡ false → pages_of c.args.self.now id ≡ blank_image in
+    if_ok_all c.page_numbers.result (λ v. v.items ≡ edited_numbers pages) (λ v. P v.items)
+    (λ v is. subst P (sym is) (λ id out. subst (λ (l : List Entry). pages_of l id ≡ blank_image) c.self.view_is
+    (others_blank entries pages c.self.inside.blank kept id out)))
     c.page_numbers.ensures.numbers
 
 pub returns-clause-unedited : goal.returns-clause-unedited
 returns-clause-unedited c =
-    let map = c.self.inside.pages in
-    let kept = c.self.invariant in
-    if_ok_all c.page_numbers.result (λ v. v.items ≡ keys map)
-    (λ v. (id : ℕ) → (list_any (nat_eq id) v.items ≡ false) ↔ (later_records c.args.self.now 0 id ≡ []))
-    (λ v is id. subst (λ (l : List Entry). (list_any (nat_eq id) v.items ≡ false) ↔ (later_records l 0 id ≡ [])) c.self.view_is (
-      (λ out.
-          let off : list_any (nat_eq id) (keys map) ≡ false = ap (λ (l : List ℕ). list_any (nat_eq id) l) (sym is) ∙ out in
-          let none : is_some (found map.entries id) ≡ false = c.page_numbers.ensures.has id ∙ not_among (keys map) id off in
-          page_unedited c.self.inside.entries.items map.entries c.self.inside.chains.entries id kept (none_is (found map.entries id) none)),
-      (λ unedited. among_or (list_any (nat_eq id) v.items) (λ has none.
-          let on : list_any (nat_eq id) (keys map) ≡ true = ap (λ (l : List ℕ). list_any (nat_eq id) l) (sym is) ∙ has in
-          let some = some_is (found map.entries id) (c.page_numbers.ensures.has id ∙ is_among (keys map) id on) in
-          page_edited c.self.inside.entries.items map.entries c.self.inside.chains.entries id some.0 kept some.1 none) unedited),
-    ))
+    let entries = c.self.inside.entries.items in
+    let pages = c.self.inside.pages in
+    let kept : IsKept entries pages c.self.inside.blank = c.self.invariant in
+    let P : List ℕ → Type 0 = λ l. (id : ℕ) → (list_any (nat_eq id) l ≡ false) ↔ (later_records c.args.self.now 0 id ≡ []) in
+    if_ok_all c.page_numbers.result (λ v. v.items ≡ edited_numbers pages) (λ v. P v.items)
+    (λ v is. subst P (sym is) (λ id. subst (λ (l : List Entry). (list_any (nat_eq id) (edited_numbers pages) ≡ false) ↔ (later_records l 0 id ≡ []))
+    c.self.view_is (others_unedited entries pages c.self.inside.blank kept id)))
     c.page_numbers.ensures.numbers
