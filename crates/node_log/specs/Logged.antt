@@ -24,12 +24,16 @@ pub record Logged : Type 0 where
 abbrev pub AreSpelled : List Entry → Type 0
 AreSpelled es = AllByRecursion (λ e. IsSpelled (frame.Entry e)) es
 
--- with one entry more, with another promise, with another generation that is promised and accepted
+-- with one entry more, with another promise, with the promised generation accepted, with another generation that is promised
+-- and accepted
 abbrev pub with_entry : Logged → Entry → Logged
 with_entry l e = record l { entries = l.entries ++ e ∷ [] }
 
 abbrev pub with_promise : Logged → ℕ → Logged
 with_promise l generation = record l { promised = generation }
+
+abbrev pub with_acceptance : Logged → Logged
+with_acceptance l = record l { accepted = l.promised }
 
 abbrev pub with_stand : Logged → ℕ → Logged
 with_stand l generation = record l { promised = generation; accepted = generation }

@@ -16,6 +16,11 @@
 //! frame may then be synced. Opening the store finds the setup alone, or both entries. Nobody was told of the commit,
 //! so either is right. Where it fails in `stand`, the opening finds no promise, the promise alone, or both frames.
 //!
+//! In a cluster of several nodes a node promises a generation before it stands or votes in it (`promise`), and accepts its
+//! log in it before it leads (`accept`): one frame each. An entry that a leader shipped in the accepted generation is
+//! appended as the leader's own are. A leader's whole log is taken over (`take_over`): the entries that both have stay,
+//! the others of the node are dropped, and the leader's come in their place, as one adoption.
+//!
 //! An entry is appended in three steps: its frame is written as bytes, the log takes the entry, and the store keeps
 //! the bytes. The first two take memory and the third takes none, so that want of memory leaves the log and the store
 //! as they were.
@@ -25,13 +30,16 @@
 //! | a log with its generations and its store | `NodeLog` | `Logged` of `specs/Logged.antt` |
 //! | the store holds exactly the log | the invariant of `NodeLog` | `IsInStep` |
 //! | bytes stand for the log, for one of some logs | `log`, `give_back` | `Stand`, `StandForOne` |
-//! | what a stop may leave of the store | `stand`, `append`, where the store fails | `Leaves` |
+//! | what a stop may leave of the store | `stand`, `promise`, `accept`, `append`, `take_over`, where the store fails | `Leaves` |
+//! | a log that is taken over, and its frames | `take_over` | `specs/Taken.antt` |
 //! | the log that is found is the log that was had | `stores_tell_one_log` | `specs/Same.antt` |
 #![tactic(auto)]
 
 mod keeps;
 mod laws;
 mod node_logs;
+mod promises;
+mod takes;
 
 pub use laws::stores_tell_one_log;
 pub use node_logs::NodeLog;

@@ -7,31 +7,29 @@ ghost use Rattle.frame_code.specs.declared.frames.Frame.TheVariants as frame;
 ghost use Rattle.phys_log.specs.Logs.{Fits};
 ghost use Rattle.store_log.specs.declared.standings.Standing.TheVariants.{Log};
 ghost use Rattle.store_log.specs.Held.{StandsFor, generation_of};
-ghost use Rattle.store_log.specs.Opens.{IsOpened, StandsAlike, IsOpenFault, IsLater, IsUnchanged};
+ghost use Rattle.store_log.specs.Opens.{IsOpened, StandsAlike, IsOpenFault, IsLater, IsUnchanged, TellsRead};
 ghost use Rattle.node_log.specs.Logged.{AreSpelled, Stand, Leaves, with_entry, with_promise, with_stand};
 
 use crate::keeps::{keep_entry, keep_stand};
 use cdb_outside::LogStore;
+use cdb_values::limits::GENERATION_LIMIT;
 use log_replay::PagedLog;
 use phys_log::Entry;
 use std::alloc::Global;
 use std::marker::Model;
 use store_log::{Held, KeepFault, Unopened, open_log};
 
-/// Generations are below this number.
-const GENERATION_END: u64 = 1 << 62;
-
 /// The log of one node of a cluster, and the store that it is kept in. As long as no call of the store failed, the
 /// store holds exactly this log and its generations, synced.
 #[derive(Drop)]
 pub struct NodeLog<D: LogStore> {
-    node: u8,
-    cluster: u128,
-    promised: u64,
-    accepted: u64,
-    log: PagedLog,
-    held: Held<D>,
-    failed: bool,
+    pub(crate) node: u8,
+    pub(crate) cluster: u128,
+    pub(crate) promised: u64,
+    pub(crate) accepted: u64,
+    pub(crate) log: PagedLog,
+    pub(crate) held: Held<D>,
+    pub(crate) failed: bool,
 }
 
 impl<D: LogStore> Model for NodeLog<D> {
@@ -68,6 +66,8 @@ impl<D: LogStore + Drop> NodeLog<D> {
         ensures later { IfErr result (λ u. IsLater u.why (D.faults store) (D.faults u.store)) }
         ensures why { IfErr result (λ u.
             IsOpenFault u.why node cluster (D.synced store) (D.faults store) (D.faults u.store)) }
+        ensures read { IfErr result (λ u.
+            TellsRead u.why node cluster (D.synced store) (D.writes store) (D.writes u.store)) }
         ensures unchanged { IfErr result (λ u. IsUnchanged u.why (D.synced store) (D.synced u.store)) }
         ensures alike { IfErr result (λ u. StandsAlike node cluster (D.synced store) (D.synced u.store)) }
     {
@@ -106,7 +106,7 @@ impl<D: LogStore> NodeLog<D> {
             ∷ with_stand self.old (self.old.promised + 1) ∷ []) }
         ensures calm { OnOk result (self.new.store.faults ≡ self.old.store.faults) }
     {
-        if self.promised >= GENERATION_END - 1 {
+        if self.promised >= GENERATION_LIMIT - 1 {
             return Err(KeepFault::NoMemory);
         }
         let generation = self.promised + 1;

@@ -1,5 +1,5 @@
 -- Why a node is not up, in the order in which the causes are looked for.
-use Rattle.std.specs.Prelude.{◌≡◌, ◌⊎◌, ℕ, ◌≤◌, List, length}
+use Rattle.std.specs.Prelude.{◌≡◌, ◌⊎◌, ℕ, ◌≤◌, List, length, Some, None}
 use Rattle.cdb_outside.specs.Faults.{Rose}
 use Rattle.cdb_values.specs.declared.tables.TableDef.{TableDef}
 use Rattle.log_rows.specs.History.{tables_of}
@@ -9,6 +9,7 @@ use Rattle.store_log.specs.declared.standings.Standing.TheVariants.{Log, Bad, Fo
 use Rattle.store_log.specs.declared.opens.OpenFault.{OpenFault}
 use Rattle.store_log.specs.declared.opens.OpenFault.TheVariants as fault
 use Rattle.store_log.specs.Held.{StandsFor}
+use Rattle.store_log.specs.Opens.{WasUnmended}
 use Rattle.node_log.specs.Logged.{Logged}
 use Rattle.node_opening.specs.declared.up.WhyNotUp.{WhyNotUp}
 use Rattle.node_opening.specs.declared.up.WhyNotUp.TheVariants as why
@@ -52,13 +53,14 @@ pub record WasOther (node cluster : ℕ) (bytes : List ℕ) (given : List TableD
   pub stood : StandsFor node cluster bytes (Log promised accepted entries)
   pub other : IsOther accepted entries given place
 
--- a call of the store failed before the log was read, or behind that
-pub record IsFault (node cluster : ℕ) (bytes : List ℕ) (given : List TableDef) (size before now : ℕ) : Type 0 where
-  pub rose : HasRisen before now
-  pub told : (size ≡ 0) ⊎ WasRead node cluster bytes given size
+-- which length is told where a call of the store failed: 0, where no call wrote to the store; that of the log for which the store
+-- stood, and which may be taken up; or that of a log that was not judged yet, since the store was to be mended first
+abbrev pub IsLengthOf : ℕ → ℕ → List ℕ → List TableDef → ℕ → ℕ → ℕ → Type 0
+IsLengthOf node cluster bytes given size before now =
+    ((size ≡ 0) × (now ≡ before)) ⊎ (WasRead node cluster bytes given size ⊎ WasUnmended node cluster bytes size)
 
 abbrev pub IsWhy : WhyNotUp → ℕ → ℕ → List ℕ → List TableDef → ℕ → ℕ → Type 0
-IsWhy (why.StoreFault length) node cluster bytes given before now = IsFault node cluster bytes given length before now
+IsWhy (why.StoreFault length) node cluster bytes given before now = HasRisen before now
 IsWhy (why.Refused at) node cluster bytes given before now =
     StandsFor node cluster bytes (Bad at) ⊎ (StandsFor node cluster bytes Foreign × (at ≡ 0))
 IsWhy why.Unsound node cluster bytes given before now = WasUnsound node cluster bytes
@@ -73,9 +75,18 @@ IsLater why.Unsound before now = now ≡ before
 IsLater (why.Differs table) before now = now ≡ before
 IsLater why.NoMemory before now = now ≡ before
 
+-- the length that is told, by the counts of the calls that write
+abbrev pub TellsLength : WhyNotUp → ℕ → ℕ → List ℕ → List TableDef → ℕ → ℕ → Type 0
+TellsLength (why.StoreFault length) node cluster bytes given before now = IsLengthOf node cluster bytes given length before now
+TellsLength (why.Refused at) node cluster bytes given before now = Unit {0}
+TellsLength why.Unsound node cluster bytes given before now = Unit {0}
+TellsLength (why.Differs table) node cluster bytes given before now = Unit {0}
+TellsLength why.NoMemory node cluster bytes given before now = Unit {0}
+
 -- why a node is not up whose store was not opened
 abbrev pub unopened : OpenFault → WhyNotUp
-unopened fault.StoreFault = why.StoreFault 0
+unopened (fault.StoreFault None) = why.StoreFault 0
+unopened (fault.StoreFault (Some length)) = why.StoreFault length
 unopened fault.Foreign = why.Refused 0
 unopened (fault.Corrupt at) = why.Refused at
 unopened fault.NoMemory = why.NoMemory

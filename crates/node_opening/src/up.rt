@@ -4,7 +4,7 @@ ghost use Rattle.frame_code.specs.Spelled.{Grow};
 ghost use Rattle.node_opening.specs.Left.{IsLeft};
 ghost use Rattle.node_opening.specs.Stands.{IsUpFrom};
 ghost use Rattle.node_opening.specs.Up.{IsTakenUp};
-ghost use Rattle.node_opening.specs.Why.{IsWhy, IsLater, IsDown, unopened};
+ghost use Rattle.node_opening.specs.Why.{IsWhy, IsLater, IsDown, TellsLength, unopened};
 
 use crate::judges::judge;
 use crate::stands::go_up;
@@ -36,7 +36,7 @@ pub struct NotUp<D: LogStore> {
 pub enum WhyNotUp {
     /// A call of the store failed: its count of faults rose.
     StoreFault {
-        /// The length of the log that was read, 0 where it was not read.
+        /// The length of the log that was read; 0 where it was not read, and then no call wrote to the store.
         length: u64,
     },
     /// A frame is bad, or the header is another's.
@@ -76,6 +76,8 @@ pub fn open_node<D: LogStore + Drop>(
     ensures later { IfErr result (λ n. IsLater n.why (D.faults store) (D.faults n.store)) }
     ensures why { IfErr result (λ n.
         IsWhy n.why node cluster (D.synced store) schema.now (D.faults store) (D.faults n.store)) }
+    ensures length { IfErr result (λ n.
+        TellsLength n.why node cluster (D.synced store) schema.now (D.writes store) (D.writes n.store)) }
     ensures left { IfErr result (λ n.
         IsLeft n.why node cluster (D.synced store) (D.synced n.store) schema.now) }
 {
@@ -115,7 +117,8 @@ fn why_unopened(why: OpenFault) -> WhyNotUp
     ensures { result ≡ unopened why }
 {
     match why {
-        OpenFault::StoreFault => WhyNotUp::StoreFault { length: 0 },
+        OpenFault::StoreFault { read: Some(length) } => WhyNotUp::StoreFault { length },
+        OpenFault::StoreFault { read: None } => WhyNotUp::StoreFault { length: 0 },
         OpenFault::Foreign => WhyNotUp::Refused { at: 0 },
         OpenFault::Corrupt { at } => WhyNotUp::Refused { at },
         OpenFault::NoMemory => WhyNotUp::NoMemory,

@@ -11,7 +11,6 @@ use Rattle.log_replay.specs.Answers.{schema_of}
 use Rattle.log_rows.specs.History.{tables_of, IsCommit}
 use Rattle.table_store.specs.Listings.{IsAmong}
 use Rattle.table_state.specs.States.{HasState}
-use Rattle.sound_log.specs.Columns.{HasColumns}
 use Rattle.sound_log.specs.Identities.{ids_of, ids_in, AreApart}
 use Rattle.sound_log.specs.Sound.{IsBegunBy, IsBegunIn, IsSound}
 use Rattle.sound_log.proofs.GrowthLemmas.{all_later, all_more}
@@ -57,12 +56,11 @@ by_then generation (id ∷ ids) all = (at id.began all.0, by_then generation ids
     at n e = omega arith
 
 pub sound_on : (accepted generation : ℕ) (before made : List Entry) (tables : List TableDef) (rows : Rows) → accepted < generation
-    → IsSound accepted before → schema_of (before ++ made) ≡ Some tables → AllByRecursion HasColumns tables
+    → IsSound accepted before → schema_of (before ++ made) ≡ Some tables
     → AllByRecursion IsCommit (drop 1 (before ++ made)) → AllByRecursion (IsBegunIn generation) (ids_in made) → AreApart (ids_in made)
     → HasState (pages_of (before ++ made)) tables rows → IsSound generation (before ++ made)
-sound_on accepted generation before made tables rows later sound schema columns commits begun apart state = inr (record {
+sound_on accepted generation before made tables rows later sound schema commits begun apart state = inr (record {
   setup = schema ∙ ap (λ (t : List TableDef). Some t) (sym are);
-  columns = subst (λ (t : List TableDef). AllByRecursion HasColumns t) (sym are) columns;
   commits = commits;
   rows = rows;
   state = subst (λ (t : List TableDef). HasState (pages_of (before ++ made)) t rows) (sym are) state;

@@ -17,7 +17,6 @@ use Rattle.log_rows.specs.Setups.{IsSetup}
 use Rattle.table_store.specs.Listings.{IsAmong}
 use Rattle.table_store.specs.Stored.{Stands}
 use Rattle.table_state.specs.States.{HasState}
-use Rattle.sound_log.specs.Columns.{HasColumns}
 use Rattle.sound_log.specs.Identities.{ids_of, ids_in, AreApart}
 use Rattle.sound_log.specs.Sound.{IsBegunBy, IsSoundHistory, IsSound}
 use Rattle.sound_log.proofs.IdentityLemmas.{apart_more}
@@ -51,7 +50,6 @@ sound_with_more : (accepted : ℕ) (entries : List Entry) (entry : Entry) (id : 
     → HasState (pages_of (entries ++ entry ∷ [])) (tables_of entries) rows → IsSoundHistory accepted (entries ++ entry ∷ [])
 sound_with_more accepted entries entry id rows some tables schema sound is new begun state = record {
   setup = schema ∙ sound.setup ∙ ap (λ (t : List TableDef). Some t) (sym tables);
-  columns = subst (λ (t : List TableDef). AllByRecursion HasColumns t) (sym tables) sound.columns;
   commits = commits_more entries entry some sound.commits (commit_of entry id is);
   rows = rows;
   state = subst (λ (t : List TableDef). HasState (pages_of (entries ++ entry ∷ [])) t rows) (sym tables) state;
@@ -81,12 +79,11 @@ no_rows_fit [] = tt
 no_rows_fit (table ∷ tables) = (tt, no_rows_fit tables)
 
 -- a setup alone
-setup_alone : (accepted generation : ℕ) (tables : List TableDef) (records : List LogRecord) → AllByRecursion HasColumns tables → IsGood tables (no_rows tables).tables
+setup_alone : (accepted generation : ℕ) (tables : List TableDef) (records : List LogRecord) → IsGood tables (no_rows tables).tables
     → Stands (pages_of (Setup generation tables records ∷ [])) tables (no_rows tables) → count_of (pages_of (Setup generation tables records ∷ [])) < 2 ^ 62
     → IsSoundHistory accepted (Setup generation tables records ∷ [])
-setup_alone accepted generation tables records columns good stands count = record {
+setup_alone accepted generation tables records good stands count = record {
   setup = refl;
-  columns = columns;
   commits = tt;
   rows = no_rows tables;
   state = record { stands = stands; good = good; next = lit< tt; count = count };
@@ -96,11 +93,11 @@ setup_alone accepted generation tables records columns good stands count = recor
 
 pub sound_first : (accepted generation : ℕ) (tables : List TableDef) (entry : Entry)
     → (Stands (pages_of (entry ∷ [])) tables (no_rows tables) → AllFit tables (no_rows tables).tables → IsGood tables (no_rows tables).tables)
-    → IsSetup generation tables entry → AllByRecursion HasColumns tables → Stands (pages_of (entry ∷ [])) tables (no_rows tables)
+    → IsSetup generation tables entry → Stands (pages_of (entry ∷ [])) tables (no_rows tables)
     → count_of (pages_of (entry ∷ [])) < 2 ^ 62 → IsSound accepted (entry ∷ [])
-sound_first accepted generation tables entry good (records, is) columns stands count =
+sound_first accepted generation tables entry good (records, is) stands count =
     inr (subst (λ (e : Entry). IsSoundHistory accepted (e ∷ [])) (sym is)
-    (setup_alone accepted generation tables records columns (good stands (no_rows_fit tables))
+    (setup_alone accepted generation tables records (good stands (no_rows_fit tables))
     (subst (λ (e : Entry). Stands (pages_of (e ∷ [])) tables (no_rows tables)) is stands)
     (subst (λ (e : Entry). count_of (pages_of (e ∷ [])) < 2 ^ 62) is count)))
 
@@ -117,7 +114,6 @@ sound_later accepted later entries up (inl none) = inl none
 sound_later accepted later entries up (inr sound) =
     inr (record {
       setup = sound.setup;
-      columns = sound.columns;
       commits = sound.commits;
       rows = sound.rows;
       state = sound.state;

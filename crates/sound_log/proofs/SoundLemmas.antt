@@ -1,11 +1,10 @@
 -- Sound logs: what the tests of the parts tell.
-use Rattle.std.proofs.Common.{◌≡◌, ◌≤◌, ◌==◌, ◌&&◌, ◌||◌, ℕ, Bool, true, false, not, inl, inr, List, [], ◌∷◌, ◌++◌, length, nat_eq, nat_le, Option, Some, None, unwrap_or, drop, refl, sym, ap, ◌∙◌, subst, arith}
+use Rattle.std.proofs.Common.{◌≡◌, ◌≤◌, ◌&&◌, ◌||◌, ℕ, Bool, true, false, inl, inr, List, [], ◌∷◌, ◌++◌, nat_eq, nat_le, Option, Some, None, unwrap_or, drop, refl, sym, ap, ◌∙◌, subst, arith}
 use Rattle.std.specs.Bool.{Decides}
 use Rattle.std.specs.List.{AllByRecursion, list_all, list_any}
 use Rattle.std.proofs.lemmas.Bool.{false≢true}
 use Rattle.std.proofs.lemmas.Bool.Decides.{Decides-and, Decides-like, Decides-eqb, nat_tests}
 use Rattle.cdb_values.specs.Rows.{Rows}
-use Rattle.cdb_values.specs.declared.tables.ColumnDef.{ColumnDef}
 use Rattle.cdb_values.specs.declared.tables.TableDef.{TableDef}
 use Rattle.page_workspace.specs.Spare.{IsIn}
 use Rattle.phys_log.specs.Logs.{pages_of}
@@ -15,7 +14,6 @@ use Rattle.phys_log.specs.declared.entries.Entry.TheVariants.{Setup, Commit}
 use Rattle.log_replay.specs.Answers.{schema_of}
 use Rattle.log_rows.specs.History.{tables_of, IsCommit}
 use Rattle.table_state.specs.States.{HasState}
-use Rattle.sound_log.specs.Columns.{HasColumns, has_columns}
 use Rattle.sound_log.specs.Identities.{ids_of, ids_in, AreApart}
 use Rattle.sound_log.specs.Sound.{IsBegunBy, IsSoundHistory, IsSound}
 use Rattle.sound_log.specs.Begun.{is_begun_by}
@@ -35,23 +33,6 @@ not_in n ids off = go (list_any (nat_eq n) ids) refl
     go : (b : Bool) → list_any (nat_eq n) ids ≡ b → list_any (nat_eq n) ids ≡ false
     go true e = absurd (off (there n ids e))
     go false e = e
-
--- what the test of columns tells of a table, and of all of them
-some_columns : (columns : List ColumnDef) → Decides (not (length columns == 0)) (columns ≡ [] → ⊥)
-some_columns [] = (λ e. absurd (false≢true e), λ h. absurd (h refl))
-some_columns (column ∷ columns) = (λ e. other, λ h. ap not (none (length (column ∷ columns) == 0) refl))
-  where
-    other : column ∷ columns ≡ [] → ⊥
-    other e = cc
-
-    none : (b : Bool) → length (column ∷ columns) == 0 ≡ b → length (column ∷ columns) == 0 ≡ false
-    none true e = let no : length (column ∷ columns) ≡ 0 = (Decides-eqb (length (column ∷ columns)) 0).0 e in absurd (omega arith)
-    none false e = e
-
-columns_decide : (tables : List TableDef) → Decides (list_all has_columns tables) (AllByRecursion HasColumns tables)
-columns_decide [] = (λ e. tt, λ h. refl)
-columns_decide (table ∷ tables) =
-    Decides-and (has_columns table) (list_all has_columns tables) (some_columns table.columns) (columns_decide tables)
 
 -- what the tests of all entries behind the first tell
 begun_decides : (accepted : ℕ) (entries : List Entry) →
@@ -82,15 +63,6 @@ with_entries accepted entries others first cut (inr whole) = whole
 pub tables_are : (entries : List Entry) (tables : List TableDef) → schema_of entries ≡ Some tables → tables_of entries ≡ tables
 tables_are entries tables schema = ap (λ (o : Option (List TableDef)). unwrap_or o []) schema
 
--- a log that is not sound, since one of its tables has no columns
-pub no_columns : (accepted : ℕ) (entries others : List Entry) (first : Entry) (tables : List TableDef) → entries ≡ first ∷ others
-    → schema_of entries ≡ Some tables → list_all has_columns tables ≡ false → IsSound accepted entries → ⊥
-no_columns accepted entries others first tables cut schema off sound =
-    false≢true (sym off ∙ (columns_decide tables).1 (subst (λ (t : List TableDef). AllByRecursion HasColumns t) (tables_are entries tables schema) whole.columns))
-  where
-    whole : IsSoundHistory accepted entries
-    whole = with_entries accepted entries others first cut sound
-
 -- a log that is not sound, since one of the entries behind the first is no transaction, or one that began later
 pub not_begun : (accepted : ℕ) (entries others : List Entry) (first : Entry) → entries ≡ first ∷ others
     → list_all (is_begun_by accepted) others ≡ false → IsSound accepted entries → ⊥
@@ -117,9 +89,9 @@ no_id (Commit generation id begin level changes records) others tables e = absur
 
 -- a log all of whose other parts are as in a sound one is sound where its pages stand for a state
 pub state_decides : (accepted : ℕ) (entries others : List Entry) (first : Entry) (tables : List TableDef) (has : Bool) → entries ≡ first ∷ others
-    → schema_of entries ≡ Some tables → list_all has_columns tables ≡ true → list_all (is_begun_by accepted) others ≡ true
+    → schema_of entries ≡ Some tables → list_all (is_begun_by accepted) others ≡ true
     → AreApart (ids_in others) → Decides has ((rows : Rows) × HasState (pages_of entries) tables rows) → Decides has (IsSound accepted entries)
-state_decides accepted entries others first tables has cut schema columns begun apart state =
+state_decides accepted entries others first tables has cut schema begun apart state =
     (λ e. inr (whole (state.0 e)), λ h. state.1 (told (with_entries accepted entries others first cut h)))
   where
     are : tables_of entries ≡ tables
@@ -132,7 +104,6 @@ state_decides accepted entries others first tables has cut schema columns begun 
     whole : (rows : Rows) × HasState (pages_of entries) tables rows → IsSoundHistory accepted entries
     whole (rows, stands) = record {
       setup = schema ∙ ap (λ (t : List TableDef). Some t) (sym are);
-      columns = subst (λ (t : List TableDef). AllByRecursion HasColumns t) (sym are) ((columns_decide tables).0 columns);
       commits = subst (λ (es : List Entry). AllByRecursion IsCommit (drop 1 es)) (sym cut) ((begun_decides accepted others).0 begun).0;
       rows = rows;
       state = subst (λ (t : List TableDef). HasState (pages_of entries) t rows) (sym are) stands;

@@ -1,5 +1,4 @@
 pub mod Identities
-pub mod Columns
 pub mod Sound
 pub mod Begun
 pub mod Bytes

@@ -2,7 +2,7 @@
 --
 -- A log without entries is sound. Any other one is sound where
 --
--- * its first entry is a setup of tables with columns, and all others are those of transactions,
+-- * its first entry is a setup, and all others are those of transactions,
 -- * its pages stand for a good state of the schema, with a next genid and a number of pages below 2^62,
 -- * its identities are apart,
 -- * none of them began in a generation above the accepted one.
@@ -15,7 +15,6 @@ use Rattle.phys_log.specs.declared.entries.Entry.{Entry}
 use Rattle.log_replay.specs.Answers.{schema_of}
 use Rattle.log_rows.specs.History.{tables_of, IsCommit}
 use Rattle.table_state.specs.States.{HasState}
-use Rattle.sound_log.specs.Columns.{HasColumns}
 use Rattle.sound_log.specs.Identities.{ids_in, AreApart}
 
 -- an identity began in a generation, or before it
@@ -29,7 +28,6 @@ IsBegunIn generation id = id.began ≡ generation
 -- a log with entries is sound
 pub record IsSoundHistory (accepted : ℕ) (entries : List Entry) : Type 0 where
   pub setup : schema_of entries ≡ Some (tables_of entries)
-  pub columns : AllByRecursion HasColumns (tables_of entries)
   pub commits : AllByRecursion IsCommit (drop 1 entries)
   pub rows : Rows
   pub state : HasState (pages_of entries) (tables_of entries) rows

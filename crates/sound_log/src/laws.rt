@@ -14,7 +14,6 @@ ghost use Rattle.log_rows.specs.Setups.{IsSetup};
 ghost use Rattle.table_store.specs.Listings.{IsAmong};
 ghost use Rattle.table_store.specs.Stored.{Stands};
 ghost use Rattle.table_state.specs.States.{HasState};
-ghost use Rattle.sound_log.specs.Columns.{HasColumns};
 ghost use Rattle.sound_log.specs.Identities.{ids_of, ids_in, AreApart};
 ghost use Rattle.sound_log.specs.Sound.{IsBegunIn, IsSound};
 
@@ -22,13 +21,13 @@ use log_rows::{entries_stand, logs_keep_their_schema};
 use table_store::pages_that_stand_keep_their_keys;
 
 /// The law by which a log begins to be sound, and goes on to be. A log without entries is sound (`none`). So is a setup
-/// alone of tables with columns, whose pages stand for these tables without rows (`first`). A sound log that has entries is
+/// alone, whose pages stand for its tables without rows (`first`). A sound log that has entries is
 /// sound with one more, where this is that of a transaction whose identity is not among theirs and did not begin above the
 /// accepted generation, and the pages stand for a good state after it (`more`).
 pub fn sound_logs_grow()
     ensures none { (accepted : ℕ) → IsSound accepted [] }
     ensures first { (accepted generation : ℕ) (tables : List TableDef) (entry : Entry) →
-        IsSetup generation tables entry → AllByRecursion HasColumns tables →
+        IsSetup generation tables entry →
         Stands (pages_of (entry ∷ [])) tables (no_rows tables) → count_of (pages_of (entry ∷ [])) < 2 ^ 62 →
         IsSound accepted (entry ∷ []) }
     ensures more { (accepted : ℕ) (entries : List Entry) (entry : Entry) (id : CommitId) (rows : Rows) →
@@ -48,12 +47,12 @@ pub fn sound_logs_stay_sound()
 {}
 
 /// The law that a sound log stays sound with the entries of a later generation behind it: their identities are apart and
-/// began in that generation, and so differ from all before. The first entry of all is a setup of tables with columns, all
-/// others are those of transactions, and the pages stand for a good state at the end.
+/// began in that generation, and so differ from all before. The first entry of all is a setup, all others are those of
+/// transactions, and the pages stand for a good state at the end.
 pub fn sound_logs_go_on()
     ensures { (accepted generation : ℕ) (before made : List Entry) (tables : List TableDef) (rows : Rows) →
         accepted < generation → IsSound accepted before → schema_of (before ++ made) ≡ Some tables →
-        AllByRecursion HasColumns tables → AllByRecursion IsCommit (drop 1 (before ++ made)) →
+        AllByRecursion IsCommit (drop 1 (before ++ made)) →
         AllByRecursion (IsBegunIn generation) (ids_in made) → AreApart (ids_in made) →
         HasState (pages_of (before ++ made)) tables rows → IsSound generation (before ++ made) }
 {}

@@ -18,11 +18,10 @@
 //! entry 3 is (1, a, 1) too                                  an identity comes twice
 //! entry 3 is a setup                                        a setup stands behind the first entry
 //! entry 1 is missing                                        the first entry is no setup
-//! t has no column                                           no script makes such a table
 //! entry 3 has no record of the key's tree                   the pages stand for no state
 //! ```
 //!
-//! The tests go from the cheapest to the dearest: each table and each entry is looked at once, then the identities are put
+//! The tests go from the cheapest to the dearest: each entry is looked at once, then the identities are put
 //! into a set, and at last the trees are walked. What the entries say that they change is not looked at: a log is sound by
 //! its pages.
 //!
@@ -31,7 +30,6 @@
 //! | Notion | Code | Definition |
 //! |---|---|---|
 //! | identities, and that they are apart | `identities` | `ids_in`, `AreApart` of `specs/Identities.antt` |
-//! | tables with columns | `columns` | `HasColumns` of `specs/Columns.antt` |
 //! | the entries behind the first | `sound` | `is_begun_by` of `specs/Begun.antt` |
 //! | pages that stand for a good state | `state_of` of `table_state` | `HasState` there |
 //! | rows of bytes | `bytes` | `AreOfBytes` of `specs/Bytes.antt` |
@@ -39,7 +37,6 @@
 #![tactic(auto)]
 
 mod bytes;
-mod columns;
 mod identities;
 mod laws;
 mod sound;

@@ -10,7 +10,6 @@ ghost use Rattle.sound_log.specs.Bytes.{AreOfBytes, StandForBytes};
 ghost use Rattle.sound_log.specs.Sound.{IsSound};
 
 use crate::bytes::tell_bytes;
-use crate::columns::have_columns;
 use crate::identities::are_apart;
 use cdb_values::Schema;
 use log_replay::{LogPages, PagedLog};
@@ -31,9 +30,6 @@ pub fn is_sound(alloc: Global, accepted: u64, log: &PagedLog) -> Result<bool, Al
     let Some(schema) = log.schema() else {
         return Ok(false);
     };
-    if !have_columns(schema) {
-        return Ok(false);
-    }
     if !are_begun_by(accepted, others) {
         return Ok(false);
     }

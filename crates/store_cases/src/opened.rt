@@ -37,7 +37,7 @@ pub(crate) fn fault_told(alloc: Global, why: OpenFault) -> Result<String, AllocE
     match why {
         OpenFault::Foreign => String::from_str(alloc, "foreign"),
         OpenFault::Corrupt { at } => format!(in alloc; "bad {at}"),
-        OpenFault::StoreFault => String::from_str(alloc, "fault"),
+        OpenFault::StoreFault { .. } => String::from_str(alloc, "fault"),
         OpenFault::NoMemory => Err(AllocError),
     }
 }

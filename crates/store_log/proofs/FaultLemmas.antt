@@ -1,9 +1,8 @@
 -- Why a store was not opened, over calls one after the other.
-use Rattle.std.proofs.Common.{◌≡◌, ℕ, ◌≤◌, List, sym, subst, arith}
+use Rattle.std.proofs.Common.{◌≡◌, ℕ, List, None, Some, sym, subst, arith}
 use Rattle.store_log.specs.declared.opens.OpenFault.{OpenFault}
 use Rattle.store_log.specs.declared.opens.OpenFault.TheVariants as fault
-use Rattle.store_log.specs.Mends.{IsStoreFault}
-use Rattle.store_log.specs.Opens.{IsOpenFault, IsLater, IsUnchanged}
+use Rattle.store_log.specs.Opens.{IsOpenFault, IsLater, IsUnchanged, IsUnread}
 use Rattle.store_log.specs.Walks.{IsWalkFault, IsCallFault}
 
 -- want of memory
@@ -23,12 +22,9 @@ call_from w a b c e x = subst (λ (n : ℕ). IsCallFault w n c) e x
 pub walk_from : (w : OpenFault) (bytes : List ℕ) (a b c : ℕ) → b ≡ a → IsWalkFault w bytes b c → IsWalkFault w bytes a c
 walk_from w bytes a b c e x = subst (λ (n : ℕ). IsWalkFault w bytes n c) e x
 
-pub store_from : (w : OpenFault) (a b c : ℕ) → b ≡ a → IsStoreFault w b c → IsStoreFault w a c
-store_from w a b c e x = subst (λ (n : ℕ). IsStoreFault w n c) e x
-
 -- how the count stands then
 pub same_later : (w : OpenFault) (a b : ℕ) → b ≡ a → IsLater w a b
-same_later fault.StoreFault a b e = let same : b ≡ a = e in omega arith
+same_later (fault.StoreFault read) a b e = let same : b ≡ a = e in omega arith
 same_later fault.Foreign a b e = e
 same_later (fault.Corrupt at) a b e = e
 same_later fault.NoMemory a b e = e
@@ -36,43 +32,41 @@ same_later fault.NoMemory a b e = e
 pub later_from : (w : OpenFault) (a b c : ℕ) → b ≡ a → IsLater w b c → IsLater w a c
 later_from w a b c e x = subst (λ (n : ℕ). IsLater w n c) e x
 
-pub store_later : (w : OpenFault) (a b : ℕ) → IsStoreFault w a b → a ≤ b → IsLater w a b
-store_later fault.StoreFault a b x n = n
-store_later fault.Foreign a b x n = absurd x
-store_later (fault.Corrupt at) a b x n = absurd x
-store_later fault.NoMemory a b x n = absurd x
-
 -- what a call's fault tells of more
-pub store_call : (w : OpenFault) (a b : ℕ) → IsStoreFault w a b → IsCallFault w a b
-store_call fault.StoreFault a b x = x
-store_call fault.Foreign a b x = absurd x
-store_call (fault.Corrupt at) a b x = absurd x
-store_call fault.NoMemory a b x = absurd x
-
-pub store_changed : (w : OpenFault) (a b : ℕ) (old new : List ℕ) → IsStoreFault w a b → IsUnchanged w old new
-store_changed fault.StoreFault a b old new x = tt
-store_changed fault.Foreign a b old new x = absurd x
-store_changed (fault.Corrupt at) a b old new x = absurd x
-store_changed fault.NoMemory a b old new x = absurd x
-
 pub call_walk : (w : OpenFault) (bytes : List ℕ) (a b : ℕ) → IsCallFault w a b → IsWalkFault w bytes a b
-call_walk fault.StoreFault bytes a b x = x
+call_walk (fault.StoreFault None) bytes a b x = x
+call_walk (fault.StoreFault (Some size)) bytes a b x = absurd x
 call_walk fault.Foreign bytes a b x = x
 call_walk (fault.Corrupt at) bytes a b x = absurd x
 call_walk fault.NoMemory bytes a b x = tt
 
 pub call_told : (w : OpenFault) (node cluster : ℕ) (bytes : List ℕ) (a b : ℕ) → IsCallFault w a b → IsOpenFault w node cluster bytes a b
-call_told fault.StoreFault node cluster bytes a b x = x
+call_told (fault.StoreFault None) node cluster bytes a b x = x
+call_told (fault.StoreFault (Some size)) node cluster bytes a b x = absurd x
 call_told fault.Foreign node cluster bytes a b x = absurd x
 call_told (fault.Corrupt at) node cluster bytes a b x = absurd x
 call_told fault.NoMemory node cluster bytes a b x = tt
 
-pub call_told_from : (w : OpenFault) (node cluster : ℕ) (bytes : List ℕ) (a b c : ℕ) → b ≡ a → IsCallFault w b c
-    → IsOpenFault w node cluster bytes a c
-call_told_from w node cluster bytes a b c n x = call_told w node cluster bytes a c (call_from w a b c n x)
-
 pub same_unchanged : (w : OpenFault) (old new : List ℕ) → new ≡ old → IsUnchanged w old new
-same_unchanged fault.StoreFault old new e = tt
+same_unchanged (fault.StoreFault read) old new e = tt
 same_unchanged fault.Foreign old new e = e
 same_unchanged (fault.Corrupt at) old new e = e
 same_unchanged fault.NoMemory old new e = e
+
+-- a fault of a call that reads tells of no log
+pub call_unread : (w : OpenFault) (a b : ℕ) → IsCallFault w a b → IsUnread w
+call_unread (fault.StoreFault None) a b x = tt
+call_unread (fault.StoreFault (Some size)) a b x = absurd x
+call_unread fault.Foreign a b x = tt
+call_unread (fault.Corrupt at) a b x = tt
+call_unread fault.NoMemory a b x = tt
+
+pub walk_unread : (w : OpenFault) (bytes : List ℕ) (a b : ℕ) → IsWalkFault w bytes a b → IsUnread w
+walk_unread (fault.StoreFault None) bytes a b x = tt
+walk_unread (fault.StoreFault (Some size)) bytes a b x = absurd x
+walk_unread fault.Foreign bytes a b x = tt
+walk_unread (fault.Corrupt at) bytes a b x = tt
+walk_unread fault.NoMemory bytes a b x = tt
+
+pub memory_unread : (w : OpenFault) → w ≡ fault.NoMemory → IsUnread w
+memory_unread w e = subst IsUnread (sym e) tt

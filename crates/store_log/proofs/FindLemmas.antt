@@ -12,9 +12,9 @@ use Rattle.store_log.specs.declared.standings.Standing.TheVariants as standing
 use Rattle.store_log.specs.declared.walks.Ended.{Ended}
 use Rattle.store_log.specs.Firsts.{IsFirst}
 use Rattle.store_log.specs.Held.{Held, at_first, after_all, header, HasFrames, StandsFor}
-use Rattle.store_log.specs.Opens.{IsOpenFault, IsLater, IsUnchanged}
+use Rattle.store_log.specs.Opens.{IsOpenFault, IsLater, IsUnchanged, IsUnread, TellsRead}
 use Rattle.store_log.specs.Walks.{IsWalked, IsEnded, IsCorrupt, IsWalkFault, IsClosing, IsFoundTo, IsFound}
-use Rattle.store_log.proofs.FaultLemmas.{memory_told, same_later}
+use Rattle.store_log.proofs.FaultLemmas.{memory_told, memory_unread, same_later}
 use Rattle.store_log.proofs.OpenLemmas.{first_grows}
 use Rattle.store_log.proofs.StepLemmas.{read_bad, drop_front, header_within}
 
@@ -111,7 +111,8 @@ corrupt_stands node cluster bytes at h x = inr (read_bad node cluster bytes x.he
 
 told_by : (w : OpenFault) (node cluster : ℕ) (bytes : List ℕ) (a b : ℕ) → frame_code (header node cluster) ++ drop 27 bytes ≡ bytes
     → IsWalkFault w bytes a b → IsOpenFault w node cluster bytes a b
-told_by fault.StoreFault node cluster bytes a b h x = x
+told_by (fault.StoreFault None) node cluster bytes a b h x = x
+told_by (fault.StoreFault (Some size)) node cluster bytes a b h x = absurd x
 told_by fault.Foreign node cluster bytes a b h x = absurd x
 told_by (fault.Corrupt at) node cluster bytes a b h x = corrupt_stands node cluster bytes at h x
 told_by fault.NoMemory node cluster bytes a b h x = tt
@@ -157,3 +158,20 @@ pub memory_errs : {T : Type 0} (r : Result T OpenFault) (node cluster : ℕ) (by
     → IfErr r (λ w. IsOpenFault w node cluster bytes a b)
 memory_errs (Ok x) node cluster bytes a b h = tt
 memory_errs (Err w) node cluster bytes a b h = memory_told w node cluster bytes a b h
+
+pub unread_errs : {T : Type 0} (r : Result T OpenFault) → IfErr r (λ w. w ≡ fault.NoMemory) → IfErr r IsUnread
+unread_errs (Ok x) h = tt
+unread_errs (Err w) h = memory_unread w h
+
+-- which log a fault tells the size of
+pub unread_tells : (w : OpenFault) (node cluster : ℕ) (bytes : List ℕ) (before now : ℕ) → IsUnread w → now ≡ before → TellsRead w node cluster bytes before now
+unread_tells (fault.StoreFault None) node cluster bytes before now x e = e
+unread_tells (fault.StoreFault (Some size)) node cluster bytes before now x e = absurd x
+unread_tells fault.Foreign node cluster bytes before now x e = tt
+unread_tells (fault.Corrupt at) node cluster bytes before now x e = tt
+unread_tells fault.NoMemory node cluster bytes before now x e = tt
+
+pub tells_over : (w : OpenFault) (node cluster : ℕ) (old mid : List ℕ) (a b c : ℕ) → mid ≡ old → b ≡ a → TellsRead w node cluster mid b c
+    → TellsRead w node cluster old a c
+tells_over w node cluster old mid a b c e n x =
+    subst (λ (l : List ℕ). TellsRead w node cluster l a c) e (subst (λ (m : ℕ). TellsRead w node cluster mid m c) n x)

@@ -17,7 +17,7 @@ use Rattle.store_log.specs.Held.{Held, at_first, May, after, AllMay, after_all, 
 abbrev pub Ends : Held → List ℕ → Type 0
 Ends h rest = (f : Frame) (behind : List ℕ) → IsSpelled f → frame_code f ++ behind ≡ rest → May h f → ⊥
 
-front_ends : (h : Held) (rest : List ℕ) → IsFront rest → Ends h rest
+pub front_ends : (h : Held) (rest : List ℕ) → IsFront rest → Ends h rest
 front_ends h rest front f behind s e may = no_frames rest behind f front s e
 
 -- the frames at the front of bytes are told, as far as they may follow each other
@@ -38,7 +38,7 @@ same_frames h (x ∷ xs) (y ∷ ys) p q sx sy mx my dp dq e =
     let others = same_frames (after h x) xs ys p q sx.1 sy.1 mx.1 rules dp ends one.1 in
     (ap (λ (f : Frame). f ∷ xs) one.0 ∙ ap (λ (l : List Frame). y ∷ l) others.0, others.1)
 
-frames_are_one : (node cluster : ℕ) (bytes : List ℕ) (xs ys : List Frame) (p q : List ℕ) → IsSpelled (header node cluster)
+pub frames_are_one : (node cluster : ℕ) (bytes : List ℕ) (xs ys : List Frame) (p q : List ℕ) → IsSpelled (header node cluster)
     → HasFrames node cluster bytes xs p → HasFrames node cluster bytes ys q
     → Ends (after_all at_first xs) p → Ends (after_all at_first ys) q → (xs ≡ ys) × (p ≡ q)
 frames_are_one node cluster bytes xs ys p q s x y dp dq =
@@ -47,7 +47,7 @@ frames_are_one node cluster bytes xs ys p q s x y dp dq =
     same_frames at_first xs ys p q x.spelled y.spelled x.rules y.rules dp dq one.1
 
 -- fewer bytes than a header begin with none
-no_header_yet : (bytes : List ℕ) → IsUnbegun bytes → (v n c : ℕ) (rest : List ℕ) → frame_code (frame.Header v n c) ++ rest ≡ bytes → ⊥
+pub no_header_yet : (bytes : List ℕ) → IsUnbegun bytes → (v n c : ℕ) (rest : List ℕ) → frame_code (frame.Header v n c) ++ rest ≡ bytes → ⊥
 no_header_yet bytes u v n c rest e =
     let all : length (frame_code (frame.Header v n c) ++ rest) ≡ length bytes = ap length e in
     let parts : length (frame_code (frame.Header v n c) ++ rest) ≡ length (frame_code (frame.Header v n c)) + length rest =

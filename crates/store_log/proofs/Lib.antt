@@ -11,6 +11,7 @@ pub mod MendLemmas
 pub mod OpenLemmas
 pub mod PieceLemmas
 pub mod StepLemmas
+pub mod UnmendedLemmas
 pub mod WalkLemmas
 pub mod WindowLemmas
 pub mod WorkedStores

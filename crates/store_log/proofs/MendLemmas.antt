@@ -1,5 +1,5 @@
 -- A store is cut behind the last frame after which no adoption is open, or begun.
-use Rattle.std.proofs.Common.{◌≡◌, ◌⊎◌, inl, inr, ℕ, zero, suc, ◌+◌, ◌-◌, ◌<◌, ◌≤◌, ◌^◌, Bool, true, is_some, List, [], ◌∷◌, ◌++◌, length, take, drop, min, Option, Some, None, refl, sym, ap, ◌∙◌, subst, append_assoc, arith, length-append, length-drop}
+use Rattle.std.proofs.Common.{◌≡◌, inl, inr, ℕ, zero, suc, ◌+◌, ◌-◌, ◌<◌, ◌≤◌, ◌^◌, true, is_some, List, [], ◌∷◌, ◌++◌, length, take, drop, min, Option, Some, None, refl, sym, ap, ◌∙◌, subst, append_assoc, arith, length-append}
 use Rattle.std.proofs.lemmas.Bool.{cases_lt}
 use Rattle.std.proofs.lemmas.List.{append-nil, take-append-drop, length-take}
 use Rattle.std.specs.List.{flat_map, AllByRecursion}
@@ -269,7 +269,7 @@ header_front node cluster k s = elim (cases_lt (length (take k (frame_code (head
 ]
 
 -- what is found, by where it is closed
-found_to : (f : Found) (node cluster : ℕ) (bytes : List ℕ) (o : Option ℕ) → IsFound f node cluster bytes → f.closed ≡ o
+pub found_to : (f : Found) (node cluster : ℕ) (bytes : List ℕ) (o : Option ℕ) → IsFound f node cluster bytes → f.closed ≡ o
     → IsFoundTo o node cluster bytes f.promised f.accepted f.entries
 found_to f node cluster bytes o x e = subst (λ (q : Option ℕ). IsFoundTo q node cluster bytes f.promised f.accepted f.entries) e x.to
 

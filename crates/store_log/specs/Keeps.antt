@@ -5,11 +5,12 @@ use Rattle.cdb_outside.specs.Parts.{IsFront}
 use Rattle.store_log.specs.declared.stores.KeepFault.{KeepFault}
 use Rattle.store_log.specs.declared.stores.KeepFault.TheVariants.{StoreFault, NoMemory}
 
--- the synced bytes of a store, those that wait for a sync, and its count of faults
+-- the synced bytes of a store, those that wait for a sync, its count of faults, and that of the calls that write
 pub record Stored : Type 0 where
   pub synced : List ℕ
   pub pending : List ℕ
   pub faults : ℕ
+  pub writes : ℕ
 
 -- all of the bytes are synced, and no call of the store failed
 pub record AreKept (old new : Stored) (bytes : List ℕ) : Type 0 where

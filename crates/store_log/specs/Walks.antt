@@ -74,14 +74,16 @@ pub record IsCorrupt (bytes : List ℕ) (at : ℕ) : Type 0 where
 
 -- why frames were not read
 abbrev pub IsWalkFault : OpenFault → List ℕ → ℕ → ℕ → Type 0
-IsWalkFault fault.StoreFault bytes before now = Rose before now
+IsWalkFault (fault.StoreFault None) bytes before now = Rose before now
+IsWalkFault (fault.StoreFault (Some size)) bytes before now = ⊥
 IsWalkFault fault.Foreign bytes before now = ⊥
 IsWalkFault (fault.Corrupt at) bytes before now = IsCorrupt bytes at
 IsWalkFault fault.NoMemory bytes before now = Unit {0}
 
--- why a call of the store, or what takes memory, ended
+-- why a call that reads the store, or what takes memory, ended
 abbrev pub IsCallFault : OpenFault → ℕ → ℕ → Type 0
-IsCallFault fault.StoreFault before now = Rose before now
+IsCallFault (fault.StoreFault None) before now = Rose before now
+IsCallFault (fault.StoreFault (Some size)) before now = ⊥
 IsCallFault fault.Foreign before now = ⊥
 IsCallFault (fault.Corrupt at) before now = ⊥
 IsCallFault fault.NoMemory before now = Unit {0}

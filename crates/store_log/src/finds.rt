@@ -4,7 +4,7 @@ ghost use Rattle.std.specs.Io.{StartsWith};
 ghost use Rattle.store_log.specs.declared.opens.OpenFault.TheVariants as fault;
 ghost use Rattle.store_log.specs.declared.readings.First.TheVariants.{Ours};
 ghost use Rattle.store_log.specs.Firsts.{IsFirst};
-ghost use Rattle.store_log.specs.Opens.{IsOpenFault, IsLater};
+ghost use Rattle.store_log.specs.Opens.{IsOpenFault, IsLater, IsUnread};
 ghost use Rattle.store_log.specs.Walks.{IsFound};
 
 use crate::opens::OpenFault;
@@ -28,7 +28,7 @@ pub(crate) struct Found {
 }
 
 /// Reads a store.
-#[tactic(auto, using(crate::proofs::FaultLemmas::call_told))]
+#[tactic(auto, using(crate::proofs::FaultLemmas::call_told, crate::proofs::FaultLemmas::call_unread))]
 pub(crate) fn read_log<D: LogStore>(
     alloc: Global,
     store: &mut D,
@@ -38,8 +38,10 @@ pub(crate) fn read_log<D: LogStore>(
     ensures found { IfOk result (λ f. IsFound f node cluster (D.synced store.old)) }
     ensures why { IfErr result (λ w.
         IsOpenFault w node cluster (D.synced store.old) (D.faults store.old) (D.faults store.new)) }
+    ensures unread { IfErr result IsUnread }
     ensures synced { D.synced store.new ≡ D.synced store.old }
     ensures pending { D.pending store.new ≡ D.pending store.old }
+    ensures unwritten { D.writes store.new ≡ D.writes store.old }
     ensures calm { OnOk result (D.faults store.new ≡ D.faults store.old) }
     ensures later { IfErr result (λ w. IsLater w (D.faults store.old) (D.faults store.new)) }
 {
@@ -48,7 +50,7 @@ pub(crate) fn read_log<D: LogStore>(
 }
 
 /// Reads a store, by the window over its first bytes.
-#[tactic(auto, using(crate::proofs::FaultLemmas::memory_told, crate::proofs::FaultLemmas::same_later))]
+#[tactic(auto, using(crate::proofs::FaultLemmas::memory_told, crate::proofs::FaultLemmas::memory_unread, crate::proofs::FaultLemmas::same_later))]
 fn read_from<D: LogStore>(
     alloc: Global,
     store: &mut D,
@@ -61,8 +63,10 @@ fn read_from<D: LogStore>(
     ensures found { IfOk result (λ f. IsFound f node cluster (D.synced store.old)) }
     ensures why { IfErr result (λ w.
         IsOpenFault w node cluster (D.synced store.old) (D.faults store.old) (D.faults store.new)) }
+    ensures unread { IfErr result IsUnread }
     ensures synced { D.synced store.new ≡ D.synced store.old }
     ensures pending { D.pending store.new ≡ D.pending store.old }
+    ensures unwritten { D.writes store.new ≡ D.writes store.old }
     ensures calm { OnOk result (D.faults store.new ≡ D.faults store.old) }
     ensures later { IfErr result (λ w. IsLater w (D.faults store.old) (D.faults store.new)) }
 {
@@ -103,7 +107,7 @@ fn unbegun(alloc: Global, end: u64) -> Found
 }
 
 /// Reads a store whose header is at the front of the window.
-#[tactic(auto, using(crate::proofs::FindLemmas::fault_told))]
+#[tactic(auto, using(crate::proofs::FindLemmas::fault_told, crate::proofs::FaultLemmas::walk_unread))]
 fn read_behind<D: LogStore>(
     alloc: Global,
     store: &mut D,
@@ -116,8 +120,10 @@ fn read_behind<D: LogStore>(
     ensures found { IfOk result (λ f. IsFound f node cluster (D.synced store.old)) }
     ensures why { IfErr result (λ w.
         IsOpenFault w node cluster (D.synced store.old) (D.faults store.old) (D.faults store.new)) }
+    ensures unread { IfErr result IsUnread }
     ensures synced { D.synced store.new ≡ D.synced store.old }
     ensures pending { D.pending store.new ≡ D.pending store.old }
+    ensures unwritten { D.writes store.new ≡ D.writes store.old }
     ensures calm { OnOk result (D.faults store.new ≡ D.faults store.old) }
     ensures later { IfErr result (λ w. IsLater w (D.faults store.old) (D.faults store.new)) }
 {

@@ -3,7 +3,7 @@ ghost use Rattle.std.specs.Prelude.{◌≡◌, [], IfOk, IfErr, OnOk, MatchResul
 ghost use Rattle.store_log.specs.declared.standings.Standing.TheVariants.{Log};
 ghost use Rattle.store_log.specs.Held.{StandsFor};
 ghost use Rattle.store_log.specs.Holds.{Holds, plain};
-ghost use Rattle.store_log.specs.Opens.{IsOpened, StandsAlike, IsOpenFault, IsLater, IsUnchanged};
+ghost use Rattle.store_log.specs.Opens.{IsOpened, StandsAlike, IsOpenFault, IsLater, IsUnchanged, TellsRead};
 
 use crate::finds::{Found, read_log};
 use crate::mends::mend;
@@ -16,7 +16,10 @@ use std::alloc::Global;
 #[derive(Drop)]
 pub enum OpenFault {
     /// A call of the store failed: its count of faults rose.
-    StoreFault,
+    StoreFault {
+        /// How many entries the log has that was read; none where it was not read. Then no call wrote to the store.
+        read: Option<u64>,
+    },
     /// The header is whole and names another version, node or cluster.
     Foreign,
     /// A frame is bad.
@@ -69,6 +72,8 @@ pub fn open_log<D: LogStore + Drop>(
     ensures later { IfErr result (λ u. IsLater u.why (D.faults store) (D.faults u.store)) }
     ensures why { IfErr result (λ u.
         IsOpenFault u.why node cluster (D.synced store) (D.faults store) (D.faults u.store)) }
+    ensures read { IfErr result (λ u.
+        TellsRead u.why node cluster (D.synced store) (D.writes store) (D.writes u.store)) }
     ensures unchanged { IfErr result (λ u. IsUnchanged u.why (D.synced store) (D.synced u.store)) }
     ensures alike { IfErr result (λ u. StandsAlike node cluster (D.synced store) (D.synced u.store)) }
 {
@@ -85,7 +90,7 @@ pub fn open_log<D: LogStore + Drop>(
 }
 
 /// Reads a store, and begins or mends it.
-#[tactic(auto, using(crate::proofs::MendLemmas::found_stands, crate::proofs::FaultLemmas::same_unchanged, crate::proofs::FindLemmas::unchanged_over, crate::proofs::FaultLemmas::call_told_from, crate::proofs::FaultLemmas::later_from))]
+#[tactic(auto, using(crate::proofs::MendLemmas::found_stands, crate::proofs::FaultLemmas::same_unchanged, crate::proofs::FindLemmas::unchanged_over, crate::proofs::FindLemmas::told_over, crate::proofs::FindLemmas::unread_tells, crate::proofs::FindLemmas::tells_over, crate::proofs::FaultLemmas::later_from))]
 fn make_ready<D: LogStore>(
     alloc: Global,
     store: &mut D,
@@ -103,6 +108,8 @@ fn make_ready<D: LogStore>(
     ensures later { IfErr result (λ w. IsLater w (D.faults store.old) (D.faults store.new)) }
     ensures why { IfErr result (λ w.
         IsOpenFault w node cluster (D.synced store.old) (D.faults store.old) (D.faults store.new)) }
+    ensures read { IfErr result (λ w.
+        TellsRead w node cluster (D.synced store.old) (D.writes store.old) (D.writes store.new)) }
     ensures unchanged { IfErr result (λ w. IsUnchanged w (D.synced store.old) (D.synced store.new)) }
     ensures alike { IfErr result (λ w. StandsAlike node cluster (D.synced store.old) (D.synced store.new)) }
 {

@@ -25,7 +25,7 @@ pub enum KeepFault {
 }
 
 /// A store of frames: its synced bytes hold a log, and what waits for a sync is a front of frames that may follow. So however
-/// it is stopped, it stands for a log. Contracts see its synced bytes, those that wait, and its count of faults.
+/// it is stopped, it stands for a log. Contracts see its synced bytes, those that wait, and its counts.
 #[derive(Drop)]
 pub struct Held<D: LogStore> {
     store: D,
@@ -37,17 +37,36 @@ impl<D: LogStore> Model for Held<D> {
 
     ghost Value = { Stored };
 
-    ghost view = { λ h. record { synced = D.synced h.store; pending = D.pending h.store; faults = D.faults h.store } };
+    ghost view = { λ h. record {
+      synced = D.synced h.store;
+      pending = D.pending h.store;
+      faults = D.faults h.store;
+      writes = D.writes h.store;
+    } };
 
-    ghost invariant = { λ h.
-        ∥ IsOfLog (record { synced = D.synced h.store; pending = D.pending h.store; faults = D.faults h.store }) ∥₁ };
+    ghost invariant = { λ h. ∥ IsOfLog (record {
+      synced = D.synced h.store;
+      pending = D.pending h.store;
+      faults = D.faults h.store;
+      writes = D.writes h.store;
+    }) ∥₁ };
 }
 
 impl<D: LogStore> Held<D> {
     /// A store that has the frames of a log.
     pub(crate) fn of(store: D) -> Held<D>
-        requires { ∥ IsOfLog (record { synced = D.synced store; pending = D.pending store; faults = D.faults store }) ∥₁ }
-        ensures { result ≡ record { synced = D.synced store; pending = D.pending store; faults = D.faults store } }
+        requires { ∥ IsOfLog (record {
+          synced = D.synced store;
+          pending = D.pending store;
+          faults = D.faults store;
+          writes = D.writes store;
+        }) ∥₁ }
+        ensures { result ≡ record {
+          synced = D.synced store;
+          pending = D.pending store;
+          faults = D.faults store;
+          writes = D.writes store;
+        } }
     {
         Held { store }
     }

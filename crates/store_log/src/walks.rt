@@ -61,6 +61,7 @@ pub(crate) fn read_frames<D: LogStore>(
     ensures why { IfErr result (λ w. IsWalkFault w (D.synced store.old) (D.faults store.old) (D.faults store.new)) }
     ensures synced { D.synced store.new ≡ D.synced store.old }
     ensures pending { D.pending store.new ≡ D.pending store.old }
+    ensures unwritten { D.writes store.new ≡ D.writes store.old }
     ensures calm { OnOk result (D.faults store.new ≡ D.faults store.old) }
     ensures later { IfErr result (λ w. IsLater w (D.faults store.old) (D.faults store.new)) }
 {
@@ -95,6 +96,7 @@ fn take_turn<D: LogStore>(
     ensures why { IfErr result (λ w. IsWalkFault w (D.synced store.old) (D.faults store.old) (D.faults store.new)) }
     ensures synced { D.synced store.new ≡ D.synced store.old }
     ensures pending { D.pending store.new ≡ D.pending store.old }
+    ensures unwritten { D.writes store.new ≡ D.writes store.old }
     ensures calm { OnOk result (D.faults store.new ≡ D.faults store.old) }
     ensures later { IfErr result (λ w. IsLater w (D.faults store.old) (D.faults store.new)) }
 {
@@ -160,6 +162,7 @@ fn read_more<D: LogStore>(
     ensures why { IfErr result (λ w. IsWalkFault w (D.synced store.old) (D.faults store.old) (D.faults store.new)) }
     ensures synced { D.synced store.new ≡ D.synced store.old }
     ensures pending { D.pending store.new ≡ D.pending store.old }
+    ensures unwritten { D.writes store.new ≡ D.writes store.old }
     ensures calm { OnOk result (D.faults store.new ≡ D.faults store.old) }
     ensures later { IfErr result (λ w. IsLater w (D.faults store.old) (D.faults store.new)) }
 {

@@ -20,6 +20,7 @@ pub(crate) fn first_window<D: LogStore>(alloc: Global, store: &mut D) -> Result<
     ensures whole { IfOk result (λ v. length v.items < 27 → v.items ≡ D.synced store.old) }
     ensures synced { D.synced store.new ≡ D.synced store.old }
     ensures pending { D.pending store.new ≡ D.pending store.old }
+    ensures unwritten { D.writes store.new ≡ D.writes store.old }
     ensures calm { OnOk result (D.faults store.new ≡ D.faults store.old) }
     ensures later { IfErr result (λ w. IsLater w (D.faults store.old) (D.faults store.new)) }
     ensures why { IfErr result (λ w. IsCallFault w (D.faults store.old) (D.faults store.new)) }
@@ -58,6 +59,7 @@ pub(crate) fn grow<D: LogStore>(
     ensures end { IfOk result (λ n. n ≡ 0 → window.new.items ≡ drop from (D.synced store.old)) }
     ensures synced { D.synced store.new ≡ D.synced store.old }
     ensures pending { D.pending store.new ≡ D.pending store.old }
+    ensures unwritten { D.writes store.new ≡ D.writes store.old }
     ensures calm { OnOk result (D.faults store.new ≡ D.faults store.old) }
     ensures later { IfErr result (λ w. IsLater w (D.faults store.old) (D.faults store.new)) }
     ensures why { IfErr result (λ w. IsCallFault w (D.faults store.old) (D.faults store.new)) }
@@ -66,7 +68,7 @@ pub(crate) fn grow<D: LogStore>(
     let end = sum(from, window.len() as u64)?;
     let size = match store.read(end, &mut chunk) {
         Ok(size) => size,
-        Err(_) => return Err(OpenFault::StoreFault),
+        Err(_) => return Err(OpenFault::StoreFault { read: None }),
     };
     let (read, _) = chunk.split_at(size);
     match window.extend_from_slice(read) {

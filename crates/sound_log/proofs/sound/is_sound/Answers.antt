@@ -10,16 +10,8 @@ use Rattle.std.proofs.lemmas.Bool.{false≢true}
 use Rattle.std.proofs.lemmas.Result.{IfOk-weaker}
 use Rattle.sound_log.specs.Bytes.{StandForBytes}
 use Rattle.sound_log.specs.Identities.{ids_in, AreApart}
-use Rattle.sound_log.proofs.SoundLemmas.{tables_are, no_columns, not_begun, state_decides}
+use Rattle.sound_log.proofs.SoundLemmas.{tables_are, not_begun, state_decides}
 use Rattle.sound_log.proofs.sound.is_sound.Goals as goal
-
-pub returns-then-not-have_columns-clause-sound : goal.returns-then-not-have_columns-clause-sound
-returns-then-not-have_columns-clause-sound c = (
-  λ e. absurd (false≢true e),
-  λ h. absurd (no_columns c.args.accepted c.args.log.now c.in-Some.others.now c.in-Some.field-0-0.now c.in-Some-schema.schema.now
-      (sym c.entries.ensures ∙ c.in-Some.ensures.cases.0) (sym c.schema.ensures ∙ ap option_copied c.in-Some-schema.is)
-      (sym c.have_columns.ensures ∙ c.if-not-have_columns.true) h),
-)
 
 pub returns-then-not-are_begun_by-clause-sound : goal.returns-then-not-are_begun_by-clause-sound
 returns-then-not-are_begun_by-clause-sound c = (
@@ -34,7 +26,7 @@ returns-clause-sound c =
     IfOk-weaker c.has_state.result (λ has. Decides has ((rows : Rows) × HasState (pages_of c.args.log.now) c.in-Some-schema.schema.now rows)) _
     (λ has state. state_decides c.args.accepted c.args.log.now c.in-Some.others.now c.in-Some.field-0-0.now c.in-Some-schema.schema.now has
     (sym c.entries.ensures ∙ c.in-Some.ensures.cases.0) (sym c.schema.ensures ∙ ap option_copied c.in-Some-schema.is)
-    (sym c.have_columns.ensures ∙ c.if-not-have_columns.false) (sym c.are_begun_by.ensures ∙ c.if-not-are_begun_by.false) apart state)
+    (sym c.are_begun_by.ensures ∙ c.if-not-are_begun_by.false) apart state)
     c.has_state.ensures.state
 
 pub returns-clause-bytes : goal.returns-clause-bytes

@@ -1,4 +1,4 @@
-use Rattle.store_log.proofs.FindLemmas.{ended_result, memory_errs, on_ok, same_errs}
+use Rattle.store_log.proofs.FindLemmas.{ended_result, memory_errs, on_ok, same_errs, unread_errs}
 use Rattle.store_log.proofs.StepLemmas.{header_within}
 use Rattle.store_log.proofs.finds.read_behind.Goals as goal
 
@@ -22,3 +22,6 @@ returns-clause-calm g c = on_ok c.found_in.result c.in_ok-ended.ensures.calm
 pub returns-clause-later : goal.returns-clause-later
 returns-clause-later g c =
     same_errs c.found_in.result (g.D.LogStore.faults c.args.store.now) (g.D.LogStore.faults c.read_frames.new.store) c.in_ok-ended.ensures.calm
+
+pub returns-clause-unread : goal.returns-clause-unread
+returns-clause-unread g c = unread_errs c.found_in.result c.found_in.ensures.why

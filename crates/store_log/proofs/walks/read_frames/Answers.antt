@@ -12,5 +12,6 @@ frames-init g c =
           (walk_begun (g.D.LogStore.synced c.args.store.now) reach refl refl refl c.requires.begun c.requires.front);
       synced = refl;
       pending = refl;
+      unwritten = refl;
       calm = refl;
     }

@@ -8,6 +8,7 @@ invariant-begin g l = record {
   window : StartsWith (g.D.LogStore.synced l.fn.store) l.window.items;
   synced : g.D.LogStore.synced l.store ≡ g.D.LogStore.synced l.fn.store;
   pending : g.D.LogStore.pending l.store ≡ g.D.LogStore.pending l.fn.store;
+  unwritten : g.D.LogStore.writes l.store ≡ g.D.LogStore.writes l.fn.store;
   calm : g.D.LogStore.faults l.store ≡ g.D.LogStore.faults l.fn.store;
 }
 

@@ -7,5 +7,10 @@ use Rattle.store_log.proofs.stores.Held.give_back.Goals as goal
 pub returns-clause-log : goal.returns-clause-log
 returns-clause-log g c =
     let held = c.self.inside.store in
-    let store : Stored = record { synced = g.D.LogStore.synced held; pending = g.D.LogStore.pending held; faults = g.D.LogStore.faults held } in
+    let store : Stored = record {
+      synced = g.D.LogStore.synced held;
+      pending = g.D.LogStore.pending held;
+      faults = g.D.LogStore.faults held;
+      writes = g.D.LogStore.writes held;
+    } in
     ∥∥₁_map c.self.invariant (λ is. stopped_of_log store (g.D.LogStore.synced c.halt.new.self) is c.halt.ensures.joined)

@@ -11,7 +11,12 @@ invariant_of-self g c =
     let old = g.D.LogStore.synced c.self.inside.store in
     let next = c.args.bytes.now in
     let left = c.write_synced.new.store in
-    let new : Stored = record { synced = g.D.LogStore.synced left; pending = g.D.LogStore.pending left; faults = g.D.LogStore.faults left } in
+    let new : Stored = record {
+      synced = g.D.LogStore.synced left;
+      pending = g.D.LogStore.pending left;
+      faults = g.D.LogStore.faults left;
+      writes = g.D.LogStore.writes left;
+    } in
     let told = c.write_synced.ensures in
     ∥∥₁_map c.requires.next (λ a.
     written_of_log c.write_synced.result old next new (subst (λ (s : Stored). AreNext s.synced next) (sym c.self.view_is) a)
