@@ -117,7 +117,7 @@ texts_leave_sound tables versions done (text ∷ texts) next distinct sound all 
     (leaves_sound_ops tables versions done text next distinct sound all)
 
 pub texts_leave_written : TextsLeaveWritten
-texts_leave_written tables versions done [] columns utf8 have all = all
-texts_leave_written tables versions done (text ∷ texts) columns utf8 have all =
-    texts_leave_written tables versions (sql_language.answer tables versions done text).ops texts columns utf8.1 have
-    (leaves_such_rows tables versions done text columns utf8.0 have all)
+texts_leave_written tables versions done [] utf8 have all = all
+texts_leave_written tables versions done (text ∷ texts) utf8 have all =
+    texts_leave_written tables versions (sql_language.answer tables versions done text).ops texts utf8.1 have
+    (leaves_such_rows tables versions done text utf8.0 have all)

@@ -54,10 +54,10 @@ module _ (tables : List TableDef) (rows : Rows) (texts : List (List ℕ)) (are :
   alone_live = transaction_leaves_live tables rows.tables texts (rising_are_distinct rows.next rows.tables is.state.versions)
 
   pub alone_sound : AllByRecursion (IsSoundOp tables rows.next) (ops_alone tables rows texts)
-  alone_sound = texts_leave_sound tables rows.tables [] texts rows.next are.distinct is.sound tt
+  alone_sound = texts_leave_sound tables rows.tables [] texts rows.next are is.sound tt
 
   pub alone_written : AreTexts texts → AllByRecursion WritesRow (ops_alone tables rows texts)
-  alone_written utf8 = texts_leave_written tables rows.tables [] texts are.columns utf8 is.told tt
+  alone_written utf8 = texts_leave_written tables rows.tables [] texts utf8 is.told tt
 
   pub alone_coded : AreTexts texts → AllByRecursion WritesCoded (ops_alone tables rows texts)
   alone_coded utf8 =
@@ -104,7 +104,7 @@ rise_filter test next (v ∷ vs) rise = go (test v) (rise_filter test next vs ri
 
 -- ---- what each table has
 
--- the versions of all tables: they rise below the next genid, their rows have codes, and are of the grammar
+-- the versions of all tables: they rise below the next genid, their rows have codes, and values that can be told
 record AreWell (rows : Rows) : Type 0 where
   versions : AllByRecursion (AreVersions rows.next) rows.tables
   told : HaveRows rows.tables

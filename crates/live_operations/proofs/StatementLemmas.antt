@@ -15,7 +15,7 @@ use Rattle.cdb_values.specs.declared.tables.TableDef.{TableDef}
 use Rattle.cdb_values.specs.declared.values.Value.{Value}
 use Rattle.net_writes.specs.Net.{net_of}
 use Rattle.query_laws.specs.Alone.{reads_of, sql_language}
-use Rattle.report_text.specs.declared.reports.ReplyLine.TheVariants as reply
+use Rattle.cdb_values.specs.declared.replies.Reply.TheVariants as reply
 use Rattle.sql_answer.specs.Answers.{Meaning, Outcome, Fails, Gives, told_only, net_given, given_unless, rows_met, updating, deleting, items_used, rows_given, finished, finish, found, answer}
 use Rattle.sql_answer.specs.Combinations.{Seen, seen, rows_of, met}
 use Rattle.sql_answer.specs.Language.{answered, bound_in, meaning}

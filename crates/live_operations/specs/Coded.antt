@@ -1,9 +1,8 @@
 -- Operations that can be done on the pages of a store: they are live, and the rows that they write have codes and
 -- fit the trees.
 --
--- Sound operations write rows that fit. Their rows have codes where they are rows of the grammar of reports, with
--- integers of 64 bits. Such rows are what texts of UTF-8 leave, in tables with a column or more: without this a row
--- might hold a text that is no UTF-8, whose code could not be read again.
+-- Sound operations write rows that fit. Their rows have codes where their values can be told, with integers of 64 bits. Such
+-- rows are what texts of UTF-8 leave: without this a row might hold a text that is no UTF-8, whose code could not be read again.
 use Rattle.std.specs.Prelude.{◌≡◌, ℕ, ◌^◌, ◌<◌, List, length, true}
 use Rattle.std.specs.List.{AllByRecursion}
 use Rattle.std.specs.Str.{is_utf8}
@@ -18,7 +17,6 @@ use Rattle.query_laws.specs.Alone.{sql_language}
 use Rattle.session_language.specs.Language.{alone_from}
 use Rattle.session_language.specs.Spelled.{WritesRow, HaveRows}
 use Rattle.sql_run.specs.Sound.{AreSound, HasDistinctColumns, IsSoundOp}
-use Rattle.sql_run.specs.Spelled.{HasColumns}
 use Rattle.table_edits.specs.Fits.{WritesFitting, AreAllDoable}
 use Rattle.table_store.specs.Operations.{born}
 use Rattle.live_operations.specs.Live.{AreLive}
@@ -40,7 +38,7 @@ LiveAreDoable = (rows : Rows) (ops : List RowOp) → AreLive rows.tables ops
     → ((table : ℕ) → AllByRecursion (λ v. AllByRecursion IsRowValue v.row) (born table rows.next ops))
     → (apply_all rows ops).next < 2 ^ 64 → AreAllDoable rows ops
 
--- sound operations that write rows of the grammar, with integers of 64 bits, write rows with codes
+-- sound operations that write rows of values that can be told, with integers of 64 bits, write rows with codes
 abbrev pub SoundHaveCodes : Type 0
 SoundHaveCodes = (tables : List TableDef) (next : ℕ) (ops : List RowOp) → AllByRecursion (IsSoundOp tables next) ops
     → AllByRecursion WritesRow ops → AllByRecursion WritesRanged ops → HaveCodes ops
@@ -64,9 +62,9 @@ TextsLeaveSound = (tables : List TableDef) (versions : List (List Version)) (don
 abbrev pub AreTexts : List (List ℕ) → Type 0
 AreTexts texts = AllByRecursion (λ text. is_utf8 text ≡ true) texts
 
--- over rows of the grammar, and behind operations that write such rows, texts one after the other leave operations
--- that write such rows
+-- over rows of values that can be told, and behind operations that write such rows, texts one after the other leave
+-- operations that write such rows
 abbrev pub TextsLeaveWritten : Type 0
 TextsLeaveWritten = (tables : List TableDef) (versions : List (List Version)) (done : List RowOp) (texts : List (List ℕ))
-    → AllByRecursion HasColumns tables → AreTexts texts → HaveRows versions → AllByRecursion WritesRow done
+    → AreTexts texts → HaveRows versions → AllByRecursion WritesRow done
     → AllByRecursion WritesRow (alone_from sql_language tables versions done texts).ops

@@ -15,25 +15,23 @@ use Rattle.query_laws.specs.Alone.{sql_language}
 use Rattle.session_language.specs.Language.{alone}
 use Rattle.session_language.specs.Spelled.{HaveRows}
 use Rattle.sql_run.specs.Sound.{AreSound, HasDistinctColumns}
-use Rattle.sql_run.specs.Spelled.{HasColumns}
 use Rattle.table_edits.specs.Fits.{WritesFitting, AreAllDoable}
 use Rattle.table_store.specs.States.{IsState}
 use Rattle.live_operations.specs.Coded.{AreTexts}
 use Rattle.live_operations.specs.Live.{TakeOthers, rows_behind}
 
--- tables that texts can be answered over: each has a column or more, and no two columns of one name
-pub record AreTables (tables : List TableDef) : Type 0 where
-  pub columns : AllByRecursion HasColumns tables
-  pub distinct : AllByRecursion HasDistinctColumns tables
+-- tables that texts can be answered over: none has two columns of one name
+abbrev pub AreTables : List TableDef → Type 0
+AreTables tables = AllByRecursion HasDistinctColumns tables
 
--- a state that texts can be answered on: one of pages, whose rows fit their tables and are of the grammar of reports
+-- a state that texts can be answered on: one of pages, whose rows fit their tables and have values that can be told
 pub record IsReady (tables : List TableDef) (rows : Rows) : Type 0 where
   pub state : IsState tables rows
   pub sound : AreSound tables rows.next rows.tables
   pub told : HaveRows rows.tables
 
--- these are the states of pages whose rows fit their tables and are of the grammar: what is sound besides is that each
--- genid is below the next one
+-- these are the states of pages whose rows fit their tables and have values that can be told: what is sound besides is that
+-- each genid is below the next one
 abbrev pub ReadyFit : Type 0
 ReadyFit = (tables : List TableDef) (rows : Rows) → IsReady tables rows → AllFit tables rows.tables
 

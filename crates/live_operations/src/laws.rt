@@ -50,11 +50,9 @@ pub fn texts_leave_sound_operations()
     ensures { TextsLeaveSound }
 {}
 
-/// Over rows of the grammar of reports, texts of UTF-8 one after the other leave operations that write such rows
+/// Over rows of values that can be told, texts of UTF-8 one after the other leave operations that write such rows
 /// (`ops`). Where these are sound, and their integers are of 64 bits, the rows have codes from which they can be
 /// read again (`coded`).
-///
-/// The tables have to have a column or more each.
 pub fn texts_leave_written_texts()
     ensures ops { TextsLeaveWritten }
     ensures coded { SoundHaveCodes }
@@ -72,15 +70,15 @@ pub fn sound_operations_fit()
 /// done on that state (`alone`), and behind later entries that take away none of the versions that they take away
 /// (`later`): so they can at a commit without a conflict. The next genid has to stay one of 64 bits.
 ///
-/// The tables have to have a column or more each, no two of one name, and the texts to be UTF-8.
+/// No two columns of a table may have one name, and the texts have to be UTF-8.
 pub fn transactions_can_be_done()
     ensures fit { AloneFit }
     ensures alone { AloneAreDoable }
     ensures later { LaterAreDoable }
 {}
 
-/// The rows of a state that texts can be answered on fit their tables (`fit`). A state of pages whose rows do, and are
-/// of the grammar of reports, is such a state (`ready`).
+/// The rows of a state that texts can be answered on fit their tables (`fit`). A state of pages whose rows do, and
+/// have values that can be told, is such a state (`ready`).
 #[tactic(auto, using(crate::proofs::ReadyLaws::ready_fit, crate::proofs::ReadyLaws::fit_are_ready))]
 pub fn rows_of_ready_states_fit()
     ensures fit { ReadyFit }

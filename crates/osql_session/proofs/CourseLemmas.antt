@@ -17,7 +17,7 @@ use Rattle.query_laws.specs.Runs.{ranges_of, used_if, Run, run_from}
 use Rattle.query_laws.proofs.AloneLemmas.{after_is, alone_is_run}
 use Rattle.query_plan.specs.Views.{edge_in, interval_in}
 use Rattle.session_language.specs.Language.{alone_from}
-use Rattle.report_text.specs.declared.reports.ReplyLine.{ReplyLine}
+use Rattle.cdb_values.specs.declared.replies.Reply.{Reply}
 use Rattle.sql_answer.specs.Answers.{Outcome, Fails, Gives, Meaning, answer, ops_after}
 use Rattle.sql_answer.specs.Language.{meaning, bound_in, answered}
 use Rattle.sql_run.specs.Texts.{answer_to}
@@ -45,7 +45,7 @@ intervals_back [] = refl
 intervals_back (i ∷ intervals) =
     ap (λ (first : declared.Interval). first ∷ intervals) (interval_back i) ∙ ap (λ (l : List declared.Interval). interval_out (interval_in i) ∷ l) (intervals_back intervals)
 
-pub after_is_alone : (tables : List TableDef) (versions : List (List Version)) (texts : List (List ℕ)) (told : List ReplyLine) (s : Session) →
+pub after_is_alone : (tables : List TableDef) (versions : List (List Version)) (texts : List (List ℕ)) (told : List Reply) (s : Session) →
     IsAfter tables versions (meanings_of tables texts) told s → IsAlone tables versions texts told s
 after_is_alone tables versions texts told s after =
     let same : run_answered (run_from tables versions [] (meanings_of tables texts)) ≡ alone_from sql_language tables versions [] texts =
@@ -104,12 +104,12 @@ answered_uses ranges ops (Fails cause) = refl
 answered_uses ranges ops (Gives told after) = refl
 
 -- a statement more keeps a session where the run with it stands
-one_statement_more : (tables : List TableDef) (versions : List (List Version)) (m : Meaning) (old new : Session) (lines : List ReplyLine) →
+one_statement_more : (tables : List TableDef) (versions : List (List Version)) (m : Meaning) (old new : Session) (lines : List Reply) →
     lines ≡ (answer_to tables versions old.ops m).replies →
     new.ops ≡ (answer_to tables versions old.ops m).ops →
     new.genids ≡ old.genids ++ (answer_to tables versions old.ops m).uses →
     intervals_in new.ranges ≡ intervals_in old.ranges ++ used_if (answer tables versions old.ops m) (ranges_of tables versions old.ops m) →
-    (ss : List Meaning) (told : List ReplyLine) → IsAfter tables versions ss told old → IsAfter tables versions (ss ++ m ∷ []) (told ++ lines) new
+    (ss : List Meaning) (told : List Reply) → IsAfter tables versions ss told old → IsAfter tables versions (ss ++ m ∷ []) (told ++ lines) new
 one_statement_more tables versions m old new lines replies ops genids ranges ss told is =
     let run : Run = run_from tables versions [] ss in
     let o : List RowOp → Outcome = λ done. answer tables versions done m in
@@ -144,22 +144,22 @@ meanings_more tables [] text = refl
 meanings_more tables (t ∷ texts) text = ap (λ l. meaning bound_in tables t ∷ l) (meanings_more tables texts text)
 
 -- the same where it was answered
-pub goes_on : {E : Type 0} (result : Result (List ReplyLine) E) (tables : List TableDef) (versions : List (List Version)) (m : Meaning) (old new : Session) →
+pub goes_on : {E : Type 0} (result : Result (List Reply) E) (tables : List TableDef) (versions : List (List Version)) (m : Meaning) (old new : Session) →
     IfOk result (λ lines. lines ≡ (answer_to tables versions old.ops m).replies) →
     OnOk result (new.ops ≡ (answer_to tables versions old.ops m).ops) →
     OnOk result (new.genids ≡ old.genids ++ (answer_to tables versions old.ops m).uses) →
     OnOk result (intervals_in new.ranges ≡ intervals_in old.ranges ++ used_if (answer tables versions old.ops m) (ranges_of tables versions old.ops m)) →
-    (ss : List Meaning) (told : List ReplyLine) → IsAfter tables versions ss told old →
+    (ss : List Meaning) (told : List Reply) → IsAfter tables versions ss told old →
     IfOk result (λ lines. IsAfter tables versions (ss ++ m ∷ []) (told ++ lines) new)
 goes_on (Ok lines) tables versions m old new replies ops genids ranges ss told is =
     one_statement_more tables versions m old new lines replies ops genids ranges ss told is
 goes_on (Err e) tables versions m old new replies ops genids ranges ss told is = tt
 
 -- and of a text
-pub goes_on_by_text : {E : Type 0} (result : Result (List ReplyLine) E) (tables : List TableDef) (versions : List (List Version)) (text : List ℕ) (m : Meaning) (old new : Session) →
+pub goes_on_by_text : {E : Type 0} (result : Result (List Reply) E) (tables : List TableDef) (versions : List (List Version)) (text : List ℕ) (m : Meaning) (old new : Session) →
     m ≡ meaning bound_in tables text →
-    ((ss : List Meaning) (told : List ReplyLine) → IsAfter tables versions ss told old → IfOk result (λ lines. IsAfter tables versions (ss ++ m ∷ []) (told ++ lines) new)) →
-    (texts : List (List ℕ)) (told : List ReplyLine) → IsAfter tables versions (meanings_of tables texts) told old →
+    ((ss : List Meaning) (told : List Reply) → IsAfter tables versions ss told old → IfOk result (λ lines. IsAfter tables versions (ss ++ m ∷ []) (told ++ lines) new)) →
+    (texts : List (List ℕ)) (told : List Reply) → IsAfter tables versions (meanings_of tables texts) told old →
     IfOk result (λ lines. IsAfter tables versions (meanings_of tables (texts ++ text ∷ [])) (told ++ lines) new)
 goes_on_by_text result tables versions text m old new is more texts told after =
     subst (λ (l : List Meaning). IfOk result (λ lines. IsAfter tables versions l (told ++ lines) new))

@@ -7,7 +7,7 @@ ghost use Rattle.cdb_values.specs.declared.rows.Level.{Level};
 ghost use Rattle.cdb_values.specs.declared.rows.Version.{Version};
 ghost use Rattle.cdb_values.specs.declared.tables.TableDef.{TableDef};
 ghost use Rattle.phys_log.specs.declared.entries.CommitId.{CommitId};
-ghost use Rattle.report_text.specs.declared.reports.ReplyLine.{ReplyLine};
+ghost use Rattle.cdb_values.specs.declared.replies.Reply.{Reply};
 ghost use Rattle.session_language.specs.Touched.{TheRange, TheVersion, first_used};
 ghost use Rattle.osql_session.specs.Courses.{IsAfter, IsAlone, meanings_of};
 ghost use Rattle.osql_session.specs.Items.{AreApart, is_among, without_repeats};
@@ -20,7 +20,7 @@ ghost use Rattle.osql_session.specs.Sessions.{Session, new_session};
 pub fn a_session_is_a_transaction_alone()
     ensures begins { (tables : List TableDef) (versions : List (List Version)) (id : CommitId) (begin : ℕ) (level : Level)
         → IsAfter tables versions [] [] (new_session id begin level) }
-    ensures alone { (tables : List TableDef) (versions : List (List Version)) (texts : List (List ℕ)) (told : List ReplyLine) (s : Session)
+    ensures alone { (tables : List TableDef) (versions : List (List Version)) (texts : List (List ℕ)) (told : List Reply) (s : Session)
         → IsAfter tables versions (meanings_of tables texts) told s → IsAlone tables versions texts told s }
 {}
 

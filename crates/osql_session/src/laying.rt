@@ -3,20 +3,19 @@ ghost use Rattle.std.specs.Prelude.{◌≡◌, ◌++◌, ◌∷◌, [], ◌+◌,
 ghost use Rattle.std.specs.List.{list_all};
 ghost use Rattle.net_writes.specs.Net.{held_after, net_of};
 ghost use Rattle.query_laws.specs.Alone.{replies_of};
-ghost use Rattle.report_text.specs.declared.reports.ReplyLine.TheVariants as reply;
+ghost use Rattle.cdb_values.specs.declared.replies.Reply.TheVariants as reply;
 ghost use Rattle.sql_answer.specs.Answers.{net_given, ops_after};
 ghost use Rattle.sql_answer_plain.specs.Laid.{is_base as is_base_of, is_on_base as is_on_base_of};
 ghost use Rattle.osql_session.specs.Used.{used_of};
 
 use crate::requests::copied_op;
 use cdb_values::limits::MOST_NET_OPERATIONS;
-use cdb_values::{Interval, List, RowOp, RowRef, StatementError};
+use cdb_values::{Interval, List, Reply, RowOp, RowRef, StatementError};
 use net_writes::Overlay;
-use report_text::ReplyLine;
 use std::alloc::{AllocError, Global};
 
 /// One line alone.
-pub(crate) fn alone(alloc: Global, line: ReplyLine) -> Result<List<ReplyLine>, AllocError>
+pub(crate) fn alone(alloc: Global, line: Reply) -> Result<List<Reply>, AllocError>
     ensures { IfOk result (λ lines. lines ≡ line ∷ []) }
 {
     let mut lines = List::new(alloc);
@@ -50,7 +49,7 @@ pub(crate) fn written(
     writes: List<RowOp>,
     ranges: &mut Vec<Interval>,
     read: List<Interval>,
-) -> Result<List<ReplyLine>, AllocError>
+) -> Result<List<Reply>, AllocError>
     requires { list_all is_on_base_of ops.old.items ≡ true }
     ensures replies { IfOk result (λ lines. lines ≡ replies_of (net_given ops.old.items writes)) }
     ensures ops { OnOk result (ops.new.items ≡ ops_after ops.old.items (net_given ops.old.items writes)) }
@@ -117,7 +116,7 @@ fn added(
     writes: List<RowOp>,
     ranges: &mut Vec<Interval>,
     read: List<Interval>,
-) -> Result<List<ReplyLine>, AllocError>
+) -> Result<List<Reply>, AllocError>
     requires based { list_all is_on_base_of ops.old.items ≡ true }
     requires own { list_all is_on_base_of writes ≡ true }
     requires few { length ops.old.items + length writes ≤ 16384 }
@@ -128,7 +127,7 @@ fn added(
     ensures ranges_stay { OnErr result (ranges.new.items ≡ ranges.old.items) }
     ensures based { list_all is_on_base_of ops.new.items ≡ true }
 {
-    let lines = alone(alloc, ReplyLine::Changed(writes.len() as u64))?;
+    let lines = alone(alloc, Reply::Changed(writes.len() as u64))?;
     append_both(ops, writes, ranges, read)?;
     Ok(lines)
 }
@@ -141,7 +140,7 @@ fn laid(
     writes: List<RowOp>,
     ranges: &mut Vec<Interval>,
     read: List<Interval>,
-) -> Result<List<ReplyLine>, AllocError>
+) -> Result<List<Reply>, AllocError>
     requires { list_all is_on_base_of ops.old.items ≡ true }
     ensures replies { IfOk result (λ lines. lines ≡ replies_of (net_given ops.old.items writes)) }
     ensures ops { OnOk result (ops.new.items ≡ ops_after ops.old.items (net_given ops.old.items writes)) }
@@ -153,7 +152,7 @@ fn laid(
     let count = writes.len() as u64;
     let net = net_with(alloc, ops.as_slice(), writes)?;
     if net.len() > MOST_NET_OPERATIONS {
-        alone(alloc, ReplyLine::Error(StatementError::TooLong))
+        alone(alloc, Reply::Error(StatementError::TooLong))
     } else {
         replaced(alloc, count, ops, net, ranges, read)
     }
@@ -167,14 +166,14 @@ fn replaced(
     net: List<RowOp>,
     ranges: &mut Vec<Interval>,
     read: List<Interval>,
-) -> Result<List<ReplyLine>, AllocError>
+) -> Result<List<Reply>, AllocError>
     ensures replies { IfOk result (λ lines. lines ≡ reply.Changed count ∷ []) }
     ensures ops { OnOk result (ops.new.items ≡ net) }
     ensures ranges { OnOk result (ranges.new.items ≡ ranges.old.items ++ read) }
     ensures ops_stay { OnErr result (ops.new.items ≡ ops.old.items) }
     ensures ranges_stay { OnErr result (ranges.new.items ≡ ranges.old.items) }
 {
-    let lines = alone(alloc, ReplyLine::Changed(count))?;
+    let lines = alone(alloc, Reply::Changed(count))?;
     let mut read = read.into_vec();
     ranges.append(&mut read)?;
     *ops = net.into_vec();

@@ -6,7 +6,7 @@ ghost use Rattle.plan_run.specs.Sources.{IsExcused};
 ghost use Rattle.query_laws.specs.Alone.{replies_of, uses_of};
 ghost use Rattle.query_laws.specs.Runs.{ranges_of, used_if};
 ghost use Rattle.query_plan.specs.Planned.{plan_of};
-ghost use Rattle.report_text.specs.declared.reports.ReplyLine.{ReplyLine as OneLine};
+ghost use Rattle.cdb_values.specs.declared.replies.Reply.{Reply as OneLine};
 ghost use Rattle.sql_answer.specs.Answers.{Meaning as OneMeaning, answer as answer_of, ops_after};
 ghost use Rattle.sql_answer.specs.Language.{meaning as meaning_of, bound_in as bound_as};
 ghost use Rattle.sql_answer_plain.specs.Views.{outcome_in};
@@ -20,11 +20,10 @@ ghost use Rattle.osql_session.specs.Used.{used_of};
 
 use crate::laying::{alone, append_both, written};
 use crate::requests::asked;
-use cdb_values::{GenidItem, Interval, Level, List, RowOp, Schema};
+use cdb_values::{GenidItem, Interval, Level, List, Reply, RowOp, Schema};
 use phys_log::{CommitId, CommitRequest};
 use plan_run::{Executed, RowFault, RowSource, execute};
 use query_plan::Plan;
-use report_text::ReplyLine;
 use sql_answer_plain::Outcome;
 use sql_bind::Bound;
 use sql_run::{Meaning, Prepared, prepare};
@@ -91,7 +90,7 @@ impl OsqlSession {
         schema: &Schema,
         text: &[u8],
         source: &mut S,
-    ) -> Result<List<ReplyLine>, RowFault>
+    ) -> Result<List<Reply>, RowFault>
         requires schema { S.tables source.old ≡ schema.now }
         requires utf8 { is_utf8 text.now ≡ true }
         requires short { length text.now < 2 ^ 32 }
@@ -134,7 +133,7 @@ impl OsqlSession {
         schema: &Schema,
         prepared: &Prepared,
         source: &mut S,
-    ) -> Result<List<ReplyLine>, RowFault>
+    ) -> Result<List<Reply>, RowFault>
         requires schema { S.tables source.old ≡ schema.now }
         requires plan { (text_in prepared.now).plan ≡ plan_by schema.now (text_in prepared.now).meaning }
         ensures replies { IfOk result (λ lines. lines
@@ -194,7 +193,7 @@ impl OsqlSession {
         schema: &Schema,
         prepared: &Prepared,
         source: &mut S,
-    ) -> Result<List<ReplyLine>, RowFault>
+    ) -> Result<List<Reply>, RowFault>
         requires schema { S.tables source.old ≡ schema.now }
         requires plan { (text_in prepared.now).plan ≡ plan_by schema.now (text_in prepared.now).meaning }
         ensures replies { IfOk result (λ lines. lines
@@ -216,7 +215,7 @@ impl OsqlSession {
     {
         match prepared.meaning() {
             Meaning::Runs { statement, plan } => self.run(alloc, schema, statement, plan, source),
-            Meaning::Fails(cause) => Ok(alone(alloc, ReplyLine::Error(*cause))?),
+            Meaning::Fails(cause) => Ok(alone(alloc, Reply::Error(*cause))?),
         }
     }
 
@@ -229,7 +228,7 @@ impl OsqlSession {
         statement: &Bound,
         plan: &Plan,
         source: &mut S,
-    ) -> Result<List<ReplyLine>, RowFault>
+    ) -> Result<List<Reply>, RowFault>
         requires schema { S.tables source.old ≡ schema.now }
         requires plan { plan.now ≡ plan_of schema.now (bound_in statement.now) }
         ensures replies { IfOk result (λ lines. lines
@@ -255,7 +254,7 @@ impl OsqlSession {
     }
 
     /// What a statement is answered by what it came to.
-    fn met(&mut self, alloc: Global, executed: Executed) -> Result<List<ReplyLine>, AllocError>
+    fn met(&mut self, alloc: Global, executed: Executed) -> Result<List<Reply>, AllocError>
         ensures replies { IfOk result (λ lines. lines ≡ replies_of (outcome_in self.old.ops executed.outcome)) }
         ensures ops { OnOk result (self.new.ops ≡ ops_after self.old.ops (outcome_in self.old.ops executed.outcome)) }
         ensures genids { OnOk result (self.new.genids ≡ self.old.genids ++ uses_of (outcome_in self.old.ops executed.outcome)) }
@@ -268,7 +267,7 @@ impl OsqlSession {
     {
         let Executed { outcome, ranges } = executed;
         match outcome {
-            Outcome::Fails(cause) => alone(alloc, ReplyLine::Error(cause)),
+            Outcome::Fails(cause) => alone(alloc, Reply::Error(cause)),
             Outcome::Tells { replies, uses } => {
                 append_both(&mut self.genids, uses, &mut self.ranges, ranges)?;
                 Ok(replies)

@@ -9,10 +9,7 @@ use Rattle.cdb_values.specs.declared.rows.Version.{Version}
 use Rattle.key_code.proofs.NumberLaws.{Trichotomy, trichotomy, before as is_less, same as is_same, after as is_more}
 use Rattle.table_store.specs.Listings.{IsAmong}
 use Rattle.page_rows.specs.Picks.{AreRising, Ascend, of_genid, picked}
-
-all_map : {A : Type 0} (P Q : A → Type 0) (xs : List A) → ((x : A) → P x → Q x) → AllByRecursion P xs → AllByRecursion Q xs
-all_map P Q [] f a = tt
-all_map P Q (x ∷ xs) f a = (f x a.0, all_map P Q xs f a.1)
+use Rattle.table_store.proofs.RisingLaws.{all_map}
 
 apart_eqb : (a b : ℕ) → (a ≡ b → ⊥) → (a == b) ≡ false
 apart_eqb a b n = go (eqb_tells a b)

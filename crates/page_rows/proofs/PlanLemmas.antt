@@ -6,7 +6,8 @@ use Rattle.std.specs.List.{slice_get}
 use Rattle.cdb_values.specs.declared.tables.TableDef.{TableDef}
 use Rattle.cdb_values.specs.declared.tables.KeyDef.{KeyDef}
 use Rattle.table_store.specs.Plans.{Planned, key_trees, plan_from}
-use Rattle.page_rows.specs.Listed.{no_table, get_behind}
+use Rattle.page_rows.specs.Listed.{no_table}
+use Rattle.table_store.proofs.ReadLaws.{get_behind}
 
 length-keys : (place : ℕ) (keys : List KeyDef) → length (key_trees place keys) ≡ length keys
 length-keys place [] = refl

@@ -23,14 +23,10 @@ use Rattle.table_store.specs.Listings.{IsAmong, keyed, pair_of_version, Lists}
 use Rattle.table_store.specs.Readings.{IsReadable}
 use Rattle.page_rows.specs.Bounds.{AreEnds}
 use Rattle.page_rows.specs.Picks.{AreRising, Ascend, picked}
-use Rattle.page_rows.specs.OneState.{among_all}
+use Rattle.table_store.proofs.AmongLaws.{among_all, all_among}
 use Rattle.page_rows.proofs.BoundLemmas.{both}
 use Rattle.page_rows.proofs.OrderLemmas.{no_tail, genid_tail}
 use Rattle.page_rows.proofs.PickLemmas.{Covers, merged}
-
-all_among : {A : Type 0} (P : A → Type 0) (xs : List A) → ((x : A) → IsAmong x xs → P x) → AllByRecursion P xs
-all_among P [] h = tt
-all_among P (x ∷ xs) h = (h x (inl refl), all_among P xs (λ y i. h y (inr i)))
 
 -- a pair that is between, among those that are
 between_among : (low : Key) (high : Option Key) (p : Pair) (list : List Pair) → IsAmong p list → is_between low high p.0 ≡ true → IsAmong p (between low high list)

@@ -23,7 +23,8 @@ use Rattle.table_store.specs.Listings.{IsAmong, pair_of_version, Lists}
 use Rattle.table_store.specs.Readings.{IsReadable}
 use Rattle.page_rows.specs.Picks.{of_genid}
 use Rattle.page_rows.specs.Listed.{AreReadable}
-use Rattle.page_rows.specs.OneState.{among_all, rows_tell}
+use Rattle.page_rows.specs.OneState.{rows_tell}
+use Rattle.table_store.proofs.AmongLaws.{among_all}
 use Rattle.page_rows.proofs.PickLemmas.{only_one, not_one}
 
 -- keys of genids

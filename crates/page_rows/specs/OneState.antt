@@ -1,8 +1,8 @@
 -- Pages stand for one state at most: the list of the rows' tree of a table is that of the pages alone, and tells the
 -- versions of the table.
-use Rattle.std.proofs.Common.{◌≡◌, inl, inr, ℕ, suc, ◌+◌, ◌^◌, ◌<◌, List, [], ◌∷◌, ◌++◌, length, take, None, unwrap_or, refl, sym, ap, ◌∙◌, subst, arith}
+use Rattle.std.proofs.Common.{◌≡◌, inl, inr, ℕ, ◌+◌, ◌^◌, ◌<◌, List, [], ◌∷◌, ◌++◌, length, take, None, refl, sym, ap, ◌∙◌, subst, arith}
 use Rattle.std.proofs.lemmas.List.{append-nil}
-use Rattle.std.specs.List.{AllByRecursion, slice_get}
+use Rattle.std.specs.List.{AllByRecursion}
 use Rattle.byteorder.specs.Endian.{big_number, big_bytes}
 use Rattle.byteorder.specs.Numbers.{big_number-reads_back}
 use Rattle.page_store.specs.Image.{Image}
@@ -21,12 +21,8 @@ use Rattle.table_store.specs.Readings.{IsReadable}
 use Rattle.table_store.specs.Stored.{Stands}
 use Rattle.page_rows.specs.Picks.{Ascend}
 use Rattle.page_rows.specs.Listed.{IsTreeOf, tree_of, AreReadable, versions_readable, rows_planned}
-
--- what holds of each holds of one
-pub among_all : {A : Type 0} (P : A → Type 0) (x : A) (xs : List A) → AllByRecursion P xs → IsAmong x xs → P x
-among_all P x [] h i = absurd i
-among_all P x (y ∷ ys) h (inl e) = subst P (sym e) h.0
-among_all P x (y ∷ ys) h (inr i) = among_all P x ys h.1 i
+use Rattle.table_store.proofs.AmongLaws.{among_all}
+use Rattle.table_store.proofs.StateLaws.{same_tables}
 
 -- the code of a row tells it, and the bytes of a genid tell it
 pub rows_tell : (xs ys : List Value) → AllByRecursion IsRowValue xs → AllByRecursion IsRowValue ys → row_code xs ≡ row_code ys → xs ≡ ys
@@ -99,21 +95,6 @@ one_table pages tables a b table s t h =
     ascend_same (versions_of a table) (versions_of b table) p.ascend q.ascend
     (listed_in (versions_of a table) (versions_of b table) y.list p q first y.lists)
     (listed_in (versions_of b table) (versions_of a table) y.list q p y.lists first)
-
-same_tables : (xs ys : List (List Version)) → length xs ≡ length ys
-    → ((t : ℕ) → t < length xs → unwrap_or (slice_get xs t) [] ≡ unwrap_or (slice_get ys t) []) → xs ≡ ys
-same_tables [] [] e h = refl
-same_tables [] (y ∷ ys) e h = absurd (none (length ys) e)
-  where
-    none : (n : ℕ) → 0 ≡ suc n → ⊥
-    none n e = omega arith
-same_tables (x ∷ xs) [] e h = absurd (none (length xs) e)
-  where
-    none : (n : ℕ) → suc n ≡ 0 → ⊥
-    none n e = omega arith
-same_tables (x ∷ xs) (y ∷ ys) e h =
-    ap (λ (l : List Version). l ∷ xs) (h 0 (omega arith))
-    ∙ ap (λ (l : List (List Version)). y ∷ l) (same_tables xs ys (omega arith) (λ t k. h (suc t) (omega arith)))
 
 pub one_state : (pages : ℕ → Image) (tables : List TableDef) (a b : Rows) → Stands pages tables a → Stands pages tables b → a ≡ b
 one_state pages tables a b s t =

@@ -1,3 +1,4 @@
 pub mod PlanWalkLemmas
 pub mod ReachLemmas
 pub mod LyingLemmas
+pub mod TriedLemmas

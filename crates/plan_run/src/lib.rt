@@ -4,9 +4,10 @@
 //! place by place of FROM:
 //!
 //! ```text
-//! combinations so far  -- conjuncts that name no later table -->  outer combinations
-//! outer combination    -- its interval, in the plan -->           versions, without those that own operations took away,
-//!                                                                  and then own rows of the interval
+//! outer combination  -- its interval, in the plan -->  versions, without those that own operations took away,
+//!                                                      and then own rows of the interval
+//! each with one of these rows, as it is found  -- conjuncts that name no later table; at the end the WHERE -->
+//!                                                      the next outer combinations; at the end those that are found
 //! ```
 //!
 //! | Step | Code | Definition |

@@ -11,7 +11,7 @@ use Rattle.query_laws.specs.Alone.{run_answered, replies_of, uses_of, is_failure
 use Rattle.query_laws.specs.Intervals.{Interval}
 use Rattle.cdb_values.specs.declared.items.GenidItem.{GenidItem}
 use Rattle.cdb_values.specs.declared.items.Interval as declared
-use Rattle.report_text.specs.declared.reports.ReplyLine.{ReplyLine}
+use Rattle.cdb_values.specs.declared.replies.Reply.{Reply}
 use Rattle.std.specs.List.{flat_map, list_any}
 use Rattle.query_laws.specs.Runs.{ranges_of, Run, run_then, run_from}
 
@@ -20,7 +20,7 @@ abbrev joined : Answered → Answered → Answered
 joined first later = record { replies = first.replies ++ later.replies; ops = later.ops; uses = first.uses ++ later.uses; ranges = first.ranges ++ later.ranges; failed = first.failed || later.failed }
 
 -- what a statement that does not fail and a run behind it give, but for the intervals
-abbrev joined_with : List ReplyLine → List GenidItem → Run → List declared.Interval → Answered
+abbrev joined_with : List Reply → List GenidItem → Run → List declared.Interval → Answered
 joined_with replies uses run ranges = record {
   replies = replies ++ flat_map replies_of run.outcomes;
   ops = run.ops;

@@ -7,7 +7,9 @@ use Rattle.std.specs.List.{AllByRecursion, filter, flat_map}
 use Rattle.cdb_values.specs.declared.tables.TableDef.{TableDef}
 use Rattle.cdb_values.specs.declared.values.Value.{Value}
 use Rattle.query_laws.proofs.ConditionLaws.{truth_front}
-use Rattle.query_laws.proofs.ListLaws.{all_append, false_since, filter_true, filter_false}
+use Rattle.query_laws.proofs.ListLaws.{false_since}
+use Rattle.session_language.proofs.EachLaws.{all_append}
+use Rattle.session_language.proofs.RowsLaws.{filter_true, filter_false}
 use Rattle.query_laws.proofs.WalkLaws.{rows_append}
 use Rattle.sql_bind.specs.Bound.{Cond}
 use Rattle.sql_answer.specs.Truth.{is_yes}

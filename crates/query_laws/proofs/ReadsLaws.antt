@@ -25,7 +25,8 @@ use Rattle.query_laws.specs.Intervals.{Edge, Free, AtLeast, Above, AtMost, Below
 use Rattle.query_laws.specs.Runs.{ranges_of, used_if, run_from}
 use Rattle.query_laws.specs.Stable.{inside, HoldsTheSame}
 use Rattle.query_laws.proofs.AloneLemmas.{after_is, alone_is_run}
-use Rattle.query_laws.proofs.ListLaws.{all_map, all_weaker, all_front, all_back}
+use Rattle.query_laws.proofs.ListLaws.{all_map, all_weaker, all_back}
+use Rattle.session_language.proofs.EachLaws.{all_front}
 use Rattle.query_laws.proofs.RunLaws.{answer_same, reads_same}
 
 null_same : (v : Value) → is_null v ≡ told.is_null v

@@ -1,8 +1,8 @@
 -- What operations that touch no row of a range leave as it is.
-use Rattle.std.proofs.Common.{◌≡◌, ℕ, zero, suc, List, [], ◌∷◌, ◌++◌, refl, sym, ap, ◌∙◌, Bool, true, false, ◌&&◌, not, cond, map, eqb, unwrap_or, append-nil}
-use Rattle.std.proofs.lemmas.Bool.{or_parts, eq-eqb}
+use Rattle.std.proofs.Common.{◌≡◌, ℕ, List, [], ◌∷◌, ◌++◌, refl, sym, ap, ◌∙◌, Bool, false, map, append-nil}
+use Rattle.std.proofs.lemmas.Bool.{or_parts}
 use Rattle.std.proofs.lemmas.List.Elements.{filter-append}
-use Rattle.std.specs.List.{filter, list_any, slice_get, slice_set}
+use Rattle.std.specs.List.{filter}
 use Rattle.cdb_values.specs.Rows.{Rows, versions_of, without, taken, added, apply, apply_all, version}
 use Rattle.cdb_values.specs.declared.rows.RowOp.{RowOp}
 use Rattle.cdb_values.specs.declared.rows.RowOp.TheVariants as op
@@ -10,7 +10,8 @@ use Rattle.cdb_values.specs.declared.rows.RowRef.TheVariants.{Base, Own}
 use Rattle.cdb_values.specs.declared.rows.Version.{Version}
 use Rattle.cdb_values.specs.declared.tables.TableDef.{TableDef}
 use Rattle.cdb_values.specs.declared.values.Value.{Value}
-use Rattle.query_laws.proofs.ListLaws.{filter_both, filter_of_map, filter_true, filter_false}
+use Rattle.query_laws.proofs.ListLaws.{filter_both, filter_of_map}
+use Rattle.session_language.proofs.RowsLaws.{filter_false, set_stays, without_stays, in_table}
 use Rattle.query_laws.specs.Stable.{inside, HoldsTheSame, ShowsTheSame}
 use Rattle.query_laws.specs.Intervals.{Interval, lies}
 use Rattle.sql_answer.specs.Combinations.{Seen, seen_version, own_from, is_left, seen}
@@ -27,32 +28,6 @@ seen_same tables rows others ops range stable = is others ∙ ap (λ (l : List V
         ∙ ap (λ l. l ++ within tables range (own_from 1 range.table ops))
         (filter_of_map (λ (s : Seen). lies tables range s.row) seen_version (filter (is_left ops range.table) (versions_of rows range.table))
         ∙ ap (map seen_version) (filter_both (λ (v : Version). lies tables range v.row) (is_left ops range.table) (versions_of rows range.table)))
-
--- a table's list is set to one that a filter does not tell from the old
-set_stays : (p : Version → Bool) (tables : List (List Version)) (t k : ℕ) (new : List Version) → (t ≡ k → filter p new ≡ filter p (unwrap_or (slice_get tables t) [])) →
-    filter p (unwrap_or (slice_get (slice_set tables t new) k) []) ≡ filter p (unwrap_or (slice_get tables k) [])
-set_stays p [] t k new same = refl
-set_stays p (vs ∷ tables) zero zero new same = same refl
-set_stays p (vs ∷ tables) zero (suc k) new same = refl
-set_stays p (vs ∷ tables) (suc t) zero new same = refl
-set_stays p (vs ∷ tables) (suc t) (suc k) new same = set_stays p tables t k new (λ is. same (ap suc is))
-
-without_step : (p : Version → Bool) (genid : ℕ) (v : Version) (vs : List Version) (b : Bool) → eqb v.genid genid ≡ b → (eqb v.genid genid && p v) ≡ false →
-    filter p (without genid vs) ≡ filter p vs → filter p (without genid (v ∷ vs)) ≡ filter p (v ∷ vs)
-without_step p genid v vs true test is same =
-    let off : p v ≡ false = sym (ap (λ b. b && p v) test) ∙ is in
-    ap (filter p) (filter_false (λ (v : Version). not (eqb v.genid genid)) v vs (ap not test)) ∙ same ∙ sym (filter_false p v vs off)
-without_step p genid v vs false test is same =
-    ap (filter p) (filter_true (λ (v : Version). not (eqb v.genid genid)) v vs (ap not test)) ∙ ap (λ rest. cond (p v) (v ∷ rest) rest) same
-
-without_stays : (p : Version → Bool) (genid : ℕ) (vs : List Version) → list_any (λ v. eqb v.genid genid && p v) vs ≡ false → filter p (without genid vs) ≡ filter p vs
-without_stays p genid [] is = refl
-without_stays p genid (v ∷ vs) is =
-    let none = or_parts (eqb v.genid genid && p v) (list_any (λ v. eqb v.genid genid && p v) vs) is in
-    without_step p genid v vs (eqb v.genid genid) refl none.0 (without_stays p genid vs none.1)
-
-in_table : (table k : ℕ) (b : Bool) → (eqb table k && b) ≡ false → table ≡ k → b ≡ false
-in_table table k b is same = sym (ap (λ t. t && b) (eq-eqb table k same)) ∙ is
 
 taken_stays : (tables : List TableDef) (range : Interval) (rows : Rows) (table genid : ℕ) → leaves tables range rows table genid ≡ false → HoldsTheSame tables rows (taken rows table genid) range
 taken_stays tables range rows table genid is =

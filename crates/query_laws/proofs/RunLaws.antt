@@ -10,7 +10,8 @@ use Rattle.query_laws.specs.Conjuncts.{conjuncts}
 use Rattle.query_laws.specs.Intervals.{Interval}
 use Rattle.query_laws.specs.Runs.{ranges_of, used_if, run_then, run_from, kept_if, lasting, without_failures}
 use Rattle.query_laws.specs.Stable.{HoldsTheSame, ShowsTheSame}
-use Rattle.query_laws.proofs.ListLaws.{all_front, all_back, all_weaker}
+use Rattle.query_laws.proofs.ListLaws.{all_back, all_weaker}
+use Rattle.session_language.proofs.EachLaws.{all_front}
 use Rattle.query_laws.proofs.RowsLaws.{seen_same}
 use Rattle.query_laws.proofs.StableLemmas.{met_same, ranges_same}
 

@@ -7,8 +7,8 @@ use Rattle.cdb_values.specs.declared.items.Edge.TheVariants as edge
 use Rattle.cdb_values.specs.declared.items.GenidItem.{GenidItem}
 use Rattle.cdb_values.specs.declared.items.Interval.{Interval}
 use Rattle.session_language.specs.Language.{Answered, Language}
-use Rattle.report_text.specs.declared.reports.ReplyLine.{ReplyLine}
-use Rattle.report_text.specs.declared.reports.ReplyLine.TheVariants as reply
+use Rattle.cdb_values.specs.declared.replies.Reply.{Reply}
+use Rattle.cdb_values.specs.declared.replies.Reply.TheVariants as reply
 use Rattle.sql_answer.specs.Answers.{Outcome, Fails, Gives}
 use Rattle.sql_answer.specs.Language.{Reader, bound_in, language_of}
 use Rattle.query_laws.specs.Intervals as laws
@@ -33,7 +33,7 @@ reads_of tables versions ops statement = map interval_out (ranges_of tables vers
 abbrev pub sql_language : Language
 sql_language = language_of bound_in reads_of
 
-abbrev pub replies_of : Outcome → List ReplyLine
+abbrev pub replies_of : Outcome → List Reply
 replies_of (Fails cause) = reply.Error cause ∷ []
 replies_of (Gives told after) = told.replies
 

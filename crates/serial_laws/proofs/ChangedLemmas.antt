@@ -1,11 +1,10 @@
 -- Operations that name their targets' rows rightly go on to do so, and touch what their changes touch.
-use Rattle.std.proofs.Common.{◌≡◌, ℕ, zero, suc, ◌+◌, ◌-◌, ◌<◌, ◌≤◌, List, [], ◌∷◌, ◌++◌, length, refl, sym, ap, subst, ◌∙◌, Bool, true, false, ◌&&◌, ◌||◌, eqb, Option, Some, unwrap_or, arith}
-use Rattle.std.proofs.lemmas.Bool.{or_parts, cond_both, eqb-true}
-use Rattle.std.specs.List.{AllByRecursion, filter, list_any, slice_get, slice_set}
-use Rattle.cdb_values.specs.Rows.{Rows, no_rows, versions_of, without, taken, added, apply, apply_all, version}
+use Rattle.std.proofs.Common.{◌≡◌, ℕ, zero, suc, ◌+◌, ◌-◌, ◌<◌, ◌≤◌, List, [], ◌∷◌, length, refl, sym, ap, subst, ◌∙◌, Bool, true, false, ◌&&◌, ◌||◌, eqb, Option, Some, arith}
+use Rattle.std.proofs.lemmas.Bool.{or_parts, eqb-true}
+use Rattle.std.specs.List.{AllByRecursion, list_any, slice_get}
+use Rattle.cdb_values.specs.Rows.{Rows, versions_of, taken, added, apply, apply_all}
 use Rattle.cdb_values.specs.declared.rows.RowOp.{RowOp}
 use Rattle.cdb_values.specs.declared.rows.RowOp.TheVariants as op
-use Rattle.cdb_values.specs.declared.rows.RowRef.{RowRef}
 use Rattle.cdb_values.specs.declared.rows.RowRef.TheVariants.{Base, Own}
 use Rattle.cdb_values.specs.declared.rows.Version.{Version}
 use Rattle.cdb_values.specs.declared.tables.TableDef.{TableDef}
@@ -15,59 +14,14 @@ use Rattle.sql_answer.specs.Answers.{Meaning, answer, ops_after}
 use Rattle.query_laws.specs.Intervals.{Interval, lies}
 use Rattle.query_laws.specs.Runs.{run_from}
 use Rattle.query_laws.specs.Touched.{leaves, enters, touches}
-use Rattle.query_laws.proofs.ListLaws.{all_append, all_weaker}
+use Rattle.query_laws.proofs.ListLaws.{all_weaker}
 use Rattle.serial_laws.specs.Histories.{Entry, Setup, Commit, Origin, alone, states_of, ops_of, entry_at, ops_or_none, ops_at, IsUntouched, IsBegun, IsRight, AllEntries, AllRight, IsPlaced, IsSerial}
-use Rattle.session_language.specs.Serial.{IsRowOf, IsTrueTarget, IsTrueOp, IsSound}
+use Rattle.session_language.specs.Serial.{IsRowOf, IsTrueOp, IsSound}
 use Rattle.serial_laws.specs.Changed.{lies_in, changes_touch, TellsTrue, IsUnchanged, IsFair, AllFair}
 use Rattle.serial_laws.proofs.SerialLemmas.{place, now, IsStep, step_at, rows_step, states_stay, get_within, right_is_serial}
-
-pub all_filter : {A : Type 0} (P : A → Type 0) (p : A → Bool) (xs : List A) → AllByRecursion P xs → AllByRecursion P (filter p xs)
-all_filter P p [] a = tt
-all_filter P p (x ∷ xs) a = cond_both (p x) (x ∷ filter p xs) (filter p xs) (AllByRecursion P) (λ _. (a.0, all_filter P p xs a.1)) (λ _. all_filter P p xs a.1)
-
-set_all : (P : Version → Type 0) (tables : List (List Version)) (t k : ℕ) (new : List Version) → (t ≡ k → AllByRecursion P (unwrap_or (slice_get tables t) []) → AllByRecursion P new) →
-    AllByRecursion P (unwrap_or (slice_get tables k) []) → AllByRecursion P (unwrap_or (slice_get (slice_set tables t new) k) [])
-set_all P [] t k new gives a = a
-set_all P (vs ∷ tables) zero zero new gives a = gives refl a
-set_all P (vs ∷ tables) zero (suc k) new gives a = a
-set_all P (vs ∷ tables) (suc t) zero new gives a = a
-set_all P (vs ∷ tables) (suc t) (suc k) new gives a = set_all P tables t k new (λ is. gives (ap suc is)) a
-
--- what holds of each version of a table holds after an operation, where it holds of the version that is added
-taken_all : (P : Version → Type 0) (rows : Rows) (t genid k : ℕ) → AllByRecursion P (versions_of rows k) → AllByRecursion P (versions_of (taken rows t genid) k)
-taken_all P rows t genid k a = set_all P rows.tables t k (without genid (versions_of rows t)) (λ _ a. all_filter P _ (versions_of rows t) a) a
-
-added_all : (P : Version → Type 0) (rows : Rows) (t : ℕ) (row : List Value) (k : ℕ) → (t ≡ k → P (version rows.next row)) → AllByRecursion P (versions_of rows k) → AllByRecursion P (versions_of (added rows t row) k)
-added_all P rows t row k new a = set_all P rows.tables t k (versions_of rows t ++ version rows.next row ∷ []) (λ is a. all_append P (versions_of rows t) (version rows.next row ∷ []) a (new is, tt)) a
-
-taken_keeps : (rows : Rows) (t g table genid : ℕ) (old : List Value) → IsRowOf rows table genid old → IsRowOf (taken rows t g) table genid old
-taken_keeps rows t g table genid old was = record { below = was.below; same = taken_all (λ v. v.genid ≡ genid → v.row ≡ old) rows t g table was.same }
-
-added_keeps : (rows : Rows) (t : ℕ) (row : List Value) (table genid : ℕ) (old : List Value) → IsRowOf rows table genid old → IsRowOf (added rows t row) table genid old
-added_keeps rows t row table genid old was =
-    let below : genid < rows.next = was.below in
-    record {
-      below = omega (arith, below);
-      same = added_all (λ v. v.genid ≡ genid → v.row ≡ old) rows t row table (λ _ is. absurd (omega (arith, below, is))) was.same;
-    }
-
-keeps : (rows : Rows) (o : RowOp) (table genid : ℕ) (old : List Value) → IsRowOf rows table genid old → IsRowOf (apply rows o) table genid old
-keeps rows (op.Insert t row) table genid old was = added_keeps rows t row table genid old was
-keeps rows (op.Update t (Base g) o row) table genid old was = added_keeps (taken rows t g) t row table genid old (taken_keeps rows t g table genid old was)
-keeps rows (op.Update t (Own w) o row) table genid old was = was
-keeps rows (op.Delete t (Base g) o) table genid old was = taken_keeps rows t g table genid old was
-keeps rows (op.Delete t (Own w) o) table genid old was = was
+use Rattle.session_language.proofs.SoundLaws.{taken_all, added_all, taken_keeps, added_keeps, op_keeps, new_same, neither, no_rows_sound}
 
 -- an operation that names its target's row rightly does so after each other one
-target_keeps : (rows : Rows) (o : RowOp) (table : ℕ) (target : RowRef) (old : List Value) → IsTrueTarget rows table target old → IsTrueTarget (apply rows o) table target old
-target_keeps rows o table (Base genid) old was = keeps rows o table genid old was
-target_keeps rows o table (Own write) old was = tt
-
-op_keeps : (rows : Rows) (o p : RowOp) → IsTrueOp rows p → IsTrueOp (apply rows o) p
-op_keeps rows o (op.Insert table row) was = tt
-op_keeps rows o (op.Update table target old row) was = target_keeps rows o table target old was
-op_keeps rows o (op.Delete table target old) was = target_keeps rows o table target old was
-
 pub ops_keep : (rows : Rows) (os ps : List RowOp) → AllByRecursion (IsTrueOp rows) ps → AllByRecursion (IsTrueOp (apply_all rows os)) ps
 ops_keep rows [] ps was = was
 ops_keep rows (o ∷ os) ps was = ops_keep (apply rows o) os ps (all_weaker (IsTrueOp rows) (IsTrueOp (apply rows o)) (op_keeps rows o) ps was)
@@ -77,10 +31,6 @@ taken_sound : (rows : Rows) (t g : ℕ) → IsSound rows → IsSound (taken rows
 taken_sound rows t g sound table =
     all_weaker (λ v. IsRowOf rows table v.genid v.row) (λ v. IsRowOf (taken rows t g) table v.genid v.row) (λ v. taken_keeps rows t g table v.genid v.row) (versions_of (taken rows t g) table)
     (taken_all (λ v. IsRowOf rows table v.genid v.row) rows t g table (sound table))
-
-new_same : (rows : Rows) (table : ℕ) (row : List Value) (vs : List Version) → AllByRecursion (λ v. IsRowOf rows table v.genid v.row) vs → AllByRecursion (λ v. v.genid ≡ rows.next → v.row ≡ row) vs
-new_same rows table row [] a = tt
-new_same rows table row (v ∷ vs) a = let below : v.genid < rows.next = a.0.below in (λ is. absurd (omega (arith, below, is)), new_same rows table row vs a.1)
 
 added_sound : (rows : Rows) (t : ℕ) (row : List Value) → IsSound rows → IsSound (added rows t row)
 added_sound rows t row sound table =
@@ -120,9 +70,6 @@ leaves_not tables range rows table genid old was off = step (eqb table range.tab
         ap (λ b. b && list_any (λ v. eqb v.genid genid && lies tables range v.row) (versions_of rows table)) is
         ∙ none_leaves tables range genid old (versions_of rows table) was.same (sym (ap (λ b. b && lies tables range old) is) ∙ off)
 
-neither : (a b : Bool) → a ≡ false → b ≡ false → (a || b) ≡ false
-neither a b x y = ap (λ c. c || b) x ∙ y
-
 -- operations whose changes touch no range by the rows that they name touch none
 pub touches_not : (tables : List TableDef) (range : Interval) (rows : Rows) (os : List RowOp) → AllByRecursion (IsTrueOp rows) os → changes_touch tables range (changes_of os rows.next) ≡ false → touches tables range rows os ≡ false
 touches_not tables range rows [] all is = refl
@@ -149,14 +96,6 @@ pub run_true : (tables : List TableDef) → TellsTrue tables → (rows : Rows) (
     AllByRecursion (IsTrueOp rows) (run_from tables rows.tables ops ss).ops
 run_true tables tells rows ops [] sound all = all
 run_true tables tells rows ops (s ∷ ss) sound all = run_true tables tells rows (ops_after ops (answer tables rows.tables ops s)) ss sound (tells rows ops s sound all)
-
-pub no_rows_sound : (tables : List TableDef) → IsSound (no_rows tables)
-no_rows_sound tables table = none_there tables table
-  where
-    none_there : (ts : List TableDef) (k : ℕ) → AllByRecursion (λ v. IsRowOf (no_rows tables) table v.genid v.row) (unwrap_or (slice_get (no_rows ts).tables k) [])
-    none_there [] k = tt
-    none_there (t ∷ ts) zero = tt
-    none_there (t ∷ ts) (suc k) = none_there ts k
 
 module _ (tables : List TableDef) (origin : Origin) (es : List Entry) where
   -- the rows at each position are sound

@@ -14,15 +14,7 @@ use Rattle.query_laws.proofs.ListLaws.{all_weaker}
 use Rattle.query_laws.proofs.RowsLaws.{untouched_stays}
 use Rattle.query_laws.proofs.RunLaws.{run_same}
 use Rattle.serial_laws.specs.Histories.{Entry, Setup, Commit, Origin, rows_among, alone, ops_of, rows_after, states_from, states_of, rows_at, entry_at, ops_or_none, ops_at, IsUntouched, IsBegun, IsRight, AllEntries, AllRight, IsSerialAt, IsSerial, IsPlaced}
-
-get_front : {A : Type 0} (xs ys : List A) (k : ℕ) → k < length xs → slice_get (xs ++ ys) k ≡ slice_get xs k
-get_front [] ys k h = absurd (omega arith)
-get_front (x ∷ xs) ys zero h = refl
-get_front (x ∷ xs) ys (suc k) h = get_front xs ys k (omega arith)
-
-get_next : {A : Type 0} (xs : List A) (y : A) (ys : List A) → slice_get (xs ++ y ∷ ys) (length xs) ≡ Some y
-get_next [] y ys = refl
-get_next (x ∷ xs) y ys = get_next xs y ys
+use Rattle.session_language.proofs.EachLaws.{get_front, get_next}
 
 -- the rows at a place of the list of states
 abbrev pub place : Origin → List Rows → ℕ → Rows

@@ -13,17 +13,18 @@ use Rattle.cdb_values.specs.declared.rows.StatementError.TheVariants as error
 use Rattle.cdb_values.specs.declared.tables.TableDef.{TableDef}
 use Rattle.cdb_values.specs.declared.values.Value.{Value}
 use Rattle.net_writes.specs.Net.{held_of, held_at, taken_out, rewritten, undone, held_with, held_after, standing, net_of}
-use Rattle.report_text.specs.declared.reports.ReplyLine.TheVariants as reply
+use Rattle.cdb_values.specs.declared.replies.Reply.TheVariants as reply
 use Rattle.sql_bind.specs.Bound.{Cond, BeginIt, CommitIt, RollbackIt, SetIt, InsertInto, UpdateOf, DeleteFrom, SelectOf}
 use Rattle.sql_bind.specs.declared.types.BoundAssign.{BoundAssign}
 use Rattle.sql_answer.specs.Answers.{Meaning, Fails, Gives, told_only, net_given, given_unless, rows_met, updating, deleting, items_used, rows_given, finish, answer, ops_after}
 use Rattle.sql_answer.specs.Combinations.{Seen, seen_version, seen_own, own_from, is_left, seen, rows_of, extended, met}
 use Rattle.sql_answer.specs.Shapes.{shape}
 use Rattle.sql_answer.specs.Writes.{set_row, rows_error}
-use Rattle.query_laws.proofs.ListLaws.{all_append, all_flat, map_all, all_of_each, all_weaker}
+use Rattle.query_laws.proofs.ListLaws.{all_flat, map_all, all_of_each, all_weaker}
+use Rattle.session_language.proofs.EachLaws.{all_append}
 use Rattle.session_language.specs.Serial.{IsRowOf, IsTrueTarget, IsTrueOp, IsSound}
 use Rattle.serial_laws.specs.Changed.{TellsTrue}
-use Rattle.serial_laws.proofs.ChangedLemmas.{all_filter}
+use Rattle.session_language.proofs.SoundLaws.{all_filter}
 
 abbrev Each : {A : Type 0} → (A → Type 0) → Option A → Type 0
 Each P None = Unit {0}

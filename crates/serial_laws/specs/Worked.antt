@@ -4,7 +4,7 @@ use Rattle.std.specs.Prelude.{ℕ, ◌∷◌, [], List, Some, Ok}
 use Rattle.cdb_values.specs.Rows.{no_rows}
 use Rattle.cdb_values.specs.declared.rows.Level.TheVariants.{Serializable}
 use Rattle.cdb_values.specs.declared.values.Value.{Value}
-use Rattle.report_text.specs.declared.reports.ReplyLine.TheVariants as reply
+use Rattle.cdb_values.specs.declared.replies.Reply.TheVariants as reply
 use Rattle.sql_bind.specs.Bound.{InsertInto, UpdateOf, SelectOf}
 use Rattle.sql_bind.specs.declared.types.BoundItem.TheVariants as items
 use Rattle.sql_bind.specs.declared.types.BoundOperand.TheVariants as operand

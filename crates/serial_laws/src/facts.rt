@@ -1,6 +1,6 @@
 //! Worked facts: what two transactions read and change (`specs/Worked.antt`).
 ghost use Rattle.std.specs.Prelude.{◌≡◌, true, false, [], ◌∷◌};
-ghost use Rattle.report_text.specs.declared.reports.ReplyLine.TheVariants as reply;
+ghost use Rattle.cdb_values.specs.declared.replies.Reply.TheVariants as reply;
 ghost use Rattle.sql_answer.specs.Worked.{int, tells};
 ghost use Rattle.query_laws.specs.Intervals.{Free, AtLeast, Above};
 ghost use Rattle.query_laws.specs.Worked.{keyed, interval};

@@ -17,8 +17,8 @@ use Rattle.net_writes.specs.Net.{net_of}
 use Rattle.session_language.specs.Answers.{Answers, ArePlain}
 use Rattle.session_language.specs.Replies.{are_up_to, is_last_of}
 use Rattle.session_language.proofs.UpToLaws.{up_to_rows}
-use Rattle.report_text.specs.declared.reports.ReplyLine.{ReplyLine}
-use Rattle.report_text.specs.declared.reports.ReplyLine.TheVariants as reply
+use Rattle.cdb_values.specs.declared.replies.Reply.{Reply}
+use Rattle.cdb_values.specs.declared.replies.Reply.TheVariants as reply
 use Rattle.sql_bind.specs.Bound.{BoundStatement, BeginIt, CommitIt, RollbackIt, SetIt, InsertInto, UpdateOf, DeleteFrom, SelectOf}
 use Rattle.sql_answer.specs.Answers.{Meaning, Outcome, Fails, Gives, told_only, net_given, given_unless, rows_met, updating, deleting, items_used, rows_given, finished, finish, found, answer}
 use Rattle.sql_answer.specs.Combinations.{Seen, rows_of}
@@ -27,7 +27,7 @@ use Rattle.sql_answer.specs.Shapes.{shape}
 use Rattle.sql_answer.specs.Writes.{set_row, rows_error}
 
 -- replies of one statement: rows, and one that is none
-abbrev IsTold : List ReplyLine → Type 0
+abbrev IsTold : List Reply → Type 0
 IsTold rs = ArePlain rs × (are_up_to (is_last_of false) rs ≡ true)
 
 abbrev IsAnswer : List RowOp → Outcome → Type 0
@@ -38,7 +38,7 @@ read_too : (ranges : List Interval) (ops : List RowOp) (outcome : Outcome) → I
 read_too ranges ops (Fails cause) is = is
 read_too ranges ops (Gives told after) is = is
 
-plain_rows : (rows : List (List Value)) (last : List ReplyLine) → ArePlain last → ArePlain (map reply.Row rows ++ last)
+plain_rows : (rows : List (List Value)) (last : List Reply) → ArePlain last → ArePlain (map reply.Row rows ++ last)
 plain_rows [] last is = is
 plain_rows (row ∷ rows) last is = (tt, plain_rows rows last is)
 

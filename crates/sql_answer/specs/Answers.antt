@@ -24,8 +24,8 @@ use Rattle.cdb_values.specs.declared.rows.Version.{Version}
 use Rattle.cdb_values.specs.declared.tables.TableDef.{TableDef}
 use Rattle.cdb_values.specs.declared.values.Value.{Value}
 use Rattle.net_writes.specs.Net.{net_of}
-use Rattle.report_text.specs.declared.reports.ReplyLine.{ReplyLine}
-use Rattle.report_text.specs.declared.reports.ReplyLine.TheVariants as reply
+use Rattle.cdb_values.specs.declared.replies.Reply.{Reply}
+use Rattle.cdb_values.specs.declared.replies.Reply.TheVariants as reply
 use Rattle.sql_bind.specs.Bound.{Cond, BoundQuery, BoundStatement, BeginIt, CommitIt, RollbackIt, SetIt, InsertInto, UpdateOf, DeleteFrom, SelectOf}
 use Rattle.sql_bind.specs.declared.types.BoundAssign.{BoundAssign}
 use Rattle.sql_answer.specs.Combinations.{Seen, seen, rows_of, met}
@@ -34,7 +34,7 @@ use Rattle.sql_answer.specs.Writes.{set_row, rows_error}
 
 -- what a session is told, and the versions that it uses besides those that its operations take away
 pub record Told : Type 0 where
-  pub replies : List ReplyLine
+  pub replies : List Reply
   pub uses : List GenidItem
 
 -- a statement fails by the rows that it met, or gives what is told, with the operations after it
@@ -78,7 +78,7 @@ filter_met (Ok statement) = filter_of statement
 filter_met (Err cause) = None
 
 -- a reply alone, with nothing used
-abbrev pub told_only : ReplyLine → Told
+abbrev pub told_only : Reply → Told
 told_only line = record { replies = line ∷ []; uses = [] }
 
 -- an answer by an error that no row is looked at for
@@ -133,7 +133,7 @@ abbrev pub items_used : BoundQuery → List (List Seen) → List GenidItem
 items_used query combinations = if query.selectv then flat_map (items_in query.tables) combinations else []
 
 -- the replies of rows: each of them, and how many there are
-abbrev pub row_replies : List (List Value) → List ReplyLine
+abbrev pub row_replies : List (List Value) → List Reply
 row_replies rows = map (λ row. reply.Row row) rows ++ reply.Done (length rows) ∷ []
 
 abbrev pub rows_given : List GenidItem → List RowOp → Option (List (List Value)) → Outcome

@@ -12,7 +12,7 @@ use Rattle.cdb_values.specs.declared.tables.ColumnType.TheVariants as kinds
 use Rattle.cdb_values.specs.declared.tables.TableDef.{TableDef}
 use Rattle.cdb_values.specs.declared.values.Value.{Value}
 use Rattle.cdb_values.specs.declared.values.Value.TheVariants.{Null, Int, Text}
-use Rattle.report_text.specs.declared.reports.ReplyLine.{ReplyLine}
+use Rattle.cdb_values.specs.declared.replies.Reply.{Reply}
 use Rattle.sql_bind.specs.Bound.{Cond, Conds, Compares, no_cond, more_conds, BoundQuery, BoundStatement, UpdateOf}
 use Rattle.sql_bind.specs.declared.types.BoundColumn.{BoundColumn}
 use Rattle.sql_bind.specs.declared.types.BoundItem.{BoundItem}
@@ -116,7 +116,7 @@ raise_without_id filter = UpdateOf 0 (
     ∷ record { column = 1; first = operand.Column v; rest = record { minus = false; operand = operand.Value (int 1) } ∷ [] } ∷ []) filter
 
 -- what a query tells that uses nothing, without operations
-abbrev pub tells : List ReplyLine → Outcome
+abbrev pub tells : List Reply → Outcome
 tells replies = Gives (record { replies = replies; uses = [] }) []
 
 abbrev pub item : ℕ → ℕ → GenidItem

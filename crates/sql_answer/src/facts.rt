@@ -4,7 +4,7 @@ ghost use Rattle.cdb_values.specs.declared.rows.RowOp.TheVariants as op;
 ghost use Rattle.cdb_values.specs.declared.rows.RowRef.TheVariants.{Base};
 ghost use Rattle.cdb_values.specs.declared.rows.StatementError.TheVariants as error;
 ghost use Rattle.cdb_values.specs.declared.values.Value.TheVariants.{Null};
-ghost use Rattle.report_text.specs.declared.reports.ReplyLine.TheVariants as reply;
+ghost use Rattle.cdb_values.specs.declared.replies.Reply.TheVariants as reply;
 ghost use Rattle.sql_bind.specs.Bound.{AnyOf, AllOf, NotOf, TestsNull, InsertInto, DeleteFrom, SelectOf, BeginIt};
 ghost use Rattle.sql_bind.specs.declared.types.BoundItem.TheVariants as items;
 ghost use Rattle.sql_bind.specs.declared.types.BoundOperand.TheVariants as operand;

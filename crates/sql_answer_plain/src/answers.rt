@@ -10,8 +10,7 @@ use crate::outcomes::Outcome;
 use crate::queries::selected;
 use crate::seen::Seen;
 use crate::writes::{deleted, inserted, one, updated};
-use cdb_values::{List, RowOp, StatementError, TableDef, Version};
-use report_text::ReplyLine;
+use cdb_values::{List, Reply, RowOp, StatementError, TableDef, Version};
 use sql_bind::Bound;
 use std::alloc::{AllocError, Global};
 
@@ -36,7 +35,7 @@ pub fn answer(
     match meaning {
         Ok(statement) => {
             let all = all_found(alloc, versions, ops, statement)?;
-            finish(alloc, tables, statement, all.as_slice())
+            finish(alloc, tables, statement, all)
         }
         Err(cause) => refused(alloc, *cause),
     }
@@ -52,10 +51,10 @@ pub fn finish(
     alloc: Global,
     tables: &[TableDef],
     statement: &Bound,
-    combinations: &[List<Seen>],
+    combinations: List<List<Seen>>,
 ) -> Result<Outcome, AllocError>
     ensures { IfOk result (λ outcome. (ops : Many OneOp) → outcome_in ops outcome
-        ≡ finished tables.now (bound_in statement.now) ops (combinations_in combinations.now)) }
+        ≡ finished tables.now (bound_in statement.now) ops (combinations_in combinations)) }
 {
     match statement {
         Bound::Begin | Bound::Commit | Bound::Rollback | Bound::SetLevel(_) => {
@@ -64,11 +63,11 @@ pub fn finish(
         Bound::Insert { table, rows } => inserted(alloc, tables, *table, rows.as_slice()),
         Bound::Update { table, assigns, .. } => {
             let rows = rows_met(alloc, combinations)?;
-            updated(alloc, tables, *table, assigns.as_slice(), rows.as_slice())
+            updated(alloc, tables, *table, assigns.as_slice(), rows)
         }
         Bound::Delete { table, .. } => {
             let rows = rows_met(alloc, combinations)?;
-            deleted(alloc, *table, rows.as_slice())
+            deleted(alloc, *table, rows)
         }
         Bound::Select(query) => selected(alloc, query, combinations),
     }
@@ -99,7 +98,7 @@ fn all_found(
 fn refused(alloc: Global, cause: StatementError) -> Result<Outcome, AllocError>
     ensures { IfOk result (λ outcome. (ops : Many OneOp) → outcome_in ops outcome ≡ refused_of cause ops) }
 {
-    let replies = one(alloc, ReplyLine::Error(cause))?;
+    let replies = one(alloc, Reply::Error(cause))?;
     Ok(Outcome::Tells {
         replies,
         uses: List::new(alloc),

@@ -2,7 +2,7 @@
 ghost use Rattle.std.specs.Prelude.{◌≡◌, ◌++◌, ◌∷◌, [], ◌+◌, ◌≤◌, true, IfOk, OnOk};
 ghost use Rattle.std.specs.List.{list_all};
 ghost use Rattle.net_writes.specs.Net.{held_after, net_of};
-ghost use Rattle.report_text.specs.declared.reports.ReplyLine.TheVariants as reply;
+ghost use Rattle.cdb_values.specs.declared.replies.Reply.TheVariants as reply;
 ghost use Rattle.sql_answer.specs.Answers.{net_given};
 ghost use Rattle.sql_answer.specs.Language.{answered};
 ghost use Rattle.sql_answer_plain.specs.Laid.{IsLaid, is_base as is_base_of, is_on_base as is_on_base_of};
@@ -12,16 +12,15 @@ use crate::copies::copied_op;
 use crate::outcomes::Outcome;
 use crate::writes::one;
 use cdb_values::limits::MOST_NET_OPERATIONS;
-use cdb_values::{GenidItem, List, RowOp, RowRef, StatementError};
+use cdb_values::{GenidItem, List, Reply, RowOp, RowRef, StatementError};
 use net_writes::{Overlay, net};
-use report_text::ReplyLine;
 use std::alloc::{AllocError, Global};
 
 /// What a statement is answered.
 #[derive(Drop)]
 pub struct Answer {
     /// What the session is told.
-    pub replies: List<ReplyLine>,
+    pub replies: List<Reply>,
     /// The transaction's net operations after the statement.
     pub ops: List<RowOp>,
     /// The versions that the statement uses besides those that operations take away.
@@ -69,7 +68,7 @@ pub fn refused(
     ensures ops { IfOk result (λ a. a.ops ≡ done) }
     ensures uses { IfOk result (λ a. a.uses ≡ []) }
 {
-    let replies = one(alloc, ReplyLine::Error(cause))?;
+    let replies = one(alloc, Reply::Error(cause))?;
     Ok(Answer {
         replies,
         ops: done,
@@ -96,7 +95,7 @@ fn changed(alloc: Global, count: u64, ops: List<RowOp>) -> Result<Answer, AllocE
     ensures ops { IfOk result (λ a. a.ops ≡ ops) }
     ensures uses { IfOk result (λ a. a.uses ≡ []) }
 {
-    let replies = one(alloc, ReplyLine::Changed(count))?;
+    let replies = one(alloc, Reply::Changed(count))?;
     Ok(Answer {
         replies,
         ops,

@@ -2,8 +2,8 @@
 //! WHERE is true, and what the statement makes of these. Its contract is the definition itself, `answer` of
 //! `sql_answer`.
 //!
-//! Nothing is looked up by a key, and rows are copied freely. So it is slow, and short enough to be read beside the
-//! definition; what answers faster is measured by it.
+//! Nothing is looked up by a key, and rows are copied freely until the combinations stand. So it is slow, and short enough
+//! to be read beside the definition; what answers faster is measured by it. What is made of combinations moves their rows.
 //!
 //! | Step | Code | Definition, in `sql_answer` |
 //! |---|---|---|
@@ -26,7 +26,7 @@ mod steps;
 mod writes;
 
 pub use answers::{answer, finish};
-pub use combinations::{add_extended, copied_combination, kept, versions_of};
+pub use combinations::{copied_combination, versions_of};
 pub use laying::{Answer, answered_by, refused};
 pub use outcomes::Outcome;
-pub use seen::{Seen, add_left};
+pub use seen::Seen;

@@ -1,5 +1,4 @@
-use cdb_values::{GenidItem, List, RowOp, StatementError};
-use report_text::ReplyLine;
+use cdb_values::{GenidItem, List, Reply, RowOp, StatementError};
 
 /// What a statement comes to, whatever the operations before it: what is to be made of these is said, and not done.
 #[derive(Drop)]
@@ -9,7 +8,7 @@ pub enum Outcome {
     /// It leaves the operations as they were: what the session is told, and the versions that are used besides those
     /// that operations take away.
     Tells {
-        replies: List<ReplyLine>,
+        replies: List<Reply>,
         uses: List<GenidItem>,
     },
     /// Its writes, one a row, which are to be laid over the operations.

@@ -13,8 +13,7 @@ use crate::outcomes::Outcome;
 use crate::seen::Seen;
 use crate::sizes::rows_error;
 use crate::steps::set_row;
-use cdb_values::{List, Row, RowOp, StatementError, TableDef};
-use report_text::ReplyLine;
+use cdb_values::{List, Reply, Row, RowOp, StatementError, TableDef};
 use sql_bind::BoundAssign;
 use std::alloc::{AllocError, Global};
 
@@ -85,12 +84,12 @@ pub(crate) fn updated(
     tables: &[TableDef],
     table: u16,
     assigns: &[BoundAssign],
-    rows: &[Seen],
+    rows: List<Seen>,
 ) -> Result<Outcome, AllocError>
     ensures { IfOk result (λ outcome. (ops : Many OneOp) → outcome_in ops outcome
-        ≡ updated_of tables.now table assigns.now ops (all_seen_in rows.now)) }
+        ≡ updated_of tables.now table assigns.now ops (all_seen_in rows)) }
 {
-    match update_error(alloc, tables.get(table as usize), assigns, rows)? {
+    match update_error(alloc, tables.get(table as usize), assigns, rows.as_slice())? {
         Some(cause) => Ok(Outcome::Fails(cause)),
         None => Ok(Outcome::Writes(updates(alloc, table, assigns, rows)?)),
     }
@@ -132,15 +131,14 @@ fn updates(
     alloc: Global,
     table: u16,
     assigns: &[BoundAssign],
-    rows: &[Seen],
+    rows: List<Seen>,
 ) -> Result<List<RowOp>, AllocError>
-    ensures { IfOk result (λ writes. writes ≡ filter_map (updating table assigns.now) (all_seen_in rows.now)) }
+    ensures { IfOk result (λ writes. writes ≡ filter_map (updating table assigns.now) (all_seen_in rows)) }
 {
     let mut writes = List::new(alloc);
-    let mut rest = rows;
-    'rows: while let Some((seen, others)) = rest.split_first() {
+    let items = rows.into_vec();
+    'rows: for seen in items {
         add_update(&mut writes, table, assigns, seen)?;
-        rest = others;
     }
     Ok(writes)
 }
@@ -150,15 +148,15 @@ fn add_update(
     writes: &mut List<RowOp>,
     table: u16,
     assigns: &[BoundAssign],
-    seen: &Seen,
+    seen: Seen,
 ) -> Result<(), AllocError>
-    ensures { OnOk result (writes.new ≡ writes.old ++ filter_map (updating table assigns.now) (seen_in seen.now ∷ [])) }
+    ensures { OnOk result (writes.new ≡ writes.old ++ filter_map (updating table assigns.now) (seen_in seen ∷ [])) }
 {
     match set_row(assigns, &seen.row)? {
         Some(row) => writes.push(RowOp::Update {
             table,
             target: seen.source,
-            old: copied_row(&seen.row)?,
+            old: seen.row,
             row,
         }),
         None => Ok(()),
@@ -166,39 +164,30 @@ fn add_update(
 }
 
 /// What a DELETE of these rows comes to.
-pub(crate) fn deleted(alloc: Global, table: u16, rows: &[Seen]) -> Result<Outcome, AllocError>
-    ensures { IfOk result (λ outcome. (ops : Many OneOp) → outcome_in ops outcome ≡ deleted_of table ops (all_seen_in rows.now)) }
+pub(crate) fn deleted(alloc: Global, table: u16, rows: List<Seen>) -> Result<Outcome, AllocError>
+    ensures { IfOk result (λ outcome. (ops : Many OneOp) → outcome_in ops outcome ≡ deleted_of table ops (all_seen_in rows)) }
 {
     Ok(Outcome::Writes(deletes(alloc, table, rows)?))
 }
 
 /// The deletes of rows.
-fn deletes(alloc: Global, table: u16, rows: &[Seen]) -> Result<List<RowOp>, AllocError>
-    ensures { IfOk result (λ writes. writes ≡ map (deleting table) (all_seen_in rows.now)) }
+fn deletes(alloc: Global, table: u16, rows: List<Seen>) -> Result<List<RowOp>, AllocError>
+    ensures { IfOk result (λ writes. writes ≡ map (deleting table) (all_seen_in rows)) }
 {
     let mut writes = List::new(alloc);
-    let mut rest = rows;
-    'rows: while let Some((seen, others)) = rest.split_first() {
-        writes.push(delete_of(table, seen)?)?;
-        rest = others;
+    let items = rows.into_vec();
+    'rows: for seen in items {
+        writes.push(RowOp::Delete {
+            table,
+            target: seen.source,
+            old: seen.row,
+        })?;
     }
     Ok(writes)
 }
 
-/// The delete of a row.
-fn delete_of(table: u16, seen: &Seen) -> Result<RowOp, AllocError>
-    ensures { IfOk result (λ write. write ≡ deleting table (seen_in seen.now)) }
-{
-    let old = copied_row(&seen.row)?;
-    Ok(RowOp::Delete {
-        table,
-        target: seen.source,
-        old,
-    })
-}
-
 /// One line alone.
-pub(crate) fn one(alloc: Global, line: ReplyLine) -> Result<List<ReplyLine>, AllocError>
+pub(crate) fn one(alloc: Global, line: Reply) -> Result<List<Reply>, AllocError>
     ensures { IfOk result (λ lines. lines ≡ line ∷ []) }
 {
     let mut lines = List::new(alloc);

@@ -116,16 +116,8 @@ fn kinds_of_names(
 }
 
 /// Whether a value of these tuples is not of its column's type.
-#[tactic(auto, using(crate::proofs::ListLemmas::any_seen))]
 fn has_wrong_type(kinds: &[Option<ColumnType>], tuples: &[Seq<Literal>]) -> bool
     ensures { result ≡ list_any (tuple_differs kinds.now) (map tuple_in tuples.now) }
-{
-    any_wrong(kinds, tuples)
-}
-
-/// Whether a value of these tuples is not of its column's type.
-fn any_wrong(kinds: &[Option<ColumnType>], tuples: &[Seq<Literal>]) -> bool
-    ensures { result ≡ list_any (λ tuple. tuple_differs kinds.now (tuple_in tuple)) tuples.now }
 {
     tuples
         .iter()
@@ -143,16 +135,8 @@ pub(crate) fn width(table: &VisibleTable, columns: &Option<Seq<Name>>) -> usize
 }
 
 /// Whether one of these tuples has not so many values.
-#[tactic(auto, using(crate::proofs::ListLemmas::any_seen))]
 pub(crate) fn has_wrong_count(width: usize, tuples: &[Seq<Literal>]) -> bool
     ensures { result ≡ list_any (λ tuple. not (length tuple == width)) (map tuple_in tuples.now) }
-{
-    any_miscounted(width, tuples)
-}
-
-/// Whether one of these tuples has not so many values.
-fn any_miscounted(width: usize, tuples: &[Seq<Literal>]) -> bool
-    ensures { result ≡ list_any (λ tuple. not (length (tuple_in tuple) == width)) tuples.now }
 {
     tuples.iter().any(|tuple| is_miscounted(width, tuple))
 }

@@ -65,16 +65,8 @@ fn is_aggregate(item: &SelectItem) -> bool
 }
 
 /// Whether one of these is an aggregate.
-#[tactic(auto, using(crate::proofs::ListLemmas::any_seen))]
 fn has_aggregate(items: &[&SelectItem]) -> bool
     ensures { result ≡ list_any aggregate (map item_at items.now) }
-{
-    any_aggregate(items)
-}
-
-/// Whether one of these is an aggregate.
-fn any_aggregate(items: &[&SelectItem]) -> bool
-    ensures { result ≡ list_any (λ item. aggregate (item_at item)) items.now }
 {
     items.iter().any(|item| is_aggregate(item))
 }
@@ -90,16 +82,8 @@ fn is_grouped(group: &[ColumnName], items: &[&SelectItem]) -> bool
 }
 
 /// Whether a name may mean a column of GROUP BY.
-#[tactic(auto, using(crate::proofs::ListLemmas::any_seen))]
 fn is_in_group(scope: &[VisibleTable], group: &[ColumnName], column: &ColumnName) -> bool
     ensures { result ≡ list_any (same (map visible_in scope.now) (column_in column.now)) (map column_in group.now) }
-{
-    any_in_group(scope, group, column)
-}
-
-/// Whether a name may mean a column of GROUP BY.
-fn any_in_group(scope: &[VisibleTable], group: &[ColumnName], column: &ColumnName) -> bool
-    ensures { result ≡ list_any (λ other. same (map visible_in scope.now) (column_in column.now) (column_in other)) group.now }
 {
     group.iter().any(|other| may_be_same(scope, column, other))
 }
@@ -118,16 +102,8 @@ fn is_outside(scope: &[VisibleTable], group: &[ColumnName], item: &SelectItem) -
 }
 
 /// Whether one of these is a plain column that cannot be one of GROUP BY.
-#[tactic(auto, using(crate::proofs::ListLemmas::any_seen))]
 fn has_outside(scope: &[VisibleTable], group: &[ColumnName], items: &[&SelectItem]) -> bool
     ensures { result ≡ list_any (outside (map visible_in scope.now) (map column_in group.now)) (map item_at items.now) }
-{
-    any_outside(scope, group, items)
-}
-
-/// Whether one of these is a plain column that cannot be one of GROUP BY.
-fn any_outside(scope: &[VisibleTable], group: &[ColumnName], items: &[&SelectItem]) -> bool
-    ensures { result ≡ list_any (λ item. outside (map visible_in scope.now) (map column_in group.now) (item_at item)) items.now }
 {
     items.iter().any(|item| is_outside(scope, group, item))
 }
@@ -145,16 +121,8 @@ pub(crate) fn is_badly_grouped(
 }
 
 /// Whether one of these is a SUM of what is no integer.
-#[tactic(auto, using(crate::proofs::ListLemmas::any_seen))]
 pub(crate) fn has_wrong_item(scope: &[VisibleTable], items: &[&SelectItem]) -> bool
     ensures { result ≡ list_any (item_differs (map visible_in scope.now)) (map item_at items.now) }
-{
-    any_wrong(scope, items)
-}
-
-/// Whether one of these is a SUM of what is no integer.
-fn any_wrong(scope: &[VisibleTable], items: &[&SelectItem]) -> bool
-    ensures { result ≡ list_any (λ item. item_differs (map visible_in scope.now) (item_at item)) items.now }
 {
     items.iter().any(|item| item_is_wrong(scope, item))
 }

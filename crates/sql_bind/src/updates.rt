@@ -60,16 +60,8 @@ pub(crate) fn columns_written<'a>(
 }
 
 /// Whether SET gives a column a value of another type.
-#[tactic(auto, using(crate::proofs::ListLemmas::any_seen))]
 pub(crate) fn has_wrong_assign(table: &VisibleTable, assigns: &[Assign]) -> bool
     ensures { result ≡ list_any (setting_differs (visible_in table.now)) (map setting_in assigns.now) }
-{
-    any_wrong(table, assigns)
-}
-
-/// Whether SET gives a column a value of another type.
-fn any_wrong(table: &VisibleTable, assigns: &[Assign]) -> bool
-    ensures { result ≡ list_any (λ assign. setting_differs (visible_in table.now) (setting_in assign)) assigns.now }
 {
     assigns.iter().any(|assign| assign_is_wrong(table, assign))
 }
@@ -103,16 +95,8 @@ fn value_differs(
 }
 
 /// Whether something is added or taken away that is neither an integer nor NULL.
-#[tactic(auto, using(crate::proofs::ListLemmas::any_seen))]
 fn steps_differ(scope: &[VisibleTable], steps: &[Step]) -> bool
     ensures { result ≡ list_any (λ change. is_no_number (map visible_in scope.now) change.side) (map change_in steps.now) }
-{
-    any_step_differs(scope, steps)
-}
-
-/// Whether something is added or taken away that is neither an integer nor NULL.
-fn any_step_differs(scope: &[VisibleTable], steps: &[Step]) -> bool
-    ensures { result ≡ list_any (λ step. is_no_number (map visible_in scope.now) (operand_in step.operand)) steps.now }
 {
     steps
         .iter()

@@ -7,11 +7,10 @@ use crate::shown::{
     put_counted, put_intervals, put_items, put_ops, put_outcome, put_replies, put_table,
 };
 use crate::texts::LONGEST;
-use cdb_values::{Interval, Level, List, Name, Row, RowOp, Schema, StatementError, Version};
+use cdb_values::{Interval, Level, List, Name, Reply, Row, RowOp, Schema, StatementError, Version};
 use osql_session::{CommitId, CommitRequest, OsqlSession};
 use plan_run::{Executed, RowFault, execute};
 use query_plan::Plan;
-use report_text::ReplyLine;
 use sql_answer_plain::{Outcome, answer, answered_by};
 use sql_bind::{BindFault, Bound, bind};
 use sql_grammar::Stmt;
@@ -270,7 +269,7 @@ impl Case {
     }
 
     /// What a text is answered by the session. Where the rows are gone it is asked again.
-    fn asked(&mut self, alloc: Global, text: &str) -> Result<List<ReplyLine>, AllocError> {
+    fn asked(&mut self, alloc: Global, text: &str) -> Result<List<Reply>, AllocError> {
         match self.ask(alloc, text, self.gone) {
             Ok(replies) => Ok(replies),
             Err(RowFault::Gone) => self.ask_again(alloc, text),
@@ -278,7 +277,7 @@ impl Case {
         }
     }
 
-    fn ask_again(&mut self, alloc: Global, text: &str) -> Result<List<ReplyLine>, AllocError> {
+    fn ask_again(&mut self, alloc: Global, text: &str) -> Result<List<Reply>, AllocError> {
         match self.ask(alloc, text, 0) {
             Ok(replies) => Ok(replies),
             Err(_) => Err(AllocError),
@@ -286,7 +285,7 @@ impl Case {
     }
 
     /// What a text is answered by the session, whose rows are gone at this call.
-    fn ask(&mut self, alloc: Global, text: &str, gone: u64) -> Result<List<ReplyLine>, RowFault> {
+    fn ask(&mut self, alloc: Global, text: &str, gone: u64) -> Result<List<Reply>, RowFault> {
         if text.len() > LONGEST {
             return Err(RowFault::NoMemory);
         }

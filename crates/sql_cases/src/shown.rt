@@ -5,10 +5,9 @@
 
 use crate::output::Output;
 use cdb_values::{
-    ColumnDef, ColumnType, Edge, GenidItem, Interval, KeyDef, Row, RowOp, RowRef, StatementError,
-    TableDef, Value,
+    ColumnDef, ColumnType, Edge, GenidItem, Interval, KeyDef, Reply, Row, RowOp, RowRef,
+    StatementError, TableDef, Value,
 };
-use report_text::ReplyLine;
 use sql_answer_plain::Outcome;
 
 pub(crate) fn put_value(out: &mut Output, value: &Value) {
@@ -51,7 +50,7 @@ fn put_row(out: &mut Output, sign: &str, row: &Row) {
 }
 
 /// Adds a line with replies.
-pub(crate) fn put_replies(out: &mut Output, replies: &[ReplyLine]) {
+pub(crate) fn put_replies(out: &mut Output, replies: &[Reply]) {
     let mut before = "  ";
     for reply in replies {
         out.put(before);
@@ -61,12 +60,12 @@ pub(crate) fn put_replies(out: &mut Output, replies: &[ReplyLine]) {
     out.put("\n");
 }
 
-fn put_reply(out: &mut Output, reply: &ReplyLine) {
+fn put_reply(out: &mut Output, reply: &Reply) {
     match reply {
-        ReplyLine::Row(row) => put_row(out, "row ", row),
-        ReplyLine::Done(rows) => put_counted(out, "done ", *rows),
-        ReplyLine::Changed(rows) => put_counted(out, "changed ", *rows),
-        ReplyLine::Error(cause) => put_error(out, *cause),
+        Reply::Row(row) => put_row(out, "row ", row),
+        Reply::Done(rows) => put_counted(out, "done ", *rows),
+        Reply::Changed(rows) => put_counted(out, "changed ", *rows),
+        Reply::Error(cause) => put_error(out, *cause),
         _ => out.put("no answer of a statement"),
     }
 }

@@ -1,9 +1,9 @@
--- What a bound statement has of the text that it is of: the rows of an INSERT, and the values that SET gives, are of the
--- grammar of reports, and a query has an item or more.
-use Rattle.std.proofs.Common.{◌≡◌, ℕ, ◌==◌, List, [], ◌∷◌, ◌++◌, length, map, take, Bool, true, false, cond, not, ◌||◌, refl, ap, subst, arith, Option, Some, None, Result, Ok, Err}
+-- What a bound statement has of the text that it is of: the values of the rows of an INSERT, and those that SET gives, can be told;
+-- and in tables with columns a query has an item or more.
+use Rattle.std.proofs.Common.{◌≡◌, ℕ, List, [], ◌∷◌, ◌++◌, map, take, Bool, true, false, cond, ◌||◌, refl, ap, subst, Option, Some, None, Result, Ok, Err}
 use Rattle.std.specs.Prelude.{slice_get, is_none, bytes_eq, unwrap_or}
 use Rattle.std.specs.List.{AllByRecursion, list_any}
-use Rattle.std.proofs.lemmas.Bool.{or_parts, eqb-true, not-false}
+use Rattle.std.proofs.lemmas.Bool.{or_parts}
 use Rattle.std.proofs.lemmas.Option.{same_Some}
 use Rattle.cdb_values.specs.Named.{Place, found_at, with_place, table_named}
 use Rattle.cdb_values.specs.Tables.{place_of}
@@ -11,10 +11,10 @@ use Rattle.cdb_values.specs.declared.tables.ColumnDef.{ColumnDef}
 use Rattle.cdb_values.specs.declared.tables.TableDef.{TableDef}
 use Rattle.cdb_values.specs.declared.values.Value.{Value}
 use Rattle.session_language.proofs.EachLaws.{all_found}
-use Rattle.session_language.specs.Spelled.{IsToldValue, IsToldRow}
+use Rattle.session_language.specs.Spelled.{IsToldValue, IsToldRow, SpellsRow}
 use Rattle.sql_bind.specs.Binding.{binding}
 use Rattle.sql_bind.specs.Bound.{BoundStatement, BeginIt, CommitIt, RollbackIt, SetIt, InsertInto, UpdateOf, DeleteFrom, SelectOf}
-use Rattle.sql_bind.specs.Faults.{Kind, UnknownTable, UnknownColumn, AmbiguousName, WrongType, WrongCount, has_unknown_table, has_unknown_column, has_ambiguous_name, has_wrong_type, has_wrong_count, width}
+use Rattle.sql_bind.specs.Faults.{Kind, UnknownTable, UnknownColumn, AmbiguousName, WrongType, WrongCount, has_unknown_table, has_unknown_column, has_ambiguous_name, has_wrong_type, has_wrong_count}
 use Rattle.sql_bind.specs.Meaning.{value_of, bound_side, listed_value, bound_row, bound_setting, bound_item, columns_from, bound_items, bound_as}
 use Rattle.sql_bind.specs.Scope.{Visible, target, visible, visible_at, is_unknown_table, named_ones}
 use Rattle.sql_bind.specs.declared.types.BoundAssign.{BoundAssign}
@@ -22,7 +22,7 @@ use Rattle.sql_bind.specs.declared.types.BoundItem.{BoundItem}
 use Rattle.sql_bind.specs.declared.types.BoundOperand.{BoundOperand}
 use Rattle.sql_bind.specs.declared.types.BoundOperand.TheVariants as operand
 use Rattle.sql_grammar.specs.Trees as written
-use Rattle.sql_grammar.specs.Trees.{Name, Constant, Side, OfLiteral, OfColumn, Item, Query, Setting, Source, Statement}
+use Rattle.sql_grammar.specs.Trees.{Name, Constant, Side, OfLiteral, OfColumn, Item, Setting, Source, Statement}
 use Rattle.sql_run.specs.Spelled.{HasColumn, HasColumns}
 use Rattle.sql_run.proofs.GrammarLemmas.{IsConstant, HasValue, HasOne, HasItems, IsWritten}
 
@@ -42,7 +42,18 @@ IsBoundWell (SetIt level) = Unit {0}
 IsBoundWell (InsertInto table rows) = AllByRecursion IsToldRow rows
 IsBoundWell (UpdateOf table assigns filter) = AllByRecursion GivesValue assigns
 IsBoundWell (DeleteFrom table filter) = Unit {0}
-IsBoundWell (SelectOf query) = HasOne query.items
+IsBoundWell (SelectOf query) = Unit {0}
+
+-- a query has an item or more
+abbrev pub HasAnItem : BoundStatement → Type 0
+HasAnItem BeginIt = Unit {0}
+HasAnItem CommitIt = Unit {0}
+HasAnItem RollbackIt = Unit {0}
+HasAnItem (SetIt level) = Unit {0}
+HasAnItem (InsertInto table rows) = Unit {0}
+HasAnItem (UpdateOf table assigns filter) = Unit {0}
+HasAnItem (DeleteFrom table filter) = Unit {0}
+HasAnItem (SelectOf query) = HasOne query.items
 
 -- ---- a statement that is bound has none of the errors
 
@@ -129,7 +140,7 @@ all_listed : (names : List Name) (literals : List Constant) (columns : List Colu
 all_listed names literals [] all = tt
 all_listed names literals (column ∷ columns) all = (listed_is names literals column.name all, all_listed names literals columns all)
 
-pub row_from : (row : List Value) → HasOne row → AllByRecursion IsToldValue row → IsToldRow row
+pub row_from : (row : List Value) → HasOne row → AllByRecursion IsToldValue row → SpellsRow row
 row_from [] has all = absurd has
 row_from (v ∷ vs) has all = all
 
@@ -137,26 +148,14 @@ mapped_has : {A B : Type 0} (f : A → B) (xs : List A) → HasOne xs → HasOne
 mapped_has f [] has = absurd has
 mapped_has f (x ∷ xs) has = tt
 
-as_many : {A B : Type 0} (xs : List A) (ys : List B) → length xs ≡ length ys → HasOne ys → HasOne xs
-as_many [] [] same has = absurd has
-as_many [] (y ∷ ys) same has = absurd (omega arith)
-as_many (x ∷ xs) ys same has = tt
+row_is : (table : Visible) (names : Option (List Name)) (literals : List Constant) → AllByRecursion IsConstant literals → IsToldRow (bound_row table names literals)
+row_is table None literals all = values_are literals all
+row_is table (Some names) literals all = all_listed names literals table.columns all
 
-row_is : (table : Visible) (names : Option (List Name)) (literals : List Constant) → HasOne table.columns → AllByRecursion IsConstant literals
-    → not (length literals == width table names) ≡ false → IsToldRow (bound_row table names literals)
-row_is table None literals has all counted =
-    let same : length literals ≡ length table.columns = eqb-true (length literals) (length table.columns) (not-false (length literals == length table.columns) counted) in
-    row_from (map value_of literals) (mapped_has value_of literals (as_many literals table.columns same has)) (values_are literals all)
-row_is table (Some names) literals has all counted =
-    row_from (map (λ column. listed_value names literals column.name) table.columns)
-    (mapped_has (λ (column : ColumnDef). listed_value names literals column.name) table.columns has) (all_listed names literals table.columns all)
-
-rows_are : (table : Visible) (names : Option (List Name)) (rows : List (List Constant)) → HasOne table.columns → AllByRecursion (AllByRecursion IsConstant) rows
-    → list_any (λ row. not (length row == width table names)) rows ≡ false → AllByRecursion IsToldRow (map (bound_row table names) rows)
-rows_are table names [] has all counted = tt
-rows_are table names (row ∷ rows) has all counted =
-    let parts = or_parts (not (length row == width table names)) (list_any (λ (r : List Constant). not (length r == width table names)) rows) counted in
-    (row_is table names row has all.0 parts.0, rows_are table names rows has all.1 parts.1)
+rows_are : (table : Visible) (names : Option (List Name)) (rows : List (List Constant)) → AllByRecursion (AllByRecursion IsConstant) rows
+    → AllByRecursion IsToldRow (map (bound_row table names) rows)
+rows_are table names [] all = tt
+rows_are table names (row ∷ rows) all = (row_is table names row all.0, rows_are table names rows all.1)
 
 -- ---- UPDATE
 
@@ -188,21 +187,36 @@ pub first_known : (b : Bool) → (b || false) ≡ false → b ≡ false
 first_known true is = absurd cc
 first_known false is = refl
 
-bound_is : (tables : List TableDef) (s : Statement) → AllByRecursion HasColumns tables → IsWritten s → has_unknown_table tables s ≡ false → has_wrong_count tables s ≡ false → IsBoundWell (bound_as tables s)
+bound_is : (tables : List TableDef) (s : Statement) → IsWritten s → IsBoundWell (bound_as tables s)
 unfolding bound_as
-bound_is tables written.BeginIt all is known counted = tt
-bound_is tables written.CommitIt all is known counted = tt
-bound_is tables written.RollbackIt all is known counted = tt
-bound_is tables written.SnapshotIt all is known counted = tt
-bound_is tables written.SerializableIt all is known counted = tt
-bound_is tables (written.InsertInto table names rows) all is known counted =
-    rows_are (target tables table) names rows (has_columns tables table table all (first_known (is_unknown_table tables table) known)) is counted
-bound_is tables (written.UpdateOf table settings filter) all is known counted = settings_are (target tables table ∷ []) settings is
-bound_is tables (written.DeleteFrom table filter) all is known counted = tt
-bound_is tables (written.SelectOf query) all is known counted = items_have tables query.items query.tables all is.0 is.1 known
+bound_is tables written.BeginIt is = tt
+bound_is tables written.CommitIt is = tt
+bound_is tables written.RollbackIt is = tt
+bound_is tables written.SnapshotIt is = tt
+bound_is tables written.SerializableIt is = tt
+bound_is tables (written.InsertInto table names rows) is = rows_are (target tables table) names rows is
+bound_is tables (written.UpdateOf table settings filter) is = settings_are (target tables table ∷ []) settings is
+bound_is tables (written.DeleteFrom table filter) is = tt
+bound_is tables (written.SelectOf query) is = tt
 
--- a statement of a text that is UTF-8, bound in tables with columns
-pub bound_well : (tables : List TableDef) (s : Statement) (b : BoundStatement) → AllByRecursion HasColumns tables → IsWritten s → binding tables s ≡ Ok b → IsBoundWell b
-bound_well tables s b all is binds =
+item_is : (tables : List TableDef) (s : Statement) → AllByRecursion HasColumns tables → IsWritten s → has_unknown_table tables s ≡ false → HasAnItem (bound_as tables s)
+unfolding bound_as
+item_is tables written.BeginIt all is known = tt
+item_is tables written.CommitIt all is known = tt
+item_is tables written.RollbackIt all is known = tt
+item_is tables written.SnapshotIt all is known = tt
+item_is tables written.SerializableIt all is known = tt
+item_is tables (written.InsertInto table names rows) all is known = tt
+item_is tables (written.UpdateOf table settings filter) all is known = tt
+item_is tables (written.DeleteFrom table filter) all is known = tt
+item_is tables (written.SelectOf query) all is known = items_have tables query.items query.tables all is.0 is.1 known
+
+-- a statement of a text that is UTF-8
+pub bound_well : (tables : List TableDef) (s : Statement) (b : BoundStatement) → IsWritten s → binding tables s ≡ Ok b → IsBoundWell b
+bound_well tables s b is binds = subst IsBoundWell (faultless tables s b binds).is (bound_is tables s is)
+
+-- the same, bound in tables with columns
+pub items_bound : (tables : List TableDef) (s : Statement) (b : BoundStatement) → AllByRecursion HasColumns tables → IsWritten s → binding tables s ≡ Ok b → HasAnItem b
+items_bound tables s b all is binds =
     let f = faultless tables s b binds in
-    subst IsBoundWell f.is (bound_is tables s all is f.table f.count)
+    subst HasAnItem f.is (item_is tables s all is f.table)

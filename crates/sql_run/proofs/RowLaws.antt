@@ -1,5 +1,6 @@
--- Over rows of the grammar of reports, SQL answers by such rows and leaves operations that write such rows.
-use Rattle.std.proofs.Common.{◌≡◌, ℕ, zero, suc, ◌+◌, ◌==◌, List, [], ◌∷◌, ◌++◌, length, map, filter, Bool, true, false, ltb, refl, subst, Option, Some, None, Ok, Err, Result, ◌+ℤ◌, ◌-ℤ◌}
+-- Over rows of values that can be told, SQL leaves operations that write such rows, and in tables with columns it answers by rows of
+-- the grammar of reports.
+use Rattle.std.proofs.Common.{◌≡◌, ℕ, ◌+◌, ◌==◌, List, [], ◌∷◌, ◌++◌, length, map, filter, Bool, true, false, ltb, refl, subst, Option, Some, None, Ok, Err, Result, ◌+ℤ◌, ◌-ℤ◌}
 use Rattle.std.specs.Prelude.{slice_get, slice_set, option_map}
 use Rattle.std.specs.Option.{option_and_then}
 use Rattle.std.specs.List.{AllByRecursion, cons_option, filter_map}
@@ -19,9 +20,9 @@ use Rattle.cdb_values.specs.declared.values.Value.TheVariants.{Null, Int, Text, 
 use Rattle.net_writes.specs.Net.{net_of}
 use Rattle.session_language.proofs.EachLaws.{all_append}
 use Rattle.session_language.proofs.AllLaws.{all_got, all_exchanged, all_filtered}
-use Rattle.session_language.specs.Spelled.{IsToldValue, IsToldRow, SpellsReply, WritesRow, HaveRows}
-use Rattle.report_text.specs.declared.reports.ReplyLine.{ReplyLine}
-use Rattle.report_text.specs.declared.reports.ReplyLine.TheVariants as reply
+use Rattle.session_language.specs.Spelled.{IsToldValue, IsToldRow, SpellsReply, SpellsRow, WritesRow, HaveRows}
+use Rattle.cdb_values.specs.declared.replies.Reply.{Reply}
+use Rattle.cdb_values.specs.declared.replies.Reply.TheVariants as reply
 use Rattle.sql_answer.specs.Answers.{Meaning, Outcome, Fails, Gives, told_only, net_given, given_unless, rows_met, updating, deleting, items_used, rows_given, finished, finish, found, tables_read, answer}
 use Rattle.sql_answer.specs.Combinations.{Seen, seen_version, own_or, own_from, is_left, of_table, seen, rows_of}
 use Rattle.sql_answer.specs.Conditions.{operand_value}
@@ -41,7 +42,7 @@ use Rattle.sql_bind.specs.declared.types.BoundOperand.TheVariants as operand
 use Rattle.sql_bind.specs.declared.types.BoundStep.{BoundStep}
 use Rattle.sql_grammar.specs.Trees.{Statement}
 use Rattle.sql_run.specs.Spelled.{HasColumns, RepliesBySuchRows, LeavesSuchRows}
-use Rattle.sql_run.proofs.BoundLemmas.{IsOperand, GivesValue, IsBoundWell, bound_well}
+use Rattle.sql_run.proofs.BoundLemmas.{IsOperand, GivesValue, IsBoundWell, HasAnItem, bound_well, items_bound}
 use Rattle.sql_run.proofs.CombinationLemmas.{all_found, all_met, each_of}
 use Rattle.sql_run.proofs.GrammarLemmas.{written}
 use Rattle.sql_run.proofs.NetLemmas.{net_writes_rows}
@@ -133,9 +134,7 @@ operand_is old (operand.Value value) all is = is
 operand_is old (operand.Column column) all is = column_is old column all
 
 row_exchanged : (row : List Value) (column : ℕ) (value : Value) → IsToldRow row → IsToldValue value → IsToldRow (slice_set row column value)
-row_exchanged [] column value is good = absurd is
-row_exchanged (v ∷ vs) zero value is good = (good, is.1)
-row_exchanged (v ∷ vs) (suc column) value is good = (is.0, all_exchanged IsToldValue vs column value is.1 good)
+row_exchanged row column value is good = all_exchanged IsToldValue row column value is good
 
 abbrev RowIs : Option (List Value) → Type 0
 RowIs None = Unit {0}
@@ -235,56 +234,71 @@ unless_tells : (cause : Option StatementError) (ops writes : List RowOp) → Tel
 unless_tells (Some cause) ops writes = (tt, tt)
 unless_tells None ops writes = net_tells ops writes
 
-replies_tell : (rows : List (List Value)) (last : List ReplyLine) → AllByRecursion IsToldRow rows → AllByRecursion SpellsReply last → AllByRecursion SpellsReply (map (λ row. reply.Row row) rows ++ last)
+replies_tell : (rows : List (List Value)) (last : List Reply) → AllByRecursion SpellsRow rows → AllByRecursion SpellsReply last → AllByRecursion SpellsReply (map (λ row. reply.Row row) rows ++ last)
 replies_tell [] last all is = is
 replies_tell (row ∷ rows) last all is = (all.0, replies_tell rows last all.1 is)
 
-rows_tell : (uses : List GenidItem) (ops : List RowOp) (o : Option (List (List Value))) → ((rows : List (List Value)) → o ≡ Some rows → AllByRecursion IsToldRow rows) → TellsRows ops (rows_given uses ops o)
+rows_tell : (uses : List GenidItem) (ops : List RowOp) (o : Option (List (List Value))) → ((rows : List (List Value)) → o ≡ Some rows → AllByRecursion SpellsRow rows) → TellsRows ops (rows_given uses ops o)
 rows_tell uses ops None each = (tt, tt)
 rows_tell uses ops (Some rows) each = replies_tell rows (reply.Done (length rows) ∷ []) (each rows refl) (tt, tt)
 
-finished_tells : (tables : List TableDef) (s : BoundStatement) (ops : List RowOp) (combos : List (List Seen)) → IsBoundWell s → AllByRecursion (AllByRecursion IsSeen) combos
+finished_tells : (tables : List TableDef) (s : BoundStatement) (ops : List RowOp) (combos : List (List Seen)) → HasAnItem s → AllByRecursion (AllByRecursion IsSeen) combos
     → TellsRows ops (finished tables s ops combos)
-finished_tells tables BeginIt ops combos well are = (tt, tt)
-finished_tells tables CommitIt ops combos well are = (tt, tt)
-finished_tells tables RollbackIt ops combos well are = (tt, tt)
-finished_tells tables (SetIt level) ops combos well are = (tt, tt)
-finished_tells tables (InsertInto table rows) ops combos well are = unless_tells (rows_error (slice_get tables table) (map (λ row. Some row) rows)) ops (map (op.Insert table) rows)
-finished_tells tables (UpdateOf table assigns condition) ops combos well are =
+finished_tells tables BeginIt ops combos has are = (tt, tt)
+finished_tells tables CommitIt ops combos has are = (tt, tt)
+finished_tells tables RollbackIt ops combos has are = (tt, tt)
+finished_tells tables (SetIt level) ops combos has are = (tt, tt)
+finished_tells tables (InsertInto table rows) ops combos has are = unless_tells (rows_error (slice_get tables table) (map (λ row. Some row) rows)) ops (map (op.Insert table) rows)
+finished_tells tables (UpdateOf table assigns condition) ops combos has are =
     unless_tells (rows_error (slice_get tables table) (map (λ s. set_row assigns s.row) (rows_met combos))) ops (filter_map (updating table assigns) (rows_met combos))
-finished_tells tables (DeleteFrom table condition) ops combos well are = net_tells ops (map (deleting table) (rows_met combos))
-finished_tells tables (SelectOf query) ops combos well are =
-    rows_tell (items_used query combos) ops (shape query (map rows_of combos)) (λ rows given. shaped query (map rows_of combos) rows well (all_rows_are combos are) given)
+finished_tells tables (DeleteFrom table condition) ops combos has are = net_tells ops (map (deleting table) (rows_met combos))
+finished_tells tables (SelectOf query) ops combos has are =
+    rows_tell (items_used query combos) ops (shape query (map rows_of combos)) (λ rows given. shaped query (map rows_of combos) rows has (all_rows_are combos are) given)
 
-finish_tells : (tables : List TableDef) (s : Meaning) (ops : List RowOp) (combos : List (List Seen)) → IsWell s → AllByRecursion (AllByRecursion IsSeen) combos
+abbrev HasItems : Meaning → Type 0
+HasItems (Ok s) = HasAnItem s
+HasItems (Err cause) = Unit {0}
+
+finish_tells : (tables : List TableDef) (s : Meaning) (ops : List RowOp) (combos : List (List Seen)) → HasItems s → AllByRecursion (AllByRecursion IsSeen) combos
     → TellsRows ops (finish tables s ops combos)
 unfolding finish
-finish_tells tables (Ok s) ops combos well are = finished_tells tables s ops combos well are
-finish_tells tables (Err cause) ops combos well are = (tt, tt)
+finish_tells tables (Ok s) ops combos has are = finished_tells tables s ops combos has are
+finish_tells tables (Err cause) ops combos has are = (tt, tt)
 
 -- ---- what a text means
 
-bound_means : (tables : List TableDef) (s : Statement) → AllByRecursion HasColumns tables → ((b : BoundStatement) → binding tables s ≡ Ok b → IsBoundWell b) → IsWell (bound_in tables s)
-bound_means tables s has each = go (binding tables s) each
+bound_means : (P : BoundStatement → Type 0) (Q : Meaning → Type 0) (tables : List TableDef) (s : Statement) → ((b : BoundStatement) → P b → Q (Ok b))
+    → ((cause : StatementError) → Q (Err cause)) → ((b : BoundStatement) → binding tables s ≡ Ok b → P b) → Q (bound_in tables s)
+bound_means P Q tables s bound failed each = go (binding tables s) each
   where
-    go : (r : Result BoundStatement Kind) → ((b : BoundStatement) → r ≡ Ok b → IsBoundWell b) → IsWell (meant_as r)
-    go (Ok b) each = each b refl
-    go (Err kind) each = tt
+    go : (r : Result BoundStatement Kind) → ((b : BoundStatement) → r ≡ Ok b → P b) → Q (meant_as r)
+    go (Ok b) each = bound b (each b refl)
+    go (Err kind) each = failed _
 
-pub means_well : (tables : List TableDef) (text : List ℕ) → AllByRecursion HasColumns tables → is_utf8 text ≡ true → IsWell (meaning bound_in tables text)
+pub means_well : (tables : List TableDef) (text : List ℕ) → is_utf8 text ≡ true → IsWell (meaning bound_in tables text)
 unfolding meaning
-means_well tables text has utf8 = go (reading text) refl
+means_well tables text utf8 = go (reading text) refl
   where
     go : (r : Result Statement ℕ) → reading text ≡ r → IsWell (meant_by bound_in tables r)
-    go (Ok s) read = bound_means tables s has (λ b binds. bound_well tables s b has (written text s utf8 (reading_spells text s read)) binds)
+    go (Ok s) read =
+        bound_means IsBoundWell IsWell tables s (λ b is. is) (λ cause. tt) (λ b binds. bound_well tables s b (written text s utf8 (reading_spells text s read)) binds)
+    go (Err at) read = tt
+
+means_items : (tables : List TableDef) (text : List ℕ) → AllByRecursion HasColumns tables → is_utf8 text ≡ true → HasItems (meaning bound_in tables text)
+unfolding meaning
+means_items tables text has utf8 = go (reading text) refl
+  where
+    go : (r : Result Statement ℕ) → reading text ≡ r → HasItems (meant_by bound_in tables r)
+    go (Ok s) read =
+        bound_means HasAnItem HasItems tables s (λ b is. is) (λ cause. tt) (λ b binds. items_bound tables s b has (written text s utf8 (reading_spells text s read)) binds)
     go (Err at) read = tt
 
 pub replies_by_such_rows : RepliesBySuchRows
 replies_by_such_rows tables versions done text has utf8 have all =
     tells_too (reads_of tables versions done (meaning bound_in tables text)) done (answer tables versions done (meaning bound_in tables text))
-    (finish_tells tables (meaning bound_in tables text) done (found versions done (meaning bound_in tables text)) (means_well tables text has utf8) (all_found_are versions done (meaning bound_in tables text) have all))
+    (finish_tells tables (meaning bound_in tables text) done (found versions done (meaning bound_in tables text)) (means_items tables text has utf8) (all_found_are versions done (meaning bound_in tables text) have all))
 
 pub leaves_such_rows : LeavesSuchRows
-leaves_such_rows tables versions done text has utf8 have all =
+leaves_such_rows tables versions done text utf8 have all =
     leaves_too (reads_of tables versions done (meaning bound_in tables text)) done (answer tables versions done (meaning bound_in tables text))
-    (finish_leaves tables (meaning bound_in tables text) done (found versions done (meaning bound_in tables text)) (means_well tables text has utf8) all (all_found_are versions done (meaning bound_in tables text) have all))
+    (finish_leaves tables (meaning bound_in tables text) done (found versions done (meaning bound_in tables text)) (means_well tables text utf8) all (all_found_are versions done (meaning bound_in tables text) have all))

@@ -1,12 +1,10 @@
--- The rows that a query gives of combinations of rows of the grammar are such rows: it has an item or more, SUM stays within
--- 64 bits, and COUNT counts fewer combinations than 2 ^ 63.
-use Rattle.std.proofs.Common.{◌≡◌, ℕ, zero, suc, ◌+◌, ◌<◌, ◌≤◌, ◌^◌, List, [], ◌∷◌, ◌++◌, length, map, take, Bool, true, false, cond, refl, subst, arith, Option, Some, None, pos, negsuc}
+-- The rows that a query gives of combinations of rows whose values can be told are rows of the grammar: it has an item or more,
+-- SUM stays within 64 bits, and COUNT counts fewer combinations than 2 ^ 63.
+use Rattle.std.proofs.Common.{◌≡◌, ℕ, zero, suc, ◌+◌, List, [], ◌∷◌, ◌++◌, length, map, take, Bool, true, false, cond, refl, subst, Option, Some, None, pos}
 use Rattle.std.specs.Prelude.{ℤ, slice_get, option_map}
 use Rattle.std.specs.Option.{option_and_then}
 use Rattle.std.specs.Ordering.{is_lt, is_gt}
 use Rattle.std.specs.List.{AllByRecursion}
-use Rattle.std.proofs.lemmas.Bool.{ltb-true}
-use Rattle.std.proofs.lemmas.List.{length-append}
 use Rattle.std.proofs.lemmas.Option.{same_Some}
 use Rattle.cdb_values.specs.Good.{same_values}
 use Rattle.cdb_values.specs.Order.{value_order}
@@ -14,7 +12,7 @@ use Rattle.cdb_values.specs.declared.values.Value.{Value}
 use Rattle.cdb_values.specs.declared.values.Value.TheVariants.{Null, Int}
 use Rattle.session_language.proofs.EachLaws.{all_append}
 use Rattle.session_language.proofs.AllLaws.{all_filtered}
-use Rattle.session_language.specs.Spelled.{IsToldValue, IsToldRow}
+use Rattle.session_language.specs.Spelled.{IsToldValue, IsToldRow, SpellsRow}
 use Rattle.sql_answer.specs.Aggregates.{is_64_bits, int_value, integers, total, sum_of, known, least_from, least, greatest_from, greatest, values_in, first_of, item_value, all_there, item_values}
 use Rattle.sql_answer.specs.Conditions.{cell, cell_of, column_value}
 use Rattle.sql_answer.specs.Shapes.{Group, group, Keyed, keyed, is_below, is_grouped, key_items, grouped_with, values_at, grouped_from, grouped, groups_by, groups_of, projected, placed, sorted, ordered, limited, projections, arranged, shape}
@@ -30,22 +28,18 @@ Rows = List (List Value)
 
 -- ---- values
 
-row_values : (row : List Value) → IsToldRow row → AllByRecursion IsToldValue row
-row_values [] is = absurd is
-row_values (v ∷ vs) is = is
-
 cell_is : (row : List Value) (column : ℕ) → AllByRecursion IsToldValue row → IsToldValue (cell row column)
 cell_is [] column all = tt
 cell_is (v ∷ vs) zero all = all.0
 cell_is (v ∷ vs) (suc column) all = cell_is vs column all.1
 
--- the value of a column in rows of the grammar
+-- the value of a column in rows of values that can be told
 pub column_is : (rows : Rows) (column : BoundColumn) → AllByRecursion IsToldRow rows → IsToldValue (column_value rows column)
 column_is rows column all = go rows column.place all
   where
     go : (rest : Rows) (place : ℕ) → AllByRecursion IsToldRow rest → IsToldValue (cell_of (slice_get rest place) column.column)
     go [] place all = tt
-    go (row ∷ rest) zero all = cell_is row column.column (row_values row all.0)
+    go (row ∷ rest) zero all = cell_is row column.column all.0
     go (row ∷ rest) (suc place) all = go rest place all.1
 
 values_are : (members : List Rows) (column : BoundColumn) → AllByRecursion (AllByRecursion IsToldRow) members → AllByRecursion IsToldValue (values_in members column)
@@ -137,7 +131,7 @@ mapped_has : {A B : Type 0} (f : A → B) (xs : List A) → HasOne xs → HasOne
 mapped_has f [] has = absurd has
 mapped_has f (x ∷ xs) has = tt
 
-row_is : (members : List Rows) (items : List BoundItem) (row : List Value) → HasOne items → IsGroup members → item_values members items ≡ Some row → IsToldRow row
+row_is : (members : List Rows) (items : List BoundItem) (row : List Value) → HasOne items → IsGroup members → item_values members items ≡ Some row → SpellsRow row
 row_is members items row has is same =
     row_from row (there_has (map (item_value members) items) row (mapped_has (item_value members) items has) same)
     (all_there_are (item_value members) (λ (i : BoundItem). Unit {0}) IsToldValue (λ i v any given. item_is members i v is given) items row (free items) same)
@@ -180,12 +174,12 @@ groups_are true (column ∷ columns) combinations all =
 -- ---- rows with their keys
 
 abbrev IsKeyed : Keyed → Type 0
-IsKeyed k = IsToldRow k.row
+IsKeyed k = SpellsRow k.row
 
 projected_is : (query : BoundQuery) (members : List Rows) (k : Keyed) → HasOne query.items → IsGroup members → projected query members ≡ Some k → IsKeyed k
 projected_is query members k has is same = go (item_values members query.items) refl same
   where
-    with_keys : (row : List Value) → IsToldRow row → (o : Option (List Value)) → option_map (keyed row) o ≡ Some k → IsKeyed k
+    with_keys : (row : List Value) → SpellsRow row → (o : Option (List Value)) → option_map (keyed row) o ≡ Some k → IsKeyed k
     with_keys row good None same = absurd cc
     with_keys row good (Some keys) same = subst IsKeyed (same_Some (keyed row keys) k same) good
 
@@ -205,32 +199,32 @@ sorted_are : (below : Keyed → Keyed → Bool) (ks : List Keyed) → AllByRecur
 sorted_are below [] all = tt
 sorted_are below (k ∷ ks) all = placed_are below k (sorted below ks) all.0 (sorted_are below ks all.1)
 
-told_are : (ks : List Keyed) → AllByRecursion IsKeyed ks → AllByRecursion IsToldRow (map (λ k. k.row) ks)
+told_are : (ks : List Keyed) → AllByRecursion IsKeyed ks → AllByRecursion SpellsRow (map (λ k. k.row) ks)
 told_are [] all = tt
 told_are (k ∷ ks) all = (all.0, told_are ks all.1)
 
-taken_are : (most : ℕ) (rows : Rows) → AllByRecursion IsToldRow rows → AllByRecursion IsToldRow (take most rows)
+taken_are : (most : ℕ) (rows : Rows) → AllByRecursion SpellsRow rows → AllByRecursion SpellsRow (take most rows)
 taken_are zero rows all = tt
 taken_are (suc most) [] all = tt
 taken_are (suc most) (row ∷ rows) all = (all.0, taken_are most rows all.1)
 
-limited_are : (limit : Option ℕ) (rows : Rows) → AllByRecursion IsToldRow rows → AllByRecursion IsToldRow (limited limit rows)
+limited_are : (limit : Option ℕ) (rows : Rows) → AllByRecursion SpellsRow rows → AllByRecursion SpellsRow (limited limit rows)
 limited_are None rows all = all
 limited_are (Some most) rows all = taken_are most rows all
 
-arranged_are : (query : BoundQuery) (ks : List Keyed) → AllByRecursion IsKeyed ks → AllByRecursion IsToldRow (arranged query ks)
+arranged_are : (query : BoundQuery) (ks : List Keyed) → AllByRecursion IsKeyed ks → AllByRecursion SpellsRow (arranged query ks)
 arranged_are query ks all = limited_are query.limit (map (λ k. k.row) (ordered query.order ks)) (told_are (ordered query.order ks) (sorted_are (is_below query.order) ks all))
 
 -- the rows of a query
 pub shaped : (query : BoundQuery) (combinations : List Rows) (rows : Rows) → HasOne query.items → AllByRecursion (AllByRecursion IsToldRow) combinations
-    → shape query combinations ≡ Some rows → AllByRecursion IsToldRow rows
+    → shape query combinations ≡ Some rows → AllByRecursion SpellsRow rows
 unfolding shape
 shaped query combinations rows has all same = go (projections query combinations) refl same
   where
-    go : (o : Option (List Keyed)) → projections query combinations ≡ o → option_map (arranged query) o ≡ Some rows → AllByRecursion IsToldRow rows
+    go : (o : Option (List Keyed)) → projections query combinations ≡ o → option_map (arranged query) o ≡ Some rows → AllByRecursion SpellsRow rows
     go None given same = absurd cc
     go (Some ks) given same =
-        subst (AllByRecursion IsToldRow) (same_Some (arranged query ks) rows same)
+        subst (AllByRecursion SpellsRow) (same_Some (arranged query ks) rows same)
         (arranged_are query ks
         (all_there_are (projected query) IsGroup IsKeyed (λ members k is given. projected_is query members k has is given) (groups_of query combinations) ks
         (groups_are (is_grouped query) query.group combinations all) given))

@@ -25,7 +25,7 @@ use Rattle.net_writes.proofs.CountLemmas.{at_suc}
 use Rattle.net_writes.specs.Net.{held_of, net_of}
 use Rattle.session_language.proofs.EachLaws.{all_append, all_found as found_in_all}
 use Rattle.session_language.proofs.AllLaws.{all_filtered}
-use Rattle.report_text.specs.declared.reports.ReplyLine.TheVariants as reply
+use Rattle.cdb_values.specs.declared.replies.Reply.TheVariants as reply
 use Rattle.sql_answer.specs.Answers.{Meaning, Outcome, Fails, Gives, told_only, net_given, given_unless, rows_met, updating, deleting, items_used, rows_given, finished, finish, found, tables_read, answer}
 use Rattle.sql_answer.specs.Combinations.{Seen, seen_version, own_or, own_from, is_left, of_table, seen, rows_of}
 use Rattle.sql_answer.specs.Language.{answered, bound_in, meaning, meant_by, meant_as}

@@ -1,7 +1,6 @@
--- What a text of SQL has to be given, so that it is answered by rows of the grammar of reports, but for the sizes of
--- integers, and leaves operations that write such rows: tables with a column or more, and a text that is UTF-8.
---
--- Without the first, `*` is no item, and a row without values is told. Without the second, a literal is no text.
+-- What a text of SQL has to be given, so that it leaves operations that write rows of values that can be told: a text that is
+-- UTF-8, since else a literal is no text. So that it is answered by rows of the grammar of reports, but for the sizes of integers,
+-- the tables have to have a column or more, too: else `*` is no item, and a row without values is told.
 use Rattle.std.specs.Prelude.{◌≡◌, ℕ, List, [], ◌∷◌, true}
 use Rattle.std.specs.List.{AllByRecursion}
 use Rattle.std.specs.Str.{is_utf8}
@@ -20,13 +19,13 @@ HasColumn (column ∷ columns) = Unit {0}
 abbrev pub HasColumns : TableDef → Type 0
 HasColumns table = HasColumn table.columns
 
--- what holds of each text over such tables and rows, behind such operations
+-- what holds of each text over such tables, over rows of values that can be told, and behind operations that write such rows
 abbrev pub RepliesBySuchRows : Type 0
 RepliesBySuchRows = (tables : List TableDef) (versions : List (List Version)) (done : List RowOp) (text : List ℕ)
     → AllByRecursion HasColumns tables → is_utf8 text ≡ true
     → HaveRows versions → AllByRecursion WritesRow done → AllByRecursion SpellsReply (sql_language.answer tables versions done text).replies
 
+-- and over any tables
 abbrev pub LeavesSuchRows : Type 0
-LeavesSuchRows = (tables : List TableDef) (versions : List (List Version)) (done : List RowOp) (text : List ℕ)
-    → AllByRecursion HasColumns tables → is_utf8 text ≡ true
+LeavesSuchRows = (tables : List TableDef) (versions : List (List Version)) (done : List RowOp) (text : List ℕ) → is_utf8 text ≡ true
     → HaveRows versions → AllByRecursion WritesRow done → AllByRecursion WritesRow (sql_language.answer tables versions done text).ops

@@ -2,11 +2,11 @@
 ghost use Rattle.sql_run.specs.Sound.{LeavesSoundOps};
 ghost use Rattle.sql_run.specs.Spelled.{RepliesBySuchRows, LeavesSuchRows};
 
-/// Over rows of the grammar of reports each text is answered by such rows and leaves operations that write such rows: a
-/// row has one value or more, a text is UTF-8, and a blob is of bytes. That an integer has 64 bits is said of the code's
-/// values by their type.
+/// Over rows of values that can be told each text leaves operations that write such rows (`ops`): a text is UTF-8, and a blob
+/// is of bytes. That an integer has 64 bits is said of the code's values by their type. Where the tables have a column or more
+/// each, it is answered by rows of the grammar of reports (`replies`), which have a value.
 ///
-/// The tables have to have a column or more each, and the text to be UTF-8.
+/// The text has to be UTF-8.
 #[tactic(auto, using(crate::proofs::RowLaws::replies_by_such_rows, crate::proofs::RowLaws::leaves_such_rows))]
 pub fn sql_keeps_rows()
     ensures replies { RepliesBySuchRows }
