@@ -27,8 +27,8 @@ use Rattle.report_laws.specs.Work.{Transaction, Item, Does, Lone, End, ByCommit,
 use Rattle.report_text.specs.declared.reports.EntryLine.{EntryLine}
 use Rattle.report_text.specs.declared.reports.Line.{Line}
 use Rattle.report_text.specs.declared.reports.Line.TheVariants as line
-use Rattle.report_text.specs.declared.reports.ReplyLine.{ReplyLine}
-use Rattle.report_text.specs.declared.reports.ReplyLine.TheVariants as reply
+use Rattle.cdb_values.specs.declared.replies.Reply.{Reply}
+use Rattle.cdb_values.specs.declared.replies.Reply.TheVariants as reply
 use Rattle.report_text.specs.declared.reports.Report.{Report}
 use Rattle.session_language.proofs.AllLaws.{all_behind}
 use Rattle.session_language.proofs.EachLaws.{all_append, all_front, all_map}
@@ -47,37 +47,37 @@ use Rattle.report_laws.proofs.WorkLaws.{after_own, after_other}
 
 -- the replies of a transaction: none but the first is a begin
 
-abbrev IsNoBegin : ReplyLine → Type 0
+abbrev IsNoBegin : Reply → Type 0
 IsNoBegin r = is_begin r ≡ false
 
-plain_no_begin : (r : ReplyLine) → IsPlain r → is_begin r ≡ false
+plain_no_begin : (r : Reply) → IsPlain r → is_begin r ≡ false
 plain_no_begin (reply.Begin position) is = absurd is
 plain_no_begin _ is = refl
 
-decided_no_begin : (r : ReplyLine) → IsDecided r → is_begin r ≡ false
+decided_no_begin : (r : Reply) → IsDecided r → is_begin r ≡ false
 decided_no_begin (reply.Begin position) is = absurd is
 decided_no_begin _ is = refl
 
-cut_no_begin : (r : ReplyLine) → cuts r ≡ true → is_begin r ≡ false
+cut_no_begin : (r : Reply) → cuts r ≡ true → is_begin r ≡ false
 cut_no_begin (reply.Begin position) is = absurd (false≢true is)
 cut_no_begin _ is = refl
 
-one_no_begin : (last : List ReplyLine) → IsOneDecision last → AllByRecursion IsNoBegin last
+one_no_begin : (last : List Reply) → IsOneDecision last → AllByRecursion IsNoBegin last
 one_no_begin [] is = absurd is
 one_no_begin (o ∷ []) is = (decided_no_begin o is, tt)
 one_no_begin (_ ∷ _ ∷ _) is = absurd is
 
-end_no_begin : (end : End) (last : List ReplyLine) → Ends end last → AllByRecursion IsNoBegin last
+end_no_begin : (end : End) (last : List Reply) → Ends end last → AllByRecursion IsNoBegin last
 end_no_begin ByCommit last is = one_no_begin last is
 end_no_begin ByRollback last is = subst (AllByRecursion IsNoBegin) (sym is) (refl, tt)
 end_no_begin WithItsLine last is = one_no_begin last is
 end_no_begin Nowhere last is = subst (AllByRecursion IsNoBegin) (sym is) tt
 
-abbrev HeadAlone : List ReplyLine → Type 0
+abbrev HeadAlone : List Reply → Type 0
 HeadAlone [] = Unit {0}
 HeadAlone (r ∷ rs) = AllByRecursion IsNoBegin rs
 
-cut_alone : (front rest replies : List ReplyLine) (begin : ℕ) (cause : ReplyLine) → front ++ rest ≡ reply.Begin begin ∷ replies → AllByRecursion IsNoBegin replies → is_begin cause ≡ false → HeadAlone (front ++ cause ∷ [])
+cut_alone : (front rest replies : List Reply) (begin : ℕ) (cause : Reply) → front ++ rest ≡ reply.Begin begin ∷ replies → AllByRecursion IsNoBegin replies → is_begin cause ≡ false → HeadAlone (front ++ cause ∷ [])
 cut_alone [] rest replies begin cause fits all is = tt
 cut_alone (r ∷ front) rest replies begin cause fits all is =
     all_append IsNoBegin front (cause ∷ []) (all_front IsNoBegin front rest (subst (AllByRecursion IsNoBegin) (sym (same_tail r (reply.Begin begin) (front ++ rest) replies fits)) all)) (is, tt)
@@ -87,7 +87,7 @@ ran_no_begin basis answers view begin t ran is =
     all_map IsPlain IsNoBegin plain_no_begin ran.replies
     (subst (λ (a : Answered). ArePlain a.replies) (sym is) (plain_alone basis.language answers basis.origin.tables (view.rows begin).tables [] t.texts))
 
-told_alone : (basis : Basis) → Answers basis.language → (view : View) (name : List ℕ) (item : Item) (mine : List ReplyLine) → IsTold basis view name item mine → HeadAlone mine
+told_alone : (basis : Basis) → Answers basis.language → (view : View) (name : List ℕ) (item : Item) (mine : List Reply) → IsTold basis view name item mine → HeadAlone mine
 told_alone basis answers view name (Does t) mine (inl w) =
     subst HeadAlone (sym w.says) (all_append IsNoBegin w.ran.replies w.last (ran_no_begin basis answers view w.begin t w.ran w.is_ran) (end_no_begin t.end w.last w.ends))
 told_alone basis answers view name (Does t) mine (inr c) =
@@ -131,7 +131,7 @@ work_lones language name body =
 -- a begin among what a session was told is the first under its number
 
 -- it stands behind lines of which none is a begin
-quiet_part : (m : ℕ) (rs : List ReplyLine) (others front back : List Numbered) (n begin : ℕ) → AllByRecursion IsNoBegin rs → numbered m rs ++ others ≡ front ++ (n, reply.Begin begin) ∷ back →
+quiet_part : (m : ℕ) (rs : List Reply) (others front back : List Numbered) (n begin : ℕ) → AllByRecursion IsNoBegin rs → numbered m rs ++ others ≡ front ++ (n, reply.Begin begin) ∷ back →
     (later : List Numbered) × (front ≡ numbered m rs ++ later) × (others ≡ later ++ (n, reply.Begin begin) ∷ back)
 quiet_part m [] others front back n begin all is = (front, refl, is)
 quiet_part m (r ∷ rs) others [] back n begin all is =
@@ -143,8 +143,8 @@ quiet_part m (r ∷ rs) others (x ∷ front) back n begin all is =
     (rest.0, ap (λ (y : Numbered). y ∷ front) (sym head) ∙ ap (λ (ls : List Numbered). (m, r) ∷ ls) rest.1, rest.2)
 
 -- so it is the first line of an item, or stands behind the item's lines
-item_begins : (m : ℕ) (mine : List ReplyLine) (others front back : List Numbered) (n begin : ℕ) → HeadAlone mine → numbered m mine ++ others ≡ front ++ (n, reply.Begin begin) ∷ back →
-    ((front ≡ []) × (m ≡ n) × (rs : List ReplyLine) × (mine ≡ reply.Begin begin ∷ rs)) ⊎ ((later : List Numbered) × (front ≡ numbered m mine ++ later) × (others ≡ later ++ (n, reply.Begin begin) ∷ back))
+item_begins : (m : ℕ) (mine : List Reply) (others front back : List Numbered) (n begin : ℕ) → HeadAlone mine → numbered m mine ++ others ≡ front ++ (n, reply.Begin begin) ∷ back →
+    ((front ≡ []) × (m ≡ n) × (rs : List Reply) × (mine ≡ reply.Begin begin ∷ rs)) ⊎ ((later : List Numbered) × (front ≡ numbered m mine ++ later) × (others ≡ later ++ (n, reply.Begin begin) ∷ back))
 item_begins m [] others front back n begin all is = inr (front, refl, is)
 item_begins m (r ∷ rs) others [] back n begin all is =
     let head : (m, r) ≡ (n, reply.Begin begin) = same_head (m, r) (n, reply.Begin begin) (numbered m rs ++ others) back is in
@@ -154,7 +154,7 @@ item_begins m (r ∷ rs) others (x ∷ front) back n begin all is =
     let rest = quiet_part m rs others front back n begin all (same_tail (m, r) x (numbered m rs ++ others) (front ++ (n, reply.Begin begin) ∷ back) is) in
     inr (rest.0, ap (λ (y : Numbered). y ∷ front) (sym head) ∙ ap (λ (ls : List Numbered). (m, r) ∷ ls) rest.1, rest.2)
 
-module _ (P : Item → List ReplyLine → Type 0) (alone : (item : Item) (mine : List ReplyLine) → P item mine → HeadAlone mine) (lone : (answer : ReplyLine) (mine : List ReplyLine) → P (Lone answer) mine → mine ≡ answer ∷ []) where
+module _ (P : Item → List Reply → Type 0) (alone : (item : Item) (mine : List Reply) → P item mine → HeadAlone mine) (lone : (answer : Reply) (mine : List Reply) → P (Lone answer) mine → mine ≡ answer ∷ []) where
   begins_first : (items : List Item) (lines : List Numbered) (bound : ℕ) → AllByRecursion IsNoLoneBegin items → 1 ≤ bound → Rising bound items → Along P items lines →
       (front back : List Numbered) (n begin : ℕ) → lines ≡ front ++ (n, reply.Begin begin) ∷ back → (bound ≤ n) × (of_number n front ≡ [])
   begins_first [] lines bound lones first rising is front back n begin at = absurd (none_at front (sym is ∙ at))
@@ -165,7 +165,7 @@ module _ (P : Item → List ReplyLine → Type 0) (alone : (item : Item) (mine :
   begins_first (Does t ∷ items) lines bound lones first rising (mine, others, splits, p, rest) front back n begin at =
       go (item_begins t.number mine others front back n begin (alone (Does t) mine p) (sym splits ∙ at)) (λ later e. begins_first items others (t.number + 1) lones.1 (omega arith) rising.1 rest later back n begin e)
     where
-      go : ((front ≡ []) × (t.number ≡ n) × (rs : List ReplyLine) × (mine ≡ reply.Begin begin ∷ rs)) ⊎ ((later : List Numbered) × (front ≡ numbered t.number mine ++ later) × (others ≡ later ++ (n, reply.Begin begin) ∷ back)) →
+      go : ((front ≡ []) × (t.number ≡ n) × (rs : List Reply) × (mine ≡ reply.Begin begin ∷ rs)) ⊎ ((later : List Numbered) × (front ≡ numbered t.number mine ++ later) × (others ≡ later ++ (n, reply.Begin begin) ∷ back)) →
           ((later : List Numbered) → others ≡ later ++ (n, reply.Begin begin) ∷ back → (t.number + 1 ≤ n) × (of_number n later ≡ [])) → (bound ≤ n) × (of_number n front ≡ [])
       go (inl (none, same, rs, says)) further = (let le : bound ≤ t.number = rising.0 in omega (arith, le, same), ap (of_number n) none)
       go (inr (later, splits', e)) further =
@@ -177,7 +177,7 @@ module _ (P : Item → List ReplyLine → Type 0) (alone : (item : Item) (mine :
   begins_first (Lone answer ∷ items) lines bound lones first rising (mine, others, splits, p, rest) front back n begin at =
       go (item_begins 0 mine others front back n begin (alone (Lone answer) mine p) (sym splits ∙ at)) (λ later e. begins_first items others bound lones.1 first rising rest later back n begin e)
     where
-      go : ((front ≡ []) × (0 ≡ n) × (rs : List ReplyLine) × (mine ≡ reply.Begin begin ∷ rs)) ⊎ ((later : List Numbered) × (front ≡ numbered 0 mine ++ later) × (others ≡ later ++ (n, reply.Begin begin) ∷ back)) →
+      go : ((front ≡ []) × (0 ≡ n) × (rs : List Reply) × (mine ≡ reply.Begin begin ∷ rs)) ⊎ ((later : List Numbered) × (front ≡ numbered 0 mine ++ later) × (others ≡ later ++ (n, reply.Begin begin) ∷ back)) →
           ((later : List Numbered) → others ≡ later ++ (n, reply.Begin begin) ∷ back → (bound ≤ n) × (of_number n later ≡ [])) → (bound ≤ n) × (of_number n front ≡ [])
       go (inl (none, same, rs, says)) further =
           let its : answer ≡ reply.Begin begin = same_head answer (reply.Begin begin) [] rs (sym (lone answer mine p) ∙ says) in
@@ -188,7 +188,7 @@ module _ (P : Item → List ReplyLine → Type 0) (alone : (item : Item) (mine :
           (above, ap (of_number n) splits' ∙ of_another n 0 mine later (ne_eqb 0 n (λ (same : 0 ≡ n). omega (arith, first, above, same))) ∙ more.1)
 
 -- a begin of a lawful report is the first line that its session is told under its number
-begin_is_first : (basis : Basis) (report : Report) → Answers basis.language → Lawful basis report → (front back : List Line) (name : List ℕ) (n begin : ℕ) →
+pub begin_is_first : (basis : Basis) (report : Report) → Answers basis.language → Lawful basis report → (front back : List Line) (name : List ℕ) (n begin : ℕ) →
     report.lines ≡ front ++ line.Session name n (reply.Begin begin) ∷ back → (1 ≤ n) × (under name n front ≡ [])
 begin_is_first basis report answers lawful front back name n begin is =
     begins_first (IsTold basis (view_of basis report.entries) name) (λ item mine told. told_alone basis answers (view_of basis report.entries) name item mine told) (λ answer mine told. told)
@@ -208,7 +208,7 @@ IsNoBeginLine line.Barrier = Unit {0}
 IsNoBeginLine (line.Fed position) = Unit {0}
 
 record Piece (script : Script) (before : List Line) (session : List ℕ) (m : ℕ) (kind : Kind) (pending : Option (List (List ℕ))) (mine : List Line) : Type 0 where
-  front : List ReplyLine
+  front : List Reply
   tail : List Line
   says : mine ≡ lines_of session m front ++ tail
   quiet : AllByRecursion IsNoBeginLine tail
@@ -218,14 +218,14 @@ piece_of : (script : Script) (now : ℕ) (before : List Line) (session : List �
     IsSaid script now before session m kind pending mine added → Piece script before session m kind pending mine
 piece_of script now before session m kind pending mine added (inl is) = record { front = is.replies; tail = []; says = is.says ∙ sym (append-nil (lines_of session m is.replies)); quiet = tt; may = inl is.majority }
 piece_of script now before session m kind pending mine added (inr (inl is)) =
-    record { front = []; tail = lines_of session m (is.told ∷ []); says = is.says; quiet = (or_memory (λ (r : ReplyLine). is_begin r ≡ false) (reply.Lost (node_of script session) is.down) is.told is.is_told refl refl, tt); may = inr refl }
+    record { front = []; tail = lines_of session m (is.told ∷ []); says = is.says; quiet = (or_memory (λ (r : Reply). is_begin r ≡ false) (reply.Lost (node_of script session) is.down) is.told is.is_told refl refl, tt); may = inr refl }
 piece_of script now before session m kind pending mine added (inr (inr (inl is))) =
-    record { front = []; tail = lines_of session m (is.told ∷ []); says = is.says; quiet = (or_memory (λ (r : ReplyLine). is_begin r ≡ false) (reply.NoMajority (up_count script.nodes before) script.nodes) is.told is.is_told refl refl, tt); may = inr refl }
+    record { front = []; tail = lines_of session m (is.told ∷ []); says = is.says; quiet = (or_memory (λ (r : Reply). is_begin r ≡ false) (reply.NoMajority (up_count script.nodes before) script.nodes) is.told is.is_told refl refl, tt); may = inr refl }
 piece_of script now before session m kind pending mine added (inr (inr (inr is))) = record {
   front = is.front;
   tail = line.Down (downs before + 1) is.node true ∷ lines_of session m (is.told ∷ []);
   says = is.says;
-  quiet = (tt, (or_memory (λ (r : ReplyLine). is_begin r ≡ false) (reply.Lost is.node (downs before + 1)) is.told is.is_told refl refl, tt));
+  quiet = (tt, (or_memory (λ (r : Reply). is_begin r ≡ false) (reply.Lost is.node (downs before + 1)) is.told is.is_told refl refl, tt));
   may = inl is.majority;
 }
 
@@ -240,22 +240,22 @@ quiet_lines (l ∷ tail) others (x ∷ front) back name n begin all is =
     (rest.0, ap (λ (y : Line). y ∷ front) (sym head) ∙ ap (λ (ls : List Line). l ∷ ls) rest.1, rest.2)
 
 -- a begin stands among the replies to the session, under their number, or behind the turn
-abbrev IsWithin : List ℕ → ℕ → List ReplyLine → List Line → List ℕ → ℕ → Type 0
-IsWithin session m replies front name n = (rs : List ReplyLine) × (front ≡ lines_of session m rs) × (session ≡ name) × (m ≡ n) × (replies ≡ [] → ⊥)
+abbrev IsWithin : List ℕ → ℕ → List Reply → List Line → List ℕ → ℕ → Type 0
+IsWithin session m replies front name n = (rs : List Reply) × (front ≡ lines_of session m rs) × (session ≡ name) × (m ≡ n) × (replies ≡ [] → ⊥)
 
 abbrev IsBehind : List Line → List Line → List Line → List Line → List ℕ → ℕ → ℕ → Type 0
 IsBehind mine others front back name n begin = (later : List Line) × (front ≡ mine ++ later) × (others ≡ later ++ line.Session name n (reply.Begin begin) ∷ back)
 
-same_session : (session name : List ℕ) (m n : ℕ) (r s : ReplyLine) → line.Session session m r ≡ line.Session name n s → session ≡ name
+same_session : (session name : List ℕ) (m n : ℕ) (r s : Reply) → line.Session session m r ≡ line.Session name n s → session ≡ name
 same_session session name m n r s is = cc
 
-same_number : (session name : List ℕ) (m n : ℕ) (r s : ReplyLine) → line.Session session m r ≡ line.Session name n s → m ≡ n
+same_number : (session name : List ℕ) (m n : ℕ) (r s : Reply) → line.Session session m r ≡ line.Session name n s → m ≡ n
 same_number session name m n r s is = cc
 
-not_none : (r : ReplyLine) (rs : List ReplyLine) → r ∷ rs ≡ [] → ⊥
+not_none : (r : Reply) (rs : List Reply) → r ∷ rs ≡ [] → ⊥
 not_none r rs is = cc
 
-piece_begins : (session : List ℕ) (m : ℕ) (replies : List ReplyLine) (tail others front back : List Line) (name : List ℕ) (n begin : ℕ) → AllByRecursion IsNoBeginLine tail →
+piece_begins : (session : List ℕ) (m : ℕ) (replies : List Reply) (tail others front back : List Line) (name : List ℕ) (n begin : ℕ) → AllByRecursion IsNoBeginLine tail →
     lines_of session m replies ++ (tail ++ others) ≡ front ++ line.Session name n (reply.Begin begin) ∷ back →
     IsWithin session m replies front name n ⊎ IsBehind (lines_of session m replies ++ tail) others front back name n begin
 piece_begins session m [] tail others front back name n begin all is = inr (quiet_lines tail others front back name n begin all is)
@@ -275,18 +275,18 @@ piece_begins session m (r ∷ rs) tail others (x ∷ front) back name n begin al
 
 -- a transaction that is open was told something
 
-abbrev HasOpened : Option (List (List ℕ)) → List ReplyLine → Type 0
+abbrev HasOpened : Option (List (List ℕ)) → List Reply → Type 0
 HasOpened None mine = Unit {0}
 HasOpened (Some texts) mine = mine ≡ [] → ⊥
 
 abbrev Opened : Basis → List BodyLine → List Line → Type 0
 Opened basis done before = (name : List ℕ) → HasOpened (place_after basis.language name done).pending (under name (place_after basis.language name done).number before)
 
-none_front : (xs ys : List ReplyLine) → xs ++ ys ≡ [] → xs ≡ []
+none_front : (xs ys : List Reply) → xs ++ ys ≡ [] → xs ≡ []
 none_front [] ys is = refl
 none_front (x ∷ xs) ys is = absurd (not_none x (xs ++ ys) is)
 
-none_back : (xs ys : List ReplyLine) → xs ++ ys ≡ [] → ys ≡ []
+none_back : (xs ys : List Reply) → xs ++ ys ≡ [] → ys ≡ []
 none_back [] ys is = is
 none_back (x ∷ xs) ys is = absurd (not_none x (xs ++ ys) is)
 
@@ -322,7 +322,7 @@ begin_heard script now before session m mine added (inl is) none = go is.turn.to
     replies = sym (ap (under session m) is.says ∙ under_own session session m is.replies (same_name session)) ∙ none_back (under session m before) (under session m mine) both
 
     go : (are_up_to (is_last_of false) is.replies ≡ true) ⊎ ((is.replies ≡ []) × (was_cut before session m ≡ true)) → ⊥
-    go (inl ends) = false≢true (subst (λ (rs : List ReplyLine). are_up_to (is_last_of false) rs ≡ true) replies ends)
+    go (inl ends) = false≢true (subst (λ (rs : List Reply). are_up_to (is_last_of false) rs ≡ true) replies ends)
     go (inr (nothing, cut)) = cut_heard before session m cut (none_front (under session m before) (under session m mine) both)
 begin_heard script now before session m mine added (inr (inl is)) none = none_some is.down is.is_lost
   where
@@ -371,20 +371,20 @@ quiet_opened basis done b quiet before mine was name =
 -- a majority of the nodes is up where a transaction is told its begin
 
 -- the lines of a session leave which nodes are up
-stays_so : (node : ℕ) (was : Bool) (name : List ℕ) (m : ℕ) (rs : List ReplyLine) → up_from node was (lines_of name m rs) ≡ was
+stays_so : (node : ℕ) (was : Bool) (name : List ℕ) (m : ℕ) (rs : List Reply) → up_from node was (lines_of name m rs) ≡ was
 stays_so node was name m [] = refl
 stays_so node was name m (r ∷ rs) = stays_so node was name m rs
 
-same_up : (node : ℕ) (before : List Line) (name : List ℕ) (m : ℕ) (rs : List ReplyLine) → is_up node (before ++ lines_of name m rs) ≡ is_up node before
+same_up : (node : ℕ) (before : List Line) (name : List ℕ) (m : ℕ) (rs : List Reply) → is_up node (before ++ lines_of name m rs) ≡ is_up node before
 same_up node before name m rs = up_append node true before (lines_of name m rs) ∙ stays_so node (is_up node before) name m rs
 
-same_count : (n : ℕ) (before : List Line) (name : List ℕ) (m : ℕ) (rs : List ReplyLine) → up_count n (before ++ lines_of name m rs) ≡ up_count n before
+same_count : (n : ℕ) (before : List Line) (name : List ℕ) (m : ℕ) (rs : List Reply) → up_count n (before ++ lines_of name m rs) ≡ up_count n before
 same_count zero before name m rs = refl
 same_count (suc n) before name m rs =
     ap (λ (count : ℕ). count + (if is_up (suc n) (before ++ lines_of name m rs) then 1 else 0)) (same_count n before name m rs)
     ∙ ap (λ (b : Bool). up_count n before + (if b then 1 else 0)) (same_up (suc n) before name m rs)
 
-same_few : (n : ℕ) (before : List Line) (name : List ℕ) (m : ℕ) (rs : List ReplyLine) → are_few n (before ++ lines_of name m rs) ≡ are_few n before
+same_few : (n : ℕ) (before : List Line) (name : List ℕ) (m : ℕ) (rs : List Reply) → are_few n (before ++ lines_of name m rs) ≡ are_few n before
 same_few n before name m rs = ap (λ (count : ℕ). leb 1 n && leb (2 * count) n) (same_count n before name m rs)
 
 begun_by : (k : Kind) (pending : Option (List (List ℕ))) (number : ℕ) (few : Bool) (session : List ℕ) (before : List Line) → HasOpened pending (under session number before) →

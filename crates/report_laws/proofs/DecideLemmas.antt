@@ -14,8 +14,8 @@ use Rattle.report_laws.specs.Work.{Transaction, transaction_of}
 use Rattle.cdb_values.specs.declared.rows.Change.{Change}
 use Rattle.report_text.specs.declared.reports.EntryLine.{EntryLine}
 use Rattle.report_text.specs.declared.reports.EntryLine.TheVariants.{Commit}
-use Rattle.report_text.specs.declared.reports.ReplyLine.{ReplyLine}
-use Rattle.report_text.specs.declared.reports.ReplyLine.TheVariants as reply
+use Rattle.cdb_values.specs.declared.replies.Reply.{Reply}
+use Rattle.cdb_values.specs.declared.replies.Reply.TheVariants as reply
 use Rattle.report_laws.proofs.FrontLemmas.{rows_front, entry_front, changes_front, untouched_front, entry_next, rows_next}
 
 module _ (basis : Basis) (history : List EntryLine) (name : List ℕ) (t : Transaction) (begin : ℕ) (used : List Used) where
@@ -34,7 +34,7 @@ module _ (basis : Basis) (history : List EntryLine) (name : List ℕ) (t : Trans
   Commits position (op ∷ ops) added = IsNext position (op ∷ ops) added
 
   -- this is the decision on these operations, and these are the entries that it appends
-  abbrev pub Decides : List RowOp → ReplyLine → List EntryLine → Type 0
+  abbrev pub Decides : List RowOp → Reply → List EntryLine → Type 0
   Decides ops outcome added =
       ((position : ℕ) × (outcome ≡ reply.Committed position) × Commits position ops added)
       ⊎ (((position : ℕ) × (added ≡ []) × (position ≤ now) × IsConflict basis (view_of basis history) begin position used ops outcome)
@@ -71,7 +71,7 @@ module _ (basis : Basis) (history : List EntryLine) (name : List ℕ) (t : Trans
   abbrev last : ℕ
   last = last_position basis.origin history
 
-  same_conflict : (p q : ℕ) (ops : List RowOp) (o o' : ReplyLine) → IsConflict basis (view_of basis history) begin p used ops o → IsConflict basis (view_of basis history) begin q used ops o' → o ≡ o'
+  same_conflict : (p q : ℕ) (ops : List RowOp) (o o' : Reply) → IsConflict basis (view_of basis history) begin p used ops o → IsConflict basis (view_of basis history) begin q used ops o' → o ≡ o'
   same_conflict p q ops o o' is is' = go (trichotomy p q)
     where
       go : (p < q) ⊎ ((q < p) ⊎ (p ≡ q)) → o ≡ o'
@@ -93,7 +93,7 @@ module _ (basis : Basis) (history : List EntryLine) (name : List ℕ) (t : Trans
       sym is.breaks ∙ ap (λ k. first_broken basis.origin.tables (apply_all (rows_at basis history k) ops).tables) same ∙ is'.breaks in
       ap (λ k. reply.Duplicate k table key) same ∙ ap (λ n. reply.Duplicate q n key) (ap table_or found) ∙ ap (λ k. reply.Duplicate q table' k) (ap key_or found)
 
-  no_commit_and_conflict : (p q : ℕ) (ops : List RowOp) (added : List EntryLine) (o : ReplyLine) → Commits basis history name t begin used p ops added → q ≤ last →
+  no_commit_and_conflict : (p q : ℕ) (ops : List RowOp) (added : List EntryLine) (o : Reply) → Commits basis history name t begin used p ops added → q ≤ last →
       IsConflict basis (view_of basis history) begin q used ops o → ⊥
   no_commit_and_conflict p q [] added o commits within is = is.has_ops refl
   no_commit_and_conflict p q (op ∷ ops) added o commits within is = some_none is.item _ is.touched (commits.untouched q is.later (omega (arith, within)))
@@ -104,7 +104,7 @@ module _ (basis : Basis) (history : List EntryLine) (name : List ℕ) (t : Trans
   no_commit_and_duplicate p q (op ∷ ops) added table key commits at is =
       some_none (key_name table key) _ is.breaks (ap (λ k. first_broken basis.origin.tables (apply_all (rows_at basis history k) (op ∷ ops)).tables) at ∙ commits.kept)
 
-  no_conflict_and_duplicate : (p q : ℕ) (ops : List RowOp) (table key : List ℕ) (o : ReplyLine) → p ≤ last → q ≡ last →
+  no_conflict_and_duplicate : (p q : ℕ) (ops : List RowOp) (table key : List ℕ) (o : Reply) → p ≤ last → q ≡ last →
       IsConflict basis (view_of basis history) begin p used ops o → IsDuplicate basis (view_of basis history) begin q used ops table key → ⊥
   no_conflict_and_duplicate p q ops table key o within at is is' = some_none is.item _ is.touched (is'.untouched p is.later (omega (arith, within, at)))
 
@@ -114,7 +114,7 @@ module _ (basis : Basis) (history : List EntryLine) (name : List ℕ) (t : Trans
   same_commit p q (op ∷ ops) added added' is is' = (ap reply.Committed (is.at ∙ sym is'.at), is.appends ∙ sym is'.appends)
 
   -- there is one decision
-  pub one_decision : (ops : List RowOp) (o o' : ReplyLine) (added added' : List EntryLine) → Decides basis history name t begin used ops o added → Decides basis history name t begin used ops o' added' → (o ≡ o') × (added ≡ added')
+  pub one_decision : (ops : List RowOp) (o o' : Reply) (added added' : List EntryLine) → Decides basis history name t begin used ops o added → Decides basis history name t begin used ops o' added' → (o ≡ o') × (added ≡ added')
   one_decision ops o o' added added' (inl (p, e, is)) (inl (q, e', is')) =
       let same : (reply.Committed p ≡ reply.Committed q) × (added ≡ added') = same_commit p q ops added added' is is' in (e ∙ same.0 ∙ sym e', same.1)
   one_decision ops o o' added added' (inl (p, e, is)) (inr (inl (q, none', within', is'))) = absurd (no_commit_and_conflict p q ops added o' is within' is')
@@ -128,7 +128,7 @@ module _ (basis : Basis) (history : List EntryLine) (name : List ℕ) (t : Trans
       (e ∙ same_duplicate p q ops table table' key key' at at' is is' ∙ sym e', none ∙ sym none')
 
 -- the entries that a line appends behind an outcome: none, or the one that the outcome tells
-abbrev pub IsOutcomes : ℕ → List ℕ → ℕ → ReplyLine → List EntryLine → Type 0
+abbrev pub IsOutcomes : ℕ → List ℕ → ℕ → Reply → List EntryLine → Type 0
 IsOutcomes now name number outcome added =
     (added ≡ []) ⊎ ((begin : ℕ) × (level : Level) × (added ≡ Commit (now + 1) name number begin level ∷ []) × (outcome ≡ reply.Committed (now + 1)))
 
@@ -152,7 +152,7 @@ module _ (basis : Basis) (history added later : List EntryLine) (name : List ℕ
   untouched_is : (position : ℕ) → position ≤ end + 1 → IsUntouched (view_of basis whole) begin position used → IsUntouched (view_of basis history) begin position used
   untouched_is position within is = untouched_front basis history (added ++ later) begin position used base within is
 
-  conflict_is : (position : ℕ) (ops : List RowOp) (o : ReplyLine) → position ≤ end → IsConflict basis (view_of basis whole) begin position used ops o → IsConflict basis (view_of basis history) begin position used ops o
+  conflict_is : (position : ℕ) (ops : List RowOp) (o : Reply) → position ≤ end → IsConflict basis (view_of basis whole) begin position used ops o → IsConflict basis (view_of basis history) begin position used ops o
   conflict_is position ops o within is = record {
     has_ops = is.has_ops;
     later = is.later;
@@ -213,11 +213,11 @@ module _ (basis : Basis) (history added later : List EntryLine) (name : List ℕ
           ∙ ap (λ (es : List EntryLine). rows_at basis (history ++ (es ++ later)) (end + 1)) (sym appends_it)
           ∙ ap (λ k. rows_at basis whole k) (sym at)
 
-  none_added : (outcome : ReplyLine) → (outcome ≡ reply.Committed (end + 1) → ⊥) → IsOutcomes end name t.number outcome added → added ≡ []
+  none_added : (outcome : Reply) → (outcome ≡ reply.Committed (end + 1) → ⊥) → IsOutcomes end name t.number outcome added → added ≡ []
   none_added outcome other (inl none) = none
   none_added outcome other (inr (b, level, appends, tells)) = absurd (other tells)
 
-  pub decided : (outcome : ReplyLine) → IsDecided outcome → IsTimely end (end + length added) outcome → IsOutcomes end name t.number outcome added →
+  pub decided : (outcome : Reply) → IsDecided outcome → IsTimely end (end + length added) outcome → IsOutcomes end name t.number outcome added →
       IsRight basis (view_of basis whole) name t begin used ops_at outcome → Decides basis history name t begin used ops_at outcome added
   decided (reply.Begin position) ends timely appends right = absurd ends
   decided (reply.Row row) ends timely appends right = absurd ends

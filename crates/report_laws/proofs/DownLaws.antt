@@ -8,11 +8,11 @@ use Rattle.report_laws.specs.View.{View}
 use Rattle.report_laws.proofs.NodesLaws.{downs_append}
 use Rattle.report_text.specs.declared.reports.Line.{Line}
 use Rattle.report_text.specs.declared.reports.Line.TheVariants as line
-use Rattle.report_text.specs.declared.reports.ReplyLine.{ReplyLine}
-use Rattle.report_text.specs.declared.reports.ReplyLine.TheVariants as reply
+use Rattle.cdb_values.specs.declared.replies.Reply.{Reply}
+use Rattle.cdb_values.specs.declared.replies.Reply.TheVariants as reply
 
 -- what holds of a reply and of want of memory holds of what is told in its place
-pub or_memory : (P : ReplyLine → Type 0) (answer told : ReplyLine) → IsOrMemory answer told → P answer → P reply.NoMemory → P told
+pub or_memory : (P : Reply → Type 0) (answer told : Reply) → IsOrMemory answer told → P answer → P reply.NoMemory → P told
 or_memory P answer told (inl is) of_answer of_memory = subst P (sym is) of_answer
 or_memory P answer told (inr is) of_answer of_memory = subst P (sym is) of_memory
 
@@ -65,14 +65,14 @@ module _ (basis : Basis) (view : View) (first : List Line) where
       let some : 1 ≤ downs (front ++ line.Down count node fault ∷ line.Session session number told ∷ back) = some_down front (line.Session session number told ∷ back) count node fault in
       absurd (omega (arith, all, some, none))
 
-  same_session : (session other : List ℕ) (number txn : ℕ) (r s : ReplyLine) → line.Session session number r ≡ line.Session other txn s → session ≡ other
+  same_session : (session other : List ℕ) (number txn : ℕ) (r s : Reply) → line.Session session number r ≡ line.Session other txn s → session ≡ other
   same_session session other number txn r s is = cc
 
-  same_number : (session other : List ℕ) (number txn : ℕ) (r s : ReplyLine) → line.Session session number r ≡ line.Session other txn s → number ≡ txn
+  same_number : (session other : List ℕ) (number txn : ℕ) (r s : Reply) → line.Session session number r ≡ line.Session other txn s → number ≡ txn
   same_number session other number txn r s is = cc
 
   -- where one does, at the commit of a transaction with operations
-  pub one_goes_down : (before after : List Line) (count node : ℕ) (fault : Bool) (session : List ℕ) (number : ℕ) (told : ReplyLine) → downs (before ++ line.Down count node fault ∷ line.Session session number told ∷ after) ≡ 1 →
+  pub one_goes_down : (before after : List Line) (count node : ℕ) (fault : Bool) (session : List ℕ) (number : ℕ) (told : Reply) → downs (before ++ line.Down count node fault ∷ line.Session session number told ∷ after) ≡ 1 →
       HasChanges basis view (first ++ before) session number → GoDownAtChanges basis view first (before ++ line.Down count node fault ∷ line.Session session number told ∷ after)
   one_goes_down before after count node fault session number told one has front back other at again name txn answer is =
       let there : (front ≡ before) × (line.Session name txn answer ≡ line.Session session number told) =

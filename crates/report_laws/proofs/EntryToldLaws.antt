@@ -11,15 +11,15 @@ use Rattle.report_text.specs.declared.reports.EntryLine.{EntryLine}
 use Rattle.report_text.specs.declared.reports.EntryLine.TheVariants.{Setup, Commit}
 use Rattle.report_text.specs.declared.reports.Line.{Line}
 use Rattle.report_text.specs.declared.reports.Line.TheVariants as line
-use Rattle.report_text.specs.declared.reports.ReplyLine.{ReplyLine}
-use Rattle.report_text.specs.declared.reports.ReplyLine.TheVariants as reply
+use Rattle.cdb_values.specs.declared.replies.Reply.{Reply}
+use Rattle.cdb_values.specs.declared.replies.Reply.TheVariants as reply
 use Rattle.report_laws.proofs.GrowLaws.{alone_stays}
 use Rattle.report_laws.proofs.HistoryLaws.{last_more}
 use Rattle.session_language.proofs.UpToLaws.{same_head, same_tail}
 use Rattle.report_laws.proofs.ToldLaws.{told_append, numbered_append}
 
 -- what a session was told stands among the lines
-pub told_stands : (name : List ℕ) (n : ℕ) (r : ReplyLine) (lines : List Line) → StandsIn (told name lines) (n, r) → StandsIn lines (line.Session name n r)
+pub told_stands : (name : List ℕ) (n : ℕ) (r : Reply) (lines : List Line) → StandsIn (told name lines) (n, r) → StandsIn lines (line.Session name n r)
 told_stands name n r [] ([], back, is) = absurd cc
 told_stands name n r [] (x ∷ front, back, is) = absurd cc
 told_stands name n r (line.Session session txn answer ∷ ls) (front, back, is) = go (bytes_eq session name) refl front is (λ f (b : List Numbered) e. told_stands name n r ls (f, b, e))
@@ -51,7 +51,7 @@ told_stands name n r (line.Fed position ∷ ls) (front, back, is) = others (told
     others : StandsIn ls (line.Session name n r) → StandsIn (line.Fed position ∷ ls) (line.Session name n r)
     others (f, b, e) = (line.Fed position ∷ f, b, ap (λ rest. line.Fed position ∷ rest) e)
 
-pub committed_there : (position : ℕ) (o : ReplyLine) → EndsAt position o → o ≡ reply.Committed position
+pub committed_there : (position : ℕ) (o : Reply) → EndsAt position o → o ≡ reply.Committed position
 committed_there position (reply.Begin at) ends = absurd ends
 committed_there position (reply.Row row) ends = absurd ends
 committed_there position (reply.Done rows) ends = absurd ends
@@ -68,7 +68,7 @@ committed_there position (reply.NoMajority up nodes) ends = absurd ends
 committed_there position reply.NoMemory ends = absurd ends
 
 module _ (basis : Basis) (view : View) (lines : List Line) (position : ℕ) (session : List ℕ) (txn begin : ℕ) (c : IsCommitTold basis view lines position session txn begin) where
-  front : List ReplyLine
+  front : List Reply
   front = reply.Begin begin ∷ c.ran.replies
 
   -- its begin stands among the lines
@@ -79,7 +79,7 @@ module _ (basis : Basis) (view : View) (lines : List Line) (position : ℕ) (ses
   pub commit_stands : StandsIn lines (line.Session session txn (reply.Committed position))
   unfolding front
   commit_stands =
-      subst (λ (o : ReplyLine). StandsIn lines (line.Session session txn o)) (committed_there position c.outcome c.ends)
+      subst (λ (o : Reply). StandsIn lines (line.Session session txn o)) (committed_there position c.outcome c.ends)
       (told_stands session txn c.outcome lines (
         c.before ++ numbered txn front,
         c.after,

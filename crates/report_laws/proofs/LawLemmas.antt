@@ -18,8 +18,8 @@ use Rattle.report_text.specs.declared.reports.EntryLine.{EntryLine}
 use Rattle.report_text.specs.declared.reports.EntryLine.TheVariants.{Setup, Commit}
 use Rattle.report_text.specs.declared.reports.Line.{Line}
 use Rattle.report_text.specs.declared.reports.Line.TheVariants as line
-use Rattle.report_text.specs.declared.reports.ReplyLine.{ReplyLine}
-use Rattle.report_text.specs.declared.reports.ReplyLine.TheVariants as reply
+use Rattle.cdb_values.specs.declared.replies.Reply.{Reply}
+use Rattle.cdb_values.specs.declared.replies.Reply.TheVariants as reply
 use Rattle.report_laws.proofs.EntryToldLaws.{begin_stands, commit_stands, committed_there}
 use Rattle.report_laws.proofs.FrontLemmas.{entry_next}
 use Rattle.report_laws.proofs.NodesLaws.{downs_append, none_few, lost_needs_down, short_needs_down}
@@ -37,7 +37,7 @@ each_at P before [] x ys each = subst (λ b. P b x) (sym (append_none before)) e
     append_none (z ∷ zs) = ap (λ rest. z ∷ rest) (append_none zs)
 each_at P before (z ∷ xs) x ys each = subst (λ b. P b x) (append_assoc before (z ∷ []) xs) (each_at P (before ++ z ∷ []) xs x ys each.1)
 
-pub begins_reach : (basis : Basis) (report : Report) (name : List ℕ) (first second third : List Line) (earlier later : ℕ) (answer : ReplyLine) (begin : ℕ) → Lawful basis report →
+pub begins_reach : (basis : Basis) (report : Report) (name : List ℕ) (first second third : List Line) (earlier later : ℕ) (answer : Reply) (begin : ℕ) → Lawful basis report →
     report.lines ≡ first ++ line.Session name earlier answer ∷ (second ++ line.Session name later (reply.Begin begin) ∷ third) → NameUpTo begin first
 begins_reach basis report name first second third earlier later answer begin lawful is =
     (each_at (IsFreshLine basis.origin) [] (first ++ line.Session name earlier answer ∷ second) (line.Session name later (reply.Begin begin)) third
@@ -66,7 +66,7 @@ told_together basis report position session txn begin level lawful stands =
       its.is_its,
       its.says
           ∙ ap (λ (a : Answered). its.before ++ (numbered txn (reply.Begin begin ∷ (a.replies ++ its.outcome ∷ [])) ++ its.after)) its.is_ran
-          ∙ ap (λ (o : ReplyLine). its.before ++ (numbered txn (reply.Begin begin ∷ ((alone_on basis (rows_at basis report.entries begin) its.transaction.texts).replies ++ o ∷ [])) ++ its.after)) (committed_there position its.outcome its.ends),
+          ∙ ap (λ (o : Reply). its.before ++ (numbered txn (reply.Begin begin ∷ ((alone_on basis (rows_at basis report.entries begin) its.transaction.texts).replies ++ o ∷ [])) ++ its.after)) (committed_there position its.outcome its.ends),
     )
 
 -- a line has its place behind the lines before it

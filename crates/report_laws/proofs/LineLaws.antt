@@ -15,8 +15,8 @@ use Rattle.report_laws.specs.Told.{lines_of}
 use Rattle.report_text.specs.declared.reports.EntryLine.{EntryLine}
 use Rattle.report_text.specs.declared.reports.Line.{Line}
 use Rattle.report_text.specs.declared.reports.Line.TheVariants as line
-use Rattle.report_text.specs.declared.reports.ReplyLine.{ReplyLine}
-use Rattle.report_text.specs.declared.reports.ReplyLine.TheVariants as reply
+use Rattle.cdb_values.specs.declared.replies.Reply.{Reply}
+use Rattle.cdb_values.specs.declared.replies.Reply.TheVariants as reply
 use Rattle.session_language.proofs.EachLaws.{all_append, all_front}
 
 -- the positions that were named stay within a greater bound
@@ -74,7 +74,7 @@ in_turns_more basis done (c ∷ bs) b before lines history entries mine added (o
 )
 
 -- replies that are paced are timely
-pub timely_paced : (now after : ℕ) (rs : List ReplyLine) → Paced now after rs → AllByRecursion (IsTimely now after) rs
+pub timely_paced : (now after : ℕ) (rs : List Reply) → Paced now after rs → AllByRecursion (IsTimely now after) rs
 timely_paced now after [] paced = tt
 timely_paced now after (reply.Begin position ∷ rs) paced = (paced.0, timely_paced now after rs paced.1)
 timely_paced now after ((reply.Row row) ∷ rs) paced = (tt, timely_paced now after rs paced)
@@ -88,21 +88,21 @@ timely_paced now after ((reply.NoMajority up nodes) ∷ rs) paced = absurd paced
 timely_paced now after (reply.NoMemory ∷ rs) paced = (tt, timely_paced now after rs paced)
 timely_paced now after (reply.Committed position ∷ rs) paced = (paced.1, none_left rs paced.0)
   where
-    none_left : (others : List ReplyLine) → others ≡ [] → AllByRecursion (IsTimely now after) others
-    none_left others none = subst (λ (r : List ReplyLine). AllByRecursion (IsTimely now after) r) (sym none) tt
-timely_paced now after (reply.ConflictGenid position table genid ∷ rs) paced = ((let within : position ≤ after = paced.1 in let same : now ≡ after = paced.2 in omega (arith, within, same)), subst (λ (r : List ReplyLine). AllByRecursion (IsTimely now after) r) (sym paced.0) tt)
-timely_paced now after (reply.ConflictRange position table key ∷ rs) paced = ((let within : position ≤ after = paced.1 in let same : now ≡ after = paced.2 in omega (arith, within, same)), subst (λ (r : List ReplyLine). AllByRecursion (IsTimely now after) r) (sym paced.0) tt)
-timely_paced now after (reply.Duplicate position table key ∷ rs) paced = (paced.1, subst (λ (r : List ReplyLine). AllByRecursion (IsTimely now after) r) (sym paced.0) tt)
+    none_left : (others : List Reply) → others ≡ [] → AllByRecursion (IsTimely now after) others
+    none_left others none = subst (λ (r : List Reply). AllByRecursion (IsTimely now after) r) (sym none) tt
+timely_paced now after (reply.ConflictGenid position table genid ∷ rs) paced = ((let within : position ≤ after = paced.1 in let same : now ≡ after = paced.2 in omega (arith, within, same)), subst (λ (r : List Reply). AllByRecursion (IsTimely now after) r) (sym paced.0) tt)
+timely_paced now after (reply.ConflictRange position table key ∷ rs) paced = ((let within : position ≤ after = paced.1 in let same : now ≡ after = paced.2 in omega (arith, within, same)), subst (λ (r : List Reply). AllByRecursion (IsTimely now after) r) (sym paced.0) tt)
+timely_paced now after (reply.Duplicate position table key ∷ rs) paced = (paced.1, subst (λ (r : List Reply). AllByRecursion (IsTimely now after) r) (sym paced.0) tt)
 
 -- the laws on a piece of lines behind others: its begins are fresh, each line has its place, and it names no position
 -- above a bound
-pub record ArePaced (script : Script) (origin : Origin) (name : List ℕ) (number : ℕ) (lines : List Line) (after : ℕ) (rs : List ReplyLine) : Type 0 where
+pub record ArePaced (script : Script) (origin : Origin) (name : List ℕ) (number : ℕ) (lines : List Line) (after : ℕ) (rs : List Reply) : Type 0 where
   pub fresh : EachAfter (IsFreshLine origin) lines (lines_of name number rs)
   pub placed : EachAfter (HasItsPlace script) lines (lines_of name number rs)
   pub named : NameUpTo after (lines_of name number rs)
 
 -- a line and then a piece behind it
-paced_head : (script : Script) (origin : Origin) (name : List ℕ) (number : ℕ) (lines : List Line) (after : ℕ) (r : ReplyLine) (rs : List ReplyLine) →
+paced_head : (script : Script) (origin : Origin) (name : List ℕ) (number : ℕ) (lines : List Line) (after : ℕ) (r : Reply) (rs : List Reply) →
     HasItsPlace script lines (line.Session name number r) → IsFreshLine origin lines (line.Session name number r) → AllByRecursion (λ p. p ≤ after) (named_by r) →
     ArePaced script origin name number (lines ++ line.Session name number r ∷ []) after rs → ArePaced script origin name number lines after (r ∷ rs)
 paced_head script origin name number lines after r rs placed fresh named rest = record {
@@ -112,11 +112,11 @@ paced_head script origin name number lines after r rs placed fresh named rest = 
 }
 
 -- nothing more
-paced_none : (script : Script) (origin : Origin) (name : List ℕ) (number : ℕ) (lines : List Line) (after : ℕ) (rs : List ReplyLine) → rs ≡ [] → ArePaced script origin name number lines after rs
+paced_none : (script : Script) (origin : Origin) (name : List ℕ) (number : ℕ) (lines : List Line) (after : ℕ) (rs : List Reply) → rs ≡ [] → ArePaced script origin name number lines after rs
 paced_none script origin name number lines after [] none = record { fresh = tt; placed = tt; named = tt }
 paced_none script origin name number lines after (r ∷ rs) none = absurd cc
 
-pub paced_laws : (script : Script) (origin : Origin) (name : List ℕ) (number now after : ℕ) (lines : List Line) (rs : List ReplyLine) →
+pub paced_laws : (script : Script) (origin : Origin) (name : List ℕ) (number now after : ℕ) (lines : List Line) (rs : List Reply) →
     NameUpTo now lines → 1 ≤ now → origin.position ≤ now → now ≤ after → Paced now after rs → ArePaced script origin name number lines after rs
 paced_laws script origin name number now after lines [] named first base le paced = paced_none script origin name number lines after [] refl
 paced_laws script origin name number now after lines (reply.Begin position ∷ rs) named first base le paced =

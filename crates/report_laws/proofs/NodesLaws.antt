@@ -12,7 +12,7 @@ use Rattle.report_laws.specs.Play.{is_begin_of, since_begin, was_cut, loss_of, b
 use Rattle.report_laws.specs.Told.{lines_of}
 use Rattle.report_text.specs.declared.reports.Line.{Line}
 use Rattle.report_text.specs.declared.reports.Line.TheVariants as line
-use Rattle.report_text.specs.declared.reports.ReplyLine.{ReplyLine}
+use Rattle.cdb_values.specs.declared.replies.Reply.{Reply}
 
 -- down lines are counted one after the other
 pub downs_append : (xs ys : List Line) → downs (xs ++ ys) ≡ downs xs + downs ys
@@ -24,11 +24,11 @@ downs_append (line.Barrier ∷ xs) ys = downs_append xs ys
 downs_append (line.Fed position ∷ xs) ys = downs_append xs ys
 
 -- the lines of a session tell of no node
-pub downs_of : (name : List ℕ) (number : ℕ) (rs : List ReplyLine) → downs (lines_of name number rs) ≡ 0
+pub downs_of : (name : List ℕ) (number : ℕ) (rs : List Reply) → downs (lines_of name number rs) ≡ 0
 downs_of name number [] = refl
 downs_of name number (r ∷ rs) = downs_of name number rs
 
-pub downs_more : (lines : List Line) (name : List ℕ) (number : ℕ) (rs : List ReplyLine) → downs lines ≡ 0 → downs (lines ++ lines_of name number rs) ≡ 0
+pub downs_more : (lines : List Line) (name : List ℕ) (number : ℕ) (rs : List Reply) → downs lines ≡ 0 → downs (lines ++ lines_of name number rs) ≡ 0
 downs_more lines name number rs none =
     let more : downs (lines ++ lines_of name number rs) ≡ downs lines + downs (lines_of name number rs) = downs_append lines (lines_of name number rs) in
     let its : downs (lines_of name number rs) ≡ 0 = downs_of name number rs in

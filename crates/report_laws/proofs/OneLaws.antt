@@ -22,8 +22,8 @@ use Rattle.report_text.specs.declared.reports.EntryLine.{EntryLine}
 use Rattle.report_text.specs.declared.reports.EntryLine.TheVariants.{Setup, Commit}
 use Rattle.report_text.specs.declared.reports.Line.{Line}
 use Rattle.report_text.specs.declared.reports.Line.TheVariants as line
-use Rattle.report_text.specs.declared.reports.ReplyLine.{ReplyLine}
-use Rattle.report_text.specs.declared.reports.ReplyLine.TheVariants as reply
+use Rattle.cdb_values.specs.declared.replies.Reply.{Reply}
+use Rattle.cdb_values.specs.declared.replies.Reply.TheVariants as reply
 use Rattle.session_language.proofs.AllLaws.{all_behind}
 use Rattle.session_language.proofs.EachLaws.{all_front, all_map, all_found}
 use Rattle.report_laws.proofs.PieceLaws.{under, under_append, under_own}
@@ -76,9 +76,9 @@ uncut_answer : (script : Script) (now : ℕ) (before : List Line) (session : Lis
     AllByRecursion IsUncutLine mine → IsSaid script now before session number kind pending mine added → IsAnswered script now before session number kind pending mine added
 uncut_answer script now before session number kind pending mine added uncut (inl is) = is
 uncut_answer script now before session number kind pending mine added uncut (inr (inl is)) =
-    absurd (true≢false (sym (or_memory (λ (r : ReplyLine). cuts r ≡ true) (reply.Lost (node_of script session) is.down) is.told is.is_told refl refl) ∙ (subst (AllByRecursion IsUncutLine) is.says uncut).0))
+    absurd (true≢false (sym (or_memory (λ (r : Reply). cuts r ≡ true) (reply.Lost (node_of script session) is.down) is.told is.is_told refl refl) ∙ (subst (AllByRecursion IsUncutLine) is.says uncut).0))
 uncut_answer script now before session number kind pending mine added uncut (inr (inr (inl is))) =
-    absurd (true≢false (sym (or_memory (λ (r : ReplyLine). cuts r ≡ true) (reply.NoMajority (up_count script.nodes before) script.nodes) is.told is.is_told refl refl) ∙ (subst (AllByRecursion IsUncutLine) is.says uncut).0))
+    absurd (true≢false (sym (or_memory (λ (r : Reply). cuts r ≡ true) (reply.NoMajority (up_count script.nodes before) script.nodes) is.told is.is_told refl refl) ∙ (subst (AllByRecursion IsUncutLine) is.says uncut).0))
 uncut_answer script now before session number kind pending mine added uncut (inr (inr (inr is))) =
     absurd (all_behind IsUncutLine (lines_of session number is.front) _ (subst (AllByRecursion IsUncutLine) is.says uncut)).0
 
@@ -135,7 +135,7 @@ module _ (basis : Basis) (answers : Answers basis.language) (done : List BodyLin
   bound = first_left p.number p.pending
 
   -- what a report gives there
-  given : (before others : List Line) (history added later : List EntryLine) (replies : List ReplyLine) → SoFar basis done before history →
+  given : (before others : List Line) (history added later : List EntryLine) (replies : List Reply) → SoFar basis done before history →
       Laws basis (before ++ (lines_of session (number_told basis.language p text) replies ++ others)) (history ++ (added ++ later)) →
       IsTurn (last_position basis.origin history) before session (number_told basis.language p text) (is_own_by (basis.language.kind text) p.pending) replies added →
       Given basis history added later (before ++ (lines_of session (number_told basis.language p text) replies ++ others)) before others session p text (said session bs) replies (basis.language.kind text) p.pending
@@ -145,8 +145,8 @@ module _ (basis : Basis) (answers : Answers basis.language) (done : List BodyLin
     lone = lone;
     is_new = λ txn le at begin level stands. (let less : txn < first_left p.number p.pending = all_found (IsEnded basis.language done) history (at - (basis.origin.position + 1)) (Commit at session txn begin level) so_far.ended stands in omega (arith, le, less));
     mine = under_append session (number_told basis.language p text) before (lines_of session (number_told basis.language p text) replies ++ others)
-        ∙ ap (λ (rs : List ReplyLine). under session (number_told basis.language p text) before ++ rs) (under_append session (number_told basis.language p text) (lines_of session (number_told basis.language p text) replies) others
-        ∙ ap (λ (rs : List ReplyLine). rs ++ under session (number_told basis.language p text) others) (under_own session session (number_told basis.language p text) replies (same_name session)));
+        ∙ ap (λ (rs : List Reply). under session (number_told basis.language p text) before ++ rs) (under_append session (number_told basis.language p text) (lines_of session (number_told basis.language p text) replies) others
+        ∙ ap (λ (rs : List Reply). rs ++ under session (number_told basis.language p text) others) (under_own session session (number_told basis.language p text) replies (same_name session)));
     unsaid = (so_far.heard session).unsaid;
     outside = (so_far.heard session).outside;
     going = (so_far.heard session).going;
@@ -177,7 +177,7 @@ module _ (basis : Basis) (answers : Answers basis.language) (done : List BodyLin
           rising : Rising bound (Does t ∷ items)
           rising = subst (λ (rest : List Item). Rising bound rest) is (rest_rises basis.language p (text ∷ said session bs))
 
-      lone : (answer : ReplyLine) (items : List Item) → rest_of basis.language p (text ∷ said session bs) ≡ Lone answer ∷ items → under session 0 lines ≡ lones p.over ++ answer ∷ lones items
+      lone : (answer : Reply) (items : List Item) → rest_of basis.language p (text ∷ said session bs) ≡ Lone answer ∷ items → under session 0 lines ≡ lones p.over ++ answer ∷ lones items
       lone answer items is =
           told_lones (IsTold basis (view_of basis entries) session) (λ a mine told. told) (work basis.language session basis.script.body) (told session lines) 1 (omega arith)
           (subst (λ (all : List Item). Rising 1 all) (sym (items_are basis.language start (said session basis.script.body))) (rest_rises basis.language start (said session basis.script.body)))
@@ -197,13 +197,13 @@ answered_step basis answers b session text is_act bs done before history is_body
     at : Place
     at = place_after basis.language session done
 
-    rs : List ReplyLine
+    rs : List Reply
     rs = is.replies
 
-    rs' : List ReplyLine
+    rs' : List Reply
     rs' = is'.replies
 
-    lines_at : List ReplyLine → List Line
+    lines_at : List Reply → List Line
     lines_at r = lines_of session (number_told basis.language at text) r
 
     says : mine ≡ lines_at rs

@@ -11,8 +11,8 @@ use Rattle.cdb_values.specs.declared.rows.Change.{Change}
 use Rattle.report_laws.specs.Outcome.{IsRight, IsCommitted, IsConflict, IsDuplicate, IsEntered}
 use Rattle.report_laws.specs.Work.{Transaction}
 use Rattle.report_text.specs.declared.reports.EntryLine.{EntryLine}
-use Rattle.report_text.specs.declared.reports.ReplyLine.{ReplyLine}
-use Rattle.report_text.specs.declared.reports.ReplyLine.TheVariants as reply
+use Rattle.cdb_values.specs.declared.replies.Reply.{Reply}
+use Rattle.cdb_values.specs.declared.replies.Reply.TheVariants as reply
 use Rattle.report_laws.proofs.HistoryLaws.{last_more, rows_stay, entry_stays, changes_stay, untouched_stays}
 
 -- a position behind the origin at which an entry stands is in the history
@@ -38,7 +38,7 @@ module _ (basis : Basis) (es : List EntryLine) (e : EntryLine) (name : List ℕ)
   committed_stays position [] was = was
   committed_stays position (op ∷ ops) was = entered_stays position was
 
-  conflict_stays : (position : ℕ) (ops : List RowOp) (told : ReplyLine) → IsConflict basis (view_of basis es) begin position used ops told → IsConflict basis (view_of basis more) begin position used ops told
+  conflict_stays : (position : ℕ) (ops : List RowOp) (told : Reply) → IsConflict basis (view_of basis es) begin position used ops told → IsConflict basis (view_of basis more) begin position used ops told
   conflict_stays position ops told was =
       let later : begin < position = was.later in
       let within : position ≤ last_position basis.origin es = was.within in
@@ -64,7 +64,7 @@ module _ (basis : Basis) (es : List EntryLine) (e : EntryLine) (name : List ℕ)
       }
 
   -- an outcome that is right stays right
-  pub right_stays : (ops : List RowOp) (outcome : ReplyLine) → IsRight basis (view_of basis es) name t begin used ops outcome → IsRight basis (view_of basis more) name t begin used ops outcome
+  pub right_stays : (ops : List RowOp) (outcome : Reply) → IsRight basis (view_of basis es) name t begin used ops outcome → IsRight basis (view_of basis more) name t begin used ops outcome
   right_stays ops (reply.Begin position) was = tt
   right_stays ops (reply.Row row) was = tt
   right_stays ops (reply.Done rows) was = tt
@@ -80,6 +80,6 @@ module _ (basis : Basis) (es : List EntryLine) (e : EntryLine) (name : List ℕ)
   right_stays ops (reply.NoMajority up nodes) was = was
   right_stays ops reply.NoMemory was = was
 
-  pub all_right_stay : (ops : List RowOp) (outcomes : List ReplyLine) → AllByRecursion (IsRight basis (view_of basis es) name t begin used ops) outcomes → AllByRecursion (IsRight basis (view_of basis more) name t begin used ops) outcomes
+  pub all_right_stay : (ops : List RowOp) (outcomes : List Reply) → AllByRecursion (IsRight basis (view_of basis es) name t begin used ops) outcomes → AllByRecursion (IsRight basis (view_of basis more) name t begin used ops) outcomes
   all_right_stay ops [] was = tt
   all_right_stay ops (o ∷ os) was = (right_stays ops o was.0, all_right_stay ops os was.1)

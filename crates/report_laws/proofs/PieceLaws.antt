@@ -13,15 +13,15 @@ use Rattle.session_language.specs.Replies.{are_up_to, is_outcome}
 use Rattle.report_laws.specs.Told.{told, Numbered, numbered, lines_of}
 use Rattle.report_text.specs.declared.reports.Line.{Line}
 use Rattle.report_text.specs.declared.reports.Line.TheVariants as line
-use Rattle.report_text.specs.declared.reports.ReplyLine.{ReplyLine}
-use Rattle.report_text.specs.declared.reports.ReplyLine.TheVariants as reply
+use Rattle.cdb_values.specs.declared.replies.Reply.{Reply}
+use Rattle.cdb_values.specs.declared.replies.Reply.TheVariants as reply
 use Rattle.session_language.specs.Answers.{IsPlain, ArePlain}
 use Rattle.session_language.proofs.UpToLaws.{same_head, same_tail}
 use Rattle.report_laws.proofs.ToldLaws.{told_append, told_own, told_other}
 use Rattle.report_laws.proofs.AlongLaws.{of_number, of_its, of_another}
 
 -- plain replies are no outcomes
-plain_quiet : (r : ReplyLine) → IsPlain r → is_outcome r ≡ false
+plain_quiet : (r : Reply) → IsPlain r → is_outcome r ≡ false
 plain_quiet (reply.Begin position) is = absurd is
 plain_quiet (reply.Row row) is = refl
 plain_quiet (reply.Done rows) is = refl
@@ -37,16 +37,16 @@ plain_quiet (reply.Lost node down) is = absurd is
 plain_quiet (reply.NoMajority up nodes) is = absurd is
 plain_quiet reply.NoMemory is = absurd is
 
-pub plain_all_quiet : (rs : List ReplyLine) → ArePlain rs → AllByRecursion (λ r. is_outcome r ≡ false) rs
+pub plain_all_quiet : (rs : List Reply) → ArePlain rs → AllByRecursion (λ r. is_outcome r ≡ false) rs
 plain_all_quiet [] all = tt
 plain_all_quiet (r ∷ rs) all = (plain_quiet r all.0, plain_all_quiet rs all.1)
 
 -- the commit that stands among replies up to an outcome is that outcome
-pub commit_is_last : (rs : List ReplyLine) (o : ReplyLine) (position : ℕ) → AllByRecursion (λ r. is_outcome r ≡ false) rs → StandsIn (rs ++ o ∷ []) (reply.Committed position) → o ≡ reply.Committed position
+pub commit_is_last : (rs : List Reply) (o : Reply) (position : ℕ) → AllByRecursion (λ r. is_outcome r ≡ false) rs → StandsIn (rs ++ o ∷ []) (reply.Committed position) → o ≡ reply.Committed position
 commit_is_last [] o position all ([], back, is) = same_head o (reply.Committed position) [] back is
 commit_is_last [] o position all (x ∷ front, back, is) = absurd (none_left front back (same_tail o x [] (front ++ reply.Committed position ∷ back) is))
   where
-    none_left : (front back : List ReplyLine) → [] ≡ front ++ reply.Committed position ∷ back → ⊥
+    none_left : (front back : List Reply) → [] ≡ front ++ reply.Committed position ∷ back → ⊥
     none_left [] back is = cc
     none_left (y ∷ front) back is = cc
 commit_is_last (r ∷ rs) o position all ([], back, is) =
@@ -56,7 +56,7 @@ commit_is_last (r ∷ rs) o position all ([], back, is) =
 commit_is_last (r ∷ rs) o position all (x ∷ front, back, is) = commit_is_last rs o position all.1 (front, back, same_tail r x (rs ++ o ∷ []) (front ++ reply.Committed position ∷ back) is)
 
 -- no commit stands among replies of which none is an outcome
-pub no_commit : (rs : List ReplyLine) (position : ℕ) → AllByRecursion (λ r. is_outcome r ≡ false) rs → StandsIn rs (reply.Committed position) → ⊥
+pub no_commit : (rs : List Reply) (position : ℕ) → AllByRecursion (λ r. is_outcome r ≡ false) rs → StandsIn rs (reply.Committed position) → ⊥
 no_commit [] position all ([], back, is) = cc
 no_commit [] position all (x ∷ front, back, is) = cc
 no_commit (r ∷ rs) position all ([], back, is) =
@@ -66,7 +66,7 @@ no_commit (r ∷ rs) position all ([], back, is) =
 no_commit (r ∷ rs) position all (x ∷ front, back, is) = no_commit rs position all.1 (front, back, same_tail r x rs (front ++ reply.Committed position ∷ back) is)
 
 -- the replies of a session under a number
-abbrev pub under : List ℕ → ℕ → List Line → List ReplyLine
+abbrev pub under : List ℕ → ℕ → List Line → List Reply
 under name number lines = of_number number (told name lines)
 
 of_number_append : (n : ℕ) (xs ys : List Numbered) → of_number n (xs ++ ys) ≡ of_number n xs ++ of_number n ys
@@ -81,15 +81,15 @@ of_number_append n (x ∷ xs) ys = go (x.0 == n) (of_number_append n xs ys)
 pub under_append : (name : List ℕ) (n : ℕ) (xs ys : List Line) → under name n (xs ++ ys) ≡ under name n xs ++ under name n ys
 under_append name n xs ys = ap (of_number n) (told_append name xs ys) ∙ of_number_append n (told name xs) (told name ys)
 
-pub under_own : (name session : List ℕ) (n : ℕ) (rs : List ReplyLine) → bytes_eq session name ≡ true → under name n (lines_of session n rs) ≡ rs
+pub under_own : (name session : List ℕ) (n : ℕ) (rs : List Reply) → bytes_eq session name ≡ true → under name n (lines_of session n rs) ≡ rs
 under_own name session n rs same =
     ap (of_number n) (told_own name session n rs same ∙ sym (append-nil (numbered n rs))) ∙ of_its n rs [] ∙ append-nil rs
 
-pub under_number : (name session : List ℕ) (n m : ℕ) (rs : List ReplyLine) → bytes_eq session name ≡ true → (m ≡ n → ⊥) → under name n (lines_of session m rs) ≡ []
+pub under_number : (name session : List ℕ) (n m : ℕ) (rs : List Reply) → bytes_eq session name ≡ true → (m ≡ n → ⊥) → under name n (lines_of session m rs) ≡ []
 under_number name session n m rs same other =
     ap (of_number n) (told_own name session m rs same ∙ sym (append-nil (numbered m rs))) ∙ of_another n m rs [] (ne_eqb m n other)
 
-pub under_other : (name session : List ℕ) (n m : ℕ) (rs : List ReplyLine) → bytes_eq session name ≡ false → under name n (lines_of session m rs) ≡ []
+pub under_other : (name session : List ℕ) (n m : ℕ) (rs : List Reply) → bytes_eq session name ≡ false → under name n (lines_of session m rs) ≡ []
 under_other name session n m rs other = ap (of_number n) (told_other name session m rs other)
 
 -- where no line cuts a transaction short, no reply under a number does
@@ -122,7 +122,7 @@ never_cut [] session number all = refl
 never_cut (l ∷ ls) session number all = or_from (is_cut_of session number l) (was_cut ls session number) (uncut_line l session number all.0) (never_cut ls session number all.1)
 
 -- and one that was told what cuts it short was
-pub cut_at : (lines : List Line) (session : List ℕ) (number : ℕ) (cause : ReplyLine) → cuts cause ≡ true → StandsIn lines (line.Session session number cause) → was_cut lines session number ≡ true
+pub cut_at : (lines : List Line) (session : List ℕ) (number : ℕ) (cause : Reply) → cuts cause ≡ true → StandsIn lines (line.Session session number cause) → was_cut lines session number ≡ true
 cut_at lines session number cause cut (front, back, is) = subst (λ (ls : List Line). was_cut ls session number ≡ true) (sym is) (among front)
   where
     among : (xs : List Line) → was_cut (xs ++ line.Session session number cause ∷ back) session number ≡ true
@@ -138,7 +138,7 @@ all_at P (z ∷ xs) x all ([], back, is) = subst P (same_head z x xs back is) al
 all_at P (z ∷ xs) x all (y ∷ front, back, is) = all_at P xs x all.1 (front, back, same_tail z y xs (front ++ x ∷ back) is)
 
 -- of one reply there is one that is not none
-pub one_of_one : (f : ReplyLine → Bool) (rs more : List ReplyLine) (r : ReplyLine) → are_up_to f rs ≡ true → rs ++ more ≡ r ∷ [] → rs ≡ r ∷ []
+pub one_of_one : (f : Reply → Bool) (rs more : List Reply) (r : Reply) → are_up_to f rs ≡ true → rs ++ more ≡ r ∷ [] → rs ≡ r ∷ []
 one_of_one f [] more r ends is = absurd cc
 one_of_one f (x ∷ []) more r ends is = ap (λ y. y ∷ []) (same_head x r more [] is)
 one_of_one f (x ∷ y ∷ xs) more r ends is = absurd (let rest : y ∷ (xs ++ more) ≡ [] = same_tail x r (y ∷ (xs ++ more)) [] is in cc)

@@ -6,12 +6,12 @@ use Rattle.cdb_values.specs.declared.tables.TableDef.{TableDef}
 use Rattle.session_language.specs.Answers.{Answers, IsPlain, ArePlain}
 use Rattle.session_language.specs.Language.{Language, alone_from}
 use Rattle.report_laws.specs.Paced.{Paced}
-use Rattle.report_text.specs.declared.reports.ReplyLine.{ReplyLine}
-use Rattle.report_text.specs.declared.reports.ReplyLine.TheVariants as reply
+use Rattle.cdb_values.specs.declared.replies.Reply.{Reply}
+use Rattle.cdb_values.specs.declared.replies.Reply.TheVariants as reply
 use Rattle.session_language.proofs.EachLaws.{all_append}
 
 -- plain replies and then others have the pace of these
-pub plain_then : (now after : ℕ) (rs last : List ReplyLine) → ArePlain rs → Paced now after last → Paced now after (rs ++ last)
+pub plain_then : (now after : ℕ) (rs last : List Reply) → ArePlain rs → Paced now after last → Paced now after (rs ++ last)
 plain_then now after [] last all is = is
 plain_then now after (reply.Begin position ∷ rs) last all is = absurd all.0
 plain_then now after (reply.Row row ∷ rs) last all is = plain_then now after rs last all.1 is
@@ -29,7 +29,7 @@ plain_then now after (reply.NoMajority up nodes ∷ rs) last all is = absurd all
 plain_then now after (reply.NoMemory ∷ rs) last all is = absurd all.0
 
 -- plain replies leave the last position
-pub plain_paced : (now : ℕ) (rs : List ReplyLine) → ArePlain rs → Paced now now rs
+pub plain_paced : (now : ℕ) (rs : List Reply) → ArePlain rs → Paced now now rs
 plain_paced now [] all = refl
 plain_paced now (reply.Begin position ∷ rs) all = absurd all.0
 plain_paced now (reply.Row row ∷ rs) all = plain_paced now rs all.1

@@ -8,8 +8,8 @@ use Rattle.cdb_values.specs.declared.rows.StatementError.TheVariants.{State}
 use Rattle.session_language.specs.Language.{Language, Kind, BeginText, CommitText, RollbackText, LevelText, OtherText}
 use Rattle.report_laws.specs.Told.{Along, Numbered}
 use Rattle.report_laws.specs.Work.{Transaction, Item, Does, Lone, Place, End, ByCommit, ByRollback, WithItsLine, Nowhere, transaction, with_open, next_by, next_place, place_from, open_item, items_at}
-use Rattle.report_text.specs.declared.reports.ReplyLine.{ReplyLine}
-use Rattle.report_text.specs.declared.reports.ReplyLine.TheVariants as reply
+use Rattle.cdb_values.specs.declared.replies.Reply.{Reply}
+use Rattle.cdb_values.specs.declared.replies.Reply.TheVariants as reply
 use Rattle.report_laws.proofs.WorkLaws.{IsBelow, first_left}
 use Rattle.report_laws.proofs.AlongLaws.{AllOther, along_its, of_number, of_its, of_another}
 
@@ -115,7 +115,7 @@ others_before bound n (Does t ∷ items) first le all =
 others_before bound n (Lone answer ∷ items) first le all = (ne_eqb 0 n (λ (same : 0 ≡ n). omega (arith, first, same)), others_before bound n items first le all.1)
 
 -- what holds along a session's work holds of the first thing that it still does, where this is a transaction
-pub of_its_rest : (P : Item → List ReplyLine → Type 0) (bound : ℕ) (over : List Item) (t : Transaction) (others : List Item) (lines : List Numbered) →
+pub of_its_rest : (P : Item → List Reply → Type 0) (bound : ℕ) (over : List Item) (t : Transaction) (others : List Item) (lines : List Numbered) →
     1 ≤ bound → bound ≤ t.number → AllByRecursion (IsBelow bound) over → Rising bound (Does t ∷ others) → Along P (over ++ Does t ∷ others) lines → P (Does t) (of_number t.number lines)
 of_its_rest P bound over t others lines first le below rising along =
     along_its P over others (Does t) lines
@@ -124,7 +124,7 @@ of_its_rest P bound over t others lines first le below rising along =
     along
 
 -- the replies outside transactions
-abbrev pub lones : List Item → List ReplyLine
+abbrev pub lones : List Item → List Reply
 lones [] = []
 lones (Does t ∷ items) = lones items
 lones (Lone answer ∷ items) = answer ∷ lones items
@@ -135,7 +135,7 @@ lones_append (Does t ∷ xs) ys = lones_append xs ys
 lones_append (Lone answer ∷ xs) ys = ap (λ rest. answer ∷ rest) (lones_append xs ys)
 
 -- they are what a session is told under the number 0
-pub told_lones : (P : Item → List ReplyLine → Type 0) → ((answer : ReplyLine) (mine : List ReplyLine) → P (Lone answer) mine → mine ≡ answer ∷ []) →
+pub told_lones : (P : Item → List Reply → Type 0) → ((answer : Reply) (mine : List Reply) → P (Lone answer) mine → mine ≡ answer ∷ []) →
     (items : List Item) (lines : List Numbered) (bound : ℕ) → 1 ≤ bound → Rising bound items → Along P items lines → of_number 0 lines ≡ lones items
 told_lones P one [] lines bound first rising is = ap (of_number 0) is
 told_lones P one (Does t ∷ items) lines bound first rising (mine, others, splits, p, rest) =
@@ -146,5 +146,5 @@ told_lones P one (Does t ∷ items) lines bound first rising (mine, others, spli
 told_lones P one (Lone answer ∷ items) lines bound first rising (mine, others, splits, p, rest) =
     ap (of_number 0) splits
     ∙ of_its 0 mine others
-    ∙ ap (λ (front : List ReplyLine). front ++ of_number 0 others) (one answer mine p)
+    ∙ ap (λ (front : List Reply). front ++ of_number 0 others) (one answer mine p)
     ∙ ap (λ rest. answer ∷ rest) (told_lones P one items others bound first rising rest)

@@ -18,8 +18,8 @@ use Rattle.session_language.specs.Touched.{Used}
 use Rattle.report_text.specs.declared.reports.EntryLine.{EntryLine}
 use Rattle.report_text.specs.declared.reports.EntryLine.TheVariants.{Setup, Commit}
 use Rattle.report_text.specs.declared.reports.Line.{Line}
-use Rattle.report_text.specs.declared.reports.ReplyLine.{ReplyLine}
-use Rattle.report_text.specs.declared.reports.ReplyLine.TheVariants as reply
+use Rattle.cdb_values.specs.declared.replies.Reply.{Reply}
+use Rattle.cdb_values.specs.declared.replies.Reply.TheVariants as reply
 use Rattle.session_language.proofs.AnswerLaws.{replies_more}
 use Rattle.report_laws.proofs.DecideLemmas.{Decides, Commits}
 use Rattle.session_language.proofs.EachLaws.{all_append, all_map}
@@ -33,16 +33,16 @@ pub same_name : (name : List ℕ) → bytes_eq name name ≡ true
 same_name name = (bytes_eq-Decides name name).1 refl
 
 -- what a session was told under a number, with a piece of lines more
-more_own : (name : List ℕ) (n : ℕ) (before : List Line) (rs : List ReplyLine) → under name n (before ++ lines_of name n rs) ≡ under name n before ++ rs
-more_own name n before rs = under_append name n before (lines_of name n rs) ∙ ap (λ (more : List ReplyLine). under name n before ++ more) (under_own name name n rs (same_name name))
+more_own : (name : List ℕ) (n : ℕ) (before : List Line) (rs : List Reply) → under name n (before ++ lines_of name n rs) ≡ under name n before ++ rs
+more_own name n before rs = under_append name n before (lines_of name n rs) ∙ ap (λ (more : List Reply). under name n before ++ more) (under_own name name n rs (same_name name))
 
-more_number : (name : List ℕ) (n m : ℕ) (before : List Line) (rs : List ReplyLine) → (m ≡ n → ⊥) → under name n (before ++ lines_of name m rs) ≡ under name n before
+more_number : (name : List ℕ) (n m : ℕ) (before : List Line) (rs : List Reply) → (m ≡ n → ⊥) → under name n (before ++ lines_of name m rs) ≡ under name n before
 more_number name n m before rs other =
-    under_append name n before (lines_of name m rs) ∙ ap (λ (more : List ReplyLine). under name n before ++ more) (under_number name name n m rs (same_name name) other) ∙ append-nil (under name n before)
+    under_append name n before (lines_of name m rs) ∙ ap (λ (more : List Reply). under name n before ++ more) (under_number name name n m rs (same_name name) other) ∙ append-nil (under name n before)
 
-more_other : (name session : List ℕ) (n m : ℕ) (before : List Line) (rs : List ReplyLine) → bytes_eq session name ≡ false → under name n (before ++ lines_of session m rs) ≡ under name n before
+more_other : (name session : List ℕ) (n m : ℕ) (before : List Line) (rs : List Reply) → bytes_eq session name ≡ false → under name n (before ++ lines_of session m rs) ≡ under name n before
 more_other name session n m before rs other =
-    under_append name n before (lines_of session m rs) ∙ ap (λ (more : List ReplyLine). under name n before ++ more) (under_other name session n m rs other) ∙ append-nil (under name n before)
+    under_append name n before (lines_of session m rs) ∙ ap (λ (more : List Reply). under name n before ++ more) (under_other name session n m rs other) ∙ append-nil (under name n before)
 
 -- what a session at that place of its work was told
 pub record IsHeard (basis : Basis) (history : List EntryLine) (p : Place) (name : List ℕ) (before : List Line) : Type 0 where
@@ -60,7 +60,7 @@ pub record SoFar (basis : Basis) (done : List BodyLine) (before : List Line) (hi
   pub ended : AllByRecursion (IsEnded basis.language done) history
 
 -- an open transaction goes on when the history grows
-going_on : (basis : Basis) (history added : List EntryLine) (pending : Option (List (List ℕ))) (mine : List ReplyLine) → IsGoing basis history pending mine → IsGoing basis (history ++ added) pending mine
+going_on : (basis : Basis) (history added : List EntryLine) (pending : Option (List (List ℕ))) (mine : List Reply) → IsGoing basis history pending mine → IsGoing basis (history ++ added) pending mine
 going_on basis history added None mine is = tt
 going_on basis history added (Some texts) mine (begin, base, le, says) = (
   begin,
@@ -70,15 +70,15 @@ going_on basis history added (Some texts) mine (begin, base, le, says) = (
 )
 
 -- another session's line leaves what a session was told
-heard_other : (basis : Basis) (history added : List EntryLine) (p : Place) (name session : List ℕ) (m : ℕ) (before : List Line) (rs : List ReplyLine) → bytes_eq session name ≡ false →
+heard_other : (basis : Basis) (history added : List EntryLine) (p : Place) (name session : List ℕ) (m : ℕ) (before : List Line) (rs : List Reply) → bytes_eq session name ≡ false →
     IsHeard basis history p name before → IsHeard basis (history ++ added) p name (before ++ lines_of session m rs)
 heard_other basis history added p name session m before rs other was = record {
   outside = more_other name session 0 m before rs other ∙ was.outside;
   unsaid = λ n new. more_other name session n m before rs other ∙ was.unsaid n new;
-  going = subst (λ (mine : List ReplyLine). IsGoing basis (history ++ added) p.pending mine) (sym (more_other name session p.number m before rs other)) (going_on basis history added p.pending (under name p.number before) was.going);
+  going = subst (λ (mine : List Reply). IsGoing basis (history ++ added) p.pending mine) (sym (more_other name session p.number m before rs other)) (going_on basis history added p.pending (under name p.number before) was.going);
 }
 
-module _ (basis : Basis) (history added : List EntryLine) (p : Place) (name text : List ℕ) (before : List Line) (rs : List ReplyLine) (was : IsHeard basis history p name before) where
+module _ (basis : Basis) (history added : List EntryLine) (p : Place) (name text : List ℕ) (before : List Line) (rs : List Reply) (was : IsHeard basis history p name before) where
   abbrev pub IsNext : Kind → Option (List (List ℕ)) → Type 0
   IsNext k pending = IsHeard basis (history ++ added) (next_by p text k pending) name (before ++ lines_of name (number_by p.number k pending) rs)
 
@@ -86,8 +86,8 @@ module _ (basis : Basis) (history added : List EntryLine) (p : Place) (name text
   over_does : (t : Transaction) → lones (p.over ++ Does t ∷ []) ≡ lones p.over
   over_does t = lones_append p.over (Does t ∷ []) ∙ append-nil (lones p.over)
 
-  lone_outside : (answer : ReplyLine) → rs ≡ answer ∷ [] → under name 0 (before ++ lines_of name 0 rs) ≡ lones (p.over ++ Lone answer ∷ [])
-  lone_outside answer is = more_own name 0 before rs ∙ ap (λ (front : List ReplyLine). front ++ rs) was.outside ∙ ap (λ (more : List ReplyLine). lones p.over ++ more) is ∙ sym (lones_append p.over (Lone answer ∷ []))
+  lone_outside : (answer : Reply) → rs ≡ answer ∷ [] → under name 0 (before ++ lines_of name 0 rs) ≡ lones (p.over ++ Lone answer ∷ [])
+  lone_outside answer is = more_own name 0 before rs ∙ ap (λ (front : List Reply). front ++ rs) was.outside ∙ ap (λ (more : List Reply). lones p.over ++ more) is ∙ sym (lones_append p.over (Lone answer ∷ []))
 
   unsaid_zero : (n : ℕ) → p.number < n → under name n (before ++ lines_of name 0 rs) ≡ []
   unsaid_zero n new = more_number name n 0 before rs (λ (same : 0 ≡ n). omega (arith, new, same)) ∙ was.unsaid n new
@@ -113,9 +113,9 @@ module _ (basis : Basis) (history added : List EntryLine) (p : Place) (name text
         base,
         le,
         more_own name p.number before rs
-            ∙ ap (λ (front : List ReplyLine). front ++ rs) says
-            ∙ ap (λ (more : List ReplyLine). (reply.Begin begin ∷ (alone_of basis history begin texts).replies) ++ more) is
-            ∙ ap (λ (all : List ReplyLine). reply.Begin begin ∷ all) (sym (replies_more basis.language basis.origin.tables (rows_at basis history begin).tables [] texts text)),
+            ∙ ap (λ (front : List Reply). front ++ rs) says
+            ∙ ap (λ (more : List Reply). (reply.Begin begin ∷ (alone_of basis history begin texts).replies) ++ more) is
+            ∙ ap (λ (all : List Reply). reply.Begin begin ∷ all) (sym (replies_more basis.language basis.origin.tables (rows_at basis history begin).tables [] texts text)),
       )
 
   -- after a line of its own a session has been told what its work there gives
@@ -128,7 +128,7 @@ module _ (basis : Basis) (history added : List EntryLine) (p : Place) (name text
       moment basis history,
       omega arith,
       omega (arith, length-append history added),
-      more_own name (p.number + 1) before rs ∙ ap (λ (front : List ReplyLine). front ++ rs) (was.unsaid (p.number + 1) (omega arith)) ∙ turned.0,
+      more_own name (p.number + 1) before rs ∙ ap (λ (front : List Reply). front ++ rs) (was.unsaid (p.number + 1) (omega arith)) ∙ turned.0,
     );
   }
   heard_next CommitText None going begun turned = record { outside = lone_outside (reply.Error State) turned.0; unsaid = unsaid_zero; going = tt }
@@ -154,7 +154,7 @@ module _ (basis : Basis) (history added : List EntryLine) (p : Place) (name text
   commit_ended t begin position used [] number pending less is = none_ended number pending is.1
   commit_ended t begin position used (op ∷ ops) number pending less is = subst (λ (es : List EntryLine). AllByRecursion (IsEndedAt number pending) es) (sym is.appends) ((refl, less), tt)
 
-  decided_ended : (t : Transaction) (begin : ℕ) (used : List Used) (ops : List RowOp) (o : ReplyLine) (number : ℕ) (pending : Option (List (List ℕ))) → t.number < first_left number pending →
+  decided_ended : (t : Transaction) (begin : ℕ) (used : List Used) (ops : List RowOp) (o : Reply) (number : ℕ) (pending : Option (List (List ℕ))) → t.number < first_left number pending →
       Decides basis history name t begin used ops o added → AllByRecursion (IsEndedAt number pending) added
   decided_ended t begin used ops o number pending less (inl (position, tells, is)) = commit_ended t begin position used ops number pending less is
   decided_ended t begin used ops o number pending less (inr (inl (position, none, within, is))) = none_ended number pending none
@@ -207,7 +207,7 @@ module _ (basis : Basis) (done : List BodyLine) (b : BodyLine) (session text : L
       go false other = subst (λ (p : Place). txn < first_left p.number p.pending) (sym (after_other basis.language name session text b done is_act other)) less
 
   -- a turn keeps what is known
-  pub so_far_next : (before : List Line) (history added : List EntryLine) (rs : List ReplyLine) (was : SoFar basis done before history) → IsBegun at.number at.pending →
+  pub so_far_next : (before : List Line) (history added : List EntryLine) (rs : List Reply) (was : SoFar basis done before history) → IsBegun at.number at.pending →
       Turned basis history session at text (basis.language.kind text) at.pending (begun_at basis history at.pending (under session at.number before) (was.heard session).going) rs added →
       SoFar basis (done ++ b ∷ []) (before ++ lines_of session (number_told basis.language at text) rs) (history ++ added)
   so_far_next before history added rs was begun turned = record {

@@ -27,18 +27,19 @@ use Rattle.report_laws.specs.Lawful.{Lawful}
 use Rattle.report_laws.specs.Outcome.{IsRight, Ends, IsOneDecision, IsDecided, line_by, range_line, conflict_line, name_or_none, name_of_table, name_of_key, key_name}
 use Rattle.report_laws.specs.Play.{InPlayOrder, InTurns, IsTurnOf, IsDownLine, opened_behind}
 use Rattle.report_laws.specs.Spelled.{IsNamedTable, SaysAsNamed, IsSpelled}
-use Rattle.session_language.specs.Spelled.{IsToldValue, IsToldRow, SpellsReply, WritesRow, HaveRows, KeepsRows}
+use Rattle.session_language.specs.Spelled.{IsToldValue, IsToldRow, SpellsReply, SpellsRow, WritesRow, HaveRows, KeepsRows}
 use Rattle.report_laws.specs.Told.{Along, Numbered, numbered, told, told_by, lines_of, IsTold, IsWhole, IsCut, IsEntryTold, alone_at}
 use Rattle.report_laws.specs.View.{View}
 use Rattle.report_laws.specs.Work.{Transaction, End, ByCommit, ByRollback, WithItsLine, Nowhere, Item, Does, Lone, Place, start, next_by, next_place, place_from, place_after, said, said_by, open_item, work, number_of, numbered_among, transaction_of}
-use Rattle.report_text.specs.Grammar.{IsName, IsKey, IsValue, IsRow, IsReply, IsLine, IsEntry, IsFeed, IsReport}
+use Rattle.byte_words.specs.Names.{IsName, IsKey}
+use Rattle.report_text.specs.Grammar.{IsValue, IsRow, IsReply, IsLine, IsEntry, IsFeed, IsReport}
 use Rattle.report_text.specs.Types.{FitsValue, FitsReply, FitsLine, FitsEntry, FitsTypes}
 use Rattle.report_text.specs.declared.reports.EntryLine.{EntryLine}
 use Rattle.report_text.specs.declared.reports.EntryLine.TheVariants.{Setup, Commit}
 use Rattle.report_text.specs.declared.reports.Line.{Line}
 use Rattle.report_text.specs.declared.reports.Line.TheVariants as line
-use Rattle.report_text.specs.declared.reports.ReplyLine.{ReplyLine}
-use Rattle.report_text.specs.declared.reports.ReplyLine.TheVariants as reply
+use Rattle.cdb_values.specs.declared.replies.Reply.{Reply}
+use Rattle.cdb_values.specs.declared.replies.Reply.TheVariants as reply
 use Rattle.report_text.specs.declared.reports.Report.{Report}
 use Rattle.report_laws.proofs.EntryToldLaws.{begin_stands}
 use Rattle.session_language.proofs.AllLaws.{all_got, all_exchanged, all_filtered, all_behind, all_standing}
@@ -119,7 +120,7 @@ none_is x e = cc
 the_same : {A : Type 0} (x y : A) → Some x ≡ Some y → x ≡ y
 the_same x y e = ap (λ found. unwrap_or found y) e
 
-told_by_name : (tables : List TableDef) (place : ℕ) → AllByRecursion IsNamedTable tables → (position genid : ℕ) (answer : ReplyLine) → line_by position genid (name_or_none (slice_get tables place)) ≡ Some answer → SpellsReply answer
+told_by_name : (tables : List TableDef) (place : ℕ) → AllByRecursion IsNamedTable tables → (position genid : ℕ) (answer : Reply) → line_by position genid (name_or_none (slice_get tables place)) ≡ Some answer → SpellsReply answer
 told_by_name [] place all position genid answer is = none_is answer is
 told_by_name (table ∷ tables) zero all position genid answer is = subst SpellsReply (the_same (reply.ConflictGenid position table.name genid) answer is) all.0.0
 told_by_name (table ∷ tables) (suc place) all position genid answer is = told_by_name tables place all.1 position genid answer is
@@ -144,14 +145,14 @@ key_called [] (Some place) all name is = none_is name is
 key_called (key ∷ keys) (Some zero) all name is = subst IsName (the_same key.name name is) all.0.name
 key_called (key ∷ keys) (Some (suc place)) all name is = key_called keys (Some place) all.1 name is
 
-range_told : (position : ℕ) (table key : Option (List ℕ)) (answer : ReplyLine) → ((name : List ℕ) → table ≡ Some name → IsName name) → ((name : List ℕ) → key ≡ Some name → IsName name) →
+range_told : (position : ℕ) (table key : Option (List ℕ)) (answer : Reply) → ((name : List ℕ) → table ≡ Some name → IsName name) → ((name : List ℕ) → key ≡ Some name → IsName name) →
     range_line position table key ≡ Some answer → SpellsReply answer
 range_told position None key answer tables keys is = none_is answer is
 range_told position (Some table) None answer tables keys is = none_is answer is
 range_told position (Some table) (Some key) answer tables keys is =
     subst SpellsReply (the_same (reply.ConflictRange position table key) answer is) (tables table refl, keys key refl)
 
-conflict_told : (tables : List TableDef) (position : ℕ) (item : Used) (answer : ReplyLine) → AllByRecursion IsNamedTable tables → conflict_line tables position item ≡ Some answer → SpellsReply answer
+conflict_told : (tables : List TableDef) (position : ℕ) (item : Used) (answer : Reply) → AllByRecursion IsNamedTable tables → conflict_line tables position item ≡ Some answer → SpellsReply answer
 conflict_told tables position (TheVersion item) answer all is = told_by_name tables item.table all position item.genid answer is
 conflict_told tables position (TheRange interval) answer all is =
     range_told position (name_of_table tables interval.table) (name_of_key (keys_at tables interval.table) interval.key) answer
@@ -234,7 +235,7 @@ among_texts number (Does t ∷ items) all = pick (t.number == number) (among_tex
     pick false later = later
 among_texts number (Lone answer ∷ items) all = among_texts number items all.1
 
-cut_spelled : (cause : ReplyLine) → cuts cause ≡ true → SpellsReply cause
+cut_spelled : (cause : Reply) → cuts cause ≡ true → SpellsReply cause
 cut_spelled (reply.Begin position) e = cc
 cut_spelled (reply.Row row) e = cc
 cut_spelled (reply.Done rows) e = cc
@@ -277,7 +278,7 @@ module _ (basis : Basis) (spelled : IsSpelled basis) where
   rows_spelled es position =
       all_got HasRows (states_of basis es) (position - basis.origin.position) basis.origin.rows (states_spelled (basis.origin.rows ∷ []) es (spelled.rows, tt)) spelled.rows
 
-  right_spelled : (es : List EntryLine) (name : List ℕ) (t : Transaction) (begin : ℕ) (used : List Used) (ops : List RowOp) (answer : ReplyLine) →
+  right_spelled : (es : List EntryLine) (name : List ℕ) (t : Transaction) (begin : ℕ) (used : List Used) (ops : List RowOp) (answer : Reply) →
       IsDecided answer → IsRight basis (view_of basis es) name t begin used ops answer → SpellsReply answer
   right_spelled es name t begin used ops (reply.Begin position) decided right = absurd decided
   right_spelled es name t begin used ops (reply.Row row) decided right = absurd decided
@@ -297,13 +298,13 @@ module _ (basis : Basis) (spelled : IsSpelled basis) where
   right_spelled es name t begin used ops (reply.NoMajority up nodes) decided right = absurd decided
   right_spelled es name t begin used ops reply.NoMemory decided right = absurd decided
 
-  decision_spelled : (es : List EntryLine) (name : List ℕ) (t : Transaction) (begin : ℕ) (used : List Used) (ops : List RowOp) (last : List ReplyLine) →
+  decision_spelled : (es : List EntryLine) (name : List ℕ) (t : Transaction) (begin : ℕ) (used : List Used) (ops : List RowOp) (last : List Reply) →
       IsOneDecision last → AllByRecursion (IsRight basis (view_of basis es) name t begin used ops) last → AllByRecursion SpellsReply last
   decision_spelled es name t begin used ops [] one right = absurd one
   decision_spelled es name t begin used ops (outcome ∷ []) one right = (right_spelled es name t begin used ops outcome one right.0, tt)
   decision_spelled es name t begin used ops (outcome ∷ other ∷ more) one right = absurd one
 
-  end_spelled : (es : List EntryLine) (name : List ℕ) (t : Transaction) (begin : ℕ) (used : List Used) (ops : List RowOp) (end : End) (last : List ReplyLine) →
+  end_spelled : (es : List EntryLine) (name : List ℕ) (t : Transaction) (begin : ℕ) (used : List Used) (ops : List RowOp) (end : End) (last : List Reply) →
       Ends end last → AllByRecursion (IsRight basis (view_of basis es) name t begin used ops) last → AllByRecursion SpellsReply last
   end_spelled es name t begin used ops ByCommit last ends right = decision_spelled es name t begin used ops last ends right
   end_spelled es name t begin used ops ByRollback last ends right = subst (AllByRecursion SpellsReply) (sym ends) (tt, tt)
@@ -315,17 +316,17 @@ module _ (basis : Basis) (spelled : IsSpelled basis) where
       subst (λ (a : Answered). AllByRecursion SpellsReply a.replies) (sym is)
       (alone_replies basis.language basis.origin.tables spelled.language (rows_at basis es begin).tables [] t.texts are (rows_spelled es begin) tt)
 
-  whole_spelled : (es : List EntryLine) (name : List ℕ) (t : Transaction) (mine : List ReplyLine) → AreTexts t.texts → IsWhole basis (view_of basis es) name t mine → AllByRecursion SpellsReply mine
+  whole_spelled : (es : List EntryLine) (name : List ℕ) (t : Transaction) (mine : List Reply) → AreTexts t.texts → IsWhole basis (view_of basis es) name t mine → AllByRecursion SpellsReply mine
   whole_spelled es name t mine are w =
       subst (AllByRecursion SpellsReply) (sym w.says)
       (tt, all_append SpellsReply w.ran.replies w.last (ran_spelled es t w.begin w.ran are w.is_ran) (end_spelled es name t w.begin (used_at t.level w.ran) w.ran.ops t.end w.last w.ends w.right))
 
-  cut_short_spelled : (es : List EntryLine) (t : Transaction) (mine : List ReplyLine) → AreTexts t.texts → IsCut basis (view_of basis es) t mine → AllByRecursion SpellsReply mine
+  cut_short_spelled : (es : List EntryLine) (t : Transaction) (mine : List Reply) → AreTexts t.texts → IsCut basis (view_of basis es) t mine → AllByRecursion SpellsReply mine
   cut_short_spelled es t mine are c =
       let all : AllByRecursion SpellsReply (c.front ++ c.rest) = subst (AllByRecursion SpellsReply) (sym c.fits) (tt, ran_spelled es t c.begin c.ran are c.is_ran) in
       subst (AllByRecursion SpellsReply) (sym c.says) (all_append SpellsReply c.front (c.cause ∷ []) (all_front SpellsReply c.front c.rest all) (cut_spelled c.cause c.is_cause, tt))
 
-  told_spelled : (es : List EntryLine) (name : List ℕ) (item : Item) (mine : List ReplyLine) → SpellsItem item → IsTold basis (view_of basis es) name item mine → AllByRecursion SpellsReply mine
+  told_spelled : (es : List EntryLine) (name : List ℕ) (item : Item) (mine : List Reply) → SpellsItem item → IsTold basis (view_of basis es) name item mine → AllByRecursion SpellsReply mine
   told_spelled es name (Does t) mine is (inl whole) = whole_spelled es name t mine is whole
   told_spelled es name (Does t) mine is (inr cut) = cut_short_spelled es t mine is cut
   told_spelled es name (Lone answer) mine is told = subst (AllByRecursion SpellsReply) (sym told) (is, tt)
@@ -333,7 +334,7 @@ module _ (basis : Basis) (spelled : IsSpelled basis) where
   abbrev SpellsTold : Numbered → Type 0
   SpellsTold n = SpellsReply n.1
 
-  numbered_spelled : (n : ℕ) (replies : List ReplyLine) → AllByRecursion SpellsReply replies → AllByRecursion SpellsTold (numbered n replies)
+  numbered_spelled : (n : ℕ) (replies : List Reply) → AllByRecursion SpellsReply replies → AllByRecursion SpellsTold (numbered n replies)
   numbered_spelled n [] all = tt
   numbered_spelled n (r ∷ rs) all = (all.0, numbered_spelled n rs all.1)
 
@@ -375,7 +376,7 @@ lines_spelled (line.Up node ∷ ls) each named = (tt, lines_spelled ls each name
 lines_spelled (line.Barrier ∷ ls) each named = (tt, lines_spelled ls each named.1)
 lines_spelled (line.Fed position ∷ ls) each named = (tt, lines_spelled ls each named.1)
 
-replies_named : (session : List ℕ) (number : ℕ) (replies : List ReplyLine) → IsName session → AllByRecursion IsNamedLine (lines_of session number replies)
+replies_named : (session : List ℕ) (number : ℕ) (replies : List Reply) → IsName session → AllByRecursion IsNamedLine (lines_of session number replies)
 replies_named session number [] is = tt
 replies_named session number (r ∷ rs) is = (is, replies_named session number rs is)
 
@@ -427,11 +428,11 @@ values_are : (vs : List Value) → AllByRecursion FitsValue vs → AllByRecursio
 values_are [] fits told = tt
 values_are (v ∷ vs) fits told = (value_is v fits.0 told.0, values_are vs fits.1 told.1)
 
-row_is : (row : List Value) → AllByRecursion FitsValue row → IsToldRow row → IsRow row
+row_is : (row : List Value) → AllByRecursion FitsValue row → SpellsRow row → IsRow row
 row_is [] fits told = absurd told
 row_is (v ∷ vs) fits told = (value_is v fits.0 told.0, values_are vs fits.1 told.1)
 
-reply_is : (r : ReplyLine) → FitsReply r → SpellsReply r → IsReply r
+reply_is : (r : Reply) → FitsReply r → SpellsReply r → IsReply r
 reply_is (reply.Begin position) fits spells = fits
 reply_is (reply.Row row) fits spells = row_is row fits spells
 reply_is (reply.Done rows) fits spells = fits

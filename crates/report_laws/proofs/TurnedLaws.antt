@@ -21,8 +21,8 @@ use Rattle.report_text.specs.declared.reports.EntryLine.{EntryLine}
 use Rattle.session_language.specs.Touched.{used_at}
 use Rattle.report_text.specs.declared.reports.EntryLine.TheVariants.{Commit}
 use Rattle.report_text.specs.declared.reports.Line.{Line}
-use Rattle.report_text.specs.declared.reports.ReplyLine.{ReplyLine}
-use Rattle.report_text.specs.declared.reports.ReplyLine.TheVariants as reply
+use Rattle.cdb_values.specs.declared.replies.Reply.{Reply}
+use Rattle.cdb_values.specs.declared.replies.Reply.TheVariants as reply
 use Rattle.session_language.proofs.AnswerLaws.{replies_append}
 use Rattle.report_laws.proofs.DecideLemmas.{Decides, IsOutcomes, one_decision, decided}
 use Rattle.report_laws.proofs.FrontLemmas.{rows_front}
@@ -42,22 +42,22 @@ module _ (basis : Basis) (history : List EntryLine) where
   alone_of begin texts = alone_on basis (rows_at basis history begin) texts
 
   -- the open transaction, if one is, was told so, and began there
-  abbrev pub IsGoing : Option (List (List ℕ)) → List ReplyLine → Type 0
+  abbrev pub IsGoing : Option (List (List ℕ)) → List Reply → Type 0
   IsGoing None mine = Unit {0}
   IsGoing (Some texts) mine = (begin : ℕ) × (basis.origin.position ≤ begin) × (begin ≤ moment) × (mine ≡ reply.Begin begin ∷ (alone_of begin texts).replies)
 
-  abbrev pub begun_at : (pending : Option (List (List ℕ))) (mine : List ReplyLine) → IsGoing pending mine → ℕ
+  abbrev pub begun_at : (pending : Option (List (List ℕ))) (mine : List Reply) → IsGoing pending mine → ℕ
   begun_at None mine is = 0
   begun_at (Some texts) mine is = is.0
 
   -- a transaction ends: behind these replies it is told the decision of that moment
-  pub record IsEnding (name : List ℕ) (t : Transaction) (begin : ℕ) (front replies : List ReplyLine) (added : List EntryLine) : Type 0 where
-    pub outcome : ReplyLine
+  pub record IsEnding (name : List ℕ) (t : Transaction) (begin : ℕ) (front replies : List Reply) (added : List EntryLine) : Type 0 where
+    pub outcome : Reply
     pub says : replies ≡ front ++ outcome ∷ []
     pub decides : Decides basis history name t begin (used_at t.level (alone_of begin t.texts)) (alone_of begin t.texts).ops outcome added
 
   -- what a line tells and appends, by its kind and the open transaction
-  abbrev pub Turned : List ℕ → Place → List ℕ → Kind → Option (List (List ℕ)) → ℕ → List ReplyLine → List EntryLine → Type 0
+  abbrev pub Turned : List ℕ → Place → List ℕ → Kind → Option (List (List ℕ)) → ℕ → List Reply → List EntryLine → Type 0
   Turned name p text BeginText None begin replies added = (replies ≡ reply.Begin moment ∷ []) × (added ≡ [])
   Turned name p text CommitText None begin replies added = (replies ≡ reply.Error State ∷ []) × (added ≡ [])
   Turned name p text RollbackText None begin replies added = (replies ≡ reply.Error State ∷ []) × (added ≡ [])
@@ -73,18 +73,18 @@ module _ (basis : Basis) (history : List EntryLine) where
   Turned name p text OtherText (Some texts) begin replies added =
       (replies ≡ (basis.language.answer basis.origin.tables (rows_at basis history begin).tables (alone_of begin texts).ops text).replies) × (added ≡ [])
 
-  one_ending : (name : List ℕ) (t : Transaction) (begin : ℕ) (front replies replies' : List ReplyLine) (added added' : List EntryLine) →
+  one_ending : (name : List ℕ) (t : Transaction) (begin : ℕ) (front replies replies' : List Reply) (added added' : List EntryLine) →
       IsEnding name t begin front replies added → IsEnding name t begin front replies' added' → (replies ≡ replies') × (added ≡ added')
   one_ending name t begin front replies replies' added added' is is' =
       let same : (is.outcome ≡ is'.outcome) × (added ≡ added') =
       one_decision basis history name t begin (used_at t.level (alone_of begin t.texts)) (alone_of begin t.texts).ops is.outcome is'.outcome added added' is.decides is'.decides in
-      (is.says ∙ ap (λ (o : ReplyLine). front ++ o ∷ []) same.0 ∙ sym is'.says, same.1)
+      (is.says ∙ ap (λ (o : Reply). front ++ o ∷ []) same.0 ∙ sym is'.says, same.1)
 
-  told_same : (told replies replies' : List ReplyLine) (added added' : List EntryLine) → (replies ≡ told) × (added ≡ []) → (replies' ≡ told) × (added' ≡ []) → (replies ≡ replies') × (added ≡ added')
+  told_same : (told replies replies' : List Reply) (added added' : List EntryLine) → (replies ≡ told) × (added ≡ []) → (replies' ≡ told) × (added' ≡ []) → (replies ≡ replies') × (added ≡ added')
   told_same told replies replies' added added' is is' = (is.0 ∙ sym is'.0, is.1 ∙ sym is'.1)
 
   -- there is one such turn
-  pub one_turn : (name : List ℕ) (p : Place) (text : List ℕ) (k : Kind) (pending : Option (List (List ℕ))) (begin : ℕ) (replies replies' : List ReplyLine) (added added' : List EntryLine) →
+  pub one_turn : (name : List ℕ) (p : Place) (text : List ℕ) (k : Kind) (pending : Option (List (List ℕ))) (begin : ℕ) (replies replies' : List Reply) (added added' : List EntryLine) →
       Turned name p text k pending begin replies added → Turned name p text k pending begin replies' added' → (replies ≡ replies') × (added ≡ added')
   one_turn name p text BeginText None begin replies replies' added added' is is' = told_same _ replies replies' added added' is is'
   one_turn name p text CommitText None begin replies replies' added added' is is' = told_same _ replies replies' added added' is is'
@@ -101,16 +101,16 @@ is_uncut : (b : Bool) → b ≡ true → b ≡ false → ⊥
 is_uncut b cut uncut = cc
 
 -- a transaction that was not cut short is told whole
-whole_told : (basis : Basis) (entries : List EntryLine) (name : List ℕ) (t : Transaction) (mine : List ReplyLine) → IsTold basis (view_of basis entries) name (Does t) mine → AllByRecursion (λ r. cuts r ≡ false) mine → IsWhole basis (view_of basis entries) name t mine
+whole_told : (basis : Basis) (entries : List EntryLine) (name : List ℕ) (t : Transaction) (mine : List Reply) → IsTold basis (view_of basis entries) name (Does t) mine → AllByRecursion (λ r. cuts r ≡ false) mine → IsWhole basis (view_of basis entries) name t mine
 whole_told basis entries name t mine (inl is) uncut = is
 whole_told basis entries name t mine (inr is) uncut = absurd (is_uncut (cuts is.cause) is.is_cause (all_at (λ r. cuts r ≡ false) mine is.cause uncut (is.front, [], is.says)))
 
-one_decided : (last : List ReplyLine) → IsOneDecision last → (o : ReplyLine) × (last ≡ o ∷ []) × IsDecided o
+one_decided : (last : List Reply) → IsOneDecision last → (o : Reply) × (last ≡ o ∷ []) × IsDecided o
 one_decided [] is = absurd is
 one_decided (o ∷ []) is = (o, refl, is)
 one_decided (_ ∷ _ ∷ _) is = absurd is
 
-pub loud : (o : ReplyLine) → IsDecided o → is_outcome o ≡ true
+pub loud : (o : Reply) → IsDecided o → is_outcome o ≡ true
 loud (reply.Begin position) is = absurd is
 loud (reply.Row row) is = absurd is
 loud (reply.Done rows) is = absurd is
@@ -127,7 +127,7 @@ loud (reply.NoMajority up nodes) is = absurd is
 loud reply.NoMemory is = absurd is
 
 -- a decision is no row
-pub no_row : (o : ReplyLine) → IsDecided o → is_last_of false o ≡ true
+pub no_row : (o : Reply) → IsDecided o → is_last_of false o ≡ true
 no_row (reply.Begin position) is = absurd is
 no_row (reply.Row row) is = absurd is
 no_row (reply.Done rows) is = absurd is
@@ -144,23 +144,23 @@ no_row (reply.NoMajority up nodes) is = absurd is
 no_row reply.NoMemory is = absurd is
 
 -- the entries of a turn are those of its last reply
-appended_by : (now : ℕ) (name : List ℕ) (number : ℕ) (replies front : List ReplyLine) (o : ReplyLine) (added : List EntryLine) → replies ≡ front ++ o ∷ [] → AllByRecursion (λ r. is_outcome r ≡ false) front →
+appended_by : (now : ℕ) (name : List ℕ) (number : ℕ) (replies front : List Reply) (o : Reply) (added : List EntryLine) → replies ≡ front ++ o ∷ [] → AllByRecursion (λ r. is_outcome r ≡ false) front →
     IsAppended now name number replies added → IsOutcomes now name number o added
 appended_by now name number replies front o [] says quiet is = inl refl
 appended_by now name number replies front o (e ∷ es) says quiet (none, begin, level, at, stands) =
-    inr (begin, level, ap (λ (rest : List EntryLine). e ∷ rest) none ∙ ap (λ (d : EntryLine). d ∷ []) at, commit_is_last front o (now + 1) quiet (subst (λ (rs : List ReplyLine). StandsIn rs (reply.Committed (now + 1))) says stands))
+    inr (begin, level, ap (λ (rest : List EntryLine). e ∷ rest) none ∙ ap (λ (d : EntryLine). d ∷ []) at, commit_is_last front o (now + 1) quiet (subst (λ (rs : List Reply). StandsIn rs (reply.Committed (now + 1))) says stands))
 
 -- and there are none where that is no commit
-appended_none : (now : ℕ) (name : List ℕ) (number : ℕ) (o : ReplyLine) (added : List EntryLine) → (o ≡ reply.Committed (now + 1) → ⊥) → IsOutcomes now name number o added → added ≡ []
+appended_none : (now : ℕ) (name : List ℕ) (number : ℕ) (o : Reply) (added : List EntryLine) → (o ≡ reply.Committed (now + 1) → ⊥) → IsOutcomes now name number o added → added ≡ []
 appended_none now name number o added other (inl none) = none
 appended_none now name number o added other (inr (begin, level, at, tells)) = absurd (other tells)
 
 -- or where no reply is an outcome
-appended_quiet : (now : ℕ) (name : List ℕ) (number : ℕ) (replies : List ReplyLine) (added : List EntryLine) → AllByRecursion (λ r. is_outcome r ≡ false) replies → IsAppended now name number replies added → added ≡ []
+appended_quiet : (now : ℕ) (name : List ℕ) (number : ℕ) (replies : List Reply) (added : List EntryLine) → AllByRecursion (λ r. is_outcome r ≡ false) replies → IsAppended now name number replies added → added ≡ []
 appended_quiet now name number replies [] quiet is = refl
 appended_quiet now name number replies (e ∷ es) quiet (none, begin, level, at, stands) = absurd (no_commit replies (now + 1) quiet stands)
 
-module _ (basis : Basis) (history added later : List EntryLine) (lines before others : List Line) (name : List ℕ) (p : Place) (text : List ℕ) (said : List (List ℕ)) (replies : List ReplyLine) where
+module _ (basis : Basis) (history added later : List EntryLine) (lines before others : List Line) (name : List ℕ) (p : Place) (text : List ℕ) (said : List (List ℕ)) (replies : List Reply) where
   abbrev whole : List EntryLine
   whole = history ++ (added ++ later)
 
@@ -172,7 +172,7 @@ module _ (basis : Basis) (history added later : List EntryLine) (lines before ot
     pub turn : IsTurn (moment basis history) before name (number_by p.number k pending) (is_own_by k pending) replies added
     pub told : (t : Transaction) (items : List Item) → first_left p.number pending ≤ t.number → rest_by k pending ≡ Does t ∷ items →
         IsTold basis (view_of basis whole) name (Does t) (under name t.number lines) × (transaction_of basis.language name t.number basis.script.body ≡ Some t)
-    pub lone : (answer : ReplyLine) (items : List Item) → rest_by k pending ≡ Lone answer ∷ items → under name 0 lines ≡ lones p.over ++ answer ∷ lones items
+    pub lone : (answer : Reply) (items : List Item) → rest_by k pending ≡ Lone answer ∷ items → under name 0 lines ≡ lones p.over ++ answer ∷ lones items
     pub is_new : (txn : ℕ) → first_left p.number pending ≤ txn → (at : ℕ) (begin : ℕ) (level : Level) → entry_at basis.origin history at ≡ Some (Commit at name txn begin level) → ⊥
     pub mine : under name (number_by p.number k pending) lines ≡ under name (number_by p.number k pending) before ++ (replies ++ under name (number_by p.number k pending) others)
     pub unsaid : (n : ℕ) → p.number < n → under name n before ≡ []
@@ -195,32 +195,32 @@ module _ (basis : Basis) (history added later : List EntryLine) (lines before ot
   -- outside a transaction, under a new number, a session is told this alone
   only_mine : (k : Kind) (pending : Option (List (List ℕ))) (g : Given k pending) → p.number < number_by p.number k pending →
       under name (number_by p.number k pending) lines ≡ replies ++ under name (number_by p.number k pending) others
-  only_mine k pending g new = g.mine ∙ ap (λ (front : List ReplyLine). front ++ (replies ++ under name (number_by p.number k pending) others)) (g.unsaid _ new)
+  only_mine k pending g new = g.mine ∙ ap (λ (front : List Reply). front ++ (replies ++ under name (number_by p.number k pending) others)) (g.unsaid _ new)
 
   whole_of : (k : Kind) (pending : Option (List (List ℕ))) (g : Given k pending) (t : Transaction) (items : List Item) → first_left p.number pending ≤ t.number → rest_by k pending ≡ Does t ∷ items → IsWhole basis (view_of basis whole) name t (under name t.number lines)
   whole_of k pending g t items le is = whole_told basis whole name t (under name t.number lines) (g.told t items le is).0 (are_uncut name t.number lines g.memory)
 
   -- what a transaction that is told whole is told
-  whole_says : (t : Transaction) (mine : List ReplyLine) (w : IsWhole basis (view_of basis whole) name t mine) → mine ≡ reply.Begin w.begin ∷ ((alone_at basis (view_of basis whole) t w.begin).replies ++ w.last)
+  whole_says : (t : Transaction) (mine : List Reply) (w : IsWhole basis (view_of basis whole) name t mine) → mine ≡ reply.Begin w.begin ∷ ((alone_at basis (view_of basis whole) t w.begin).replies ++ w.last)
   whole_says t mine w = w.says ∙ ap (λ (a : Answered). reply.Begin w.begin ∷ (a.replies ++ w.last)) w.is_ran
 
   -- and its outcome is right at its begin
-  abbrev IsRightAt : Transaction → ℕ → ReplyLine → Type 0
+  abbrev IsRightAt : Transaction → ℕ → Reply → Type 0
   IsRightAt t begin o = IsRight basis (view_of basis whole) name t begin (used_at t.level (alone_at basis (view_of basis whole) t begin)) (alone_at basis (view_of basis whole) t begin).ops o
 
-  right_at : (t : Transaction) (mine : List ReplyLine) (w : IsWhole basis (view_of basis whole) name t mine) (begin : ℕ) (o : ReplyLine) → w.begin ≡ begin → w.last ≡ o ∷ [] → IsRightAt t begin o
+  right_at : (t : Transaction) (mine : List Reply) (w : IsWhole basis (view_of basis whole) name t mine) (begin : ℕ) (o : Reply) → w.begin ≡ begin → w.last ≡ o ∷ [] → IsRightAt t begin o
   right_at t mine w begin o at last =
       subst (λ b. IsRightAt t b o) at
       (subst (λ (a : Answered). IsRight basis (view_of basis whole) name t w.begin (used_at t.level a) a.ops o) w.is_ran
-      (subst (λ (os : List ReplyLine). AllByRecursion (IsRight basis (view_of basis whole) name t w.begin (used_at t.level w.ran) w.ran.ops) os) last w.right).0)
+      (subst (λ (os : List Reply). AllByRecursion (IsRight basis (view_of basis whole) name t w.begin (used_at t.level w.ran) w.ran.ops) os) last w.right).0)
 
   -- a line outside transactions is answered by its one reply
-  lone_case : (k : Kind) (pending : Option (List (List ℕ))) (g : Given k pending) (answer : ReplyLine) (items : List Item) → number_by p.number k pending ≡ 0 → is_own_by k pending ≡ false →
+  lone_case : (k : Kind) (pending : Option (List (List ℕ))) (g : Given k pending) (answer : Reply) (items : List Item) → number_by p.number k pending ≡ 0 → is_own_by k pending ≡ false →
       rest_by k pending ≡ Lone answer ∷ items → is_last_of false answer ≡ true → is_outcome answer ≡ false → (replies ≡ answer ∷ []) × (added ≡ [])
-  lone_case k pending g answer items number own is last quiet = (same, appended_quiet _ name _ replies added (subst (λ (rs : List ReplyLine). AllByRecursion (λ r. is_outcome r ≡ false) rs) (sym same) (quiet, tt)) g.turn.appended)
+  lone_case k pending g answer items number own is last quiet = (same, appended_quiet _ name _ replies added (subst (λ (rs : List Reply). AllByRecursion (λ r. is_outcome r ≡ false) rs) (sym same) (quiet, tt)) g.turn.appended)
     where
       both : lones p.over ++ (replies ++ under name 0 others) ≡ lones p.over ++ answer ∷ lones items
-      both = ap (λ (front : List ReplyLine). front ++ (replies ++ under name 0 others)) (sym g.outside)
+      both = ap (λ (front : List Reply). front ++ (replies ++ under name 0 others)) (sym g.outside)
           ∙ sym (subst (λ n. under name n lines ≡ under name n before ++ (replies ++ under name n others)) number g.mine)
           ∙ g.lone answer items is
 
@@ -232,7 +232,7 @@ module _ (basis : Basis) (history added later : List EntryLine) (lines before ot
 
   -- a line that opens a transaction is told its begin
   begin_case : Given BeginText None → Turns BeginText None 0
-  begin_case g = (same ∙ ap (λ b. reply.Begin b ∷ []) at, appended_quiet _ name _ replies added (subst (λ (rs : List ReplyLine). AllByRecursion (λ r. is_outcome r ≡ false) rs) (sym same) (refl, tt)) g.turn.appended)
+  begin_case g = (same ∙ ap (λ b. reply.Begin b ∷ []) at, appended_quiet _ name _ replies added (subst (λ (rs : List Reply). AllByRecursion (λ r. is_outcome r ≡ false) rs) (sym same) (refl, tt)) g.turn.appended)
     where
       opened : IsOpened (with_open p (Some []) (p.number + 1)) [] (rest_of basis.language (with_open p (Some []) (p.number + 1)) said)
       opened = rest_opened basis.language (with_open p (Some []) (p.number + 1)) [] said refl
@@ -244,10 +244,10 @@ module _ (basis : Basis) (history added later : List EntryLine) (lines before ot
       same = up_to_same (is_last_of false) replies (reply.Begin w.begin ∷ []) _ _ (up_to BeginText None g) refl (sym (only_mine BeginText None g (omega arith)) ∙ w.says)
 
       at : w.begin ≡ moment basis history
-      at = (subst (λ (rs : List ReplyLine). AllByRecursion (IsTimely (moment basis history) (moment basis history + length added)) rs) same g.turn.timely).0
+      at = (subst (λ (rs : List Reply). AllByRecursion (IsTimely (moment basis history) (moment basis history + length added)) rs) same g.turn.timely).0
 
   -- what ends a transaction at this line is the decision of its moment
-  ending : (k : Kind) (pending : Option (List (List ℕ))) (g : Given k pending) (t : Transaction) (items : List Item) (begin : ℕ) (o : ReplyLine) (front : List ReplyLine) →
+  ending : (k : Kind) (pending : Option (List (List ℕ))) (g : Given k pending) (t : Transaction) (items : List Item) (begin : ℕ) (o : Reply) (front : List Reply) →
       first_left p.number pending ≤ t.number → rest_by k pending ≡ Does t ∷ items → number_by p.number k pending ≡ t.number →
       basis.origin.position ≤ begin → begin ≤ moment basis history → IsDecided o → IsRightAt t begin o →
       replies ≡ front ++ o ∷ [] → AllByRecursion (λ r. is_outcome r ≡ false) front →
@@ -274,14 +274,14 @@ module _ (basis : Basis) (history added later : List EntryLine) (lines before ot
       w : IsWhole basis (view_of basis whole) name t (under name (p.number + 1) lines)
       w = whole_of OtherText None g t _ (omega arith) refl
 
-      one : (o : ReplyLine) × (w.last ≡ o ∷ []) × IsDecided o
+      one : (o : Reply) × (w.last ≡ o ∷ []) × IsDecided o
       one = one_decided w.last w.ends
 
-      o : ReplyLine
+      o : Reply
       o = one.0
 
       first : under name (p.number + 1) lines ≡ reply.Begin w.begin ∷ ((alone_at basis (view_of basis whole) t w.begin).replies ++ o ∷ [])
-      first = whole_says t _ w ∙ ap (λ (last : List ReplyLine). reply.Begin w.begin ∷ ((alone_at basis (view_of basis whole) t w.begin).replies ++ last)) one.1
+      first = whole_says t _ w ∙ ap (λ (last : List Reply). reply.Begin w.begin ∷ ((alone_at basis (view_of basis whole) t w.begin).replies ++ last)) one.1
 
       same : replies ≡ reply.Begin w.begin ∷ ((alone_at basis (view_of basis whole) t w.begin).replies ++ o ∷ [])
       same = up_to_same (is_last_of true) replies (reply.Begin w.begin ∷ ((alone_at basis (view_of basis whole) t w.begin).replies ++ o ∷ [])) _ [] (up_to OtherText None g)
@@ -289,7 +289,7 @@ module _ (basis : Basis) (history added later : List EntryLine) (lines before ot
           (sym (only_mine OtherText None g (omega arith)) ∙ first ∙ sym (append-nil (reply.Begin w.begin ∷ ((alone_at basis (view_of basis whole) t w.begin).replies ++ o ∷ []))))
 
       at : w.begin ≡ now
-      at = (subst (λ (rs : List ReplyLine). AllByRecursion (IsTimely now (now + length added)) rs) same g.turn.timely).0
+      at = (subst (λ (rs : List Reply). AllByRecursion (IsTimely now (now + length added)) rs) same g.turn.timely).0
 
       there : reply.Begin w.begin ∷ ((alone_at basis (view_of basis whole) t w.begin).replies ++ o ∷ []) ≡ reply.Begin now ∷ ((alone_of basis history now t.texts).replies ++ o ∷ [])
       there = ap (λ b. reply.Begin b ∷ ((alone_at basis (view_of basis whole) t b).replies ++ o ∷ [])) at
@@ -303,10 +303,10 @@ module _ (basis : Basis) (history added later : List EntryLine) (lines before ot
 
   -- an open transaction is told at its begin, of which its session was told before
   open_is : (k : Kind) (texts : List (List ℕ)) (g : Given k (Some texts)) (t : Transaction) (items : List Item) → p.number ≡ t.number → number_by p.number k (Some texts) ≡ p.number → rest_by k (Some texts) ≡ Does t ∷ items →
-      (last : List ReplyLine) × Ends t.end last
+      (last : List Reply) × Ends t.end last
       × (under name t.number lines ≡ reply.Begin g.going.0 ∷ ((alone_of basis history g.going.0 t.texts).replies ++ last))
       × ((reply.Begin g.going.0 ∷ (alone_of basis history g.going.0 texts).replies) ++ (replies ++ under name p.number others) ≡ reply.Begin g.going.0 ∷ ((alone_of basis history g.going.0 t.texts).replies ++ last))
-      × ((o : ReplyLine) → last ≡ o ∷ [] → IsRightAt t g.going.0 o)
+      × ((o : Reply) → last ≡ o ∷ [] → IsRightAt t g.going.0 o)
   open_is k texts g t items number told is = (w.last, w.ends, all, sym mine ∙ ap (λ n. under name n lines) number ∙ all, λ o last. right_at t _ w begin o at last)
     where
       begin : ℕ
@@ -317,7 +317,7 @@ module _ (basis : Basis) (history added later : List EntryLine) (lines before ot
 
       mine : under name p.number lines ≡ (reply.Begin begin ∷ (alone_of basis history begin texts).replies) ++ (replies ++ under name p.number others)
       mine = subst (λ n. under name n lines ≡ under name n before ++ (replies ++ under name n others)) told g.mine
-          ∙ ap (λ (front : List ReplyLine). front ++ (replies ++ under name p.number others)) g.going.3
+          ∙ ap (λ (front : List Reply). front ++ (replies ++ under name p.number others)) g.going.3
 
       at : w.begin ≡ begin
       at = first_begin w.begin begin _ _ (sym (whole_says t _ w) ∙ ap (λ n. under name n lines) (sym number) ∙ mine)
@@ -333,13 +333,13 @@ module _ (basis : Basis) (history added later : List EntryLine) (lines before ot
       t : Transaction
       t = transaction p.number texts p.level ByCommit
 
-      is : (last : List ReplyLine) × IsOneDecision last
+      is : (last : List Reply) × IsOneDecision last
           × (under name p.number lines ≡ reply.Begin g.going.0 ∷ ((alone_of basis history g.going.0 texts).replies ++ last))
           × ((reply.Begin g.going.0 ∷ (alone_of basis history g.going.0 texts).replies) ++ (replies ++ under name p.number others) ≡ reply.Begin g.going.0 ∷ ((alone_of basis history g.going.0 texts).replies ++ last))
-          × ((o : ReplyLine) → last ≡ o ∷ [] → IsRightAt t g.going.0 o)
+          × ((o : Reply) → last ≡ o ∷ [] → IsRightAt t g.going.0 o)
       is = open_is CommitText texts g t _ refl refl refl
 
-      one : (o : ReplyLine) × (is.0 ≡ o ∷ []) × IsDecided o
+      one : (o : Reply) × (is.0 ≡ o ∷ []) × IsDecided o
       one = one_decided is.0 is.1
 
       same : replies ≡ one.0 ∷ []
@@ -349,10 +349,10 @@ module _ (basis : Basis) (history added later : List EntryLine) (lines before ot
   rollback_case : (texts : List (List ℕ)) (g : Given RollbackText (Some texts)) → Turns RollbackText (Some texts) g.going.0
   rollback_case texts g = (same, appended_none _ name _ reply.RolledBack added (λ other. cc) (appended_by _ name _ replies [] reply.RolledBack added same tt g.turn.appended))
     where
-      is : (last : List ReplyLine) × (last ≡ reply.RolledBack ∷ [])
+      is : (last : List Reply) × (last ≡ reply.RolledBack ∷ [])
           × (under name p.number lines ≡ reply.Begin g.going.0 ∷ ((alone_of basis history g.going.0 texts).replies ++ last))
           × ((reply.Begin g.going.0 ∷ (alone_of basis history g.going.0 texts).replies) ++ (replies ++ under name p.number others) ≡ reply.Begin g.going.0 ∷ ((alone_of basis history g.going.0 texts).replies ++ last))
-          × ((o : ReplyLine) → last ≡ o ∷ [] → IsRightAt (transaction p.number texts p.level ByRollback) g.going.0 o)
+          × ((o : Reply) → last ≡ o ∷ [] → IsRightAt (transaction p.number texts p.level ByRollback) g.going.0 o)
       is = open_is RollbackText texts g (transaction p.number texts p.level ByRollback) _ refl refl refl
 
       same : replies ≡ reply.RolledBack ∷ []
@@ -363,7 +363,7 @@ module _ (basis : Basis) (history added later : List EntryLine) (lines before ot
   text_case : (k : Kind) (texts : List (List ℕ)) (g : Given k (Some texts)) → number_by p.number k (Some texts) ≡ p.number → is_own_by k (Some texts) ≡ false →
       rest_by k (Some texts) ≡ rest_of basis.language (with_open p (Some (texts ++ text ∷ [])) p.number) said →
       (replies ≡ (basis.language.answer basis.origin.tables (rows_at basis history g.going.0).tables (alone_of basis history g.going.0 texts).ops text).replies) × (added ≡ [])
-  text_case k texts g number own rest = (same, appended_quiet _ name _ replies added (subst (λ (rs : List ReplyLine). AllByRecursion (λ r. is_outcome r ≡ false) rs) (sym same) quiet) g.turn.appended)
+  text_case k texts g number own rest = (same, appended_quiet _ name _ replies added (subst (λ (rs : List Reply). AllByRecursion (λ r. is_outcome r ≡ false) rs) (sym same) quiet) g.turn.appended)
     where
       begin : ℕ
       begin = g.going.0
@@ -377,32 +377,32 @@ module _ (basis : Basis) (history added later : List EntryLine) (lines before ot
       t : Transaction
       t = transaction p.number ((texts ++ text ∷ []) ++ opened.0) p.level opened.1
 
-      is : (last : List ReplyLine) × Ends opened.1 last
+      is : (last : List Reply) × Ends opened.1 last
           × (under name p.number lines ≡ reply.Begin begin ∷ ((alone_of basis history begin t.texts).replies ++ last))
           × ((reply.Begin begin ∷ (alone_of basis history begin texts).replies) ++ (replies ++ under name p.number others) ≡ reply.Begin begin ∷ ((alone_of basis history begin t.texts).replies ++ last))
-          × ((o : ReplyLine) → last ≡ o ∷ [] → IsRightAt t begin o)
+          × ((o : Reply) → last ≡ o ∷ [] → IsRightAt t begin o)
       is = open_is k texts g t opened.2 refl number (rest ∙ opened.3)
 
-      mine : List ReplyLine
+      mine : List Reply
       mine = (basis.language.answer basis.origin.tables versions (alone_of basis history begin texts).ops text).replies
 
       quiet : AllByRecursion (λ r. is_outcome r ≡ false) mine
       quiet = plain_all_quiet mine (g.answers.plain basis.origin.tables versions (alone_of basis history begin texts).ops text)
 
-      further : List ReplyLine
+      further : List Reply
       further = (alone_from basis.language basis.origin.tables versions (basis.language.answer basis.origin.tables versions (alone_of basis history begin texts).ops text).ops opened.0).replies
 
       split : (alone_of basis history begin t.texts).replies ++ is.0 ≡ (alone_of basis history begin texts).replies ++ (mine ++ (further ++ is.0))
       split = ap (λ (all : List (List ℕ)). (alone_of basis history begin all).replies ++ is.0) (append_assoc texts (text ∷ []) opened.0)
-          ∙ ap (λ (rs : List ReplyLine). rs ++ is.0) (replies_append basis.language basis.origin.tables versions [] texts (text ∷ opened.0))
+          ∙ ap (λ (rs : List Reply). rs ++ is.0) (replies_append basis.language basis.origin.tables versions [] texts (text ∷ opened.0))
           ∙ append_assoc (alone_of basis history begin texts).replies (mine ++ further) is.0
-          ∙ ap (λ (rs : List ReplyLine). (alone_of basis history begin texts).replies ++ rs) (append_assoc mine further is.0)
+          ∙ ap (λ (rs : List Reply). (alone_of basis history begin texts).replies ++ rs) (append_assoc mine further is.0)
 
       same : replies ≡ mine
       same = up_to_same (is_last_of false) replies mine (under name p.number others) (further ++ is.0)
           (subst (λ b. are_up_to (is_last_of b) replies ≡ true) own (up_to k (Some texts) g))
           (g.answers.closed basis.origin.tables versions (alone_of basis history begin texts).ops text)
-          (append_cancel_left (reply.Begin begin ∷ (alone_of basis history begin texts).replies) _ _ (is.3 ∙ ap (λ (rs : List ReplyLine). reply.Begin begin ∷ rs) split))
+          (append_cancel_left (reply.Begin begin ∷ (alone_of basis history begin texts).replies) _ _ (is.3 ∙ ap (λ (rs : List Reply). reply.Begin begin ∷ rs) split))
 
   -- so each line is told and appends what the lines before it determine
   pub turned : (k : Kind) (pending : Option (List (List ℕ))) (g : Given k pending) → Turns k pending (begun_at basis history pending (under name p.number before) g.going)

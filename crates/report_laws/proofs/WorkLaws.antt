@@ -9,7 +9,7 @@ use Rattle.script_form.specs.declared.scripts.BodyLine.{BodyLine}
 use Rattle.script_form.specs.declared.scripts.Act.{Act}
 use Rattle.script_form.specs.declared.scripts.Act.TheVariants as act
 use Rattle.report_laws.specs.Work.{Transaction, Item, Does, Lone, Place, start, next_by, next_place, place_from, place_after, said, said_by, open_item, items_at, numbered_among, transaction_of}
-use Rattle.report_text.specs.declared.reports.ReplyLine.{ReplyLine}
+use Rattle.cdb_values.specs.declared.replies.Reply.{Reply}
 use Rattle.session_language.proofs.EachLaws.{all_append, all_map}
 
 pub said_append : (name : List ℕ) (xs ys : List BodyLine) → said name (xs ++ ys) ≡ said name xs ++ said name ys
@@ -167,7 +167,7 @@ pub are_numbered : (language : Language) (texts : List (List ℕ)) → AreNumber
 are_numbered language texts = are_numbered_from language start texts (record { below = tt; begun = tt })
 
 -- a line with which a transaction is over has a number above those that were over before
-lone_or_does : (xs : List Item) (answer : ReplyLine) (t : Transaction) → xs ++ Lone answer ∷ [] ≡ xs ++ Does t ∷ [] → ⊥
+lone_or_does : (xs : List Item) (answer : Reply) (t : Transaction) → xs ++ Lone answer ∷ [] ≡ xs ++ Does t ∷ [] → ⊥
 lone_or_does xs answer t is = let same = append_cancel_left xs (Lone answer ∷ []) (Does t ∷ []) is in cc
 
 above_next : (p : Place) (text : List ℕ) (k : Kind) (pending : Option (List (List ℕ))) (t : Transaction) → (next_by p text k pending).over ≡ p.over ++ Does t ∷ [] →

@@ -1,11 +1,11 @@
 -- The endings by which a transaction is cut short: that its node went down, that no majority of the nodes is
 -- up, and want of memory.
 use Rattle.std.specs.Prelude.{Bool, true, false}
-use Rattle.report_text.specs.declared.reports.ReplyLine.{ReplyLine}
-use Rattle.report_text.specs.declared.reports.ReplyLine.TheVariants as reply
+use Rattle.cdb_values.specs.declared.replies.Reply.{Reply}
+use Rattle.cdb_values.specs.declared.replies.Reply.TheVariants as reply
 
 -- whether a reply cuts a transaction short
-abbrev pub cuts : ReplyLine → Bool
+abbrev pub cuts : Reply → Bool
 cuts (reply.Begin position) = false
 cuts (reply.Row row) = false
 cuts (reply.Done rows) = false

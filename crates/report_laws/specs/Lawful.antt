@@ -12,11 +12,11 @@ use Rattle.report_laws.specs.Work.{work}
 use Rattle.report_text.specs.declared.reports.Report.{Report}
 use Rattle.report_text.specs.declared.reports.Line.{Line}
 use Rattle.report_text.specs.declared.reports.Line.TheVariants as line
-use Rattle.report_text.specs.declared.reports.ReplyLine.{ReplyLine}
-use Rattle.report_text.specs.declared.reports.ReplyLine.TheVariants as reply
+use Rattle.cdb_values.specs.declared.replies.Reply.{Reply}
+use Rattle.cdb_values.specs.declared.replies.Reply.TheVariants as reply
 
 -- the positions that an answer names
-abbrev pub named_by : ReplyLine → List ℕ
+abbrev pub named_by : Reply → List ℕ
 named_by (reply.Begin position) = position ∷ []
 named_by (reply.Row row) = []
 named_by (reply.Done rows) = []
@@ -60,7 +60,7 @@ pub record IsFresh (origin : Origin) (before : List Line) (name : List ℕ) (beg
   pub heard : (front : List Line) (mark : Line) (back : List Line) → before ≡ front ++ mark ∷ back → is_heard name mark ≡ true → NameUpTo begin front
 
 -- an answer that is a begin is fresh
-abbrev pub IsFreshAnswer : Origin → List Line → List ℕ → ReplyLine → Type 0
+abbrev pub IsFreshAnswer : Origin → List Line → List ℕ → Reply → Type 0
 IsFreshAnswer origin before name (reply.Begin position) = IsFresh origin before name position
 IsFreshAnswer origin before name _ = Unit {0}
 

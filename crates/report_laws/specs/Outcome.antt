@@ -18,8 +18,8 @@ use Rattle.session_language.specs.Intervals.{keys_at}
 use Rattle.session_language.specs.Touched.{Used, TheVersion, TheRange}
 use Rattle.report_laws.specs.Work.{Transaction, End, ByCommit, ByRollback, WithItsLine, Nowhere}
 use Rattle.report_text.specs.declared.reports.EntryLine.TheVariants.{Commit}
-use Rattle.report_text.specs.declared.reports.ReplyLine.{ReplyLine}
-use Rattle.report_text.specs.declared.reports.ReplyLine.TheVariants as reply
+use Rattle.cdb_values.specs.declared.replies.Reply.{Reply}
+use Rattle.cdb_values.specs.declared.replies.Reply.TheVariants as reply
 
 -- a transaction with operations is committed at a position: its entry stands there, no entry between
 -- touches what it uses, and the rows there are good
@@ -43,7 +43,7 @@ abbrev pub name_of_table : List TableDef → ℕ → Option (List ℕ)
 name_of_table tables place = name_or_none (slice_get tables place)
 
 -- how a conflict over a version is told: by the name of its table, and its genid
-abbrev pub line_by : ℕ → ℕ → Option (List ℕ) → Option ReplyLine
+abbrev pub line_by : ℕ → ℕ → Option (List ℕ) → Option Reply
 line_by position genid None = None
 line_by position genid (Some table) = Some (reply.ConflictGenid position table genid)
 
@@ -53,19 +53,19 @@ name_of_key keys None = Some (codes "all")
 name_of_key keys (Some key) = option_map (λ k. k.name) (slice_get keys key)
 
 -- how a conflict over an interval is told: by the names of its table and its key
-abbrev pub range_line : ℕ → Option (List ℕ) → Option (List ℕ) → Option ReplyLine
+abbrev pub range_line : ℕ → Option (List ℕ) → Option (List ℕ) → Option Reply
 range_line position None key = None
 range_line position (Some table) None = None
 range_line position (Some table) (Some key) = Some (reply.ConflictRange position table key)
 
-abbrev pub conflict_line : List TableDef → ℕ → Used → Option ReplyLine
+abbrev pub conflict_line : List TableDef → ℕ → Used → Option Reply
 conflict_line tables position (TheVersion item) = line_by position item.genid (name_of_table tables item.table)
 conflict_line tables position (TheRange interval) =
     range_line position (name_of_table tables interval.table) (name_of_key (keys_at tables interval.table) interval.key)
 
 -- the entry at a position is the first since its begin that touches an item that it uses, the item is
 -- the first of these, and the line tells it
-pub record IsConflict (basis : Basis) (view : View) (begin position : ℕ) (used : List Used) (ops : List RowOp) (told : ReplyLine) : Type 0 where
+pub record IsConflict (basis : Basis) (view : View) (begin position : ℕ) (used : List Used) (ops : List RowOp) (told : Reply) : Type 0 where
   pub has_ops : ops ≢ []
   pub later : begin < position
   pub within : position ≤ view.last
@@ -88,7 +88,7 @@ pub record IsDuplicate (basis : Basis) (view : View) (begin position : ℕ) (use
   pub breaks : first_broken basis.origin.tables (apply_all (view.rows position) ops).tables ≡ Some (key_name table key)
 
 -- a line that is an outcome is right, for what the transaction uses and its operations; another line is none
-abbrev pub IsRight : Basis → View → List ℕ → Transaction → ℕ → List Used → List RowOp → ReplyLine → Type 0
+abbrev pub IsRight : Basis → View → List ℕ → Transaction → ℕ → List Used → List RowOp → Reply → Type 0
 IsRight basis view name t begin used ops (reply.Begin position) = Unit {0}
 IsRight basis view name t begin used ops (reply.Row row) = Unit {0}
 IsRight basis view name t begin used ops (reply.Done rows) = Unit {0}
@@ -105,7 +105,7 @@ IsRight basis view name t begin used ops (reply.NoMajority up nodes) = ⊥
 IsRight basis view name t begin used ops reply.NoMemory = ⊥
 
 -- whether a line tells a decision on a commit
-abbrev pub IsDecided : ReplyLine → Type 0
+abbrev pub IsDecided : Reply → Type 0
 IsDecided (reply.Begin position) = ⊥
 IsDecided (reply.Row row) = ⊥
 IsDecided (reply.Done rows) = ⊥
@@ -122,14 +122,14 @@ IsDecided (reply.NoMajority up nodes) = ⊥
 IsDecided reply.NoMemory = ⊥
 
 -- one line that is a decision
-abbrev pub IsOneDecision : List ReplyLine → Type 0
+abbrev pub IsOneDecision : List Reply → Type 0
 IsOneDecision [] = ⊥
 IsOneDecision (outcome ∷ []) = IsDecided outcome
 IsOneDecision (_ ∷ _ ∷ _) = ⊥
 
 -- the last lines of a transaction, by its end: a decision where it is to be committed, that it was
 -- rolled back where it asks for that, and none where it has no end
-abbrev pub Ends : End → List ReplyLine → Type 0
+abbrev pub Ends : End → List Reply → Type 0
 Ends ByCommit last = IsOneDecision last
 Ends ByRollback last = last ≡ reply.RolledBack ∷ []
 Ends WithItsLine last = IsOneDecision last

@@ -3,10 +3,10 @@
 -- the piece, names no position above the second, and only a commit moves the last position. No loss
 -- and no missing majority is in it.
 use Rattle.std.specs.Prelude.{◌≡◌, ℕ, ◌≤◌, ◌∷◌, [], List, max}
-use Rattle.report_text.specs.declared.reports.ReplyLine.{ReplyLine}
-use Rattle.report_text.specs.declared.reports.ReplyLine.TheVariants as reply
+use Rattle.cdb_values.specs.declared.replies.Reply.{Reply}
+use Rattle.cdb_values.specs.declared.replies.Reply.TheVariants as reply
 
-abbrev pub Paced : ℕ → ℕ → List ReplyLine → Type 0
+abbrev pub Paced : ℕ → ℕ → List Reply → Type 0
 Paced now after [] = now ≡ after
 Paced now after (reply.Begin position ∷ rs) = (position ≡ now) × Paced now after rs
 Paced now after (reply.Row row ∷ rs) = Paced now after rs

@@ -14,15 +14,15 @@ use Rattle.report_laws.specs.Nodes.{downs, is_up, up_count, are_few}
 use Rattle.report_laws.specs.Told.{told}
 use Rattle.report_text.specs.declared.reports.Line.{Line}
 use Rattle.report_text.specs.declared.reports.Line.TheVariants as line
-use Rattle.report_text.specs.declared.reports.ReplyLine.{ReplyLine}
-use Rattle.report_text.specs.declared.reports.ReplyLine.TheVariants as reply
+use Rattle.cdb_values.specs.declared.replies.Reply.{Reply}
+use Rattle.cdb_values.specs.declared.replies.Reply.TheVariants as reply
 
 -- whether a session goes on at another node where its own goes down, as its line of the script says
 abbrev pub survives : Script → List ℕ → Bool
 survives script name = list_any (λ s. bytes_eq s.name name && s.hasql) script.sessions
 
 -- whether a reply tells of a loss by the down line of that number
-abbrev pub is_loss_by : ℕ → ReplyLine → Bool
+abbrev pub is_loss_by : ℕ → Reply → Bool
 is_loss_by down (reply.Begin position) = false
 is_loss_by down (reply.Row row) = false
 is_loss_by down (reply.Done rows) = false
@@ -68,7 +68,7 @@ pub record GoesDown (script : Script) (before : List Line) (count node : ℕ) (f
   pub by_fault : fault ≡ true
 
 -- a reply to a session, under that number, has its cause among the lines before it, if it needs one
-abbrev pub HasItsCause : Script → List Line → List ℕ → ℕ → ReplyLine → Type 0
+abbrev pub HasItsCause : Script → List Line → List ℕ → ℕ → Reply → Type 0
 HasItsCause script before session txn (reply.Begin position) = Unit {0}
 HasItsCause script before session txn (reply.Row row) = Unit {0}
 HasItsCause script before session txn (reply.Done rows) = Unit {0}

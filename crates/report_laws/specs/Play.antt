@@ -39,8 +39,8 @@ use Rattle.report_text.specs.declared.reports.EntryLine.{EntryLine}
 use Rattle.report_text.specs.declared.reports.EntryLine.TheVariants.{Setup, Commit}
 use Rattle.report_text.specs.declared.reports.Line.{Line}
 use Rattle.report_text.specs.declared.reports.Line.TheVariants as line
-use Rattle.report_text.specs.declared.reports.ReplyLine.{ReplyLine}
-use Rattle.report_text.specs.declared.reports.ReplyLine.TheVariants as reply
+use Rattle.cdb_values.specs.declared.replies.Reply.{Reply}
+use Rattle.cdb_values.specs.declared.replies.Reply.TheVariants as reply
 
 -- the number under which a line of a session is told, where it comes at that place of its work
 abbrev pub number_by : ℕ → Kind → Option (List (List ℕ)) → ℕ
@@ -108,7 +108,7 @@ is_cut_of session number (line.Fed position) = false
 abbrev pub was_cut : List Line → List ℕ → ℕ → Bool
 was_cut before session number = list_any (is_cut_of session number) before
 
-abbrev pub is_begin : ReplyLine → Bool
+abbrev pub is_begin : Reply → Bool
 is_begin (reply.Begin position) = true
 is_begin _ = false
 
@@ -138,7 +138,7 @@ lacks_majority script before kind pending = begins kind pending && are_few scrip
 
 -- a reply speaks of the history of that moment, whose last position is `now`, and `after` behind the line; no answer
 -- tells of a loss or of a missing majority
-abbrev pub IsTimely : ℕ → ℕ → ReplyLine → Type 0
+abbrev pub IsTimely : ℕ → ℕ → Reply → Type 0
 IsTimely now after (reply.Begin position) = position ≡ now
 IsTimely now after (reply.Row row) = Unit {0}
 IsTimely now after (reply.Done rows) = Unit {0}
@@ -155,14 +155,14 @@ IsTimely now after (reply.NoMajority up nodes) = ⊥
 IsTimely now after reply.NoMemory = Unit {0}
 
 -- a line appends no entry, or that of its transaction at the next position, and tells it
-abbrev pub IsAppended : ℕ → List ℕ → ℕ → List ReplyLine → List EntryLine → Type 0
+abbrev pub IsAppended : ℕ → List ℕ → ℕ → List Reply → List EntryLine → Type 0
 IsAppended now session number replies [] = Unit {0}
 IsAppended now session number replies (e ∷ es) =
     (es ≡ []) × (begin : ℕ) × (level : Level) × (e ≡ Commit (now + 1) session number begin level) × StandsIn replies (reply.Committed (now + 1))
 
 -- what a line of a session is answered, under that number, and the entries that it appends, behind the
 -- lines `before` and at the last position `now`
-pub record IsTurn (now : ℕ) (before : List Line) (session : List ℕ) (number : ℕ) (own : Bool) (replies : List ReplyLine) (added : List EntryLine) : Type 0 where
+pub record IsTurn (now : ℕ) (before : List Line) (session : List ℕ) (number : ℕ) (own : Bool) (replies : List Reply) (added : List EntryLine) : Type 0 where
   pub told : (are_up_to (is_last_of own) replies ≡ true) ⊎ ((replies ≡ []) × (was_cut before session number ≡ true))
   pub timely : AllByRecursion (IsTimely now (now + length added)) replies
   pub appended : IsAppended now session number replies added
@@ -170,21 +170,21 @@ pub record IsTurn (now : ℕ) (before : List Line) (session : List ℕ) (number 
 -- a line of a session, of that kind and with that transaction open or none, is answered: its transaction is not lost, and
 -- no majority is wanting
 pub record IsAnswered (script : Script) (now : ℕ) (before : List Line) (session : List ℕ) (number : ℕ) (kind : Kind) (pending : Option (List (List ℕ))) (mine : List Line) (added : List EntryLine) : Type 0 where
-  pub replies : List ReplyLine
+  pub replies : List Reply
   pub says : mine ≡ lines_of session number replies
   pub turn : IsTurn now before session number (is_own_by kind pending) replies added
   pub kept : loss_of script before session number pending ≡ None
   pub majority : lacks_majority script before kind pending ≡ false
 
 -- a reply is this one, or tells of want of memory in its place
-abbrev pub IsOrMemory : ReplyLine → ReplyLine → Type 0
+abbrev pub IsOrMemory : Reply → Reply → Type 0
 IsOrMemory answer told = (told ≡ answer) ⊎ (told ≡ reply.NoMemory)
 
 -- it is told that its transaction is lost
 pub record IsLostThere (script : Script) (before : List Line) (session : List ℕ) (number : ℕ) (pending : Option (List (List ℕ))) (mine : List Line) (added : List EntryLine) : Type 0 where
   pub down : ℕ
   pub is_lost : loss_of script before session number pending ≡ Some down
-  pub told : ReplyLine
+  pub told : Reply
   pub is_told : IsOrMemory (reply.Lost (node_of script session) down) told
   pub says : mine ≡ lines_of session number (told ∷ [])
   pub none : added ≡ []
@@ -192,15 +192,15 @@ pub record IsLostThere (script : Script) (before : List Line) (session : List �
 -- it is told that no majority is up
 pub record IsShortThere (script : Script) (before : List Line) (session : List ℕ) (number : ℕ) (kind : Kind) (pending : Option (List (List ℕ))) (mine : List Line) (added : List EntryLine) : Type 0 where
   pub lacks : lacks_majority script before kind pending ≡ true
-  pub told : ReplyLine
+  pub told : Reply
   pub is_told : IsOrMemory (reply.NoMajority (up_count script.nodes before) script.nodes) told
   pub says : mine ≡ lines_of session number (told ∷ [])
   pub none : added ≡ []
 
 -- what is told before a transaction is committed: its begin and the replies to its text by a line that is a transaction
 -- of its own, and nothing by a `commit`
-abbrev pub IsToldFirst : ℕ → Bool → List ReplyLine → Type 0
-IsToldFirst now true front = (replies : List ReplyLine) × (front ≡ reply.Begin now ∷ replies) × (are_up_to (is_last_of false) replies ≡ true) × (list_any is_outcome replies ≡ false)
+abbrev pub IsToldFirst : ℕ → Bool → List Reply → Type 0
+IsToldFirst now true front = (replies : List Reply) × (front ≡ reply.Begin now ∷ replies) × (are_up_to (is_last_of false) replies ≡ true) × (list_any is_outcome replies ≡ false)
 IsToldFirst now false front = front ≡ []
 
 -- a node that is up goes down while its transaction is committed, by a fault, and the transaction is lost by that line
@@ -209,12 +209,12 @@ pub record FailsThere (script : Script) (now : ℕ) (before : List Line) (sessio
   pub uncut : was_cut before session number ≡ false
   pub kept : loss_of script before session number pending ≡ None
   pub majority : lacks_majority script before kind pending ≡ false
-  pub front : List ReplyLine
+  pub front : List Reply
   pub first : IsToldFirst now (is_own_by kind pending) front
   pub node : ℕ
   pub of_script : (1 ≤ node) × (node ≤ script.nodes)
   pub was_up : is_up node before ≡ true
-  pub told : ReplyLine
+  pub told : Reply
   pub is_told : IsOrMemory (reply.Lost node (downs before + 1)) told
   pub says : mine ≡ lines_of session number front ++ line.Down (downs before + 1) node true ∷ lines_of session number (told ∷ [])
   pub none : added ≡ []
@@ -271,7 +271,7 @@ pub record HasChanges (basis : Basis) (view : View) (before : List Line) (sessio
 -- its begin and has operations
 abbrev pub GoDownAtChanges : Basis → View → List Line → List Line → Type 0
 GoDownAtChanges basis view first rest =
-    (front : List Line) (back : List Line) (count node : ℕ) (fault : Bool) (session : List ℕ) (number : ℕ) (told : ReplyLine)
+    (front : List Line) (back : List Line) (count node : ℕ) (fault : Bool) (session : List ℕ) (number : ℕ) (told : Reply)
     → rest ≡ front ++ line.Down count node fault ∷ line.Session session number told ∷ back → HasChanges basis view (first ++ front) session number
 
 pub record InPlayOrder (basis : Basis) (report : Report) : Type 0 where

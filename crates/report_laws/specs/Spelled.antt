@@ -7,7 +7,7 @@ use Rattle.cdb_values.specs.declared.tables.TableDef.{TableDef}
 use Rattle.script_form.specs.declared.scripts.Act.{Act}
 use Rattle.script_form.specs.declared.scripts.Act.TheVariants as act
 use Rattle.report_laws.specs.History.{Basis}
-use Rattle.report_text.specs.Grammar.{IsName, IsKey}
+use Rattle.byte_words.specs.Names.{IsName, IsKey}
 use Rattle.session_language.specs.Spelled.{HaveRows, KeepsRows}
 
 -- a table is called by a name, and its keys by names that may be told of a broken key

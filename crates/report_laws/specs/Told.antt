@@ -22,12 +22,12 @@ use Rattle.report_text.specs.declared.reports.EntryLine.{EntryLine}
 use Rattle.report_text.specs.declared.reports.EntryLine.TheVariants.{Setup, Commit}
 use Rattle.report_text.specs.declared.reports.Line.{Line}
 use Rattle.report_text.specs.declared.reports.Line.TheVariants as line
-use Rattle.report_text.specs.declared.reports.ReplyLine.{ReplyLine}
-use Rattle.report_text.specs.declared.reports.ReplyLine.TheVariants as reply
+use Rattle.cdb_values.specs.declared.replies.Reply.{Reply}
+use Rattle.cdb_values.specs.declared.replies.Reply.TheVariants as reply
 
 -- a reply under the number of its transaction
 abbrev pub Numbered : Type 0
-Numbered = ℕ × ReplyLine
+Numbered = ℕ × Reply
 
 abbrev pub told_by : List ℕ → Line → List Numbered
 told_by name (line.Session session txn reply) = if bytes_eq session name then (txn, reply) ∷ [] else []
@@ -41,31 +41,31 @@ abbrev pub told : List ℕ → List Line → List Numbered
 told name [] = []
 told name (l ∷ ls) = told_by name l ++ told name ls
 
-abbrev pub numbered : ℕ → List ReplyLine → List Numbered
+abbrev pub numbered : ℕ → List Reply → List Numbered
 numbered number replies = map (λ r. (number, r)) replies
 
 -- a session's replies as lines of the report
-abbrev pub lines_of : List ℕ → ℕ → List ReplyLine → List Line
+abbrev pub lines_of : List ℕ → ℕ → List Reply → List Line
 lines_of name number replies = map (line.Session name number) replies
 
 -- the lines of a session are those of its items in order, and each item's are as P says
-abbrev pub Along : (Item → List ReplyLine → Type 0) → List Item → List Numbered → Type 0
+abbrev pub Along : (Item → List Reply → Type 0) → List Item → List Numbered → Type 0
 Along P [] lines = lines ≡ []
 Along P (item ∷ items) lines =
-    (mine : List ReplyLine) × (others : List Numbered) × (lines ≡ numbered (number_of item) mine ++ others) × P item mine × Along P items others
+    (mine : List Reply) × (others : List Numbered) × (lines ≡ numbered (number_of item) mine ++ others) × P item mine × Along P items others
 
 -- a transaction run alone on the rows at its begin position
 abbrev pub alone_at : Basis → View → Transaction → ℕ → Answered
 alone_at basis view t begin = alone_on basis (view.rows begin) t.texts
 
 -- a transaction is told whole: its begin, its replies, and an end that fits the script and is right
-pub record IsWhole (basis : Basis) (view : View) (name : List ℕ) (t : Transaction) (mine : List ReplyLine) : Type 0 where
+pub record IsWhole (basis : Basis) (view : View) (name : List ℕ) (t : Transaction) (mine : List Reply) : Type 0 where
   pub begin : ℕ
   pub base : basis.origin.position ≤ begin
   pub within : begin ≤ view.last
   pub ran : Answered
   pub is_ran : ran ≡ alone_at basis view t begin
-  pub last : List ReplyLine
+  pub last : List Reply
   pub ends : Ends t.end last
   pub right : AllByRecursion (IsRight basis view name t begin (used_at t.level ran) ran.ops) last
   pub says : mine ≡ reply.Begin begin ∷ (ran.replies ++ last)
@@ -80,7 +80,7 @@ IsToCommit Nowhere = ⊥
 -- a transaction of that end and with these operations may be cut short by a cause, behind that front of its begin and
 -- its replies and before that rest: by a loss once it is begun, for want of a majority in place of its begin, or at its
 -- commit where it has operations, and for want of memory anywhere
-abbrev pub MayCut : End → List RowOp → List ReplyLine → List ReplyLine → ReplyLine → Type 0
+abbrev pub MayCut : End → List RowOp → List Reply → List Reply → Reply → Type 0
 MayCut end ops front rest (reply.Begin position) = ⊥
 MayCut end ops front rest (reply.Row row) = ⊥
 MayCut end ops front rest (reply.Done rows) = ⊥
@@ -97,28 +97,28 @@ MayCut end ops front rest (reply.NoMajority up nodes) = (front ≡ []) ⊎ ((res
 MayCut end ops front rest reply.NoMemory = Unit {0}
 
 -- a transaction is cut short, behind a front of its begin and its replies
-pub record IsCut (basis : Basis) (view : View) (t : Transaction) (mine : List ReplyLine) : Type 0 where
+pub record IsCut (basis : Basis) (view : View) (t : Transaction) (mine : List Reply) : Type 0 where
   pub begin : ℕ
   pub base : basis.origin.position ≤ begin
   pub within : begin ≤ view.last
   pub ran : Answered
   pub is_ran : ran ≡ alone_at basis view t begin
-  pub front : List ReplyLine
-  pub rest : List ReplyLine
+  pub front : List Reply
+  pub rest : List Reply
   pub fits : front ++ rest ≡ reply.Begin begin ∷ ran.replies
-  pub cause : ReplyLine
+  pub cause : Reply
   pub is_cause : cuts cause ≡ true
   pub may : MayCut t.end ran.ops front rest cause
   pub says : mine ≡ front ++ cause ∷ []
 
 -- the lines of a transaction are its replies and its end; a line outside one has its one reply
-abbrev pub IsTold : Basis → View → List ℕ → Item → List ReplyLine → Type 0
+abbrev pub IsTold : Basis → View → List ℕ → Item → List Reply → Type 0
 IsTold basis view name (Does t) mine = IsWhole basis view name t mine ⊎ IsCut basis view t mine
 IsTold basis view name (Lone answer) mine = mine ≡ answer ∷ []
 
 -- how the transaction of the entry at a position is told to end: that it is committed there. A transaction
 -- that was cut short at its commit has no entry yet
-abbrev pub EndsAt : ℕ → ReplyLine → Type 0
+abbrev pub EndsAt : ℕ → Reply → Type 0
 EndsAt position (reply.Begin at) = ⊥
 EndsAt position (reply.Row row) = ⊥
 EndsAt position (reply.Done rows) = ⊥
@@ -142,7 +142,7 @@ pub record IsCommitTold (basis : Basis) (view : View) (lines : List Line) (posit
   pub within : begin ≤ view.last
   pub ran : Answered
   pub is_ran : ran ≡ alone_at basis view transaction begin
-  pub outcome : ReplyLine
+  pub outcome : Reply
   pub ends : EndsAt position outcome
   pub before : List Numbered
   pub after : List Numbered

@@ -13,8 +13,8 @@ use Rattle.script_form.specs.declared.scripts.BodyLine.{BodyLine}
 use Rattle.script_form.specs.declared.scripts.Act.{Act}
 use Rattle.script_form.specs.declared.scripts.Act.TheVariants as act
 use Rattle.session_language.specs.Language.{Language, Kind, BeginText, CommitText, RollbackText, LevelText, OtherText}
-use Rattle.report_text.specs.declared.reports.ReplyLine.{ReplyLine}
-use Rattle.report_text.specs.declared.reports.ReplyLine.TheVariants as reply
+use Rattle.cdb_values.specs.declared.replies.Reply.{Reply}
+use Rattle.cdb_values.specs.declared.replies.Reply.TheVariants as reply
 
 -- how a transaction ends: by a commit, by a rollback, with the one line that it is, or not at all
 pub data End : Type 0 where
@@ -33,7 +33,7 @@ pub record Transaction : Type 0 where
 -- what a session does: a transaction, or a line outside one with its one reply
 pub data Item : Type 0 where
   Does : Transaction → Item
-  Lone : ReplyLine → Item
+  Lone : Reply → Item
 
 -- where a session is in its work: what is over, how many transactions it has begun, its level, and
 -- the texts of the transaction that is open, if one is

@@ -23,8 +23,8 @@ ghost use Rattle.report_text.specs.declared.reports.EntryLine.{EntryLine};
 ghost use Rattle.report_text.specs.declared.reports.EntryLine.TheVariants as entries;
 ghost use Rattle.report_text.specs.declared.reports.Line.{Line};
 ghost use Rattle.report_text.specs.declared.reports.Line.TheVariants as line;
-ghost use Rattle.report_text.specs.declared.reports.ReplyLine.{ReplyLine};
-ghost use Rattle.report_text.specs.declared.reports.ReplyLine.TheVariants as reply;
+ghost use Rattle.cdb_values.specs.declared.replies.Reply.{Reply};
+ghost use Rattle.cdb_values.specs.declared.replies.Reply.TheVariants as reply;
 ghost use Rattle.report_text.specs.declared.reports.Report.{Report};
 
 /// A script has one report: two reports of it over the same language and the same history before it, both
@@ -37,7 +37,7 @@ pub fn reports_are_one()
 /// A begin of a lawful report is at least every position that was named before an earlier line of its session.
 #[tactic(auto, using(crate::proofs::LawLemmas::begins_reach))]
 pub fn begins_reach_what_was_told()
-    ensures reach { (basis : Basis) (report : Report) (name : List ℕ) (first second third : List Line) (earlier later : ℕ) (answer : ReplyLine) (begin : ℕ) → Lawful basis report → report.lines ≡ first ++ line.Session name earlier answer ∷ (second ++ line.Session name later (reply.Begin begin) ∷ third) → NameUpTo begin first }
+    ensures reach { (basis : Basis) (report : Report) (name : List ℕ) (first second third : List Line) (earlier later : ℕ) (answer : Reply) (begin : ℕ) → Lawful basis report → report.lines ≡ first ++ line.Session name earlier answer ∷ (second ++ line.Session name later (reply.Begin begin) ∷ third) → NameUpTo begin first }
 {}
 
 /// The transaction of each entry of a lawful report was told that it begins where the entry says, and that it

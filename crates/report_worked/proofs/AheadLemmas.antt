@@ -20,8 +20,8 @@ use Rattle.session_language.specs.Touched.{TheVersion}
 use Rattle.report_text.specs.declared.reports.EntryLine.{EntryLine}
 use Rattle.report_text.specs.declared.reports.EntryLine.TheVariants.{Setup}
 use Rattle.report_text.specs.declared.reports.Line.{Line}
-use Rattle.report_text.specs.declared.reports.ReplyLine.{ReplyLine}
-use Rattle.report_text.specs.declared.reports.ReplyLine.TheVariants as reply
+use Rattle.cdb_values.specs.declared.replies.Reply.{Reply}
+use Rattle.cdb_values.specs.declared.replies.Reply.TheVariants as reply
 use Rattle.report_text.specs.declared.reports.Report.{Report}
 use Rattle.report_worked.specs.Small.{from_nothing, small_language}
 use Rattle.report_worked.specs.Worked.{insert_select, two_updates, two_updates_report, two_keys, worked_table, inserted_entries, conflict}
@@ -58,13 +58,13 @@ keys_of_a = refl
 keys_of_b : work small_language (codes "b") two_keys.body ≡ Does second_key ∷ []
 keys_of_b = refl
 
-abbrev keys_to_a : List (List ReplyLine)
+abbrev keys_to_a : List (List Reply)
 keys_to_a = (reply.Begin 1 ∷ reply.Changed 1 ∷ reply.Duplicate 2 (codes "t") (codes "pk") ∷ []) ∷ []
 
-abbrev keys_to_b : List (List ReplyLine)
+abbrev keys_to_b : List (List Reply)
 keys_to_b = (reply.Begin 1 ∷ reply.Changed 1 ∷ reply.Committed 2 ∷ []) ∷ []
 
-along_keys : (P : List ℕ → Item → List ReplyLine → Type 0) → EachPart (P (codes "a")) (Does first_key ∷ []) keys_to_a → EachPart (P (codes "b")) (Does second_key ∷ []) keys_to_b →
+along_keys : (P : List ℕ → Item → List Reply → Type 0) → EachPart (P (codes "a")) (Does first_key ∷ []) keys_to_a → EachPart (P (codes "b")) (Does second_key ∷ []) keys_to_b →
     (name : List ℕ) → Along (P name) (work small_language name two_keys.body) (told name duplicate_ahead.lines)
 along_keys P of_a of_b =
     along_each P two_keys.body duplicate_ahead.lines
@@ -138,13 +138,13 @@ duplicate_ahead_is_not_in_order order =
     omega (arith, last)
 
 -- a conflict with an entry that comes later
-abbrev ahead_of_a : List (List ReplyLine)
+abbrev ahead_of_a : List (List Reply)
 ahead_of_a = (reply.Begin 1 ∷ reply.Changed 1 ∷ reply.Committed 2 ∷ []) ∷ (reply.Begin 2 ∷ reply.Changed 1 ∷ conflict ∷ []) ∷ []
 
-abbrev ahead_of_b : List (List ReplyLine)
+abbrev ahead_of_b : List (List Reply)
 ahead_of_b = (reply.Begin 2 ∷ reply.Changed 1 ∷ reply.Committed 3 ∷ []) ∷ []
 
-along_ahead : (P : List ℕ → Item → List ReplyLine → Type 0) → EachPart (P (codes "a")) items_of_a ahead_of_a → EachPart (P (codes "b")) items_of_b ahead_of_b →
+along_ahead : (P : List ℕ → Item → List Reply → Type 0) → EachPart (P (codes "a")) items_of_a ahead_of_a → EachPart (P (codes "b")) items_of_b ahead_of_b →
     (name : List ℕ) → Along (P name) (work small_language name two_updates.body) (told name conflict_ahead.lines)
 along_ahead P of_a of_b =
     along_each P two_updates.body conflict_ahead.lines

@@ -11,8 +11,8 @@ use Rattle.report_laws.specs.Told.{told, Along, IsTold}
 use Rattle.report_laws.specs.Work.{Item, Does, transaction, ByCommit, WithItsLine, work}
 use Rattle.report_text.specs.declared.reports.Line.{Line}
 use Rattle.report_text.specs.declared.reports.Line.TheVariants as line
-use Rattle.report_text.specs.declared.reports.ReplyLine.{ReplyLine}
-use Rattle.report_text.specs.declared.reports.ReplyLine.TheVariants as reply
+use Rattle.cdb_values.specs.declared.replies.Reply.{Reply}
+use Rattle.cdb_values.specs.declared.replies.Reply.TheVariants as reply
 use Rattle.report_laws.proofs.LineLaws.{fresh_begin}
 use Rattle.session_language.proofs.UpToLaws.{same_head}
 use Rattle.report_laws.proofs.DownLaws.{one_goes_down}
@@ -33,13 +33,13 @@ work_of_a = refl
 work_of_b : work small_language (codes "b") nothing_then_insert.body ≡ items_of_b
 work_of_b = refl
 
-abbrev told_a : List (List ReplyLine)
+abbrev told_a : List (List Reply)
 told_a = (reply.Begin 2 ∷ reply.Committed 2 ∷ []) ∷ []
 
-abbrev told_b : List (List ReplyLine)
+abbrev told_b : List (List Reply)
 told_b = (reply.Begin 2 ∷ reply.Changed 1 ∷ reply.Lost 1 1 ∷ []) ∷ []
 
-along_late : (P : List ℕ → Item → List ReplyLine → Type 0) → EachPart (P (codes "a")) items_of_a told_a → EachPart (P (codes "b")) items_of_b told_b →
+along_late : (P : List ℕ → Item → List Reply → Type 0) → EachPart (P (codes "a")) items_of_a told_a → EachPart (P (codes "b")) items_of_b told_b →
     (name : List ℕ) → Along (P name) (work small_language name nothing_then_insert.body) (told name down_late_report.lines)
 along_late P of_a of_b =
     along_each P nothing_then_insert.body down_late_report.lines
@@ -146,5 +146,5 @@ down_late_is_in_order rows = record {
 pub down_late_begins_up : BeginsDown down_late_report.lines → ⊥
 down_late_begins_up (rest, is) = not_down (codes "a") 1 (reply.Begin 2) (line.Down 1 1 true) (same_head (to_a 1 (reply.Begin 2)) (line.Down 1 1 true) (drop 1 down_late_report.lines) rest is) refl
   where
-    not_down : (name : List ℕ) (number : ℕ) (answer : ReplyLine) (other : Line) → line.Session name number answer ≡ other → other ≡ line.Down 1 1 true → ⊥
+    not_down : (name : List ℕ) (number : ℕ) (answer : Reply) (other : Line) → line.Session name number answer ≡ other → other ≡ line.Down 1 1 true → ⊥
     not_down name number answer other is down = let both : line.Session name number answer ≡ line.Down 1 1 true = is ∙ down in cc

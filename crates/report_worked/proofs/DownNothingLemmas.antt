@@ -12,8 +12,8 @@ use Rattle.report_laws.specs.Work.{Transaction, Item, Does, transaction, ByCommi
 use Rattle.report_laws.proofs.LineLaws.{fresh_begin}
 use Rattle.report_text.specs.declared.reports.Line.{Line}
 use Rattle.report_text.specs.declared.reports.Line.TheVariants as line
-use Rattle.report_text.specs.declared.reports.ReplyLine.{ReplyLine}
-use Rattle.report_text.specs.declared.reports.ReplyLine.TheVariants as reply
+use Rattle.cdb_values.specs.declared.replies.Reply.{Reply}
+use Rattle.cdb_values.specs.declared.replies.Reply.TheVariants as reply
 use Rattle.report_worked.specs.Small.{from_nothing, small_language}
 use Rattle.report_worked.specs.Worked.{nothing_done, to_a, worked_table}
 use Rattle.report_worked.specs.WorkedWrong.{down_at_nothing}
@@ -26,10 +26,10 @@ nothing_at_all = transaction 1 [] Snapshot ByCommit
 work_of_a : work small_language (codes "a") nothing_done.body ≡ Does nothing_at_all ∷ []
 work_of_a = refl
 
-abbrev told_a : List (List ReplyLine)
+abbrev told_a : List (List Reply)
 told_a = (reply.Begin 1 ∷ reply.Lost 1 1 ∷ []) ∷ []
 
-along_nothing : (P : List ℕ → Item → List ReplyLine → Type 0) → EachPart (P (codes "a")) (Does nothing_at_all ∷ []) told_a → (name : List ℕ) → Along (P name) (work small_language name nothing_done.body) (told name down_at_nothing.lines)
+along_nothing : (P : List ℕ → Item → List Reply → Type 0) → EachPart (P (codes "a")) (Does nothing_at_all ∷ []) told_a → (name : List ℕ) → Along (P name) (work small_language name nothing_done.body) (told name down_at_nothing.lines)
 along_nothing P is =
     along_each P nothing_done.body down_at_nothing.lines
     (inl refl, (inl refl, tt)) (inl refl, (tt, (inl refl, tt)))

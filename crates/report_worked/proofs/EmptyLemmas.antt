@@ -11,12 +11,12 @@ use Rattle.report_laws.proofs.DownLaws.{none_go_down}
 use Rattle.report_worked.specs.Worked.{empty_report, report_with}
 use Rattle.report_text.specs.declared.reports.EntryLine.{EntryLine}
 use Rattle.report_text.specs.declared.reports.EntryLine.TheVariants.{Setup}
-use Rattle.report_text.specs.declared.reports.ReplyLine.{ReplyLine}
+use Rattle.cdb_values.specs.declared.replies.Reply.{Reply}
 use Rattle.report_laws.proofs.LawLemmas.{schema_unhurt}
 use Rattle.report_laws.proofs.NodesLaws.{none_few}
 use Rattle.report_worked.specs.Small.{from_nothing, small_language}
 
-pub along_none : (P : Item → List ReplyLine → Type 0) (name : List ℕ) (body : List BodyLine) → body ≡ [] → Along P (work small_language name body) []
+pub along_none : (P : Item → List Reply → Type 0) (name : List ℕ) (body : List BodyLine) → body ≡ [] → Along P (work small_language name body) []
 along_none P name body is = subst (λ (b : List BodyLine). Along P (work small_language name b) []) (sym is) refl
 
 pub empty_is_lawful : (script : Script) → script.body ≡ [] → Lawful (from_nothing script) empty_report

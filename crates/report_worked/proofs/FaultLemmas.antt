@@ -14,8 +14,8 @@ use Rattle.report_text.specs.declared.reports.EntryLine.{EntryLine}
 use Rattle.report_text.specs.declared.reports.EntryLine.TheVariants.{Setup}
 use Rattle.report_text.specs.declared.reports.Line.{Line}
 use Rattle.report_text.specs.declared.reports.Line.TheVariants as line
-use Rattle.report_text.specs.declared.reports.ReplyLine.{ReplyLine}
-use Rattle.report_text.specs.declared.reports.ReplyLine.TheVariants as reply
+use Rattle.cdb_values.specs.declared.replies.Reply.{Reply}
+use Rattle.cdb_values.specs.declared.replies.Reply.TheVariants as reply
 use Rattle.report_laws.proofs.LineLaws.{fresh_begin}
 use Rattle.report_laws.proofs.DownLaws.{none_go_down, one_goes_down}
 use Rattle.report_worked.specs.Worked.{worked_table, insert_select, insert_text, select_text, lost_insert_report, lost_insert_text, open_insert, open_insert_report, nothing_said, down_at_first_report, to_a, to_b}
@@ -29,10 +29,10 @@ unfolding report_text digits
 lost_says_its_lines = refl
 
 -- what the session a is told of its two transactions
-abbrev lost_of_a : List (List ReplyLine)
+abbrev lost_of_a : List (List Reply)
 lost_of_a = (reply.Begin 1 ∷ reply.Changed 1 ∷ reply.Lost 1 1 ∷ []) ∷ (reply.NoMajority 0 1 ∷ []) ∷ []
 
-along_lost : (P : List ℕ → Item → List ReplyLine → Type 0) → EachPart (P (codes "a")) items_of_a lost_of_a → (name : List ℕ) → Along (P name) (work small_language name insert_select.body) (told name lost_insert_report.lines)
+along_lost : (P : List ℕ → Item → List Reply → Type 0) → EachPart (P (codes "a")) items_of_a lost_of_a → (name : List ℕ) → Along (P name) (work small_language name insert_select.body) (told name lost_insert_report.lines)
 along_lost P is =
     along_each P insert_select.body lost_insert_report.lines
     (inl refl, (inl refl, tt)) (inl refl, (inl refl, (tt, (inl refl, (inl refl, tt)))))
@@ -121,10 +121,10 @@ open_work_of_a = refl
 pub open_work_of_b : work small_language (codes "b") open_insert.body ≡ open_items_of_b
 open_work_of_b = refl
 
-abbrev open_of_b : List (List ReplyLine)
+abbrev open_of_b : List (List Reply)
 open_of_b = (reply.Begin 1 ∷ reply.Changed 1 ∷ reply.Lost 1 1 ∷ []) ∷ []
 
-along_open : (P : List ℕ → Item → List ReplyLine → Type 0) → EachPart (P (codes "a")) open_items_of_a lost_of_a → EachPart (P (codes "b")) open_items_of_b open_of_b →
+along_open : (P : List ℕ → Item → List Reply → Type 0) → EachPart (P (codes "a")) open_items_of_a lost_of_a → EachPart (P (codes "b")) open_items_of_b open_of_b →
     (name : List ℕ) → Along (P name) (work small_language name open_insert.body) (told name open_insert_report.lines)
 along_open P of_a of_b =
     along_each P open_insert.body open_insert_report.lines
@@ -175,7 +175,7 @@ open_insert_is_lawful = record {
 }
 
 -- a line that is answered by these replies behind lines that keep it from nothing
-pub answered : {script : Script} {now : ℕ} {before : List Line} {session : List ℕ} {number : ℕ} {kind : Kind} {pending : Option (List (List ℕ))} {added : List EntryLine} (replies : List ReplyLine) →
+pub answered : {script : Script} {now : ℕ} {before : List Line} {session : List ℕ} {number : ℕ} {kind : Kind} {pending : Option (List (List ℕ))} {added : List EntryLine} (replies : List Reply) →
     IsTurn now before session number (is_own_by kind pending) replies added → loss_of script before session number pending ≡ None → lacks_majority script before kind pending ≡ false →
     IsSaid script now before session number kind pending (lines_of session number replies) added
 answered replies turn kept majority = inl (record { replies = replies; says = refl; turn = turn; kept = kept; majority = majority })
@@ -244,7 +244,7 @@ open_insert_is_in_order = record {
 }
 
 -- a node that goes down at the opening
-along_none : (P : Item → List ReplyLine → Type 0) (name : List ℕ) → Along P (work small_language name nothing_said.body) (told name (line.Down 1 1 true ∷ []))
+along_none : (P : Item → List Reply → Type 0) (name : List ℕ) → Along P (work small_language name nothing_said.body) (told name (line.Down 1 1 true ∷ []))
 along_none P name = refl
 
 pub down_at_first_is_lawful : Lawful (from_nothing nothing_said) down_at_first_report

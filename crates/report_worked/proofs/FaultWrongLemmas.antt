@@ -13,8 +13,8 @@ use Rattle.report_text.specs.declared.reports.EntryLine.{EntryLine}
 use Rattle.report_text.specs.declared.reports.EntryLine.TheVariants.{Setup}
 use Rattle.report_text.specs.declared.reports.Line.{Line}
 use Rattle.report_text.specs.declared.reports.Line.TheVariants as line
-use Rattle.report_text.specs.declared.reports.ReplyLine.{ReplyLine}
-use Rattle.report_text.specs.declared.reports.ReplyLine.TheVariants as reply
+use Rattle.cdb_values.specs.declared.replies.Reply.{Reply}
+use Rattle.cdb_values.specs.declared.replies.Reply.TheVariants as reply
 use Rattle.session_language.proofs.UpToLaws.{same_tail}
 use Rattle.report_laws.proofs.BeginLaws.{none_begins}
 use Rattle.report_laws.proofs.LineLaws.{fresh_begin}
@@ -98,10 +98,10 @@ pub opened_while_down_is_not_in_order : InPlayOrder (from_nothing nothing_said) 
 opened_while_down_is_not_in_order order = no_entry_left order.first order.rest order.later order.lines_are order.order.0 order.order.1 order.opened
 
 -- a begin behind the fault: lawful, but not in the order of play
-abbrev behind_of_a : List (List ReplyLine)
+abbrev behind_of_a : List (List Reply)
 behind_of_a = (reply.Begin 1 ∷ reply.Changed 1 ∷ reply.Lost 1 1 ∷ []) ∷ (reply.Begin 1 ∷ reply.Done 0 ∷ reply.Committed 1 ∷ []) ∷ []
 
-along_behind : (P : List ℕ → Item → List ReplyLine → Type 0) → EachPart (P (codes "a")) items_of_a behind_of_a → (name : List ℕ) → Along (P name) (work small_language name insert_select.body) (told name begun_behind.lines)
+along_behind : (P : List ℕ → Item → List Reply → Type 0) → EachPart (P (codes "a")) items_of_a behind_of_a → (name : List ℕ) → Along (P name) (work small_language name insert_select.body) (told name begun_behind.lines)
 along_behind P is =
     along_each P insert_select.body begun_behind.lines
     (inl refl, (inl refl, tt)) (inl refl, (inl refl, (tt, (inl refl, (inl refl, (inl refl, (inl refl, tt)))))))

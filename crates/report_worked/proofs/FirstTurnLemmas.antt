@@ -12,20 +12,20 @@ use Rattle.report_laws.proofs.NodesLaws.{downs_append, downs_of}
 use Rattle.report_text.specs.declared.reports.EntryLine.{EntryLine}
 use Rattle.report_text.specs.declared.reports.Line.{Line}
 use Rattle.report_text.specs.declared.reports.Line.TheVariants as line
-use Rattle.report_text.specs.declared.reports.ReplyLine.{ReplyLine}
+use Rattle.cdb_values.specs.declared.replies.Reply.{Reply}
 use Rattle.report_text.specs.declared.reports.Report.{Report}
 use Rattle.report_worked.specs.Small.{from_nothing}
 
-same_answer : (name : List ℕ) (number : ℕ) (x y : ReplyLine) → line.Session name number x ≡ line.Session name number y → x ≡ y
+same_answer : (name : List ℕ) (number : ℕ) (x y : Reply) → line.Session name number x ≡ line.Session name number y → x ≡ y
 same_answer name number x y is = cc
 
 -- of two lists of replies that begin the same lines and go up to their first last reply, each is the other
-lines_up_to : (f : ReplyLine → Bool) (name : List ℕ) (number : ℕ) (xs ys : List ReplyLine) (more others : List Line) → are_up_to f xs ≡ true → are_up_to f ys ≡ true →
+lines_up_to : (f : Reply → Bool) (name : List ℕ) (number : ℕ) (xs ys : List Reply) (more others : List Line) → are_up_to f xs ≡ true → are_up_to f ys ≡ true →
     lines_of name number xs ++ more ≡ lines_of name number ys ++ others → xs ≡ ys
 lines_up_to f name number [] ys more others ends ends' is = absurd cc
 lines_up_to f name number (x ∷ xs) [] more others ends ends' is = absurd cc
 lines_up_to f name number (x ∷ xs) (y ∷ ys) more others ends ends' is =
-    go (f x) refl ends (subst (λ (r : ReplyLine). (if f r then are_none ys else are_up_to f ys) ≡ true) (sym head) ends')
+    go (f x) refl ends (subst (λ (r : Reply). (if f r then are_none ys else are_up_to f ys) ≡ true) (sym head) ends')
     (λ e e'. lines_up_to f name number xs ys more others e e' (same_tail (line.Session name number x) (line.Session name number y) (lines_of name number xs ++ more) (lines_of name number ys ++ others) is))
   where
     head : x ≡ y
@@ -37,14 +37,14 @@ lines_up_to f name number (x ∷ xs) (y ∷ ys) more others ends ends' is =
     go false at e e' later = ap (λ r. r ∷ xs) head ∙ ap (λ rs. y ∷ rs) (later e e')
 
 -- where lines without a down line begin with the replies to the first line of a script, that line is answered by them
-pub said_first : (script : Script) (now number : ℕ) (name : List ℕ) (kind : Kind) (mine others more : List Line) (added : List EntryLine) (replies : List ReplyLine) →
+pub said_first : (script : Script) (now number : ℕ) (name : List ℕ) (kind : Kind) (mine others more : List Line) (added : List EntryLine) (replies : List Reply) →
     are_up_to (is_last_of (is_own_by kind None)) replies ≡ true → downs more ≡ 0 → lacks_majority script [] kind None ≡ false →
     lines_of name number replies ++ more ≡ mine ++ others → IsSaid script now [] name number kind None mine added → IsTurn now [] name number (is_own_by kind None) replies added
 said_first script now number name kind mine others more added replies ends none enough are (inl a) = go a.turn.told
   where
     go : (are_up_to (is_last_of (is_own_by kind None)) a.replies ≡ true) ⊎ ((a.replies ≡ []) × (was_cut [] name number ≡ true)) → IsTurn now [] name number (is_own_by kind None) replies added
     go (inl up) =
-        subst (λ (rs : List ReplyLine). IsTurn now [] name number (is_own_by kind None) rs added)
+        subst (λ (rs : List Reply). IsTurn now [] name number (is_own_by kind None) rs added)
         (sym (lines_up_to (is_last_of (is_own_by kind None)) name number replies a.replies more others ends up (are ∙ ap (λ (ls : List Line). ls ++ others) a.says)))
         a.turn
     go (inr (nothing, cut)) = absurd cc
@@ -63,7 +63,7 @@ said_first script now number name kind mine others more added replies ends none 
     absurd (omega (arith, all, left, its, none, right, says, parts, one))
 
 -- where the first line of a report is a session's, no node goes down at the opening
-pub played_first : (script : Script) (report : Report) (name : List ℕ) (number : ℕ) (answer : ReplyLine) (lines : List Line) → report.lines ≡ line.Session name number answer ∷ lines → InPlayOrder (from_nothing script) report →
+pub played_first : (script : Script) (report : Report) (name : List ℕ) (number : ℕ) (answer : Reply) (lines : List Line) → report.lines ≡ line.Session name number answer ∷ lines → InPlayOrder (from_nothing script) report →
     (later : List EntryLine) × (report.entries ≡ opened_behind (from_nothing script) [] ++ later)
     × InTurns (from_nothing script) [] [] (opened_behind (from_nothing script) []) script.body report.lines later
 played_first script report name number answer lines begins order = go order.first order.rest order.later order.go_down order.lines_are order.opened order.order

@@ -13,8 +13,8 @@ use Rattle.report_laws.specs.Work.{Transaction, Item, Does, transaction, WithIts
 use Rattle.script_form.specs.CanRun.{tables_of}
 use Rattle.report_laws.proofs.DownLaws.{none_go_down}
 use Rattle.report_worked.specs.Worked.{worked_table, insert_select, insert_select_report, insert_select_text, insert_text, select_text, inserted_entries, row, of_a}
-use Rattle.report_text.specs.declared.reports.ReplyLine.{ReplyLine}
-use Rattle.report_text.specs.declared.reports.ReplyLine.TheVariants as reply
+use Rattle.cdb_values.specs.declared.replies.Reply.{Reply}
+use Rattle.cdb_values.specs.declared.replies.Reply.TheVariants as reply
 use Rattle.report_laws.proofs.HistoryLaws.{none_stands}
 use Rattle.report_laws.proofs.LineLaws.{fresh_begin}
 use Rattle.report_worked.proofs.WorkedLemmas.{along_each, along_parts, EachPart, whole, in_turns, is_turn, entry_told}
@@ -46,11 +46,11 @@ good_insert = record {
 }
 
 -- the replies to each of them
-abbrev pub replies_of_a : List (List ReplyLine)
+abbrev pub replies_of_a : List (List Reply)
 replies_of_a = (reply.Begin 1 ∷ reply.Changed 1 ∷ reply.Committed 2 ∷ []) ∷ (reply.Begin 2 ∷ row 1 10 ∷ reply.Done 1 ∷ reply.Committed 2 ∷ []) ∷ []
 
 -- the laws along each session's work hold where they hold of these
-along_its_work : (P : List ℕ → Item → List ReplyLine → Type 0) → EachPart (P (codes "a")) items_of_a replies_of_a →
+along_its_work : (P : List ℕ → Item → List Reply → Type 0) → EachPart (P (codes "a")) items_of_a replies_of_a →
     (name : List ℕ) → Along (P name) (work small_language name insert_select.body) (told name insert_select_report.lines)
 along_its_work P is =
     along_each P insert_select.body insert_select_report.lines

@@ -8,8 +8,8 @@ use Rattle.report_laws.specs.Work.{Item, Does, work}
 use Rattle.report_worked.specs.Worked.{insert_select, insert_select_report, worked_table, two_selects, report_with, inserted_lines, inserted_entries, row, to_a, of_a}
 use Rattle.report_worked.specs.WorkedWrong.{IsRefusedBy, RepliesAreRight, BeginsAreFresh, HistoryIsRight, LinesHavePlaces, wrong_value, missing_row, out_of_order, early_row, late, wrong_position, entry_twice, node_line, lost_line, begin_too_old}
 use Rattle.report_text.specs.declared.reports.Line.{Line}
-use Rattle.report_text.specs.declared.reports.ReplyLine.{ReplyLine}
-use Rattle.report_text.specs.declared.reports.ReplyLine.TheVariants as reply
+use Rattle.cdb_values.specs.declared.replies.Reply.{Reply}
+use Rattle.cdb_values.specs.declared.replies.Reply.TheVariants as reply
 use Rattle.report_worked.proofs.InsertSelectLemmas.{inserting, selecting, items_of_a, work_of_a, good_insert, insert_select_is_lawful, insert_select_is_in_order}
 use Rattle.report_laws.proofs.NodesLaws.{lost_needs_down}
 use Rattle.report_laws.proofs.OneLaws.{one_report}
@@ -27,23 +27,23 @@ use Rattle.report_laws.proofs.AlongLaws.{AllOther, along_its, of_number}
 use Rattle.report_worked.proofs.SmallLaws.{statements_answer}
 
 -- what a transaction was told, where the law on replies holds: the replies at its begin, and a right outcome
-its_told : (t : Transaction) (before after : List Item) (lines : List Line) (begin : ℕ) (back front : List ReplyLine) (outcome : ReplyLine) → before ++ Does t ∷ after ≡ items_of_a → AllOther t.number before → AllOther t.number after →
+its_told : (t : Transaction) (before after : List Item) (lines : List Line) (begin : ℕ) (back front : List Reply) (outcome : Reply) → before ++ Does t ∷ after ≡ items_of_a → AllOther t.number before → AllOther t.number after →
     of_number t.number (told (codes "a") lines) ≡ reply.Begin begin ∷ back →
     reply.Begin begin ∷ back ≡ front ++ outcome ∷ [] → cuts outcome ≡ false → RepliesAreRight insert_select (report_with lines inserted_entries) →
     ToldAt (from_nothing insert_select) inserted_entries (codes "a") t begin back
 its_told t before after lines begin back front outcome among none all is ends uncut law =
     told_at (from_nothing insert_select) inserted_entries (codes "a") t begin back front outcome ends uncut
-    (subst (λ (mine : List ReplyLine). IsTold (from_nothing insert_select) (view_of (from_nothing insert_select) inserted_entries) (codes "a") (Does t) mine) is
+    (subst (λ (mine : List Reply). IsTold (from_nothing insert_select) (view_of (from_nothing insert_select) inserted_entries) (codes "a") (Does t) mine) is
     (along_its (IsTold (from_nothing insert_select) (view_of (from_nothing insert_select) inserted_entries) (codes "a")) before after (Does t) (told (codes "a") lines) none all
     (subst (λ (items : List Item). Along (IsTold (from_nothing insert_select) (view_of (from_nothing insert_select) inserted_entries) (codes "a")) items (told (codes "a") lines)) (work_of_a ∙ sym among) (law (codes "a")))))
 
-pub select_told : (lines : List Line) (begin : ℕ) (back front : List ReplyLine) (outcome : ReplyLine) → of_number 2 (told (codes "a") lines) ≡ reply.Begin begin ∷ back →
+pub select_told : (lines : List Line) (begin : ℕ) (back front : List Reply) (outcome : Reply) → of_number 2 (told (codes "a") lines) ≡ reply.Begin begin ∷ back →
     reply.Begin begin ∷ back ≡ front ++ outcome ∷ [] → cuts outcome ≡ false → RepliesAreRight insert_select (report_with lines inserted_entries) →
     ToldAt (from_nothing insert_select) inserted_entries (codes "a") selecting begin back
 select_told lines begin back front outcome is ends uncut law = its_told selecting (Does inserting ∷ []) [] lines begin back front outcome refl (refl, tt) tt is ends uncut law
 
 -- a row with another value
-other_value : (last : List ReplyLine) → row 1 11 ∷ reply.Done 1 ∷ reply.Committed 2 ∷ [] ≡ row 1 10 ∷ reply.Done 1 ∷ last → ⊥
+other_value : (last : List Reply) → row 1 11 ∷ reply.Done 1 ∷ reply.Committed 2 ∷ [] ≡ row 1 10 ∷ reply.Done 1 ∷ last → ⊥
 other_value last is = cc
 
 value_told : RepliesAreRight insert_select wrong_value → ⊥
@@ -92,7 +92,7 @@ committed_behind law =
     let said : reply.Changed 1 ∷ reply.Committed 3 ∷ [] ≡ reply.Changed 1 ∷ at.last = at.says in
     let last : reply.Committed 3 ∷ [] ≡ at.last = cc in
     let right : AllByRecursion (IsRight (from_nothing insert_select) (view_of (from_nothing insert_select) inserted_entries) (codes "a") inserting 1 (used_at Snapshot (alone_at (from_nothing insert_select) (view_of (from_nothing insert_select) inserted_entries) inserting 1)) (alone_at (from_nothing insert_select) (view_of (from_nothing insert_select) inserted_entries) inserting 1).ops) (reply.Committed 3 ∷ []) =
-    subst (λ (os : List ReplyLine). AllByRecursion (IsRight (from_nothing insert_select) (view_of (from_nothing insert_select) inserted_entries) (codes "a") inserting 1 (used_at Snapshot (alone_at (from_nothing insert_select) (view_of (from_nothing insert_select) inserted_entries) inserting 1)) (alone_at (from_nothing insert_select) (view_of (from_nothing insert_select) inserted_entries) inserting 1).ops) os) (sym last) at.right in
+    subst (λ (os : List Reply). AllByRecursion (IsRight (from_nothing insert_select) (view_of (from_nothing insert_select) inserted_entries) (codes "a") inserting 1 (used_at Snapshot (alone_at (from_nothing insert_select) (view_of (from_nothing insert_select) inserted_entries) inserting 1)) (alone_at (from_nothing insert_select) (view_of (from_nothing insert_select) inserted_entries) inserting 1).ops) os) (sym last) at.right in
     let stands : None ≡ Some (of_a 3 1 1) = right.0.stands in
     cc
 
@@ -138,10 +138,10 @@ all_before {A} P (x ∷ xs) (f ∷ front) back y mark is all =
     (subst P head all.0, all_before P xs front back y mark rest all.1)
 
 -- the replies to the select that begins before the insert
-abbrev late_replies : List (List ReplyLine)
+abbrev late_replies : List (List Reply)
 late_replies = (reply.Begin 1 ∷ reply.Changed 1 ∷ reply.Committed 2 ∷ []) ∷ (reply.Begin 1 ∷ reply.Done 0 ∷ reply.Committed 1 ∷ []) ∷ []
 
-along_late : (P : List ℕ → Item → List ReplyLine → Type 0) → EachPart (P (codes "a")) items_of_a late_replies → (name : List ℕ) → Along (P name) (work small_language name insert_select.body) (told name late.lines)
+along_late : (P : List ℕ → Item → List Reply → Type 0) → EachPart (P (codes "a")) items_of_a late_replies → (name : List ℕ) → Along (P name) (work small_language name insert_select.body) (told name late.lines)
 along_late P is =
     along_each P insert_select.body late.lines
     (inl refl, (inl refl, tt)) (inl refl, (inl refl, (inl refl, (inl refl, (inl refl, (inl refl, tt))))))

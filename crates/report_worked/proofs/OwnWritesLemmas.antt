@@ -11,8 +11,8 @@ use Rattle.report_laws.specs.Work.{Transaction, Item, Does, transaction, ByCommi
 use Rattle.script_form.specs.CanRun.{tables_of}
 use Rattle.report_laws.proofs.DownLaws.{none_go_down}
 use Rattle.report_worked.specs.Worked.{worked_table, own_writes, own_writes_report, inserted_entries, insert_text, select_text, row, of_a}
-use Rattle.report_text.specs.declared.reports.ReplyLine.{ReplyLine}
-use Rattle.report_text.specs.declared.reports.ReplyLine.TheVariants as reply
+use Rattle.cdb_values.specs.declared.replies.Reply.{Reply}
+use Rattle.cdb_values.specs.declared.replies.Reply.TheVariants as reply
 use Rattle.report_laws.proofs.HistoryLaws.{none_stands}
 use Rattle.report_laws.proofs.LineLaws.{fresh_begin}
 use Rattle.report_worked.proofs.WorkedLemmas.{along_each, along_parts, EachPart, whole, in_turns, is_turn, entry_told}
@@ -32,11 +32,11 @@ pub work_of_a : work small_language (codes "a") own_writes.body ≡ items_of_a
 work_of_a = refl
 
 -- and the replies to each of them
-abbrev pub replies_of_a : List (List ReplyLine)
+abbrev pub replies_of_a : List (List Reply)
 replies_of_a = ((reply.Begin 1) ∷ (reply.Changed 1) ∷ (reply.Committed 2) ∷ []) ∷ ((reply.Begin 2) ∷ (reply.Changed 1) ∷ (reply.Changed 1) ∷ (row 1 10) ∷ (row 2 21) ∷ (reply.Done 2) ∷ (reply.Changed 1) ∷ (row 1 10) ∷ (reply.Done 1) ∷ (reply.Committed 2) ∷ []) ∷ []
 
 -- the laws along each session's work hold where they hold of these
-along_their_work : (P : List ℕ → Item → List ReplyLine → Type 0) → EachPart (P (codes "a")) items_of_a replies_of_a →
+along_their_work : (P : List ℕ → Item → List Reply → Type 0) → EachPart (P (codes "a")) items_of_a replies_of_a →
     (name : List ℕ) → Along (P name) (work small_language name own_writes.body) (told name own_writes_report.lines)
 along_their_work P of_a =
     along_each P own_writes.body own_writes_report.lines

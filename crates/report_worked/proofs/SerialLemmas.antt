@@ -13,8 +13,8 @@ use Rattle.report_laws.specs.Work.{Item, work}
 use Rattle.script_form.specs.CanRun.{tables_of}
 use Rattle.report_worked.specs.Worked.{two_updates, two_updates_report, two_updates_entries, worked_table, of_b}
 use Rattle.report_text.specs.declared.reports.Report.{Report}
-use Rattle.report_text.specs.declared.reports.ReplyLine.{ReplyLine}
-use Rattle.report_text.specs.declared.reports.ReplyLine.TheVariants as reply
+use Rattle.cdb_values.specs.declared.replies.Reply.{Reply}
+use Rattle.cdb_values.specs.declared.replies.Reply.TheVariants as reply
 use Rattle.report_laws.proofs.HistoryLaws.{none_stands}
 use Rattle.report_laws.proofs.LineLaws.{fresh_begin}
 use Rattle.report_worked.proofs.TwoUpdatesLemmas.{inserting, first_update, second_update, items_of_a, work_of_a, items_of_b, work_of_b, two_updates_is_lawful, two_updates_is_in_order}
@@ -22,13 +22,13 @@ use Rattle.report_worked.proofs.WorkedLemmas.{along_each, along_parts, EachPart,
 use Rattle.report_worked.specs.Small.{from_nothing, small_language}
 use Rattle.report_worked.proofs.SmallLaws.{statements_answer}
 
-abbrev pub serial_of_a : List (List ReplyLine)
+abbrev pub serial_of_a : List (List Reply)
 serial_of_a = ((reply.Begin 1) ∷ (reply.Changed 1) ∷ (reply.Committed 2) ∷ []) ∷ ((reply.Begin 2) ∷ (reply.Changed 1) ∷ (reply.Committed 3) ∷ []) ∷ []
 
-abbrev pub serial_of_b : List (List ReplyLine)
+abbrev pub serial_of_b : List (List Reply)
 serial_of_b = ((reply.Begin 3) ∷ (reply.Changed 1) ∷ (reply.Committed 4) ∷ []) ∷ []
 
-along_serial : (P : List ℕ → Item → List ReplyLine → Type 0) → EachPart (P (codes "a")) items_of_a serial_of_a → EachPart (P (codes "b")) items_of_b serial_of_b →
+along_serial : (P : List ℕ → Item → List Reply → Type 0) → EachPart (P (codes "a")) items_of_a serial_of_a → EachPart (P (codes "b")) items_of_b serial_of_b →
     (name : List ℕ) → Along (P name) (work small_language name two_updates.body) (told name serial.lines)
 along_serial P of_a of_b =
     along_each P two_updates.body serial.lines

@@ -14,8 +14,8 @@ use Rattle.report_worked.specs.Small.{from_nothing, small_language, range_of, ha
 use Rattle.report_worked.specs.Worked.{worked_table, row, skew, skew_entries, skew_report, strict_skew, strict_entries, strict_skew_report, range_conflict}
 use Rattle.report_worked.specs.WorkedWrong.{IsRefusedBy, HistoryIsRight, strict_committed}
 use Rattle.report_text.specs.declared.reports.EntryLine.TheVariants.{Setup, Commit}
-use Rattle.report_text.specs.declared.reports.ReplyLine.{ReplyLine}
-use Rattle.report_text.specs.declared.reports.ReplyLine.TheVariants as reply
+use Rattle.cdb_values.specs.declared.replies.Reply.{Reply}
+use Rattle.cdb_values.specs.declared.replies.Reply.TheVariants as reply
 use Rattle.session_language.specs.Language.{Answered}
 use Rattle.session_language.specs.Touched.{Used, TheRange, first_used, used_at}
 use Rattle.report_laws.proofs.HistoryLaws.{none_stands}
@@ -49,13 +49,13 @@ pub work_of_b : work small_language (codes "b") skew.body ≡ items_of_b
 work_of_b = refl
 
 -- the replies to each of them
-abbrev pub replies_of_a : List (List ReplyLine)
+abbrev pub replies_of_a : List (List Reply)
 replies_of_a = ((reply.Begin 1) ∷ (reply.Changed 1) ∷ (reply.Committed 2) ∷ []) ∷ ((reply.Begin 2) ∷ (reply.Changed 1) ∷ (reply.Committed 3) ∷ []) ∷ ((reply.Begin 3) ∷ (row 2 20) ∷ (reply.Done 1) ∷ (reply.Changed 1) ∷ (reply.Committed 4) ∷ []) ∷ []
 
-abbrev pub replies_of_b : List (List ReplyLine)
+abbrev pub replies_of_b : List (List Reply)
 replies_of_b = ((reply.Begin 3) ∷ (row 1 10) ∷ (reply.Done 1) ∷ (reply.Changed 1) ∷ (reply.Committed 5) ∷ []) ∷ []
 
-along_skew : (P : List ℕ → Item → List ReplyLine → Type 0) → EachPart (P (codes "a")) items_of_a replies_of_a → EachPart (P (codes "b")) items_of_b replies_of_b →
+along_skew : (P : List ℕ → Item → List Reply → Type 0) → EachPart (P (codes "a")) items_of_a replies_of_a → EachPart (P (codes "b")) items_of_b replies_of_b →
     (name : List ℕ) → Along (P name) (work small_language name skew.body) (told name skew_report.lines)
 along_skew P of_a of_b =
     along_each P skew.body skew_report.lines
@@ -196,13 +196,13 @@ pub strict_work_of_b : work small_language (codes "b") strict_skew.body ≡ stri
 strict_work_of_b = refl
 
 -- the replies to each of them
-abbrev pub strict_replies_of_a : List (List ReplyLine)
+abbrev pub strict_replies_of_a : List (List Reply)
 strict_replies_of_a = ((reply.Begin 1) ∷ (reply.Changed 1) ∷ (reply.Committed 2) ∷ []) ∷ ((reply.Begin 2) ∷ (reply.Changed 1) ∷ (reply.Committed 3) ∷ []) ∷ ((reply.Level Serializable) ∷ []) ∷ ((reply.Begin 3) ∷ (row 2 20) ∷ (reply.Done 1) ∷ (reply.Changed 1) ∷ (reply.Committed 4) ∷ []) ∷ []
 
-abbrev pub strict_replies_of_b : List (List ReplyLine)
+abbrev pub strict_replies_of_b : List (List Reply)
 strict_replies_of_b = ((reply.Level Serializable) ∷ []) ∷ ((reply.Begin 3) ∷ (row 1 10) ∷ (reply.Done 1) ∷ (reply.Changed 1) ∷ (range_conflict) ∷ []) ∷ []
 
-along_strict_skew : (P : List ℕ → Item → List ReplyLine → Type 0) → EachPart (P (codes "a")) strict_items_of_a strict_replies_of_a → EachPart (P (codes "b")) strict_items_of_b strict_replies_of_b →
+along_strict_skew : (P : List ℕ → Item → List Reply → Type 0) → EachPart (P (codes "a")) strict_items_of_a strict_replies_of_a → EachPart (P (codes "b")) strict_items_of_b strict_replies_of_b →
     (name : List ℕ) → Along (P name) (work small_language name strict_skew.body) (told name strict_skew_report.lines)
 along_strict_skew P of_a of_b =
     along_each P strict_skew.body strict_skew_report.lines

@@ -6,12 +6,12 @@ use Rattle.cdb_values.specs.declared.rows.Version.{Version}
 use Rattle.cdb_values.specs.declared.values.Value.{Value}
 use Rattle.session_language.specs.Answers.{Answers, ArePlain}
 use Rattle.session_language.specs.Replies.{are_up_to, is_last_of}
-use Rattle.report_text.specs.declared.reports.ReplyLine.{ReplyLine}
-use Rattle.report_text.specs.declared.reports.ReplyLine.TheVariants as reply
+use Rattle.cdb_values.specs.declared.replies.Reply.{Reply}
+use Rattle.cdb_values.specs.declared.replies.Reply.TheVariants as reply
 use Rattle.session_language.proofs.UpToLaws.{up_to_rows}
 use Rattle.report_worked.specs.Small.{Statement, Begin, Commit, Rollback, Insert, SelectAll, SelectWhere, SetLevel, SetWhere, DeleteWhere, statement_of, answer_to, rows_seen, has_id, small_language}
 
-plain_rows : (rows : List (List Value)) (last : List ReplyLine) → ArePlain last → ArePlain (map reply.Row rows ++ last)
+plain_rows : (rows : List (List Value)) (last : List Reply) → ArePlain last → ArePlain (map reply.Row rows ++ last)
 plain_rows [] last is = is
 plain_rows (row ∷ rows) last is = (tt, plain_rows rows last is)
 

@@ -11,8 +11,8 @@ use Rattle.report_laws.specs.Work.{Transaction, Item, Does, transaction, ByCommi
 use Rattle.script_form.specs.CanRun.{tables_of}
 use Rattle.report_laws.proofs.DownLaws.{none_go_down}
 use Rattle.report_worked.specs.Worked.{worked_table, two_updates, two_updates_report, two_updates_entries, inserted_entries, insert_text, conflict, of_a, of_b}
-use Rattle.report_text.specs.declared.reports.ReplyLine.{ReplyLine}
-use Rattle.report_text.specs.declared.reports.ReplyLine.TheVariants as reply
+use Rattle.cdb_values.specs.declared.replies.Reply.{Reply}
+use Rattle.cdb_values.specs.declared.replies.Reply.TheVariants as reply
 use Rattle.report_laws.proofs.HistoryLaws.{none_stands}
 use Rattle.report_laws.proofs.LineLaws.{fresh_begin}
 use Rattle.report_worked.proofs.WorkedLemmas.{along_each, along_parts, EachPart, whole, in_turns, is_turn, entry_told}
@@ -37,7 +37,7 @@ pub work_of_a : work small_language (codes "a") two_updates.body ≡ items_of_a
 work_of_a = refl
 
 -- and the replies to each of them
-abbrev pub replies_of_a : List (List ReplyLine)
+abbrev pub replies_of_a : List (List Reply)
 replies_of_a = ((reply.Begin 1) ∷ (reply.Changed 1) ∷ (reply.Committed 2) ∷ []) ∷ ((reply.Begin 2) ∷ (reply.Changed 1) ∷ (reply.Committed 3) ∷ []) ∷ []
 
 abbrev pub items_of_b : List Item
@@ -47,11 +47,11 @@ pub work_of_b : work small_language (codes "b") two_updates.body ≡ items_of_b
 work_of_b = refl
 
 -- and the replies to each of them
-abbrev pub replies_of_b : List (List ReplyLine)
+abbrev pub replies_of_b : List (List Reply)
 replies_of_b = ((reply.Begin 2) ∷ (reply.Changed 1) ∷ conflict ∷ []) ∷ []
 
 -- the laws along each session's work hold where they hold of these
-along_their_work : (P : List ℕ → Item → List ReplyLine → Type 0) → EachPart (P (codes "a")) items_of_a replies_of_a → EachPart (P (codes "b")) items_of_b replies_of_b →
+along_their_work : (P : List ℕ → Item → List Reply → Type 0) → EachPart (P (codes "a")) items_of_a replies_of_a → EachPart (P (codes "b")) items_of_b replies_of_b →
     (name : List ℕ) → Along (P name) (work small_language name two_updates.body) (told name two_updates_report.lines)
 along_their_work P of_a of_b =
     along_each P two_updates.body two_updates_report.lines

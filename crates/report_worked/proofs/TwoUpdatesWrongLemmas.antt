@@ -10,13 +10,13 @@ use Rattle.report_laws.specs.Work.{Transaction, Item, Does}
 use Rattle.script_form.specs.CanRun.{tables_of}
 use Rattle.report_worked.specs.Worked.{two_updates, two_updates_entries}
 use Rattle.report_worked.specs.WorkedWrong.{IsRefusedBy, RepliesAreRight, HistoryIsRight, untouched_row, refused_entry}
-use Rattle.report_text.specs.declared.reports.ReplyLine.TheVariants as reply
+use Rattle.cdb_values.specs.declared.replies.Reply.TheVariants as reply
 use Rattle.report_worked.proofs.TwoUpdatesLemmas.{second_update, work_of_b}
 use Rattle.report_worked.proofs.WorkedLemmas.{ToldAt, told_at}
 use Rattle.report_worked.specs.Small.{from_nothing}
 use Rattle.std.specs.List.{AllByRecursion}
 use Rattle.session_language.specs.Language.{Answered}
-use Rattle.report_text.specs.declared.reports.ReplyLine.{ReplyLine}
+use Rattle.cdb_values.specs.declared.replies.Reply.{Reply}
 use Rattle.report_laws.proofs.AlongLaws.{along_its}
 
 same_item : (a b : Used) → Some a ≡ Some b → a ≡ b
@@ -35,7 +35,7 @@ touches_another law =
     let said : reply.Changed 1 ∷ reply.ConflictGenid 3 (codes "t") 2 ∷ [] ≡ reply.Changed 1 ∷ at.last = at.says in
     let last : reply.ConflictGenid 3 (codes "t") 2 ∷ [] ≡ at.last = cc in
     let right : IsConflict (from_nothing two_updates) (view_of (from_nothing two_updates) two_updates_entries) 2 3 (used_at Snapshot (alone_at (from_nothing two_updates) (view_of (from_nothing two_updates) two_updates_entries) second_update 2)) (alone_at (from_nothing two_updates) (view_of (from_nothing two_updates) two_updates_entries) second_update 2).ops (reply.ConflictGenid 3 (codes "t") 2) =
-    (subst (λ (os : List ReplyLine). AllByRecursion (IsRight (from_nothing two_updates) (view_of (from_nothing two_updates) two_updates_entries) (codes "b") second_update 2 (used_at Snapshot (alone_at (from_nothing two_updates) (view_of (from_nothing two_updates) two_updates_entries) second_update 2)) (alone_at (from_nothing two_updates) (view_of (from_nothing two_updates) two_updates_entries) second_update 2).ops) os) (sym last) at.right).0 in
+    (subst (λ (os : List Reply). AllByRecursion (IsRight (from_nothing two_updates) (view_of (from_nothing two_updates) two_updates_entries) (codes "b") second_update 2 (used_at Snapshot (alone_at (from_nothing two_updates) (view_of (from_nothing two_updates) two_updates_entries) second_update 2)) (alone_at (from_nothing two_updates) (view_of (from_nothing two_updates) two_updates_entries) second_update 2).ops) os) (sym last) at.right).0 in
     let item : TheVersion (genid_item 0 1) ≡ right.item = same_item (TheVersion (genid_item 0 1)) right.item right.touched in
     let genid : 1 ≡ 2 = same_genid 1 (ap (λ (i : Used). conflict_line (tables_of two_updates) 3 i) item ∙ right.is_told) in
     omega (arith, genid)

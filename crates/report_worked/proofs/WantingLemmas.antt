@@ -9,20 +9,20 @@ use Rattle.report_laws.specs.Work.{Item, transaction, WithItsLine, work}
 use Rattle.report_laws.proofs.DownLaws.{one_goes_down}
 use Rattle.report_laws.proofs.LineLaws.{fresh_begin}
 use Rattle.report_text.specs.declared.reports.Line.{Line}
-use Rattle.report_text.specs.declared.reports.ReplyLine.{ReplyLine}
-use Rattle.report_text.specs.declared.reports.ReplyLine.TheVariants as reply
+use Rattle.cdb_values.specs.declared.replies.Reply.{Reply}
+use Rattle.cdb_values.specs.declared.replies.Reply.TheVariants as reply
 use Rattle.report_worked.specs.Small.{from_nothing, small_language}
 use Rattle.report_worked.specs.Worked.{open_insert, wanting_report, worked_table, to_b}
 use Rattle.report_worked.proofs.FaultLemmas.{answered, open_items_of_a, open_items_of_b, open_work_of_a, open_work_of_b}
 use Rattle.report_worked.proofs.WorkedLemmas.{along_each, along_parts, EachPart, cut, is_turn}
 
-abbrev wanting_of_a : List (List ReplyLine)
+abbrev wanting_of_a : List (List Reply)
 wanting_of_a = (reply.Begin 1 ∷ reply.Changed 1 ∷ reply.NoMemory ∷ []) ∷ (reply.NoMemory ∷ []) ∷ []
 
-abbrev wanting_of_b : List (List ReplyLine)
+abbrev wanting_of_b : List (List Reply)
 wanting_of_b = (reply.Begin 1 ∷ reply.Changed 1 ∷ reply.NoMemory ∷ []) ∷ []
 
-along_wanting : (P : List ℕ → Item → List ReplyLine → Type 0) → EachPart (P (codes "a")) open_items_of_a wanting_of_a → EachPart (P (codes "b")) open_items_of_b wanting_of_b →
+along_wanting : (P : List ℕ → Item → List Reply → Type 0) → EachPart (P (codes "a")) open_items_of_a wanting_of_a → EachPart (P (codes "b")) open_items_of_b wanting_of_b →
     (name : List ℕ) → Along (P name) (work small_language name open_insert.body) (told name wanting_report.lines)
 along_wanting P of_a of_b =
     along_each P open_insert.body wanting_report.lines

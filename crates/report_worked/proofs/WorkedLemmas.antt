@@ -18,8 +18,8 @@ use Rattle.report_laws.specs.Work.{Transaction, Item, Does, place_after, work, s
 use Rattle.report_text.specs.declared.reports.EntryLine.{EntryLine}
 use Rattle.report_text.specs.declared.reports.Line.{Line}
 use Rattle.report_text.specs.declared.reports.Line.TheVariants as line
-use Rattle.report_text.specs.declared.reports.ReplyLine.{ReplyLine}
-use Rattle.report_text.specs.declared.reports.ReplyLine.TheVariants as reply
+use Rattle.cdb_values.specs.declared.replies.Reply.{Reply}
+use Rattle.cdb_values.specs.declared.replies.Reply.TheVariants as reply
 use Rattle.report_laws.proofs.GrowLaws.{first_begin, first_rest, same_last}
 use Rattle.report_laws.proofs.NodesLaws.{none_lost, none_lacks, downs_more}
 use Rattle.report_worked.specs.Small.{small_language}
@@ -72,7 +72,7 @@ told_none name (line.Barrier ∷ ls) a b all = told_none name ls a b all.1
 told_none name (line.Fed position ∷ ls) a b all = told_none name ls a b all.1
 
 -- a law along the work of each session holds where it holds along the work of the sessions a and b
-pub along_each : (P : List ℕ → Item → List ReplyLine → Type 0) (body : List BodyLine) (lines : List Line) →
+pub along_each : (P : List ℕ → Item → List Reply → Type 0) (body : List BodyLine) (lines : List Line) →
     AllByRecursion (λ l. SaidTheirs l.act) body → AllByRecursion ToThem lines →
     Along (P (codes "a")) (work small_language (codes "a") body) (told (codes "a") lines) → Along (P (codes "b")) (work small_language (codes "b") body) (told (codes "b") lines) →
     (name : List ℕ) → Along (P name) (work small_language name body) (told name lines)
@@ -86,12 +86,12 @@ along_each P body lines theirs to_them of_a of_b name = go (bytes_eq (codes "a")
         (told_none name lines is_a is_b to_them)
 
 -- a transaction is told whole, by its begin and its outcome
-pub whole : {basis : Basis} {view : View} {name : List ℕ} {t : Transaction} {mine : List ReplyLine} (begin : ℕ) (o : ReplyLine) → basis.origin.position ≤ begin → begin ≤ view.last → Ends t.end (o ∷ []) →
+pub whole : {basis : Basis} {view : View} {name : List ℕ} {t : Transaction} {mine : List Reply} (begin : ℕ) (o : Reply) → basis.origin.position ≤ begin → begin ≤ view.last → Ends t.end (o ∷ []) →
     IsRight basis view name t begin (used_at t.level (alone_at basis view t begin)) (alone_at basis view t begin).ops o → mine ≡ reply.Begin begin ∷ ((alone_at basis view t begin).replies ++ o ∷ []) → IsTold basis view name (Does t) mine
 whole {basis} {view} {name} {t} {mine} begin o base within ends right says = inl (record { begin = begin; base = base; within = within; ran = alone_at basis view t begin; is_ran = refl; last = o ∷ []; ends = ends; right = (right, tt); says = says })
 
 -- a transaction is cut short, behind a front of its begin and its replies
-pub cut : {basis : Basis} {view : View} {name : List ℕ} {t : Transaction} {mine : List ReplyLine} (begin : ℕ) (front rest : List ReplyLine) (cause : ReplyLine) → basis.origin.position ≤ begin → begin ≤ view.last →
+pub cut : {basis : Basis} {view : View} {name : List ℕ} {t : Transaction} {mine : List Reply} (begin : ℕ) (front rest : List Reply) (cause : Reply) → basis.origin.position ≤ begin → begin ≤ view.last →
     front ++ rest ≡ reply.Begin begin ∷ (alone_at basis view t begin).replies → cuts cause ≡ true → MayCut t.end (alone_at basis view t begin).ops front rest cause → mine ≡ front ++ cause ∷ [] → IsTold basis view name (Does t) mine
 cut {basis} {view} {name} {t} {mine} begin front rest cause base within fits is may says =
     inr (record { begin = begin; base = base; within = within; ran = alone_at basis view t begin; is_ran = refl; front = front; rest = rest; fits = fits; cause = cause; is_cause = is; may = may; says = says })
@@ -103,15 +103,15 @@ entry_told {basis} {view} {lines} {position} {session} {txn} {begin} t before af
     record { transaction = t; is_its = its; within = within; ran = alone_at basis view t begin; is_ran = refl; outcome = reply.Committed position; ends = refl; before = before; after = after; says = says }
 
 -- a transaction that is told a begin and an outcome is told the replies at that begin, and its outcome is right
-pub record ToldAt (basis : Basis) (entries : List EntryLine) (name : List ℕ) (t : Transaction) (begin : ℕ) (back : List ReplyLine) : Type 0 where
-  pub last : List ReplyLine
+pub record ToldAt (basis : Basis) (entries : List EntryLine) (name : List ℕ) (t : Transaction) (begin : ℕ) (back : List Reply) : Type 0 where
+  pub last : List Reply
   pub says : back ≡ (alone_at basis (view_of basis entries) t begin).replies ++ last
   pub right : AllByRecursion (IsRight basis (view_of basis entries) name t begin (used_at t.level (alone_at basis (view_of basis entries) t begin)) (alone_at basis (view_of basis entries) t begin).ops) last
 
 no_cut : (b : Bool) → b ≡ true → b ≡ false → ⊥
 no_cut b cut uncut = cc
 
-pub told_at : (basis : Basis) (entries : List EntryLine) (name : List ℕ) (t : Transaction) (begin : ℕ) (back front : List ReplyLine) (outcome : ReplyLine) → reply.Begin begin ∷ back ≡ front ++ outcome ∷ [] → cuts outcome ≡ false →
+pub told_at : (basis : Basis) (entries : List EntryLine) (name : List ℕ) (t : Transaction) (begin : ℕ) (back front : List Reply) (outcome : Reply) → reply.Begin begin ∷ back ≡ front ++ outcome ∷ [] → cuts outcome ≡ false →
     IsTold basis (view_of basis entries) name (Does t) (reply.Begin begin ∷ back) → ToldAt basis entries name t begin back
 told_at basis entries name t begin back front outcome ends uncut (inl was) = record {
   last = was.last;
@@ -125,27 +125,27 @@ told_at basis entries name t begin back front outcome ends uncut (inr was) =
     absurd (no_cut (cuts was.cause) was.is_cause (ap cuts (sym (same_last front was.front outcome was.cause (sym ends ∙ was.says))) ∙ uncut))
 
 -- the replies of each of these items, in order, under their numbers
-abbrev pub in_parts : List Item → List (List ReplyLine) → List Numbered
+abbrev pub in_parts : List Item → List (List Reply) → List Numbered
 in_parts [] parts = []
 in_parts (item ∷ items) [] = []
 in_parts (item ∷ items) (mine ∷ parts) = numbered (number_of item) mine ++ in_parts items parts
 
-abbrev pub EachPart : (Item → List ReplyLine → Type 0) → List Item → List (List ReplyLine) → Type 0
+abbrev pub EachPart : (Item → List Reply → Type 0) → List Item → List (List Reply) → Type 0
 EachPart P [] parts = Unit {0}
 EachPart P (item ∷ items) [] = ⊥
 EachPart P (item ∷ items) (mine ∷ parts) = P item mine × EachPart P items parts
 
-pub along_parts : (P : Item → List ReplyLine → Type 0) (items : List Item) (parts : List (List ReplyLine)) → EachPart P items parts → Along P items (in_parts items parts)
+pub along_parts : (P : Item → List Reply → Type 0) (items : List Item) (parts : List (List Reply)) → EachPart P items parts → Along P items (in_parts items parts)
 along_parts P [] parts is = refl
 along_parts P (item ∷ items) [] is = absurd is
 along_parts P (item ∷ items) (mine ∷ parts) is = (mine, in_parts items parts, refl, is.0, along_parts P items parts is.1)
 
 -- what each line of a script is answered, and the entries that it appends
 abbrev pub Turn : Type 0
-Turn = List ReplyLine × List EntryLine
+Turn = List Reply × List EntryLine
 
 -- the lines that a line of a script prints that is answered so
-abbrev pub piece : Language → List BodyLine → Act → List ReplyLine → List Line
+abbrev pub piece : Language → List BodyLine → Act → List Reply → List Line
 piece language done (act.Say session text) replies = lines_of session (number_told language (place_after language session done) text) replies
 piece language done (act.Stop node) replies = []
 piece language done (act.Start node) replies = []
@@ -154,13 +154,13 @@ piece language done act.Barrier replies = []
 piece language done act.Feed replies = []
 
 -- a line of a script is answered so
-abbrev pub IsAnsweredBy : Basis → ℕ → List BodyLine → List Line → Act → List ReplyLine → List EntryLine → Type 0
+abbrev pub IsAnsweredBy : Basis → ℕ → List BodyLine → List Line → Act → List Reply → List EntryLine → Type 0
 IsAnsweredBy basis now done before (act.Say session text) replies added =
     IsTurn now before session (number_told basis.language (place_after basis.language session done) text) (is_own basis.language (place_after basis.language session done) text) replies added
 IsAnsweredBy basis now done before _ replies added = (replies ≡ []) × (added ≡ [])
 
 -- no node went down before, so nothing keeps it from that
-answered_turn : (basis : Basis) (now : ℕ) (done : List BodyLine) (before : List Line) (a : Act) (replies : List ReplyLine) (added : List EntryLine) → downs before ≡ 0 →
+answered_turn : (basis : Basis) (now : ℕ) (done : List BodyLine) (before : List Line) (a : Act) (replies : List Reply) (added : List EntryLine) → downs before ≡ 0 →
     IsAnsweredBy basis now done before a replies added → IsTurnOf basis now done before a (piece basis.language done a replies) added
 answered_turn basis now done before (act.Say session text) replies added none is =
     inl (record { replies = replies; says = refl; turn = is; kept = none_lost basis.script before session _ _ none; majority = none_lacks basis.script before _ _ none })
@@ -170,7 +170,7 @@ answered_turn basis now done before (act.Arm session moment) replies added none 
 answered_turn basis now done before act.Barrier replies added none is = (refl, is.1)
 answered_turn basis now done before act.Feed replies added none is = (refl, is.1)
 
-none_more : (language : Language) (done : List BodyLine) (before : List Line) (a : Act) (replies : List ReplyLine) → downs before ≡ 0 → downs (before ++ piece language done a replies) ≡ 0
+none_more : (language : Language) (done : List BodyLine) (before : List Line) (a : Act) (replies : List Reply) → downs before ≡ 0 → downs (before ++ piece language done a replies) ≡ 0
 none_more language done before (act.Say session text) replies none = downs_more before session _ replies none
 none_more language done before (act.Stop node) replies none = ap downs (append-nil before) ∙ none
 none_more language done before (act.Start node) replies none = ap downs (append-nil before) ∙ none
@@ -217,6 +217,6 @@ pub in_turns : (basis : Basis) (done : List BodyLine) (history : List EntryLine)
 in_turns basis done history body turns is = turns_from basis done [] history body turns refl is
 
 -- a turn that is told up to its last reply
-pub is_turn : {now : ℕ} {before : List Line} {session : List ℕ} {number : ℕ} {own : Bool} {replies : List ReplyLine} {added : List EntryLine} →
+pub is_turn : {now : ℕ} {before : List Line} {session : List ℕ} {number : ℕ} {own : Bool} {replies : List Reply} {added : List EntryLine} →
     are_up_to (is_last_of own) replies ≡ true → AllByRecursion (IsTimely now (now + length added)) replies → IsAppended now session number replies added → IsTurn now before session number own replies added
 is_turn told timely appended = record { told = inl told; timely = timely; appended = appended }

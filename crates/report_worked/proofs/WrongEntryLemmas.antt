@@ -13,8 +13,8 @@ use Rattle.report_laws.proofs.AlongLaws.{along_its}
 use Rattle.report_laws.proofs.EntryToldLaws.{begin_stands, commit_stands}
 use Rattle.report_laws.proofs.PieceLaws.{all_at}
 use Rattle.report_text.specs.declared.reports.Line.{Line}
-use Rattle.report_text.specs.declared.reports.ReplyLine.{ReplyLine}
-use Rattle.report_text.specs.declared.reports.ReplyLine.TheVariants as reply
+use Rattle.cdb_values.specs.declared.replies.Reply.{Reply}
+use Rattle.cdb_values.specs.declared.replies.Reply.TheVariants as reply
 use Rattle.report_worked.specs.Small.{from_nothing}
 use Rattle.report_worked.specs.Worked.{insert_select, inserted_entries, rolled_insert, two_inserts, two_inserts_with, two_updates, two_updates_entries, to_a}
 use Rattle.report_worked.specs.WorkedWrong.{IsRefusedBy, RepliesAreRight, EntriesAreTold, begun_elsewhere, conflict_at_begin, rolled_entry, select_behind, split_insert}
@@ -33,7 +33,7 @@ touches_its_begin law =
     let said : reply.Changed 1 ∷ reply.ConflictGenid 2 (codes "t") 1 ∷ [] ≡ reply.Changed 1 ∷ at.last = at.says in
     let last : reply.ConflictGenid 2 (codes "t") 1 ∷ [] ≡ at.last = cc in
     let right : IsConflict (from_nothing two_updates) (view_of (from_nothing two_updates) two_updates_entries) 2 2 (used_at Snapshot (alone_at (from_nothing two_updates) (view_of (from_nothing two_updates) two_updates_entries) second_update 2)) (alone_at (from_nothing two_updates) (view_of (from_nothing two_updates) two_updates_entries) second_update 2).ops (reply.ConflictGenid 2 (codes "t") 1) =
-    (subst (λ (os : List ReplyLine). AllByRecursion (IsRight (from_nothing two_updates) (view_of (from_nothing two_updates) two_updates_entries) (codes "b") second_update 2 (used_at Snapshot (alone_at (from_nothing two_updates) (view_of (from_nothing two_updates) two_updates_entries) second_update 2)) (alone_at (from_nothing two_updates) (view_of (from_nothing two_updates) two_updates_entries) second_update 2).ops) os) (sym last) at.right).0 in
+    (subst (λ (os : List Reply). AllByRecursion (IsRight (from_nothing two_updates) (view_of (from_nothing two_updates) two_updates_entries) (codes "b") second_update 2 (used_at Snapshot (alone_at (from_nothing two_updates) (view_of (from_nothing two_updates) two_updates_entries) second_update 2)) (alone_at (from_nothing two_updates) (view_of (from_nothing two_updates) two_updates_entries) second_update 2).ops) os) (sym last) at.right).0 in
     let later : 2 < 2 = right.later in
     omega (arith, later)
 
@@ -47,7 +47,7 @@ committed_elsewhere law =
     let said : reply.Done 0 ∷ reply.Committed 2 ∷ [] ≡ reply.Done 0 ∷ at.last = at.says in
     let last : reply.Committed 2 ∷ [] ≡ at.last = cc in
     let there : 2 ≡ 1 =
-    (subst (λ (os : List ReplyLine). AllByRecursion (IsRight (from_nothing insert_select) (view_of (from_nothing insert_select) inserted_entries) (codes "a") selecting 1 (used_at Snapshot (alone_at (from_nothing insert_select) (view_of (from_nothing insert_select) inserted_entries) selecting 1)) (alone_at (from_nothing insert_select) (view_of (from_nothing insert_select) inserted_entries) selecting 1).ops) os) (sym last) at.right).0 in
+    (subst (λ (os : List Reply). AllByRecursion (IsRight (from_nothing insert_select) (view_of (from_nothing insert_select) inserted_entries) (codes "a") selecting 1 (used_at Snapshot (alone_at (from_nothing insert_select) (view_of (from_nothing insert_select) inserted_entries) selecting 1)) (alone_at (from_nothing insert_select) (view_of (from_nothing insert_select) inserted_entries) selecting 1).ops) os) (sym last) at.right).0 in
     omega (arith, there)
 
 pub select_behind_is_refused : IsRefusedBy (RepliesAreRight insert_select select_behind) insert_select select_behind
@@ -81,10 +81,10 @@ split_told = told (codes "a") split_insert.lines
 abbrev IsNoBegin : Numbered → Type 0
 IsNoBegin l = l ≡ (1, reply.Begin 1) → ⊥
 
-of_another : (number : ℕ) (r : ReplyLine) → (number ≡ 1 → ⊥) → IsNoBegin (number, r)
+of_another : (number : ℕ) (r : Reply) → (number ≡ 1 → ⊥) → IsNoBegin (number, r)
 of_another number r other is = other (ap (λ (l : Numbered). l.0) is)
 
-another_reply : (r : ReplyLine) → (r ≡ reply.Begin 1 → ⊥) → IsNoBegin (1, r)
+another_reply : (r : Reply) → (r ≡ reply.Begin 1 → ⊥) → IsNoBegin (1, r)
 another_reply r other is = other (ap (λ (l : Numbered). l.1) is)
 
 none_again : AllByRecursion IsNoBegin (drop 1 split_told)
@@ -99,7 +99,7 @@ none_again = (
   ),
 )
 
-in_two : (before : List Numbered) (replies : List ReplyLine) (outcome : ReplyLine) (after : List Numbered) → split_told ≡ before ++ (numbered 1 (reply.Begin 1 ∷ (replies ++ outcome ∷ [])) ++ after) → ⊥
+in_two : (before : List Numbered) (replies : List Reply) (outcome : Reply) (after : List Numbered) → split_told ≡ before ++ (numbered 1 (reply.Begin 1 ∷ (replies ++ outcome ∷ [])) ++ after) → ⊥
 in_two [] [] outcome after is =
     let rest : drop 1 split_told ≡ (1, outcome) ∷ after = same_tail (1, reply.Begin 1) (1, reply.Begin 1) (drop 1 split_told) ((1, outcome) ∷ after) is in
     let next : (2, reply.Begin 1) ≡ (1, outcome) = same_head (2, reply.Begin 1) (1, outcome) (drop 2 split_told) after rest in

@@ -27,8 +27,8 @@ use Rattle.script_form.specs.CanRun.{tables_of}
 use Rattle.script_form.specs.declared.scripts.Script.{Script}
 use Rattle.report_laws.specs.History.{Basis, nothing_before}
 use Rattle.session_language.specs.Language.{Answered, Language, Kind, BeginText, CommitText, RollbackText, LevelText, OtherText}
-use Rattle.report_text.specs.declared.reports.ReplyLine.{ReplyLine}
-use Rattle.report_text.specs.declared.reports.ReplyLine.TheVariants as reply
+use Rattle.cdb_values.specs.declared.replies.Reply.{Reply}
+use Rattle.cdb_values.specs.declared.replies.Reply.TheVariants as reply
 
 -- a statement: it begins, commits or rolls back a transaction, inserts the row of an id and a v, selects all rows or an id's, sets the
 -- level of later transactions, sets the v of an id's rows, or deletes an id's rows
@@ -66,7 +66,7 @@ statement_of text =
     else None
 
 -- an answer by these replies, with these operations of the transaction after it
-abbrev pub answered : List ReplyLine → List RowOp → Answered
+abbrev pub answered : List Reply → List RowOp → Answered
 answered replies ops = record { replies = replies; ops = ops; uses = []; ranges = []; failed = false }
 
 -- and with an interval that was read for it
@@ -74,7 +74,7 @@ abbrev pub reading : Interval → Answered → Answered
 reading range a = record { replies = a.replies; ops = a.ops; uses = a.uses; ranges = range ∷ []; failed = a.failed }
 
 -- an answer that adds no operation
-abbrev pub only_told : List RowOp → List ReplyLine → Answered
+abbrev pub only_told : List RowOp → List Reply → Answered
 only_told done replies = answered replies done
 
 -- what a row has to have: a value at a column's place
@@ -146,7 +146,7 @@ undone (op.Update table target old row ∷ ops) = op.Delete table target old ∷
 undone (op.Delete table target old ∷ ops) = op.Delete table target old ∷ undone ops
 
 -- rows are told, and their number
-abbrev pub rows_told : List (List Value) → List ReplyLine
+abbrev pub rows_told : List (List Value) → List Reply
 rows_told rows = map reply.Row rows ++ reply.Done (length rows) ∷ []
 
 -- the rows that a transaction sees in a table, and meet a condition

@@ -23,8 +23,8 @@ use Rattle.report_text.specs.declared.reports.EntryLine.{EntryLine}
 use Rattle.report_text.specs.declared.reports.EntryLine.TheVariants.{Setup, Commit}
 use Rattle.report_text.specs.declared.reports.Line.{Line}
 use Rattle.report_text.specs.declared.reports.Line.TheVariants as line
-use Rattle.report_text.specs.declared.reports.ReplyLine.{ReplyLine}
-use Rattle.report_text.specs.declared.reports.ReplyLine.TheVariants as reply
+use Rattle.cdb_values.specs.declared.replies.Reply.{Reply}
+use Rattle.cdb_values.specs.declared.replies.Reply.TheVariants as reply
 
 -- the table t(id integer primary key, v integer)
 abbrev pub worked_table : TableDef
@@ -57,14 +57,14 @@ a_says text = Say (codes "a") text
 abbrev pub b_says : List ℕ → Act
 b_says text = Say (codes "b") text
 
-abbrev pub to_a : ℕ → ReplyLine → Line
+abbrev pub to_a : ℕ → Reply → Line
 to_a txn answer = line.Session (codes "a") txn answer
 
-abbrev pub to_b : ℕ → ReplyLine → Line
+abbrev pub to_b : ℕ → Reply → Line
 to_b txn answer = line.Session (codes "b") txn answer
 
 -- a row of the table
-abbrev pub row : ℕ → ℕ → ReplyLine
+abbrev pub row : ℕ → ℕ → Reply
 row id v = reply.Row (Int (pos id) ∷ Int (pos v) ∷ [])
 
 -- the entries of the sessions
@@ -136,7 +136,7 @@ two_updates = script_with
     ∷ b_says (codes "commit")
     ∷ [])
 
-abbrev pub two_updates_lines : ReplyLine → List Line
+abbrev pub two_updates_lines : Reply → List Line
 two_updates_lines outcome = inserted_lines
     ++ to_a 2 (reply.Begin 2) ∷ to_b 1 (reply.Begin 2)
     ∷ to_a 2 (reply.Changed 1) ∷ to_b 1 (reply.Changed 1)
@@ -146,7 +146,7 @@ abbrev pub two_updates_entries : List EntryLine
 two_updates_entries = inserted_entries ++ of_a 3 2 2 ∷ []
 
 -- the second one to end conflicts with the entry of the first, which took the row's version away
-abbrev pub conflict : ReplyLine
+abbrev pub conflict : Reply
 conflict = reply.ConflictGenid 3 (codes "t") 1
 
 abbrev pub two_updates_report : Report
@@ -260,7 +260,7 @@ skewing =
 abbrev pub two_inserted_lines : List Line
 two_inserted_lines = inserted_lines ++ to_a 2 (reply.Begin 2) ∷ to_a 2 (reply.Changed 1) ∷ to_a 2 (reply.Committed 3) ∷ []
 
-abbrev pub skew_lines : ReplyLine → List Line
+abbrev pub skew_lines : Reply → List Line
 skew_lines outcome =
     to_a 3 (reply.Begin 3) ∷ to_b 1 (reply.Begin 3)
     ∷ to_a 3 (row 2 20) ∷ to_a 3 (reply.Done 1)
@@ -288,7 +288,7 @@ strict_skew = script_with (inserting_two ++ a_says (codes "set transaction seria
 abbrev pub strict_entries : List EntryLine
 strict_entries = two_inserted ++ Commit 4 (codes "a") 3 3 Serializable ∷ []
 
-abbrev pub range_conflict : ReplyLine
+abbrev pub range_conflict : Reply
 range_conflict = reply.ConflictRange 4 (codes "t") (codes "pk")
 
 abbrev pub level_lines : List Line

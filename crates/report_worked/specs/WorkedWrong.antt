@@ -19,7 +19,7 @@ use Rattle.report_text.specs.declared.reports.EntryLine.TheVariants.{Setup, Comm
 use Rattle.report_text.specs.declared.reports.Report.{Report}
 use Rattle.report_text.specs.declared.reports.Line.{Line}
 use Rattle.report_text.specs.declared.reports.Line.TheVariants as line
-use Rattle.report_text.specs.declared.reports.ReplyLine.TheVariants as reply
+use Rattle.cdb_values.specs.declared.replies.Reply.TheVariants as reply
 use Rattle.report_worked.specs.Small.{from_nothing, small_language}
 
 -- the five laws of a lawful report that these break

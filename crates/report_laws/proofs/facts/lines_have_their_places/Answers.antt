@@ -1,7 +1,7 @@
 use Rattle.report_laws.proofs.LawLemmas.{has_its_place}
 use Rattle.report_laws.proofs.facts.lines_have_their_places.Goals as goal
 use Rattle.report_text.specs.declared.reports.Line.TheVariants as line
-use Rattle.report_text.specs.declared.reports.ReplyLine.TheVariants as reply
+use Rattle.cdb_values.specs.declared.replies.Reply.TheVariants as reply
 
 pub returns : goal.returns
 returns c = record {

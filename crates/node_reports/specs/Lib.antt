@@ -1,0 +1,12 @@
+pub mod Arms
+pub mod Fed
+pub mod Lawful
+pub mod OneNode
+pub mod Operator
+pub mod Order
+pub mod Piece
+pub mod Pieces
+pub mod Places
+pub mod Site
+pub mod Told
+pub mod Workers

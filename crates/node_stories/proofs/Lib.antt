@@ -1,0 +1,10 @@
+pub mod AgainWrong
+pub mod HeardLemmas
+pub mod HeardTerms
+pub mod HeardWrong
+pub mod LaterTerms
+pub mod ShortTerms
+pub mod StillSo
+pub mod StoryLemmas
+pub mod StoryTerms
+pub mod StoryWrong
