@@ -1,5 +1,5 @@
 -- The history, once one seat has all.
-use Rattle.std.proofs.Common.{◌≡◌, ℕ, List, [], ◌∷◌, ◌++◌, map, reverse, sym, ap, subst}
+use Rattle.std.proofs.Common.{◌≡◌, ◌∙◌, ◌≤◌, ℕ, arith, List, [], ◌∷◌, ◌++◌, map, reverse, sym, ap, subst}
 use Rattle.std.proofs.lemmas.List.{reverse-append}
 use mathlib.Core.Option.{some}
 use lib.ListN.{get_elem?}
@@ -7,9 +7,11 @@ use Rattle.atomic_table.specs.Table.{Me}
 use Rattle.actor_trace.specs.declared.view.View.{View}
 use Rattle.actor_trace.specs.Lists.In.{here, there}
 use Rattle.actor_trace.specs.Actors.{IsHistory, Knows, tag_of}
-use Rattle.actor_trace.specs.Lists.{In}
+use Rattle.actor_trace.specs.Lists.{In, times, total}
 use Rattle.actor_trace.specs.Rules.{Kept}
 use Rattle.actor_trace.specs.Views.{Fits, has}
+use Rattle.actor_trace.proofs.Numbers.{tags_back}
+use Rattle.actor_trace.proofs.Totals.{total_has}
 
 pub in_map : {A B : Type 0} (f : A → B) (xs : List A) (x : A) → In x xs → In (f x) (map f xs)
 in_map f (y ∷ xs) x here = here
@@ -41,4 +43,10 @@ history_of {E} enabled n id words views all me k get is =
       below = k.below;
       made = λ x m. (f.made x.number x.made (subst (λ t. In (x.number, x.made) t) (sym made_is) (in_map (tag_of {E = E}) (reverse all) x (in_reverse all x m)))).1;
       seen = λ x m. f.hears x.seen (subst (λ t. In x.seen t) (sym heard_is) (in_map (λ (a : Knows E). a.seen) (reverse all) x (in_reverse all x m)));
+      low = λ x m. (f.made x.number x.made (subst (λ t. In (x.number, x.made) t) (sym made_is) (in_map (tag_of {E = E}) (reverse all) x (in_reverse all x m)))).0;
+      once = λ a.
+          let has_too : times a me.0.made ≡ times a (map tag_of all) = ap (λ t. times a t) made_is ∙ tags_back a all in
+          let sum : total (λ (v : View E). times a v.made) views ≤ 1 = k.once a in
+          let own : times a me.0.made ≤ total (λ (v : View E). times a v.made) views = total_has (λ (v : View E). times a v.made) views id me.0 get in
+          omega arith;
     }

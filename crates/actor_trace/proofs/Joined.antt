@@ -13,6 +13,13 @@ map_snoc f (y ∷ xs) x = ap (λ t. f y ∷ t) (map_snoc f xs x)
 pub rev_snoc : {A : Type 0} (xs : List A) (x : A) → reverse (xs ++ x ∷ []) ≡ x ∷ reverse xs
 rev_snoc xs x = reverse-append xs (x ∷ [])
 
+pub rev_cons : {A : Type 0} (x : A) (xs : List A) → reverse (x ∷ xs) ≡ reverse xs ++ x ∷ []
+rev_cons x xs = reverse-append (x ∷ []) xs
+
+pub map_reverse : {A B : Type 0} (f : A → B) (xs : List A) → map f (reverse xs) ≡ reverse (map f xs)
+map_reverse f [] = refl
+map_reverse f (x ∷ xs) = ap (map f) (rev_cons x xs) ∙ (map_snoc f (reverse xs) x ∙ (ap (λ t. t ++ f x ∷ []) (map_reverse f xs) ∙ sym (rev_cons (f x) (map f xs))))
+
 -- one more was popped
 pub popped : {A : Type 0} (all back now later : List A) (x : A) → reverse all ≡ back ++ reverse now → now ≡ later ++ x ∷ [] → reverse all ≡ (back ++ x ∷ []) ++ reverse later
 popped all back now later x e p = e ∙ (ap (λ t. back ++ reverse t) p ∙ (ap (λ t. back ++ t) (rev_snoc later x) ∙ sym (append_assoc back (x ∷ []) (reverse later))))

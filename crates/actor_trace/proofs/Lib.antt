@@ -8,7 +8,7 @@ pub mod Allowing
 pub mod Adding
 pub mod Actors
 pub mod Joined
-pub mod Ended
 pub mod Merged
-pub mod Shares
 pub mod Numbers
+pub mod Ended
+pub mod Shares

@@ -16,9 +16,10 @@ pub record IsActor {E : Type 0} (enabled : List (ℕ × E) → ℕ → E → Typ
   pub fits : length made + room ≤ capacity
   pub few : length made + room ≤ 2147483648
 
--- The seat has no number.
-pub record IsNote {E : Type 0} (enabled : List (ℕ × E) → ℕ → E → Type 0) (table id : TableId) (me : Me (Unit {0}) (View E)) : Type 0 where
+-- The seat has no number. The count of the events that it saw is told.
+pub record IsNote {E : Type 0} (enabled : List (ℕ × E) → ℕ → E → Type 0) (table id : TableId) (me : Me (Unit {0}) (View E)) (count : ℕ) : Type 0 where
   pub table_is : id ≡ table
   pub made_is : me.0.made ≡ []
+  pub count_is : count ≡ length me.0.seen
   pub no_slot : me.1 ≡ []
   pub legal : IsLegal enabled me.0.seen

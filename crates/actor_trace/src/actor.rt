@@ -112,6 +112,17 @@ impl<M: Machine, J: Naming> Actor<M, J> {
         ticket
     }
 
+    /// Looks at all that was done so far, which the actor knows from now on, and answers how many events that is: the ticket
+    /// that comes next.
+    pub fn look(&mut self, trace: &Trace<M, J>) -> u64
+        ensures same { (self.new.number ≡ self.old.number) × (self.new.made ≡ self.old.made) × (self.new.room ≡ self.old.room) }
+        ensures more { Rests self.old.number self.old.seen self.new.seen }
+        ensures legal { IsLegal M.enabled self.new.seen }
+        ensures length { result ≡ length self.new.seen }
+    {
+        trace.table.shared.load::<Look<M>>(&mut self.seat, 0)
+    }
+
     /// A note of all that was done so far, which the actor knows from now on.
     pub fn note(&mut self, trace: &Trace<M, J>) -> Note<M, J>
         ensures same { (self.new.number ≡ self.old.number) × (self.new.made ≡ self.old.made) × (self.new.room ≡ self.old.room) }
@@ -120,9 +131,10 @@ impl<M: Machine, J: Naming> Actor<M, J> {
         ensures note { result ≡ self.new.seen }
         ensures own { entries_of self.old.number result ≡ self.old.made }
     {
-        trace.table.shared.load::<Look<M>>(&mut self.seat, 0);
+        let count = trace.table.shared.load::<Look<M>>(&mut self.seat, 0);
         Note {
             seat: trace.table.shared.split_seat::<Jot>(&mut self.seat),
+            count,
             of: PhantomData,
         }
     }

@@ -1,6 +1,6 @@
 ghost use Rattle.std.specs.Prelude.{ℕ, List, ◌≡◌, ◌↔◌, ◌++◌, ◌∷◌, [], IfOk, IfErr, IfSome, IsTrue, length, map, reverse, replicate, None, vec_capacity};
 ghost use Rattle.actor_trace.specs.Lists.{total};
-ghost use Rattle.actor_trace.specs.Actors.{IsHistory, Numbered, is_numbered, tag_of};
+ghost use Rattle.actor_trace.specs.Actors.{IsHistory, tag_of};
 ghost use Rattle.actor_trace.specs.Views.{has, has_too};
 
 use crate::actor::Actor;
@@ -55,26 +55,6 @@ fn space_for<M: Machine, J: Naming>(
     })
 }
 
-fn are_numbered<M: Machine, J: Naming>(count: u32, actors: &[Actor<M, J>]) -> bool
-    ensures { result ≡ is_numbered 0 count actors.now }
-{
-    let mut next: u32 = 0;
-    let mut left = count;
-    let mut rest = actors;
-    'walking: while let Some((actor, after)) = rest.split_first() {
-        if left == 0 {
-            return false;
-        }
-        if actor.number() != next {
-            return false;
-        }
-        next += 1;
-        left -= 1;
-        rest = after;
-    }
-    left == 0
-}
-
 impl<M: Machine, J: Naming> Trace<M, J> {
     fn take_in(&self, seat: &mut Seat<(), View<M::Event>>, actor: Actor<M, J>) -> Share<M::Event>
         requires { seat.old.table_id ≡ self.now.table.shared.table_id }
@@ -122,7 +102,7 @@ impl<M: Machine, J: Naming> Trace<M, J> {
     }
 
     fn merged(self, actors: Vec<Actor<M, J>>, space: Space<M::Event>) -> History<M>
-        requires all { Numbered J.actors actors.items }
+        requires all { length actors.items ≡ J.actors }
         requires shares { (space.shares.items ≡ []) × (vec_capacity space.shares ≡ length actors.items) }
         requires cells { space.cells.items ≡ replicate (total (λ a. length a.made) actors.items) None }
         requires events { (space.events.items ≡ []) × (vec_capacity space.events ≡ total (λ a. length a.made) actors.items) }
@@ -140,16 +120,16 @@ impl<M: Machine, J: Naming> Trace<M, J> {
         }
     }
 
-    /// Whether these are all actors of the trace, in the order of their numbers.
+    /// Whether these are all actors of the trace: as many as it has.
     pub fn has_all(&self, actors: &[Actor<M, J>]) -> bool
-        ensures { IsTrue result ↔ Numbered J.actors actors.now }
+        ensures { IsTrue result ↔ (length actors.now ≡ J.actors) }
     {
-        are_numbered(self.actors, actors)
+        actors.len() == self.actors as usize
     }
 
-    /// Ends the run, and answers the history of what all actors did. For want of memory all comes back as it was.
+    /// Ends the run, where these are all actors, in any order, and answers the history of what all actors did. For want of memory all comes back as it was.
     pub fn close(self, alloc: Global, actors: Vec<Actor<M, J>>) -> Result<History<M>, Closed<M, J>>
-        requires all { Numbered J.actors actors.items }
+        requires all { length actors.items ≡ J.actors }
         ensures history { IfOk result (λ h. IsHistory M.enabled J.actors actors.items (reverse h)) }
         ensures back { IfErr result (λ c. (c.trace ≡ self) × (c.actors.items ≡ actors.items)) }
     {
@@ -162,9 +142,9 @@ impl<M: Machine, J: Naming> Trace<M, J> {
         }
     }
 
-    /// Ends the run without memory. There is the history of what all actors did.
+    /// Ends the run without memory, where these are all actors, in any order. There is the history of what all actors did.
     pub fn abandon(self, actors: Vec<Actor<M, J>>)
-        requires all { Numbered J.actors actors.items }
+        requires all { length actors.items ≡ J.actors }
         ensures history { (log : List (ℕ × M.Event)) × IsHistory M.enabled J.actors actors.items log }
     {
         let seat = self.gather(actors);

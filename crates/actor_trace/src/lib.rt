@@ -20,8 +20,11 @@
 //!    history that its actor *knows*. That it is enabled after the whole history follows by the machine's one law: what is
 //!    enabled stays enabled while its actor does nothing.
 //! 3. [`Actor::note`] gives a [`Note`], a beginning of the history that may go to another thread, and [`Actor::meet`] takes one.
-//! 4. [`Trace::close`] takes all actors and answers the [`History`]: legal, with each actor's steps at their tickets, and no
-//!    others. [`Trace::has_all`] tests that they are all. [`Trace::abandon`] says that there is that history, without memory.
+//!    [`Actor::look`] and [`Note::length`] answer how many events were done so far: a place in the history, below which nothing
+//!    can happen any more.
+//! 4. [`Trace::close`] takes all actors, in any order, and answers the [`History`]: legal, with each actor's steps at their
+//!    tickets, and no others. [`Trace::has_all`] tests that they are all: no two have the same number, so it counts them.
+//!    [`Trace::abandon`] says that there is that history, without memory.
 //!
 //! A machine of adders, of which one has the turn and gives it on with each step. `turn` is who may add next:
 //!

@@ -1,3 +1,5 @@
+ghost use Rattle.std.specs.Prelude.{◌≡◌, length};
+
 use crate::machine::Machine;
 use crate::naming::Naming;
 use crate::view::View;
@@ -8,6 +10,7 @@ use std::marker::{Model, PhantomData};
 #[derive(Drop)]
 pub struct Note<M: Machine, J: Naming> {
     pub(crate) seat: Seat<(), View<M::Event>>,
+    pub(crate) count: u64,
     pub(crate) of: PhantomData<J>,
 }
 
@@ -19,5 +22,14 @@ impl<M: Machine, J: Naming> Model for Note<M, J> {
 
     ghost view = { λ n. n.seat.me.0.seen };
 
-    ghost invariant = { λ n. IsNote M.enabled J.table n.seat.table_id n.seat.me };
+    ghost invariant = { λ n. IsNote M.enabled J.table n.seat.table_id n.seat.me n.count };
+}
+
+impl<M: Machine, J: Naming> Note<M, J> {
+    /// How many events it tells. Each event with a smaller ticket stands in it.
+    pub fn length(&self) -> u64
+        ensures { result ≡ length self.now }
+    {
+        self.count
+    }
 }

@@ -20,13 +20,3 @@ Enters P o _ = Unit {0}
 abbrev pub AllEnter : {E : Type 0} → (List E → E → Type 0) → List (ℕ × Event E) → Type 0
 AllEnter P [] = Unit {0}
 AllEnter P (x ∷ h) = Enters P ((after h).nodes x.0) x.1 × AllEnter P h
-
--- each appended entry alone
-abbrev pub Appends : {E : Type 0} → (List E → E → Type 0) → Own E → Event E → Type 0
-Appends Q o (Append e) = Q o.log e
-Appends Q o (BackAppend e) = Q o.log e
-Appends Q o _ = Unit {0}
-
-abbrev pub AllAppend : {E : Type 0} → (List E → E → Type 0) → List (ℕ × Event E) → Type 0
-AllAppend Q [] = Unit {0}
-AllAppend Q (x ∷ h) = Appends Q ((after h).nodes x.0) x.1 × AllAppend Q h

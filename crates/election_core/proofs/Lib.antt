@@ -5,3 +5,4 @@ pub mod Enabling
 pub mod Keeping
 pub mod Allowing
 pub mod Missing
+pub mod Acted

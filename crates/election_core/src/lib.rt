@@ -42,6 +42,7 @@ pub mod counts;
 pub mod decisions;
 pub mod laws;
 pub mod messages;
+pub mod told_laws;
 pub mod votes;
 
 pub use decisions::{on_message, stand};

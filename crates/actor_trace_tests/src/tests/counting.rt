@@ -144,12 +144,17 @@ fn late<N: Naming, R: Abort>(rt: &R, alloc: Global, opened: Opened<Counters>) ->
     let early = last.note(&trace);
     count(&mut last, &trace);
     count(&mut middle, &trace);
+    assert!(rt; early.length() == 0);
     middle.meet(&trace, early);
     count(&mut last, &trace);
+    let whole = middle.note(&trace).length();
+    assert!(rt; whole == 3);
+    let place = middle.look(&trace);
+    assert!(rt; place == 3);
     assert!(rt; last.reserve(u32::MAX).is_err());
-    actors.push(middle)?;
-    assert!(rt; !trace.has_all(actors.as_slice()));
     actors.push(last)?;
+    assert!(rt; !trace.has_all(actors.as_slice()));
+    actors.push(middle)?;
     assert!(rt; trace.has_all(actors.as_slice()));
     let Ok(history) = trace.close(alloc, actors) else {
         return Err("memory".into());

@@ -9,8 +9,8 @@ use Rattle.actor_trace.proofs.actor.Actor.note.Given as given
 use Rattle.actor_trace.specs.Seats.{IsActor}
 use Rattle.actor_trace.proofs.actor.Actor.note.Goals as goal
 
-pub load-requires : goal.load-requires
-load-requires g c =
+pub load-count-requires : goal.load-count-requires
+load-count-requires g c =
     let m = g.M.Machine in
     let t = c.args.trace.now in
     let one : t.table.shared.table_id.words ≡ 1 = t.words in (
@@ -24,17 +24,17 @@ split_seat-requires g c =
     let m = g.M.Machine in
     let t = c.args.trace.now in
     let one : t.table.shared.table_id.words ≡ 1 = t.words in (
-      c.load.ensures.0 ∙ (c.self.invariant.table_is ∙ sym t.named),
+      c.load-count.ensures.0 ∙ (c.self.invariant.table_is ∙ sym t.named),
       omega arith,
-      jot_allowed m.enabled t.table.shared.key c.load.new.seat.id c.load.new.seat.me.0,
+      jot_allowed m.enabled t.table.shared.key c.load-count.new.seat.id c.load-count.new.seat.me.0,
     )
 
-looked : (g : given.Over) (c : goal.After-split_seat g) → IsActor g.M.Machine.enabled g.J.Naming.table c.split_seat.new.seat.table_id c.load.new.seat.me c.self.inside.number c.self.inside.made.items c.self.inside.room (vec_capacity c.self.inside.made)
+looked : (g : given.Over) (c : goal.After-split_seat g) → IsActor g.M.Machine.enabled g.J.Naming.table c.split_seat.new.seat.table_id c.load-count.new.seat.me c.self.inside.number c.self.inside.made.items c.self.inside.room (vec_capacity c.self.inside.made)
 looked g c =
     let m = g.M.Machine in
     let i = c.self.invariant in
     actor_looks m.enabled g.J.Naming.table c.split_seat.new.seat.table_id c.self.inside.seat.me.0 c.self.inside.number c.self.inside.made.items c.self.inside.room (vec_capacity c.self.inside.made)
-    (c.split_seat.ensures.0 ∙ (c.load.ensures.0 ∙ i.table_is)) i.made_is i.fits i.few c.load.new.seat.me (c.load.ensures.2.0 ∙ i.no_slot) c.load.result c.load.ensures.2.1
+    (c.split_seat.ensures.0 ∙ (c.load-count.ensures.0 ∙ i.table_is)) i.made_is i.fits i.few c.load-count.new.seat.me (c.load-count.ensures.2.0 ∙ i.no_slot) c.load-count.result c.load-count.ensures.2.1
 
 pub invariant_of-self : goal.invariant_of-self
 invariant_of-self g c =
@@ -47,6 +47,6 @@ returns-clause-own g c = rw (← c.self.view_is, ap (λ (me : Me (Unit {0}) (Vie
 
 pub returns-clause-more : goal.returns-clause-more
 returns-clause-more g c =
-    let l = c.load.ensures.2.1 in
+    let l = c.load-count.ensures.2.1 in
     rw (← c.self.view_is, ap (λ (me : Me (Unit {0}) (View g.row.M-Event.Denot)). me.0.seen) c.split_seat.ensures.2)
-    (rests c.self.inside.number c.self.inside.made.items c.self.inside.seat.me.0.seen c.load.new.seat.me.0.seen l.sees c.self.invariant.own (looked g c).own)
+    (rests c.self.inside.number c.self.inside.made.items c.self.inside.seat.me.0.seen c.load-count.new.seat.me.0.seen l.sees c.self.invariant.own (looked g c).own)

@@ -1,0 +1,2 @@
+pub mod BrokenKeys
+pub mod DecisionLaws

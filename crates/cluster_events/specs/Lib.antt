@@ -1,0 +1,10 @@
+pub mod Arms
+pub mod ByScript
+pub mod Charged
+pub mod Guards
+pub mod LinePlaces
+pub mod Operator
+pub mod Parts
+pub mod Premises
+pub mod Settings
+pub mod Sites

@@ -1,0 +1,4 @@
+pub mod LongestLog
+pub mod SourceLaws
+pub mod ToldLaws
+pub mod StoresLeft

@@ -1,0 +1,3 @@
+pub mod FedLaws
+pub mod PrintedLaws
+pub mod UnreadLaws

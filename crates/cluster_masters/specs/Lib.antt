@@ -1,0 +1,5 @@
+pub mod Appended
+pub mod FirstMaster
+pub mod Reported
+pub mod TwoMasters
+pub mod WholeLogs

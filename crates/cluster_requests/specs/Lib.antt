@@ -1,0 +1,4 @@
+pub mod Identities
+pub mod KeptEntries
+pub mod Requests
+pub mod Steps

@@ -1,0 +1,2 @@
+pub mod Failover
+pub mod Story

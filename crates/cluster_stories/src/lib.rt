@@ -1,0 +1,83 @@
+//! Histories of a cluster that are written out: legal ones, and wrong ones.
+//!
+//! Three nodes over empty stores, one session with one line that inserts a row. The session is at node 1, which is the
+//! first leader, and goes on at another node.
+//!
+//! ```text
+//! begin 1, changed 1, sent ----- appended, durable ----------------------- committed 2
+//!                          \---- appended, sent again: Repeat at 2 -------- committed 2
+//!                          \---- a follower has it, node 1 falls, node 2 leads, Move 2, Repeat at 2 --- committed 2
+//!                          \---- nobody has it, the arm fires, node 1 is stopped, node 2 leads, Move 2,
+//!                                appended by node 2 ----------------------- committed 2, node 1 drops its own
+//! ```
+//!
+//! The functions here run nothing: their clauses are what is proved.
+#![tactic(auto)]
+
+ghost use Rattle.std.specs.Prelude.{ℕ, ◌≡◌, [], ◌∷◌, true, false, List};
+ghost use Rattle.cdb_values.specs.declared.replies.Reply.TheVariants as reply;
+ghost use Rattle.cluster_consensus.specs.Events.Event.{Append, Down};
+ghost use Rattle.cluster_events.specs.ByScript.{AllHeed};
+ghost use Rattle.cluster_events.specs.Guards.{IsLegal};
+ghost use Rattle.cluster_events.specs.Parts.{lines, field};
+ghost use Rattle.cluster_events.specs.Parts.Event.{Node, Say, Finish, Stop, Repeat, Order, Obeyed, Fire, FedAgain};
+ghost use Rattle.cluster_stories.specs.Failover.{repeated, repeated_on, fired, appended_on, tail_dropped, commit_on};
+ghost use Rattle.cluster_stories.specs.Story.{given, committed, setup, commit, script, led, set_up, begun, sent};
+ghost use Rattle.cluster_stories.specs.Story.{its_id};
+ghost use Rattle.report_text.specs.declared.reports.Line.TheVariants as line;
+
+/// A line begins, is answered, sent, appended and committed.
+pub fn a_commit_is_told()
+    ensures legal { IsLegal given committed }
+    ensures lines { lines given committed
+        ≡ line.Session (115 ∷ []) 1 (reply.Begin 1) ∷ line.Session (115 ∷ []) 1 (reply.Changed 1)
+        ∷ line.Session (115 ∷ []) 1 (reply.Committed 2) ∷ [] }
+{}
+
+/// It is sent to its leader again, which tells where its entry stands: the same lines.
+pub fn a_commit_is_repeated()
+    ensures legal { IsLegal given repeated }
+    ensures lines { lines given repeated ≡ lines given committed }
+{}
+
+/// Its leader falls when a follower has the entry. This one leads next, the session moves to it, and it tells where
+/// the entry stands.
+pub fn a_session_moves()
+    ensures legal { IsLegal given repeated_on }
+    ensures lines { lines given repeated_on
+        ≡ line.Session (115 ∷ []) 1 (reply.Begin 1) ∷ line.Session (115 ∷ []) 1 (reply.Changed 1) ∷ line.Down 1 1 true
+        ∷ line.Session (115 ∷ []) 1 (reply.Committed 2) ∷ [] }
+{}
+
+/// The arm fires when the leader has appended, and the leader is stopped with an entry that nobody took. The next
+/// leader appends it anew; the first one is started again, and drops its own.
+pub fn an_arm_fires()
+    ensures legal { IsLegal given tail_dropped }
+    ensures by_script { AllHeed given script.body tail_dropped }
+    ensures lines { lines given tail_dropped
+        ≡ line.Session (115 ∷ []) 1 (reply.Begin 1) ∷ line.Session (115 ∷ []) 1 (reply.Changed 1) ∷ line.Down 1 1 false
+        ∷ line.Session (115 ∷ []) 1 (reply.Committed 2) ∷ line.Up 1 ∷ [] }
+    ensures dropped { ((field tail_dropped).core.nodes 1).log ≡ setup ∷ commit_on ∷ [] }
+{}
+
+/// Histories that are not legal: an entry that nobody asked for, a second setup, a reply that the rows do not give, a
+/// commit that is appended twice, a loss without a line that a node went down, an entry that is repeated and is not
+/// there, a feed that repeats and was not asked for.
+pub fn wrong_histories_are_not_legal()
+    ensures unasked { IsLegal given ((1, Node (Append commit)) ∷ set_up) → ⊥ }
+    ensures set_up_twice { IsLegal given ((1, Node (Append setup)) ∷ set_up) → ⊥ }
+    ensures untrue { IsLegal given ((4, Say (reply.Changed 2)) ∷ begun) → ⊥ }
+    ensures appended_twice { IsLegal given ((1, Node (Append commit)) ∷ (1, Node (Append commit)) ∷ sent) → ⊥ }
+    ensures lost_for_nothing { IsLegal given ((4, Finish (reply.Lost 1 1)) ∷ sent) → ⊥ }
+    ensures not_there { IsLegal given ((1, Repeat its_id 2) ∷ sent) → ⊥ }
+    ensures unfed { IsLegal given ((0, FedAgain 0) ∷ sent) → ⊥ }
+{}
+
+/// Histories that are not by the script: a stop without a line of it, an arm that fires twice, a line that is obeyed
+/// before it is ordered, a start that is taken for heeded by a fault before its order.
+pub fn wrong_histories_are_not_by_the_script()
+    ensures unordered { AllHeed given script.body ((1, Stop) ∷ led) → ⊥ }
+    ensures fired_twice { AllHeed given script.body ((4, Fire 0 1) ∷ fired) → ⊥ }
+    ensures obeyed_unordered { AllHeed given script.body ((0, Obeyed) ∷ appended_on) → ⊥ }
+    ensures fault_before_the_order { AllHeed given script.body ((0, Obeyed) ∷ (0, Order) ∷ (1, Node Down) ∷ led) → ⊥ }
+{}
