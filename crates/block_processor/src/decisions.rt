@@ -96,23 +96,6 @@ fn decide_free(
     if !are_able(request, log) {
         return Err(AllocError);
     }
-    decide_able(alloc, request, log, generation)
-}
-
-/// What is decided of a new request that no entry touches, and whose operations can be done.
-fn decide_able(
-    alloc: Global,
-    request: &CommitRequest,
-    log: &PagedLog,
-    generation: u64,
-) -> Result<Decision, AllocError>
-    ghost footing: { Ground }
-    requires asked { IsAsked footing request.now log.now }
-    requires fresh { IsNew request.now log.now }
-    requires free { conflict_of request.now log.now ≡ None }
-    requires able { IsAble footing request.now log.now }
-    ensures { IfOk result (Decides footing request.now log.now generation) }
-{
     let Some(schema) = log.schema() else {
         unreachable!();
     };

@@ -2,7 +2,6 @@
 ghost use Rattle.std.specs.Prelude.{◌≡◌, ◌+◌, ◌<◌, ◌≤◌, ◌^◌, ◌++◌, ◌∷◌, [], true, None, IfOk, OnOk, drop, length};
 ghost use Rattle.std.specs.List.{AllByRecursion, list_all};
 ghost use Rattle.cdb_values.specs.Changes.{changes_of};
-ghost use Rattle.cdb_values.specs.declared.values.Value.TheVariants.{Int};
 ghost use Rattle.key_code.specs.Codes.{IsInRange};
 ghost use Rattle.log_rows.specs.History.{Ground};
 ghost use Rattle.table_changes.specs.Changed.{next_of};
@@ -35,17 +34,9 @@ fn are_commits(entries: &[Entry], begin: u64) -> bool
     ensures { result ≡ list_all is_commit_of (drop begin entries.now) }
 {
     let (_, later) = entries.split_at(begin as usize);
-    later.iter().all(|entry| is_commit(entry))
-}
-
-/// Whether an entry is that of a transaction.
-fn is_commit(entry: &Entry) -> bool
-    ensures { result ≡ is_commit_of entry.now }
-{
-    match entry {
-        Entry::Setup { .. } => false,
-        Entry::Commit { .. } => true,
-    }
+    later
+        .iter()
+        .all(|entry| matches!(entry, Entry::Commit { .. }))
 }
 
 /// Whether there is a genid for each operation, from the next one on.
@@ -88,20 +79,17 @@ fn read_row(row: &Row)
     }
 }
 
-/// Looks at a value.
+/// Looks at a value. An integer of the code is one of 64 bits.
 fn read_value(value: &Value)
     ensures { IsInRange value.now }
 {
     match value {
-        Value::Int(x) => read_int(*x),
+        Value::Int(x) => {
+            let _in_range = *x;
+        }
         Value::Null | Value::Text(_) | Value::Blob(_) => {}
     }
 }
-
-/// An integer of the code is one of 64 bits.
-fn read_int(x: i64)
-    ensures { IsInRange (Int x) }
-{}
 
 /// The changes that operations are, from a next genid on. The error is want of memory.
 pub(crate) fn changes_made(

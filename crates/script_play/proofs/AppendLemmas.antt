@@ -13,8 +13,8 @@ use Rattle.report_laws.specs.Told.{lines_of}
 use Rattle.report_text.specs.declared.reports.EntryLine.{EntryLine}
 use Rattle.report_text.specs.declared.reports.Line.{Line}
 use Rattle.report_text.specs.declared.reports.Line.TheVariants as line
-use Rattle.report_text.specs.declared.reports.ReplyLine.{ReplyLine}
-use Rattle.report_text.specs.declared.reports.ReplyLine.TheVariants as reply
+use Rattle.cdb_values.specs.declared.replies.Reply.{Reply}
+use Rattle.cdb_values.specs.declared.replies.Reply.TheVariants as reply
 use Rattle.script_play.specs.Run.{run_of}
 use Rattle.script_play.specs.Down.{down_line, HasOutcome, IsAppendedSo, IsEntered, IsFallenAt, IsKeptSo}
 
@@ -60,7 +60,7 @@ fallen_at entry mine lines lines' entries entries' log log' same es is rose left
     subst (λ (e : Entry). IsFallenAt e (run_of lines entries log) (run_of lines' entries' log')) same (record { entries_are = es; log_is = is; rose = rose; left = left })
 
 -- the line of an outcome stands behind all others
-pub told_last : (name : List ℕ) (number : ℕ) (replies : List ReplyLine) (lines mid : List Line) (told : HasOutcome replies) → mid ≡ lines ++ lines_of name number replies →
+pub told_last : (name : List ℕ) (number : ℕ) (replies : List Reply) (lines mid : List Line) (told : HasOutcome replies) → mid ≡ lines ++ lines_of name number replies →
     mid ≡ (lines ++ lines_of name number told.front) ++ line.Session name number told.outcome ∷ []
 told_last name number replies lines mid told is =
     is ∙ ap (λ rs. lines ++ lines_of name number rs) told.is ∙ ap (λ ls. lines ++ ls) (map-append (line.Session name number) told.front (told.outcome ∷ []))
@@ -90,7 +90,7 @@ fell_so entry mine name number lines more mid last entries entries' log log' tol
 )
 
 -- what a line is told and keeps that appends an entry
-pub kept_so : (name : List ℕ) (number : ℕ) (replies : List ReplyLine) (entry : Entry) (lines mid lines' : List Line) (entries entries' : List EntryLine) (log log' : Logged) → HasOutcome replies → mid ≡ lines ++ lines_of name number replies →
+pub kept_so : (name : List ℕ) (number : ℕ) (replies : List Reply) (entry : Entry) (lines mid lines' : List Line) (entries entries' : List EntryLine) (log log' : Logged) → HasOutcome replies → mid ≡ lines ++ lines_of name number replies →
     IsAppendedSo name number entry (run_of mid entries log) (run_of lines' entries' log') →
     IsKeptSo name number replies (Some entry) (run_of lines entries log) (run_of lines' entries' log')
 kept_so name number replies entry lines mid lines' entries entries' log log' told is (inl (same, entered)) = inl (same ∙ is, entered_so entry mid lines lines' lines' entries entries' log log' entered)

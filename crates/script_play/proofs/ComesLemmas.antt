@@ -18,9 +18,9 @@ use Rattle.session_language.specs.Language.{Kind, BeginText, CommitText, Rollbac
 use Rattle.session_language.proofs.EachLaws.{all_map}
 use Rattle.query_laws.specs.Alone.{sql_language}
 use Rattle.sql_answer.specs.Reading.{kind_of_text}
-use Rattle.script_play.specs.Doing.{SessionAt}
+use Rattle.session_turns.specs.Doing.{SessionAt}
 use Rattle.script_play.specs.Ready.{IsAskable}
-use Rattle.script_play.specs.Seen.{Seen}
+use Rattle.session_turns.specs.Seen.{Seen}
 use Rattle.script_play.specs.SoFar.{state_of, IsEnded, IsPast, SoFar}
 use Rattle.script_play.specs.Start.{Start}
 use Rattle.script_play.proofs.TurnLemmas.{Comes, IsPastOf}

@@ -11,12 +11,12 @@ use Rattle.cdb_values.specs.declared.rows.Change.TheVariants.{Insert, Update, De
 use Rattle.cdb_values.specs.declared.tables.KeyDef.{KeyDef}
 use Rattle.cdb_values.specs.declared.tables.TableDef.{TableDef}
 use Rattle.cdb_values.specs.declared.values.Value.{Value}
-use Rattle.range_validate.specs.Used.{item_of}
 use Rattle.report_laws.specs.Outcome.{conflict_line, line_by, name_of_key, name_of_table, range_line}
-use Rattle.report_text.specs.declared.reports.ReplyLine.TheVariants as reply
+use Rattle.cdb_values.specs.declared.replies.Reply.TheVariants as reply
 use Rattle.session_language.specs.Intervals.{change_touches, changes_touch, keys_at, lies, lies_at, lies_by, lies_in}
 use Rattle.session_language.specs.Touched.{Used, TheVersion, TheRange, first_used, is_same_item, is_touched, touches_used}
-use Rattle.script_play.specs.Decisions.{HasName, item_told}
+use Rattle.session_turns.specs.Decisions.{item_of, item_told}
+use Rattle.script_play.specs.Decisions.{HasName}
 
 -- there is a name
 abbrev IsFound : Option (List ℕ) → Type 0

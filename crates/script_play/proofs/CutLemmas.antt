@@ -2,11 +2,11 @@
 use Rattle.std.proofs.Common.{◌≡◌, ℕ, ◌+◌, List, [], ◌∷◌, ◌++◌, refl, sym, subst, ap, arith, Option, Some, None, ◌∙◌, inl, inr}
 use Rattle.std.proofs.lemmas.List.{append-nil}
 use Rattle.cdb_values.specs.declared.rows.RowOp.{RowOp}
-use Rattle.script_play.specs.Seen.{Seen}
+use Rattle.session_turns.specs.Seen.{Seen}
 use Rattle.script_play.specs.Start.{Start, base}
 use Rattle.script_form.specs.declared.scripts.Script.{Script}
 use Rattle.report_text.specs.declared.reports.EntryLine.{EntryLine}
-use Rattle.report_text.specs.declared.reports.ReplyLine.TheVariants as reply
+use Rattle.cdb_values.specs.declared.replies.Reply.TheVariants as reply
 use Rattle.script_form.specs.CanRun.{tables_of}
 use Rattle.report_laws.specs.History.{rows_at, view_of}
 use Rattle.session_language.specs.Language.{alone, Kind, BeginText, CommitText, RollbackText, LevelText, OtherText}
@@ -20,9 +20,9 @@ use Rattle.cdb_values.specs.declared.items.Interval.{Interval}
 use Rattle.cdb_values.specs.declared.rows.Change.{Change}
 use Rattle.session_language.proofs.AnswerLaws.{replies_more}
 use Rattle.script_play.specs.SoFar.{Standing}
-use Rattle.script_play.specs.Step.{Cut, cut_by, state}
-use Rattle.script_play.specs.Doing.{Doing}
-use Rattle.script_play.specs.Doing as doing
+use Rattle.session_turns.specs.Step.{Cut, cut_by, state}
+use Rattle.session_turns.specs.Doing.{Doing}
+use Rattle.session_turns.specs.Doing as doing
 use Rattle.script_play.proofs.StandingLemmas.{idle_after, in_transaction}
 use Rattle.script_play.proofs.TurnLemmas.{Comes, piece, idle_lines}
 

@@ -10,25 +10,26 @@ use Rattle.cdb_values.specs.declared.items.Interval.{Interval}
 use Rattle.cdb_values.specs.declared.rows.Change.{Change}
 use Rattle.cdb_values.specs.declared.rows.Level.{Level}
 use Rattle.cdb_values.specs.declared.rows.RowOp.{RowOp}
-use Rattle.script_play.specs.Seen.{Seen}
+use Rattle.session_turns.specs.Seen.{Seen}
 use Rattle.script_play.specs.Start.{Start, base}
 use Rattle.script_form.specs.declared.scripts.Script.{Script}
 use Rattle.report_text.specs.declared.reports.EntryLine.{EntryLine}
-use Rattle.report_text.specs.declared.reports.ReplyLine.{ReplyLine}
-use Rattle.report_text.specs.declared.reports.ReplyLine.TheVariants as reply
+use Rattle.cdb_values.specs.declared.replies.Reply.{Reply}
+use Rattle.cdb_values.specs.declared.replies.Reply.TheVariants as reply
 use Rattle.cdb_values.specs.Changes.{changes_of}
 use Rattle.report_laws.specs.History.{view_of}
 use Rattle.report_laws.specs.View.{touched_in}
-use Rattle.range_validate.specs.Used.{item_of}
 use Rattle.session_language.specs.Touched.{Used, TheVersion, TheRange, first_used}
 use Rattle.report_laws.specs.Outcome.{IsRight, IsDecided, IsConflict, IsDuplicate}
 use Rattle.report_laws.specs.Paced.{Paced}
 use Rattle.script_form.specs.CanRun.{tables_of}
 use Rattle.report_laws.specs.Work.{Transaction}
 use Rattle.script_play.specs.Basis.{from_start}
-use Rattle.block_processor.specs.Changed.{FirstUse, IsFirstUse, first_use}
-use Rattle.script_play.specs.Decisions.{HasName, used_by, item_told, conflict_told, decision, judged, by_key, added_by}
+use Rattle.block_processor.specs.Changed.{IsFirstUse}
+use Rattle.session_turns.specs.Decisions.{FirstUse, first_use, used_by, item_of, item_told, conflict_told, decision, judged, by_key, added_by}
+use Rattle.script_play.specs.Decisions.{HasName}
 use Rattle.block_processor.proofs.ChangedLaws.{one_used}
+use Rattle.script_play.proofs.UseLemmas.{use_found, use_out}
 use Rattle.script_play.proofs.ConflictLaws.{named}
 use Rattle.script_play.specs.SoFar.{Stored, now_of}
 use Rattle.script_play.specs.Step.{IsKept}
@@ -55,7 +56,7 @@ abbrev pub changed_after : Seen → List (List Change) → List (List RowOp) →
 changed_after seen changed added = changed ++ map (λ ops. changes_of ops seen.next) added
 
 -- a decision is right
-pub record Decided (script : Script) (start : Start) (entries : List EntryLine) (changed : List (List Change)) (seen seen' : Seen) (name : List ℕ) (t : Transaction) (begin : ℕ) (uses : List GenidItem) (ranges : List Interval) (ops : List RowOp) (outcome : ReplyLine) (added : List (List RowOp)) : Type 0 where
+pub record Decided (script : Script) (start : Start) (entries : List EntryLine) (changed : List (List Change)) (seen seen' : Seen) (name : List ℕ) (t : Transaction) (begin : ℕ) (uses : List GenidItem) (ranges : List Interval) (ops : List RowOp) (outcome : Reply) (added : List (List RowOp)) : Type 0 where
   pub right : IsRight (from_start script start) (view_of (from_start script start) (entries_after start entries name t.number begin t.level added)) name t begin (used_by t.level ops uses ranges) ops outcome
   pub decided : IsDecided outcome
   pub stored : Stored script start (entries_after start entries name t.number begin t.level added) (changed_after seen changed added) seen'
@@ -65,7 +66,7 @@ pub record Decided (script : Script) (start : Start) (entries : List EntryLine) 
 
 module _ (script : Script) (start : Start) (entries : List EntryLine) (changed : List (List Change)) (seen seen' : Seen) (name : List ℕ) (t : Transaction) (begin : ℕ) (uses : List GenidItem) (ranges : List Interval) where
   -- a decision that adds nothing
-  nothing_added : (ops : List RowOp) (outcome : ReplyLine) → Stored script start entries changed seen → seen' ≡ seen → IsDecided outcome →
+  nothing_added : (ops : List RowOp) (outcome : Reply) → Stored script start entries changed seen → seen' ≡ seen → IsDecided outcome →
       IsRight (from_start script start) (view_of (from_start script start) entries) name t begin (used_by t.level ops uses ranges) ops outcome → Paced (now_of start entries) (now_of start entries) (outcome ∷ []) →
       Decided script start entries changed seen seen' name t begin uses ranges ops outcome []
   nothing_added ops outcome stored same decided right paced = record {
@@ -89,7 +90,7 @@ module _ (script : Script) (start : Start) (entries : List EntryLine) (changed :
     some is = absurd cc
 
     -- what follows from an outcome, once the run did it
-    abbrev pub Follows : ReplyLine → Type 0
+    abbrev pub Follows : Reply → Type 0
     Follows outcome = IsKept (now_of start entries) seen seen' (added_by outcome ops) → Decided script start entries changed seen seen' name t begin uses ranges ops outcome (added_by outcome ops)
 
     -- what the entry at a position behind the begin touches, by the changes that were kept for it
@@ -110,8 +111,8 @@ module _ (script : Script) (start : Start) (entries : List EntryLine) (changed :
       is_told = named (tables_of script) (unwrap_or (slice_get changed (found.position - 1)) []) used found.position found.item its_changes since.touched;
     }
       where
-        since : IsFirstUse (tables_of script) begin changed used found
-        since = one_used (tables_of script) used begin changed found is
+        since : IsFirstUse (tables_of script) begin changed used (use_out found)
+        since = one_used (tables_of script) used begin changed (use_out found) (use_found (tables_of script) begin (drop begin changed) used (Some found) is)
 
         within : found.position ≤ now_of start entries
         within = let w = since.within in let same = c.stored.changed_length in omega (arith, w, same)

@@ -15,22 +15,22 @@ use Rattle.report_laws.specs.Play.{number_by}
 use Rattle.report_laws.specs.Told.{Numbered, IsCut, numbered, alone_at}
 use Rattle.report_laws.specs.Work.{Does, Place, End, ByCommit, ByRollback, WithItsLine, Nowhere, transaction, with_open, with_own_line, closed, next_by}
 use Rattle.report_text.specs.declared.reports.EntryLine.{EntryLine}
-use Rattle.report_text.specs.declared.reports.ReplyLine.{ReplyLine}
-use Rattle.report_text.specs.declared.reports.ReplyLine.TheVariants as reply
+use Rattle.cdb_values.specs.declared.replies.Reply.{Reply}
+use Rattle.cdb_values.specs.declared.replies.Reply.TheVariants as reply
 use Rattle.query_laws.specs.Alone.{sql_language}
 use Rattle.script_play.specs.Basis.{from_start}
-use Rattle.script_play.specs.Doing.{SessionAt, Doing}
-use Rattle.script_play.specs.Doing as doing
+use Rattle.session_turns.specs.Doing.{SessionAt, Doing}
+use Rattle.session_turns.specs.Doing as doing
 use Rattle.script_play.specs.Down.{turn_down}
-use Rattle.script_play.specs.Seen.{Seen}
+use Rattle.session_turns.specs.Seen.{Seen}
 use Rattle.script_play.specs.SoFar.{Standing}
 use Rattle.script_play.specs.Start.{Start, base}
-use Rattle.script_play.specs.Step.{Turned, state, turned}
+use Rattle.session_turns.specs.Step.{Turned, state, turned}
 use Rattle.script_play.proofs.StandingLemmas.{idle_after, in_transaction}
 use Rattle.script_play.proofs.TurnLemmas.{Comes, Turns, idle_lines, piece, turns}
 
 -- replies that begin with a begin are some
-pub begins_so : (begin : ℕ) (rs mine : List ReplyLine) → mine ≡ reply.Begin begin ∷ rs → mine ≢ []
+pub begins_so : (begin : ℕ) (rs mine : List Reply) → mine ≡ reply.Begin begin ∷ rs → mine ≢ []
 begins_so begin rs mine is = λ none. some (sym is ∙ none)
   where
     some : reply.Begin begin ∷ rs ≡ [] → ⊥
@@ -113,7 +113,7 @@ module _ (script : Script) (start : Start) (entries : List EntryLine) (changed :
   }
 
   -- a line that does what it does on a node that is up, and adds nothing
-  as_up : (after : Place) (told number : ℕ) (own : Bool) (replies : List ReplyLine) (at : SessionAt) → Turns script start entries (entries ++ []) (changed ++ []) seen seen name after lines told own (turned number replies at) → DownGoal after told (turned number replies at)
+  as_up : (after : Place) (told number : ℕ) (own : Bool) (replies : List Reply) (at : SessionAt) → Turns script start entries (entries ++ []) (changed ++ []) seen seen name after lines told own (turned number replies at) → DownGoal after told (turned number replies at)
   as_up after told number own replies at turn = record {
     stands = subst (λ (es : List EntryLine). Standing script start es seen.next name after (lines ++ numbered number replies) at) (append-nil entries) turn.stands;
     number = turn.number;

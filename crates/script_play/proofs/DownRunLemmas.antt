@@ -31,18 +31,18 @@ use Rattle.report_laws.proofs.ToldLaws.{along_append, along_one, told_append, to
 use Rattle.report_laws.proofs.WorkLaws.{after_own, after_other}
 use Rattle.report_text.specs.declared.reports.EntryLine.{EntryLine}
 use Rattle.report_text.specs.declared.reports.Line.{Line}
-use Rattle.report_text.specs.declared.reports.ReplyLine.{ReplyLine}
+use Rattle.cdb_values.specs.declared.replies.Reply.{Reply}
 use Rattle.report_text.specs.declared.reports.Report.{Report}
-use Rattle.report_text.specs.declared.reports.ReplyLine.TheVariants as reply
+use Rattle.cdb_values.specs.declared.replies.Reply.TheVariants as reply
 use Rattle.query_laws.specs.Alone.{sql_language}
 use Rattle.sql_answer.specs.Reading.{kind_of_text}
 use Rattle.script_play.specs.Basis.{from_origin}
-use Rattle.script_play.specs.Doing.{SessionAt, Doing}
-use Rattle.script_play.specs.Doing as doing
+use Rattle.session_turns.specs.Doing.{SessionAt, Doing}
+use Rattle.session_turns.specs.Doing as doing
 use Rattle.script_play.specs.Down.{down_line, turn_down, IsToldDown}
 use Rattle.script_play.specs.SoFar.{at_start, report_of, session_at, state_of}
 use Rattle.script_play.specs.SoFarDown.{IsBeforeDown, IsDoingDown, SoFarDown, StandingDown}
-use Rattle.script_play.specs.Step.{Turned, state}
+use Rattle.session_turns.specs.Step.{Turned, state}
 use Rattle.script_play.proofs.ComesLemmas.{same_itself, same_name}
 use Rattle.script_play.proofs.SiteLemmas.{declared, found_state, other_state, set_state, within}
 use Rattle.script_play.proofs.LossLemmas.{few_down}
@@ -68,13 +68,13 @@ none_begun script origin t = record {
   says = refl;
 }
 
-module _ (script : Script) (origin : Origin) (name text : List ℕ) (p : Place) (lines before : List Numbered) (mine : List ReplyLine)
+module _ (script : Script) (origin : Origin) (name text : List ℕ) (p : Place) (lines before : List Numbered) (mine : List Reply)
     (is : lines ≡ before ++ numbered p.number mine) (past : Along (IsTold (from_origin script origin) (view_of (from_origin script origin) []) name) p.over before) where
-  abbrev pub IsToldOf : Item → List ReplyLine → Type 0
+  abbrev pub IsToldOf : Item → List Reply → Type 0
   IsToldOf item replies = IsTold (from_origin script origin) (view_of (from_origin script origin) []) name item replies
 
   -- the session did something more, and is in no transaction
-  goes_idle : (item : Item) (replies : List ReplyLine) (number : ℕ) (level : Level) (all : List Numbered) → IsToldOf item replies → all ≡ before ++ numbered (number_of item) replies →
+  goes_idle : (item : Item) (replies : List Reply) (number : ℕ) (level : Level) (all : List Numbered) → IsToldOf item replies → all ≡ before ++ numbered (number_of item) replies →
       StandingDown (from_origin script origin) name (record { over = p.over ++ item ∷ []; number = number; level = level; pending = None }) all (state number level doing.No)
   goes_idle item replies number level all told_so says = record {
     before = before ++ numbered (number_of item) replies;
@@ -87,8 +87,8 @@ module _ (script : Script) (origin : Origin) (name text : List ℕ) (p : Place) 
   }
 
   -- a session in no transaction was told what is over
-  outside : mine ≡ [] → (number : ℕ) (replies : List ReplyLine) → lines ++ numbered number replies ≡ before ++ numbered number replies
-  outside none number replies = ap (λ (ls : List Numbered). ls ++ numbered number replies) (is ∙ ap (λ (rs : List ReplyLine). before ++ numbered p.number rs) none ∙ append-nil before)
+  outside : mine ≡ [] → (number : ℕ) (replies : List Reply) → lines ++ numbered number replies ≡ before ++ numbered number replies
+  outside none number replies = ap (λ (ls : List Numbered). ls ++ numbered number replies) (is ∙ ap (λ (rs : List Reply). before ++ numbered p.number rs) none ∙ append-nil before)
 
   -- it asks for one
   asks : mine ≡ [] → StandingDown (from_origin script origin) name (with_open p (Some []) (p.number + 1)) (lines ++ numbered (p.number + 1) (reply.NoMajority 0 1 ∷ [])) (state (p.number + 1) p.level doing.Aborted)
@@ -118,7 +118,7 @@ module _ (script : Script) (origin : Origin) (name text : List ℕ) (p : Place) 
   ends : (texts : List (List ℕ)) (end : End) → mine ≡ reply.NoMajority 0 1 ∷ [] →
       StandingDown (from_origin script origin) name (record { over = p.over ++ Does (transaction p.number texts p.level end) ∷ []; number = p.number; level = p.level; pending = None }) (lines ++ []) (state p.number p.level doing.No)
   ends texts end so = goes_idle (Does (transaction p.number texts p.level end)) (reply.NoMajority 0 1 ∷ []) p.number p.level (lines ++ []) (inr (none_begun script origin (transaction p.number texts p.level end)))
-      (append-nil lines ∙ is ∙ ap (λ (rs : List ReplyLine). before ++ numbered p.number rs) so)
+      (append-nil lines ∙ is ∙ ap (λ (rs : List Reply). before ++ numbered p.number rs) so)
 
   abbrev pub StandsBehind : Kind → Option (List (List ℕ)) → Turned → Type 0
   StandsBehind k pending t = StandingDown (from_origin script origin) name (next_by p text k pending) (lines ++ numbered t.number t.replies) t.after
@@ -142,23 +142,23 @@ module _ (script : Script) (origin : Origin) (name text : List ℕ) (p : Place) 
 
   -- all that a session did, where the script ends there
   along_all : (pending : Option (List (List ℕ))) (what : Doing) → IsDoingDown pending what mine → Along IsToldOf (p.over ++ open_item p pending) (before ++ numbered p.number mine)
-  along_all None doing.No none = subst (λ (rs : List ReplyLine). Along IsToldOf (p.over ++ []) (before ++ numbered p.number rs)) (sym none) (along_append IsToldOf p.over [] before [] past refl)
+  along_all None doing.No none = subst (λ (rs : List Reply). Along IsToldOf (p.over ++ []) (before ++ numbered p.number rs)) (sym none) (along_append IsToldOf p.over [] before [] past refl)
   along_all None (doing.Open begin ops uses ranges) so = absurd so
   along_all None doing.Aborted so = absurd so
   along_all (Some texts) doing.No so = absurd so
   along_all (Some texts) (doing.Open begin ops uses ranges) so = absurd so
-  along_all (Some texts) doing.Aborted so = subst (λ (rs : List ReplyLine). Along IsToldOf (p.over ++ Does (transaction p.number texts p.level Nowhere) ∷ []) (before ++ numbered p.number rs)) (sym so)
+  along_all (Some texts) doing.Aborted so = subst (λ (rs : List Reply). Along IsToldOf (p.over ++ Does (transaction p.number texts p.level Nowhere) ∷ []) (before ++ numbered p.number rs)) (sym so)
       (along_append IsToldOf p.over (Does (transaction p.number texts p.level Nowhere) ∷ []) before (numbered p.number (reply.NoMajority 0 1 ∷ [])) past
       (along_one IsToldOf (Does (transaction p.number texts p.level Nowhere)) (reply.NoMajority 0 1 ∷ []) (inr (none_begun script origin (transaction p.number texts p.level Nowhere)))))
 
 -- ---- what a line is told while no node is up
 
 module _ (script : Script) (origin : Origin) (one : script.nodes ≡ 1) (now : ℕ) (lines : List Line) (down : is_up 1 lines ≡ false) (name : List ℕ) where
-  was_cut_there : (before : List Numbered) (number : ℕ) (mine : List ReplyLine) → told name lines ≡ before ++ numbered number mine → mine ≡ reply.NoMajority 0 1 ∷ [] → was_cut lines name number ≡ true
+  was_cut_there : (before : List Numbered) (number : ℕ) (mine : List Reply) → told name lines ≡ before ++ numbered number mine → mine ≡ reply.NoMajority 0 1 ∷ [] → was_cut lines name number ≡ true
   was_cut_there before number mine is so =
-      cut_at lines name number (reply.NoMajority 0 1) refl (told_stands name number (reply.NoMajority 0 1) lines (before, [], is ∙ ap (λ (rs : List ReplyLine). before ++ numbered number rs) so))
+      cut_at lines name number (reply.NoMajority 0 1) refl (told_stands name number (reply.NoMajority 0 1) lines (before, [], is ∙ ap (λ (rs : List Reply). before ++ numbered number rs) so))
 
-  told_right : (p : Place) (before : List Numbered) (mine : List ReplyLine) → told name lines ≡ before ++ numbered p.number mine → (k : Kind) (pending : Option (List (List ℕ))) (what : Doing) → IsDoingDown pending what mine →
+  told_right : (p : Place) (before : List Numbered) (mine : List Reply) → told name lines ≡ before ++ numbered p.number mine → (k : Kind) (pending : Option (List (List ℕ))) (what : Doing) → IsDoingDown pending what mine →
       IsToldSo script origin now lines name (number_by p.number k pending) k pending (lines_of name (turn_down p.number p.level k what).number (turn_down p.number p.level k what).replies)
   told_right p before mine is BeginText None doing.No none = told_short script origin one now lines (few_down lines down) name BeginText None (p.number + 1) refl
   told_right p before mine is CommitText None doing.No none = told_lone script origin now lines name CommitText (reply.Error State) refl refl tt tt tt tt

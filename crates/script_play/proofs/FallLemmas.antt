@@ -27,8 +27,8 @@ use Rattle.report_laws.proofs.WorkLaws.{IsBegun, IsBelow, first_left}
 use Rattle.report_text.specs.declared.reports.EntryLine.{EntryLine}
 use Rattle.report_text.specs.declared.reports.Line.{Line}
 use Rattle.report_text.specs.declared.reports.Line.TheVariants as line
-use Rattle.report_text.specs.declared.reports.ReplyLine.{ReplyLine}
-use Rattle.report_text.specs.declared.reports.ReplyLine.TheVariants as reply
+use Rattle.cdb_values.specs.declared.replies.Reply.{Reply}
+use Rattle.cdb_values.specs.declared.replies.Reply.TheVariants as reply
 use Rattle.script_form.specs.CanRun.{CanRun, tables_of}
 use Rattle.script_form.specs.declared.scripts.Script.{Script}
 use Rattle.session_language.specs.Answers.{ArePlain}
@@ -37,13 +37,13 @@ use Rattle.session_language.specs.Language.{Answered, Kind, BeginText, CommitTex
 use Rattle.session_language.specs.Replies.{are_up_to, is_last_of, is_outcome}
 use Rattle.session_language.proofs.EachLaws.{all_append, each_append, stands_added, stands_more}
 use Rattle.script_play.specs.Basis.{from_start}
-use Rattle.script_play.specs.Doing.{Doing, SessionAt}
-use Rattle.script_play.specs.Doing as doing
+use Rattle.session_turns.specs.Doing.{Doing, SessionAt}
+use Rattle.session_turns.specs.Doing as doing
 use Rattle.script_play.specs.Down.{HasOutcome, down_line, fallen_lines}
-use Rattle.script_play.specs.Seen.{Seen}
+use Rattle.session_turns.specs.Seen.{Seen}
 use Rattle.script_play.specs.SoFar.{IsDown, IsGone, Standing, now_of, state_of}
 use Rattle.script_play.specs.Start.{Start, base}
-use Rattle.script_play.specs.Step.{Turned, answer_at, committed, outcome, own_line, state, turn_by}
+use Rattle.session_turns.specs.Step.{Turned, answer_at, committed, outcome, own_line, state, turn_by}
 use Rattle.script_play.proofs.DownLemmas.{begins_so, ends_lost}
 use Rattle.script_play.proofs.LossLemmas.{IsUncutUnder, few_behind, none_survives, none_told_lost, over_other, over_uncut, uncut_where, up_unhurt}
 use Rattle.script_play.proofs.ComesLemmas.{same_itself}
@@ -74,14 +74,14 @@ same_fronts (z ∷ xs) (v ∷ ys) x y is =
     ap (λ w. w ∷ xs) head ∙ ap (λ ws. v ∷ ws) (same_fronts xs ys x y rest)
 
 -- what a session is told at whose entry the node goes down
-pub fallen_told : (name : List ℕ) (number : ℕ) (front : List ReplyLine) → told name (fallen_lines name number front) ≡ numbered number (front ++ reply.Lost 1 1 ∷ [])
+pub fallen_told : (name : List ℕ) (number : ℕ) (front : List Reply) → told name (fallen_lines name number front) ≡ numbered number (front ++ reply.Lost 1 1 ∷ [])
 fallen_told name number front =
     told_append name (lines_of name number front) (down_line ∷ lines_of name number (reply.Lost 1 1 ∷ []))
     ∙ ap (λ (ls : List Numbered). ls ++ told name (lines_of name number (reply.Lost 1 1 ∷ []))) (told_own name name number front (same_itself name))
     ∙ ap (λ (ls : List Numbered). numbered number front ++ ls) (told_own name name number (reply.Lost 1 1 ∷ []) (same_itself name))
     ∙ sym (numbered_append number front (reply.Lost 1 1 ∷ []))
 
-pub fallen_other : (name m : List ℕ) (number : ℕ) (front : List ReplyLine) → bytes_eq name m ≡ false → told m (fallen_lines name number front) ≡ []
+pub fallen_other : (name m : List ℕ) (number : ℕ) (front : List Reply) → bytes_eq name m ≡ false → told m (fallen_lines name number front) ≡ []
 fallen_other name m number front differs =
     told_append m (lines_of name number front) (down_line ∷ lines_of name number (reply.Lost 1 1 ∷ []))
     ∙ ap (λ (ls : List Numbered). ls ++ told m (lines_of name number (reply.Lost 1 1 ∷ []))) (told_other m name number front differs)
@@ -90,7 +90,7 @@ fallen_other name m number front differs =
 -- the node goes down behind lines without a down line, while a transaction is committed of which these replies were told
 module _ (script : Script) (start : Start) (entries : List EntryLine) (lines : List Line) (name : List ℕ) (can : CanRun script) (unhurt : downs lines ≡ 0)
     (opened : IsFrom (base start) (now_of start entries)) (names : NameUpTo (now_of start entries) lines) (places : EachAfter (HasItsPlace script) [] lines)
-    (number begin : ℕ) (front : List ReplyLine) (paced : Paced (now_of start entries) (now_of start entries) front)
+    (number begin : ℕ) (front : List Reply) (paced : Paced (now_of start entries) (now_of start entries) front)
     (begun : StandsIn (lines ++ lines_of name number front) (line.Session name number (reply.Begin begin))) where
   laws : ArePaced script (from_start script start).origin name number lines (now_of start entries) front
   laws = paced_laws script (from_start script start).origin name number (now_of start entries) (now_of start entries) lines front names opened.0 opened.1 (omega arith) paced
@@ -164,7 +164,7 @@ module _ (script : Script) (start : Start) (entries : List EntryLine) (lines : L
   }
 
 -- a line that commits, at whose entry the node goes down
-pub record Falls (script : Script) (start : Start) (entries : List EntryLine) (seen : Seen) (lines : List Line) (name : List ℕ) (after : Place) (number : ℕ) (k : Kind) (pending : Option (List (List ℕ))) (t : Turned) (front : List ReplyLine) : Type 0 where
+pub record Falls (script : Script) (start : Start) (entries : List EntryLine) (seen : Seen) (lines : List Line) (name : List ℕ) (after : Place) (number : ℕ) (k : Kind) (pending : Option (List (List ℕ))) (t : Turned) (front : List Reply) : Type 0 where
   pub told_so : IsToldSo script (from_start script start).origin (now_of start entries) lines name number k pending (fallen_lines name t.number front)
   pub stands : Standing script start entries seen.next name after (told name lines ++ told name (fallen_lines name t.number front)) t.after
   pub down : (states : List SessionAt) → ((m : List ℕ) → IsGone (state_of m script.sessions states).doing (told m (lines_of name t.number (reply.Lost 1 1 ∷ [])))) → IsDown script (lines ++ fallen_lines name t.number front) states
@@ -175,7 +175,7 @@ module _ (script : Script) (start : Start) (entries : List EntryLine) (changed :
   abbrev pub now : ℕ
   now = now_of start entries
 
-  abbrev pub FallsAt : Place → ℕ → Kind → Option (List (List ℕ)) → Turned → List ReplyLine → Type 0
+  abbrev pub FallsAt : Place → ℕ → Kind → Option (List (List ℕ)) → Turned → List Reply → Type 0
   FallsAt after number k pending t front = Falls script start entries seen lines name after number k pending t front
 
   -- the answer to a line that is a transaction of its own
@@ -252,11 +252,11 @@ module _ (script : Script) (start : Start) (entries : List EntryLine) (changed :
   falls RollbackText None doing.No c below first out some = absurd (some refl)
   falls (LevelText later) None doing.No c below first out some = absurd (some refl)
   falls OtherText None doing.No c below first out some =
-      subst (λ (front : List ReplyLine). FallsAt (with_own_line p text) (p.number + 1) OtherText None (own_line (world script start entries changed seen) (p.number + 1) p.level own_answer) front)
+      subst (λ (front : List Reply). FallsAt (with_own_line p text) (p.number + 1) OtherText None (own_line (world script start entries changed seen) (p.number + 1) p.level own_answer) front)
       (same_fronts (reply.Begin now ∷ own_answer.replies) out.front (outcome (world script start entries changed seen) now p.level own_answer.uses own_answer.ranges own_answer.ops) out.outcome out.is) (own_falls c below)
   falls BeginText (Some texts) (doing.Open begin ops uses ranges) c below first out some = absurd (some refl)
   falls CommitText (Some texts) (doing.Open begin ops uses ranges) c below first out some =
-      subst (λ (front : List ReplyLine). FallsAt (closed p texts ByCommit) p.number CommitText (Some texts) (committed (world script start entries changed seen) p.number p.level begin uses ranges ops) front)
+      subst (λ (front : List Reply). FallsAt (closed p texts ByCommit) p.number CommitText (Some texts) (committed (world script start entries changed seen) p.number p.level begin uses ranges ops) front)
       (same_fronts [] out.front (outcome (world script start entries changed seen) begin p.level uses ranges ops) out.outcome out.is) (commit_falls texts begin ops uses ranges c below first)
   falls RollbackText (Some texts) (doing.Open begin ops uses ranges) c below first out some = absurd (some refl)
   falls (LevelText later) (Some texts) (doing.Open begin ops uses ranges) c below first out some = absurd (some refl)

@@ -18,8 +18,8 @@ use Rattle.report_text.specs.declared.reports.EntryLine.{EntryLine}
 use Rattle.report_text.specs.declared.reports.EntryLine.TheVariants.{Commit}
 use Rattle.report_text.specs.declared.reports.Line.{Line}
 use Rattle.report_text.specs.declared.reports.Line.TheVariants as line
-use Rattle.report_text.specs.declared.reports.ReplyLine.{ReplyLine}
-use Rattle.report_text.specs.declared.reports.ReplyLine.TheVariants as reply
+use Rattle.cdb_values.specs.declared.replies.Reply.{Reply}
+use Rattle.cdb_values.specs.declared.replies.Reply.TheVariants as reply
 use Rattle.report_text.specs.declared.reports.Report.{Report}
 use Rattle.script_form.specs.CanRun.{tables_of}
 use Rattle.script_form.specs.declared.scripts.Act.TheVariants.{Say}
@@ -31,18 +31,20 @@ use Rattle.session_language.proofs.AllLaws.{all_behind}
 use Rattle.session_language.proofs.UpToLaws.{same_head, same_tail}
 use Rattle.sql_answer.specs.Reading.{kind_of_text}
 use Rattle.script_play.specs.Basis.{from_start}
-use Rattle.script_play.specs.Doing.{SessionAt}
+use Rattle.session_turns.specs.Doing.{SessionAt}
 use Rattle.script_play.specs.Down.{down_line, history_by, history_of, turn_down, HasOutcome, IsLostBy}
 use Rattle.script_play.specs.EntryLines.{AreTold}
 use Rattle.script_play.specs.Falls.{IsDoneDown, IsFallen, IsTakenOn}
 use Rattle.script_play.specs.Played.{IsFurther}
 use Rattle.script_play.specs.Run.{run_of}
-use Rattle.script_play.specs.RunViews.{seen_in, state_in, world, HasFurther, IsBeforeLine, IsFurtherOn, WouldBeDone}
-use Rattle.script_play.specs.Seen.{Seen}
+use Rattle.script_play.specs.RunViews.{seen_in, world, HasFurther, IsBeforeLine, IsFurtherOn, WouldBeDone}
+use Rattle.session_turns.specs.Views.{state_in}
+use Rattle.session_turns.specs.Seen.{Seen}
 use Rattle.script_play.specs.SoFar.{now_of, session_at, IsBefore, Stored}
 use Rattle.script_play.specs.Start.{Start}
-use Rattle.script_play.specs.Step.{Turned, entries_added, turn, world_of, IsTurned, World}
-use Rattle.script_play.specs.declared.states.SessionState.{SessionState}
+use Rattle.session_turns.specs.Step.{Turned, turn, world_of, World}
+use Rattle.script_play.specs.Step.{entries_added, IsTurned}
+use Rattle.session_turns.specs.declared.states.SessionState.{SessionState}
 use Rattle.script_play.proofs.ComesLemmas.{same_itself}
 use Rattle.script_play.proofs.KeepLemmas.{taken_on}
 use Rattle.script_play.proofs.SiteLemmas.{told_count}
@@ -78,11 +80,11 @@ within_front {A} (b ∷ before) rest (y ∷ ys) x r z is = more (within_front be
     more (front, back, at) = (y ∷ front, back, ap (λ (ws : List A). y ∷ ws) at)
 
 -- where an entry's transaction was told whole, its begin stands before its outcome
-begun_before : (basis : Basis) (view : View) (lines : List Line) (name : List ℕ) (number begin position : ℕ) (front : List ReplyLine) (outcome : ReplyLine) →
+begun_before : (basis : Basis) (view : View) (lines : List Line) (name : List ℕ) (number begin position : ℕ) (front : List Reply) (outcome : Reply) →
     IsCommitTold basis view (lines ++ lines_of name number (front ++ outcome ∷ [])) position name number begin → StandsIn (lines ++ lines_of name number front) (line.Session name number (reply.Begin begin))
 begun_before basis view lines name number begin position front outcome c = told_stands name number (reply.Begin begin) (lines ++ lines_of name number front) (go c.ran.replies c.says)
   where
-    own : (replies : List ReplyLine) → told name (lines ++ lines_of name number replies) ≡ told name lines ++ numbered number replies
+    own : (replies : List Reply) → told name (lines ++ lines_of name number replies) ≡ told name lines ++ numbered number replies
     own replies = told_append name lines (lines_of name number replies) ∙ ap (λ (ls : List Numbered). told name lines ++ ls) (told_own name name number replies (same_itself name))
 
     told_is : told name (lines ++ lines_of name number (front ++ outcome ∷ [])) ≡ (told name (lines ++ lines_of name number front)) ++ (number, outcome) ∷ []
@@ -91,7 +93,7 @@ begun_before basis view lines name number begin position front outcome c = told_
         ∙ sym (append_assoc (told name lines) (numbered number front) (numbered number (outcome ∷ [])))
         ∙ ap (λ (ls : List Numbered). ls ++ (number, outcome) ∷ []) (sym (own front))
 
-    go : (replies : List ReplyLine) → told name (lines ++ lines_of name number (front ++ outcome ∷ [])) ≡ c.before ++ (numbered number (reply.Begin begin ∷ (replies ++ c.outcome ∷ [])) ++ c.after) →
+    go : (replies : List Reply) → told name (lines ++ lines_of name number (front ++ outcome ∷ [])) ≡ c.before ++ (numbered number (reply.Begin begin ∷ (replies ++ c.outcome ∷ [])) ++ c.after) →
         StandsIn (told name (lines ++ lines_of name number front)) (number, reply.Begin begin)
     go [] is = within_front c.before c.after (told name (lines ++ lines_of name number front)) (number, reply.Begin begin) (number, c.outcome) (number, outcome) (sym told_is ∙ is)
     go (r ∷ replies) is = within_front c.before (numbered number (replies ++ c.outcome ∷ []) ++ c.after) (told name (lines ++ lines_of name number front)) (number, reply.Begin begin) (number, r) (number, outcome) (sym told_is ∙ is)
@@ -147,7 +149,7 @@ module _ (script : Script) (start : Start) (generation : ℕ) (left : List BodyL
       StandsIn (lines ++ lines_of name t.number out.front) (line.Session name t.number (reply.Begin t.begin))
   begun_there would out =
       begun_before (from_start script start) (view_of (from_start script start) (entries ++ line_there ∷ [])) lines name t.number t.begin (length log.entries + 1) out.front out.outcome
-      (subst (λ (rs : List ReplyLine). IsEntryTold (from_start script start) (view_of (from_start script start) (entries ++ line_there ∷ [])) (lines ++ lines_of name t.number rs) line_there) out.is
+      (subst (λ (rs : List Reply). IsEntryTold (from_start script start) (view_of (from_start script start) (entries ++ line_there ∷ [])) (lines ++ lines_of name t.number rs) line_there) out.is
       (all_behind (IsEntryTold (from_start script start) (view_of (from_start script start) (entries ++ line_there ∷ [])) (lines ++ lines_of name t.number t.replies)) entries (line_there ∷ [])
       (subst (λ (es : List EntryLine). AllByRecursion (IsEntryTold (from_start script start) (view_of (from_start script start) (entries ++ es)) (lines ++ lines_of name t.number t.replies)) (entries ++ es)) (added_are would)
       (goes_on would).so_far.answered)).0)

@@ -13,7 +13,7 @@ use Rattle.report_laws.proofs.ToldLaws.{told_append, told_other, told_own}
 use Rattle.report_laws.proofs.WorkLaws.{AreNumbered, are_numbered}
 use Rattle.report_text.specs.declared.reports.EntryLine.{EntryLine}
 use Rattle.report_text.specs.declared.reports.Line.{Line}
-use Rattle.report_text.specs.declared.reports.ReplyLine.TheVariants as reply
+use Rattle.cdb_values.specs.declared.replies.Reply.TheVariants as reply
 use Rattle.script_form.specs.CanRun.{CanRun, IsDeclared, IsSaid as IsSaidBy, tables_of}
 use Rattle.script_form.specs.declared.scripts.Act.{Act}
 use Rattle.script_form.specs.declared.scripts.Act.TheVariants.{Say}
@@ -23,14 +23,16 @@ use Rattle.session_language.specs.Language.{Kind, BeginText, CommitText, Rollbac
 use Rattle.query_laws.specs.Alone.{sql_language}
 use Rattle.sql_answer.specs.Reading.{kind_of_text}
 use Rattle.script_play.specs.Basis.{from_start}
-use Rattle.script_play.specs.Doing.{Doing, SessionAt}
-use Rattle.script_play.specs.Doing as doing
-use Rattle.script_play.specs.Down.{HasOutcome, behind_cut, down_line, fallen_lines, turn_down}
+use Rattle.session_turns.specs.Doing.{Doing, SessionAt}
+use Rattle.session_turns.specs.Doing as doing
+use Rattle.script_play.specs.Down.{HasOutcome, down_line, fallen_lines, turn_down}
+use Rattle.session_turns.specs.Away.{behind_cut}
 use Rattle.script_play.specs.Falls.{IsDoneDown, IsFallen, IsTakenOn}
-use Rattle.script_play.specs.Seen.{Seen}
+use Rattle.session_turns.specs.Seen.{Seen}
 use Rattle.script_play.specs.SoFar.{IsBefore, IsDown, IsGone, SoFar, Standing, now_of, session_at, state_of}
 use Rattle.script_play.specs.Start.{Start}
-use Rattle.script_play.specs.Step.{IsTaken, Turned, turn, turn_by, world_of}
+use Rattle.session_turns.specs.Step.{Turned, turn, turn_by, world_of}
+use Rattle.script_play.specs.Step.{IsTaken}
 use Rattle.script_play.proofs.DownLemmas.{stands_down, DownStands}
 use Rattle.script_play.proofs.LossLemmas.{few_more}
 use Rattle.script_play.proofs.NodeLemmas.{AddsLines, adds_lines, went}

@@ -33,6 +33,8 @@ pub mod SiteLemmas
 pub mod SqlLaws
 pub mod PlayLaws
 pub mod TakeLemmas
+pub mod TurnedLemmas
 pub mod AppendLemmas
 pub mod TextLemmas
 pub mod SerialLemmas
+mod UseLemmas

@@ -12,16 +12,17 @@ use Rattle.script_form.specs.CanRun.{tables_of}
 use Rattle.script_form.specs.declared.scripts.Act.TheVariants.{Say}
 use Rattle.script_form.specs.declared.scripts.BodyLine.{BodyLine}
 use Rattle.script_form.specs.declared.scripts.Script.{Script}
-use Rattle.script_play.specs.Doing.{SessionAt}
+use Rattle.session_turns.specs.Doing.{SessionAt}
 use Rattle.script_play.specs.Down.{history_of, IsHeldBy}
 use Rattle.script_play.specs.Falls.{IsTakenOn}
 use Rattle.script_play.specs.Ready.{IsLogged, IsReady, IsReadyToGo}
 use Rattle.script_play.specs.Run.{run_of}
-use Rattle.script_play.specs.RunViews.{doing_in, seen_in, state_in, AreOver, IsBeforeLine, IsOwn, IsReadyFor, IsTakenFrom}
+use Rattle.script_play.specs.RunViews.{seen_in, AreOver, IsBeforeLine, IsReadyFor, IsTakenFrom}
+use Rattle.session_turns.specs.Views.{doing_in, state_in, IsOwn}
 use Rattle.script_play.specs.SoFar.{now_of, session_at, IsBefore, Standing}
 use Rattle.script_play.specs.Start.{Start}
-use Rattle.script_play.specs.Step.{world_of}
-use Rattle.script_play.specs.declared.states.SessionState.{SessionState}
+use Rattle.session_turns.specs.Step.{world_of}
+use Rattle.session_turns.specs.declared.states.SessionState.{SessionState}
 use Rattle.script_play.proofs.FurtherLemmas.{further_there}
 use Rattle.script_play.proofs.KeepLemmas.{taken_on}
 use Rattle.script_play.proofs.OverLemmas.{are_over}

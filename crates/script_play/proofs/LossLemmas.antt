@@ -18,8 +18,8 @@ use Rattle.report_laws.proofs.NodesLaws.{downs_append, lost_needs_down, none_few
 use Rattle.report_laws.proofs.WorkLaws.{IsBelow}
 use Rattle.report_text.specs.declared.reports.Line.{Line}
 use Rattle.report_text.specs.declared.reports.Line.TheVariants as line
-use Rattle.report_text.specs.declared.reports.ReplyLine.{ReplyLine}
-use Rattle.report_text.specs.declared.reports.ReplyLine.TheVariants as reply
+use Rattle.cdb_values.specs.declared.replies.Reply.{Reply}
+use Rattle.cdb_values.specs.declared.replies.Reply.TheVariants as reply
 use Rattle.script_form.specs.CanRun.{IsDeclared}
 use Rattle.script_form.specs.declared.scripts.Script.{Script}
 use Rattle.script_form.specs.declared.scripts.SessionLine.{SessionLine}
@@ -72,7 +72,7 @@ few_down lines down = pick (is_up 1 lines) down
     pick false is = refl
 
 -- behind the down line no majority is up
-pub few_behind : (front : List Line) (name : List ℕ) (number : ℕ) (answer : ReplyLine) → are_few 1 (front ++ down_line ∷ line.Session name number answer ∷ []) ≡ true
+pub few_behind : (front : List Line) (name : List ℕ) (number : ℕ) (answer : Reply) → are_few 1 (front ++ down_line ∷ line.Session name number answer ∷ []) ≡ true
 few_behind front name number answer = few_down (front ++ down_line ∷ line.Session name number answer ∷ []) (is_down_behind 1 1 true front (line.Session name number answer ∷ []) (tt, tt))
 
 -- and so no node is up at all
@@ -92,20 +92,20 @@ up_unhurt lines none = pick (is_up 1 lines) (none_few 1 lines none)
     pick false is = absurd cc
 
 -- the lines of a session change nothing of it
-up_of : (node : ℕ) (was : Bool) (name : List ℕ) (number : ℕ) (rs : List ReplyLine) → up_from node was (lines_of name number rs) ≡ was
+up_of : (node : ℕ) (was : Bool) (name : List ℕ) (number : ℕ) (rs : List Reply) → up_from node was (lines_of name number rs) ≡ was
 up_of node was name number [] = refl
 up_of node was name number (r ∷ rs) = up_of node was name number rs
 
-up_more : (node : ℕ) (lines : List Line) (name : List ℕ) (number : ℕ) (rs : List ReplyLine) → is_up node (lines ++ lines_of name number rs) ≡ is_up node lines
+up_more : (node : ℕ) (lines : List Line) (name : List ℕ) (number : ℕ) (rs : List Reply) → is_up node (lines ++ lines_of name number rs) ≡ is_up node lines
 up_more node lines name number rs = up_append node true lines (lines_of name number rs) ∙ up_of node (up_from node true lines) name number rs
 
-up_count_more : (n : ℕ) (lines : List Line) (name : List ℕ) (number : ℕ) (rs : List ReplyLine) → up_count n (lines ++ lines_of name number rs) ≡ up_count n lines
+up_count_more : (n : ℕ) (lines : List Line) (name : List ℕ) (number : ℕ) (rs : List Reply) → up_count n (lines ++ lines_of name number rs) ≡ up_count n lines
 up_count_more zero lines name number rs = refl
 up_count_more (suc n) lines name number rs =
     ap (λ m. m + (if is_up (suc n) (lines ++ lines_of name number rs) then 1 else 0)) (up_count_more n lines name number rs)
     ∙ ap (λ b. up_count n lines + (if b then 1 else 0)) (up_more (suc n) lines name number rs)
 
-pub few_more : (n : ℕ) (lines : List Line) (name : List ℕ) (number : ℕ) (rs : List ReplyLine) → are_few n (lines ++ lines_of name number rs) ≡ are_few n lines
+pub few_more : (n : ℕ) (lines : List Line) (name : List ℕ) (number : ℕ) (rs : List Reply) → are_few n (lines ++ lines_of name number rs) ≡ are_few n lines
 few_more n lines name number rs = ap (λ m. leb 1 n && leb (2 * m) n) (up_count_more n lines name number rs)
 
 -- a session of a script that runs is at the one node, and does not survive it
@@ -123,7 +123,7 @@ none_survives name [] all = refl
 none_survives name (s ∷ ss) all = or_from (bytes_eq s.name name && s.hasql) (list_any (λ (x : SessionLine). bytes_eq x.name name && x.hasql) ss) (and_right (bytes_eq s.name name) s.hasql all.0.1) (none_survives name ss all.1)
 
 -- a reply that has its cause behind lines without a down line tells of no loss
-no_loss : (script : Script) (before : List Line) (session : List ℕ) (txn down : ℕ) (r : ReplyLine) → downs before ≡ 0 → HasItsCause script before session txn r → is_loss_by down r ≡ false
+no_loss : (script : Script) (before : List Line) (session : List ℕ) (txn down : ℕ) (r : Reply) → downs before ≡ 0 → HasItsCause script before session txn r → is_loss_by down r ≡ false
 no_loss script before session txn down (reply.Lost node other) none is = absurd (lost_needs_down before session txn node other none is.1)
 no_loss script before session txn down r none is = refl
 
@@ -170,23 +170,23 @@ uncut_where name n (line.Barrier ∷ ls) all = or_from false (was_cut ls name n)
 uncut_where name n (line.Fed position ∷ ls) all = or_from false (was_cut ls name n) refl (uncut_where name n ls all)
 
 -- lines of another number do not
-other_uncut : (n m : ℕ) (rs : List ReplyLine) → (m == n) ≡ false → AllByRecursion (IsUncutUnder n) (numbered m rs)
+other_uncut : (n m : ℕ) (rs : List Reply) → (m == n) ≡ false → AllByRecursion (IsUncutUnder n) (numbered m rs)
 other_uncut n m [] is = tt
 other_uncut n m (r ∷ rs) is = (and_left (m == n) (cuts r) is, other_uncut n m rs is)
 
 -- nor do replies of which none cuts
-pub none_cuts : (n m : ℕ) (rs : List ReplyLine) → AllByRecursion (λ r. cuts r ≡ false) rs → AllByRecursion (IsUncutUnder n) (numbered m rs)
+pub none_cuts : (n m : ℕ) (rs : List Reply) → AllByRecursion (λ r. cuts r ≡ false) rs → AllByRecursion (IsUncutUnder n) (numbered m rs)
 none_cuts n m [] all = tt
 none_cuts n m (r ∷ rs) all = (and_right (m == n) (cuts r) all.0, none_cuts n m rs all.1)
 
 -- plain ones are such
-plain_cuts_none : (r : ReplyLine) → IsPlain r → cuts r ≡ false
+plain_cuts_none : (r : Reply) → IsPlain r → cuts r ≡ false
 plain_cuts_none (reply.Lost node down) is = absurd is
 plain_cuts_none (reply.NoMajority up nodes) is = absurd is
 plain_cuts_none reply.NoMemory is = absurd is
 plain_cuts_none r is = refl
 
-pub plain_cut_none : (rs : List ReplyLine) → ArePlain rs → AllByRecursion (λ r. cuts r ≡ false) rs
+pub plain_cut_none : (rs : List Reply) → ArePlain rs → AllByRecursion (λ r. cuts r ≡ false) rs
 plain_cut_none rs all = all_map IsPlain (λ r. cuts r ≡ false) plain_cuts_none rs all
 
 -- what is over has other numbers than a transaction that is not
@@ -198,7 +198,7 @@ over_other bound n items le first all = all_map (IsBelow bound) (λ item. (numbe
     other (Lone answer) is = ne_eqb 0 n (λ same. omega (arith, first, same))
 
 -- so the lines of what is over do not cut that one short
-pub over_uncut : (P : Item → List ReplyLine → Type 0) (n : ℕ) (items : List Item) (lines : List Numbered) → AllOther n items → Along P items lines → AllByRecursion (IsUncutUnder n) lines
+pub over_uncut : (P : Item → List Reply → Type 0) (n : ℕ) (items : List Item) (lines : List Numbered) → AllOther n items → Along P items lines → AllByRecursion (IsUncutUnder n) lines
 over_uncut P n [] lines all is = subst (λ (ls : List Numbered). AllByRecursion (IsUncutUnder n) ls) (sym is) tt
 over_uncut P n (item ∷ items) lines all (mine, others, splits, p, rest) =
     subst (λ (ls : List Numbered). AllByRecursion (IsUncutUnder n) ls) (sym splits)

@@ -23,8 +23,8 @@ use Rattle.session_language.specs.Each.{EachAfter}
 use Rattle.session_language.proofs.EachLaws.{each_append, all_append, all_map}
 use Rattle.query_laws.specs.Alone.{sql_language}
 use Rattle.script_play.specs.Basis.{from_start}
-use Rattle.script_play.specs.Doing.{SessionAt}
-use Rattle.script_play.specs.Seen.{Seen}
+use Rattle.session_turns.specs.Doing.{SessionAt}
+use Rattle.session_turns.specs.Seen.{Seen}
 use Rattle.script_play.specs.SoFar.{now_of, state_of, IsAtNode, IsEnded, SoFar, Standing, Stored}
 use Rattle.script_play.specs.Start.{Start}
 use Rattle.script_play.proofs.ComesLemmas.{ended_later, same_itself, same_name}

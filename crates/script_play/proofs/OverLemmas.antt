@@ -10,28 +10,33 @@ use Rattle.phys_log.specs.declared.entries.Entry.TheVariants.{Setup, Commit}
 use Rattle.query_laws.specs.Alone.{sql_language}
 use Rattle.report_laws.specs.Work.{Place, place_after}
 use Rattle.report_text.specs.declared.reports.EntryLine.{EntryLine}
-use Rattle.report_text.specs.declared.reports.ReplyLine.{ReplyLine}
+use Rattle.cdb_values.specs.declared.replies.Reply.{Reply}
+use Rattle.cdb_values.specs.declared.rows.Level.{Level}
 use Rattle.script_form.specs.declared.scripts.BodyLine.{BodyLine}
 use Rattle.script_form.specs.declared.scripts.Script.{Script}
 use Rattle.script_play.specs.Effects.{IsUnusedIn}
 use Rattle.script_play.specs.EntryLines.{line_of, lines_from, AreTold}
 use Rattle.script_play.specs.Ready.{AreEarlier}
-use Rattle.script_play.specs.RunViews.{doing_in, id_so, AreOver, AreOverIn, IsOverBy, IsOwn, IsOwnDoing}
+use Rattle.script_play.specs.RunViews.{id_so, AreOver, AreOverIn, IsOverBy}
+use Rattle.session_turns.specs.Views.{doing_in, IsOf}
 use Rattle.script_play.specs.SoFar.{IsDoing, IsEnded, IsPast}
 use Rattle.script_play.specs.Start.{Start}
-use Rattle.script_play.specs.declared.states.InTransaction.{InTransaction}
-use Rattle.script_play.specs.declared.states.InTransaction.TheVariants.{No, Open, Aborted}
-use Rattle.script_play.specs.declared.states.SessionState.{SessionState}
+use Rattle.session_turns.specs.declared.states.InTransaction.{InTransaction}
+use Rattle.session_turns.specs.declared.states.InTransaction.TheVariants.{No, Open, Aborted}
+use Rattle.session_turns.specs.declared.states.SessionState.{SessionState}
+
+-- the identity of a transaction that is a session's own
+pub id_is : (generation : ℕ) (name : List ℕ) (number : ℕ) (level : Level) (s : Session) → IsOf generation name number level s → s.id ≡ id_so generation name number
+id_is generation name number level s own =
+    ap (λ (b : ℕ). id_by b s.id.session s.id.txn) own.began ∙ ap (λ (n : List ℕ). id_by generation n s.id.txn) own.session ∙ ap (λ (t : ℕ). id_by generation name t) own.txn
+  where
+    id_by : ℕ → List ℕ → ℕ → CommitId
+    id_by began session txn = record { began = began; session = session; txn = txn }
 
 -- an open transaction has no entry
-pub open_unused : (generation : ℕ) (name : List ℕ) (s : SessionState) (session : Session) (log : List Entry) → s.doing ≡ Open session → IsOwn generation name s → AreOver generation name s log → IsUnusedIn log session.id
-open_unused generation name s session log is own over position has = omega (arith, below)
-  where
-    mine : IsOwnDoing generation name s.number s.level (Open session)
-    mine = subst (λ (d : InTransaction). IsOwnDoing generation name s.number s.level d) is own
-
-    below : s.number < s.number
-    below = (subst (λ (d : InTransaction). AreOverIn generation name s.number d log) is over) position s.number (subst (λ (i : CommitId). HasId log position i) mine.0 has)
+pub open_unused : (generation : ℕ) (name : List ℕ) (number its : ℕ) (session : Session) (log : List Entry) (id : CommitId) → AreOverIn generation name number (Open session) log → its ≡ number → id ≡ id_so generation name its → IsUnusedIn log id
+open_unused generation name number its session log id over is named position has =
+    let below = over position its (subst (λ (i : CommitId). HasId log position i) named has) in omega (arith, below, is)
 
 -- nor has the next one of a session without an open transaction
 pub next_unused : (generation : ℕ) (name : List ℕ) (number next : ℕ) (log : List Entry) (id : CommitId) → AreOverIn generation name number No log → next ≡ number + 1 → id ≡ id_so generation name next → IsUnusedIn log id
@@ -71,7 +76,7 @@ past_log done before generation entries log name position txn earlier told ended
     go (inl old) = let below : generation < generation = earlier position (id_so generation name txn) (has.0, (has.1.0, old, has.1.2)) in absurd (omega (arith, below))
     go (inr (j, new)) = past_made done (length before + 1) told.made j has.1.0 (id_so generation name txn) (subst (λ (ls : List EntryLine). AllByRecursion (IsEnded done) ls) told.told ended) new has.1.2
 
-over_by : (script : Script) (start : Start) (entries : List EntryLine) (next : ℕ) (p : Place) (pending : Option (List (List ℕ))) (d : InTransaction) (mine : List ReplyLine) (number txn : ℕ) →
+over_by : (script : Script) (start : Start) (entries : List EntryLine) (next : ℕ) (p : Place) (pending : Option (List (List ℕ))) (d : InTransaction) (mine : List Reply) (number txn : ℕ) →
     IsDoing script start entries next p pending (doing_in d) mine → number ≡ p.number → IsPast p.number pending txn → IsOverBy d number txn
 over_by script start entries next p None No mine number txn is same past = omega (arith, same, past)
 over_by script start entries next p None (Open session) mine number txn is same past = absurd is
@@ -80,7 +85,7 @@ over_by script start entries next p (Some texts) No mine number txn is same past
 over_by script start entries next p (Some texts) (Open session) mine number txn is same past = omega (arith, same, past)
 over_by script start entries next p (Some texts) Aborted mine number txn is same past = tt
 
-pub are_over : (script : Script) (start : Start) (done : List BodyLine) (next : ℕ) (mine : List ReplyLine) (generation : ℕ) (entries : List EntryLine) (log : List Entry) (name : List ℕ) (x : SessionState) →
+pub are_over : (script : Script) (start : Start) (done : List BodyLine) (next : ℕ) (mine : List Reply) (generation : ℕ) (entries : List EntryLine) (log : List Entry) (name : List ℕ) (x : SessionState) →
     AreEarlier generation start.before → AreTold start.before generation entries log → AllByRecursion (IsEnded done) entries →
     IsDoing script start entries next (place_after sql_language name done) (place_after sql_language name done).pending (doing_in x.doing) mine → x.number ≡ (place_after sql_language name done).number → AreOver generation name x log
 are_over script start done next mine generation entries log name x earlier told ended doing same position txn has =

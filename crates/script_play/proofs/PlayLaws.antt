@@ -19,19 +19,20 @@ use Rattle.script_form.specs.declared.scripts.BodyLine.{BodyLine}
 use Rattle.script_form.specs.declared.scripts.Script.{Script}
 use Rattle.script_form.specs.declared.scripts.SessionLine.{SessionLine}
 use Rattle.script_play.specs.Basis.{from_start}
-use Rattle.script_play.specs.Doing.{SessionAt}
-use Rattle.script_play.specs.Doing as doing
+use Rattle.session_turns.specs.Doing.{SessionAt}
+use Rattle.session_turns.specs.Doing as doing
 use Rattle.script_play.specs.Played.{downs_by, IsGivenUp, IsHistory, IsPlayed}
 use Rattle.script_play.specs.Run.{run_of}
-use Rattle.script_play.specs.RunViews.{doing_in, seen_in, state_in, AreOwn, IsBeforeLine, IsOpenedBehind, IsOpening, IsOwn, IsOwnDoing}
+use Rattle.script_play.specs.RunViews.{seen_in, AreOwn, IsBeforeLine, IsOpenedBehind, IsOpening}
+use Rattle.session_turns.specs.Views.{doing_in, state_in, IsOwn, IsOwnDoing}
 use Rattle.script_play.specs.EntryLines.{AreTold}
 use Rattle.script_play.specs.Ready.{AreEarlier, CanBegin, IsLogged}
 use Rattle.script_play.specs.SoFar.{now_of, at_start, report_of, IsAtNode, IsBefore, Stored}
 use Rattle.script_play.specs.Down.{down_line, history_by, history_of, with_entries, IsCaused, IsHeld, IsHeldBy}
 use Rattle.script_play.specs.Start.{Start, base}
-use Rattle.script_play.specs.declared.states.InTransaction.{InTransaction}
-use Rattle.script_play.specs.declared.states.InTransaction.TheVariants.{No, Open, Aborted}
-use Rattle.script_play.specs.declared.states.SessionState.{SessionState}
+use Rattle.session_turns.specs.declared.states.InTransaction.{InTransaction}
+use Rattle.session_turns.specs.declared.states.InTransaction.TheVariants.{No, Open, Aborted}
+use Rattle.session_turns.specs.declared.states.SessionState.{SessionState}
 use Rattle.script_play.proofs.FurtherLemmas.{falls_at_changes, further_told}
 use Rattle.script_play.proofs.SiteLemmas.{told_count}
 use Rattle.script_play.proofs.StartLemmas.{opens, Opens}

@@ -25,19 +25,3 @@ take_all (e ∷ log) = ap (λ (es : List Entry). e ∷ es) (take_all log)
 pub stands_at_end : (tables : List TableDef) (log entries : List Entry) (begin : ℕ) (rows : Rows) → begin ≡ length log → log ≡ entries → Stands (page_at log begin) tables rows → Stands (pages_of entries) tables rows
 stands_at_end tables log entries begin rows at same stands =
     subst (λ (es : List Entry). Stands (pages_of es) tables rows) (ap (λ n. take n log) at ∙ take_all log ∙ same) stands
-
--- what a text is answered to read, by the intervals that it uses
-told_so : (read : List laws.Interval) (done : List RowOp) (o : Outcome) → map interval_out (used_if o read) ≡ (answered (map interval_out read) done o).ranges
-told_so read done (Fails cause) = refl
-told_so read done (Gives told after) = refl
-
--- a session has read what a text reads, behind what it read before
-pub ranges_told : (tables : List TableDef) (versions : List (List Version)) (done : List RowOp) (meant : Meaning) (old new : List Interval) →
-    intervals_in new ≡ intervals_in old ++ used_if (answer tables versions done meant) (ranges_of tables versions done meant) → new ≡ old ++ (answer_to tables versions done meant).ranges
-ranges_told tables versions done meant old new is =
-    intervals_back new ∙ ap (map interval_out) is ∙ map-append interval_out (intervals_in old) used
-    ∙ ap (λ (front : List Interval). front ++ map interval_out used) (sym (intervals_back old))
-    ∙ ap (λ (rest : List Interval). old ++ rest) (told_so (ranges_of tables versions done meant) done (answer tables versions done meant))
-  where
-    used : List laws.Interval
-    used = used_if (answer tables versions done meant) (ranges_of tables versions done meant)

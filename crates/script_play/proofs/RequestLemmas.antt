@@ -107,17 +107,13 @@ value_text (Int n) told = tt
 value_text (Text text) told = IsUtf8-from_is_utf8 text told
 value_text (Blob blob) told = tt
 
-values_text : (row : List Value) → AllByRecursion IsToldValue row → AllByRecursion IsText row
+values_text : (row : List Value) → IsToldRow row → AllByRecursion IsText row
 values_text [] told = tt
 values_text (v ∷ vs) told = (value_text v told.0, values_text vs told.1)
 
-row_text : (row : List Value) → IsToldRow row → AllByRecursion IsText row
-row_text [] told = absurd told
-row_text (v ∷ vs) told = (value_text v told.0, values_text vs told.1)
-
 writes_text : (op : RowOp) → WritesRow op → Writes IsText op
-writes_text (Insert table row) told = row_text row told
-writes_text (Update table target old row) told = row_text row told
+writes_text (Insert table row) told = values_text row told
+writes_text (Update table target old row) told = values_text row told
 writes_text (Delete table target old) told = tt
 
 all_write_text : (ops : List RowOp) → AllByRecursion WritesRow ops → AllByRecursion (Writes IsText) ops

@@ -4,7 +4,7 @@ use Rattle.std.proofs.lemmas.List.{append-nil, length-append}
 use Rattle.std.specs.List.{AllByRecursion}
 use Rattle.std.specs.Str.{bytes_eq, is_utf8}
 use Rattle.cdb_values.specs.declared.rows.Level.{Level}
-use Rattle.script_play.specs.Seen.{Seen}
+use Rattle.session_turns.specs.Seen.{Seen}
 use Rattle.script_play.specs.Start.{Start}
 use Rattle.sql_answer.specs.Reading.{kind_of_text}
 use Rattle.script_form.specs.CanRun.{tables_of}
@@ -14,8 +14,8 @@ use Rattle.script_form.specs.declared.scripts.Act.{Act}
 use Rattle.script_form.specs.declared.scripts.Act.TheVariants.{Say}
 use Rattle.report_text.specs.declared.reports.EntryLine.{EntryLine}
 use Rattle.report_text.specs.declared.reports.Line.{Line}
-use Rattle.report_text.specs.declared.reports.ReplyLine.{ReplyLine}
-use Rattle.report_text.specs.declared.reports.ReplyLine.TheVariants as reply
+use Rattle.cdb_values.specs.declared.replies.Reply.{Reply}
+use Rattle.cdb_values.specs.declared.replies.Reply.TheVariants as reply
 use Rattle.cdb_values.specs.Changes.{changes_of}
 use Rattle.report_laws.specs.History.{view_of}
 use Rattle.report_laws.specs.Paced.{Paced}
@@ -35,8 +35,9 @@ use Rattle.script_play.specs.Basis.{from_start}
 use Rattle.query_laws.specs.Alone.{sql_language}
 use Rattle.script_play.specs.Ready.{IsAskable}
 use Rattle.script_play.specs.SoFar.{now_of, SoFar, Stored, Standing, IsPast, IsEnded, state_of}
-use Rattle.script_play.specs.Step.{Turned, Cut, IsTurned, IsCutShort, IsKept, turn, turn_by, cut_by, entries_added}
-use Rattle.script_play.specs.Doing.{SessionAt}
+use Rattle.session_turns.specs.Step.{Turned, Cut, turn, turn_by, cut_by}
+use Rattle.script_play.specs.Step.{IsTurned, IsCutShort, IsKept, entries_added}
+use Rattle.session_turns.specs.Doing.{SessionAt}
 use Rattle.script_play.proofs.StoredLemmas.{world, entry_of}
 use Rattle.script_play.proofs.StandingLemmas.{Grows, grows_length}
 use Rattle.script_play.proofs.NodeLemmas.{went}
@@ -45,7 +46,7 @@ use Rattle.script_play.proofs.TurnLemmas.{Turns, IsNews, WasCutUnder, turns}
 use Rattle.script_play.proofs.CutLemmas.{CutStands, cuts}
 
 -- what a line of the script leaves, so that the run so far is kept
-pub record Keeps (script : Script) (start : Start) (done : List BodyLine) (l : BodyLine) (lines : List Line) (entries entries' : List EntryLine) (changed' : List (List Change)) (seen seen' : Seen) (name text : List ℕ) (number : ℕ) (rs : List ReplyLine) (after : SessionAt) : Type 0 where
+pub record Keeps (script : Script) (start : Start) (done : List BodyLine) (l : BodyLine) (lines : List Line) (entries entries' : List EntryLine) (changed' : List (List Change)) (seen seen' : Seen) (name text : List ℕ) (number : ℕ) (rs : List Reply) (after : SessionAt) : Type 0 where
   pub stored : Stored script start entries' changed' seen'
   pub grows : Grows entries entries'
   pub next : seen.next ≤ seen'.next
@@ -66,7 +67,7 @@ module _ (script : Script) (start : Start) (done left : List BodyLine) (l : Body
   own_place : place_after sql_language name (done ++ l ∷ []) ≡ next_place sql_language place text
   own_place = after_own sql_language name name text l done is_act (same_itself name)
 
-  pub advanced : (entries' : List EntryLine) (changed' : List (List Change)) (seen' : Seen) (number : ℕ) (rs : List ReplyLine) (after : SessionAt) → Keeps script start done l lines entries entries' changed' seen seen' name text number rs after →
+  pub advanced : (entries' : List EntryLine) (changed' : List (List Change)) (seen' : Seen) (number : ℕ) (rs : List Reply) (after : SessionAt) → Keeps script start done l lines entries entries' changed' seen seen' name text number rs after →
       state_of name script.sessions sites' ≡ after → ((m : List ℕ) → bytes_eq name m ≡ false → state_of m script.sessions sites' ≡ state_of m script.sessions states) →
       SoFar script start false (done ++ l ∷ []) left (lines ++ lines_of name number rs) entries' changed' seen' sites'
   advanced entries' changed' seen' number rs after keeps own others = went script start false false done left l lines mine entries changed seen states sites' name text was is_act entries' changed' seen' (record {

@@ -1,11 +1,10 @@
 -- Where a session is, by its place among the sessions, and that a line of its own changes no other.
-use Rattle.std.proofs.Common.{◌≡◌, ◌≢◌, ℕ, zero, suc, ◌+◌, ◌≤◌, ◌<◌, List, [], ◌∷◌, length, map, refl, sym, subst, ap, arith, Option, Some, None, ◌∙◌, Bool, true, false, ◌⊎◌, inl, inr, if◌then◌else◌, slice_set}
+use Rattle.std.proofs.Common.{◌≡◌, ℕ, zero, suc, ◌+◌, ◌≤◌, ◌<◌, List, [], ◌∷◌, length, map, refl, sym, subst, ap, arith, Option, Some, None, ◌∙◌, Bool, true, false, ◌⊎◌, inl, inr, if◌then◌else◌, slice_set}
 use Rattle.std.proofs.lemmas.List.{length-append, length-set}
 use Rattle.std.specs.List.{AllByRecursion, slice_get}
 use Rattle.std.specs.Str.{bytes_eq}
 use Rattle.cdb_values.specs.Rows.{Rows}
 use Rattle.cdb_values.specs.declared.rows.RowOp.{RowOp}
-use Rattle.cdb_values.specs.declared.tables.ColumnDef.{ColumnDef}
 use Rattle.live_operations.specs.Live.{AreLive}
 use Rattle.block_processor.specs.Changed.{changed_in}
 use Rattle.log_rows.specs.History.{rows_over}
@@ -13,8 +12,9 @@ use Rattle.phys_log.specs.Logs.{page_at}
 use Rattle.phys_log.specs.declared.entries.Entry.{Entry}
 use Rattle.session_language.specs.Language.{alone, alone_from}
 use Rattle.table_store.specs.Stored.{Stands}
-use Rattle.script_play.specs.RunViews.{seen_in, AreOwn, IsOwn}
-use Rattle.script_play.specs.declared.states.SessionState.{SessionState}
+use Rattle.script_play.specs.RunViews.{seen_in, AreOwn}
+use Rattle.session_turns.specs.Views.{IsOwn}
+use Rattle.session_turns.specs.declared.states.SessionState.{SessionState}
 use Rattle.script_play.specs.EntryLines.{AreTold, lines_from}
 use Rattle.script_play.specs.Start.{Start, ground_of}
 use Rattle.script_form.specs.CanRun.{CanRun, IsDeclared, IsSaid, tables_of}
@@ -23,22 +23,19 @@ use Rattle.script_form.specs.declared.scripts.Act.{Act}
 use Rattle.script_form.specs.declared.scripts.Act.TheVariants.{Say}
 use Rattle.script_form.specs.declared.scripts.BodyLine.{BodyLine}
 use Rattle.script_form.specs.declared.scripts.SessionLine.{SessionLine}
-use Rattle.script_form.specs.declared.scripts.TableLine.{TableLine}
 use Rattle.report_text.specs.declared.reports.EntryLine.{EntryLine}
 use Rattle.report_text.specs.declared.reports.Line.{Line}
-use Rattle.report_text.specs.declared.reports.ReplyLine.{ReplyLine}
+use Rattle.cdb_values.specs.declared.replies.Reply.{Reply}
 use Rattle.report_laws.specs.Work.{Place, place_after}
 use Rattle.query_laws.specs.Alone.{sql_language}
 use Rattle.cdb_values.specs.declared.items.GenidItem.{GenidItem}
 use Rattle.cdb_values.specs.declared.items.Interval.{Interval}
 use Rattle.script_play.proofs.LiveLemmas.{alone_leaves_live, stands_distinct}
 use Rattle.script_play.proofs.SoundLaws.{distinct}
-use Rattle.sql_run.specs.Sound.{HasDistinctColumns}
-use Rattle.sql_run.specs.Spelled.{HasColumn}
 use Rattle.script_play.specs.Ready.{IsAble, IsAskable, IsLogged, IsReady, IsReadyToGo}
 use Rattle.script_play.specs.SoFar.{now_of, IsBefore, IsDoing, IsOpen, Stored, state_of, session_from, session_at}
-use Rattle.script_play.specs.Doing.{SessionAt, Doing}
-use Rattle.script_play.specs.Doing as doing
+use Rattle.session_turns.specs.Doing.{SessionAt, Doing}
+use Rattle.session_turns.specs.Doing as doing
 use Rattle.script_play.proofs.ComesLemmas.{same_itself, same_name}
 
 -- the place is counted on from a number
@@ -123,16 +120,8 @@ other_state k name m (s ∷ ss) (y ∷ ys) at (suc i) x is place differs = pick 
     pick false later found = go (bytes_eq s.name m) (later found)
 
 -- the tables of a script that runs are as texts ask for them
-askable : (tables : List TableLine) → AllByRecursion HasDistinctColumns (map (λ (t : TableLine). t.table) tables) → AllByRecursion (λ (t : TableLine). t.table.columns ≢ []) tables → AllByRecursion IsAskable (map (λ (t : TableLine). t.table) tables)
-askable [] apart columns = tt
-askable (t ∷ ts) apart columns = ((apart.0, some t.table.columns columns.0), askable ts apart.1 columns.1)
-  where
-    some : (found : List ColumnDef) → found ≢ [] → HasColumn found
-    some [] there = absurd (there refl)
-    some (column ∷ found) there = tt
-
 pub runs_askable : (script : Script) → CanRun script → AllByRecursion IsAskable (tables_of script)
-runs_askable script can = askable script.tables (distinct [] (tables_of script) can.tables_lawful) can.columns
+runs_askable script can = distinct [] (tables_of script) can.tables_lawful
 
 -- the rows are ready for a line
 pub ready : (script : Script) (start : Start) (entries : List EntryLine) (log : List Entry) → AllByRecursion IsAskable (tables_of script) → Stored script start entries (changed_in log) (seen_in start log) → IsLogged start (tables_of script) (now_of start entries) log →
@@ -145,7 +134,7 @@ ready script start entries log askable stored logged = record {
 }
 
 -- a transaction that is open can go on: what its texts left is there at its begin position
-open_able : (script : Script) (start : Start) (entries : List EntryLine) (log : List Entry) (texts : List (List ℕ)) (begin : ℕ) (ops : List RowOp) (uses : List GenidItem) (ranges : List Interval) (mine : List ReplyLine) →
+open_able : (script : Script) (start : Start) (entries : List EntryLine) (log : List Entry) (texts : List (List ℕ)) (begin : ℕ) (ops : List RowOp) (uses : List GenidItem) (ranges : List Interval) (mine : List Reply) →
     Stored script start entries (changed_in log) (seen_in start log) → IsLogged start (tables_of script) (now_of start entries) log → IsOpen script start entries (rows_over (ground_of start) log).next texts begin ops uses ranges mine → IsAble start (tables_of script) (now_of start entries) log begin ops
 open_able script start entries log texts begin ops uses ranges mine stored logged is = record {
   first = is.first;
@@ -164,7 +153,7 @@ open_able script start entries log texts begin ops uses ranges mine stored logge
     ops_are : ops ≡ (alone sql_language (tables_of script) (log_rows_at begin) texts).ops
     ops_are = is.ops_are ∙ ap (λ (r : Rows). (alone_from sql_language (tables_of script) r.tables [] texts).ops) (sym (stored.rows_are begin is.first is.within))
 
-doing_ready : (script : Script) (start : Start) (entries : List EntryLine) (log : List Entry) (p : Place) (q : Option (List (List ℕ))) (d : Doing) (mine : List ReplyLine) →
+doing_ready : (script : Script) (start : Start) (entries : List EntryLine) (log : List Entry) (p : Place) (q : Option (List (List ℕ))) (d : Doing) (mine : List Reply) →
     Stored script start entries (changed_in log) (seen_in start log) → IsLogged start (tables_of script) (now_of start entries) log → IsDoing script start entries (rows_over (ground_of start) log).next p q d mine → IsReadyToGo start (tables_of script) (now_of start entries) log d
 doing_ready script start entries log p None doing.No mine stored logged is = tt
 doing_ready script start entries log p None (doing.Open begin ops uses ranges) mine stored logged is = absurd is

@@ -9,8 +9,6 @@ use Rattle.cdb_values.specs.declared.items.Interval.{Interval}
 use Rattle.cdb_values.specs.declared.rows.RowOp.{RowOp}
 use Rattle.cdb_values.specs.declared.rows.Version.{Version}
 use Rattle.cdb_values.specs.declared.tables.TableDef.{TableDef}
-use Rattle.sql_run.specs.Sound.{HasDistinctColumns}
-use Rattle.sql_run.specs.Spelled.{HasColumns}
 use Rattle.session_language.specs.Answers.{Answers}
 use Rattle.session_language.specs.Language.{Language, alone_from}
 use Rattle.sql_answer.proofs.LanguageLemmas.{sql_answers}
@@ -24,21 +22,12 @@ use Rattle.script_play.specs.Ready.{AreKept, IsAskable, IsKeptOp}
 pub sql_is_answered : Answers sql_language
 sql_is_answered = sql_answers bound_in reads_of
 
--- tables as texts ask for them have columns of distinct names, and one or more
-askable_apart : (tables : List TableDef) → AllByRecursion IsAskable tables → AllByRecursion HasDistinctColumns tables
-askable_apart [] all = tt
-askable_apart (table ∷ tables) all = (all.0.0, askable_apart tables all.1)
-
-askable_columns : (tables : List TableDef) → AllByRecursion IsAskable tables → AllByRecursion HasColumns tables
-askable_columns [] all = tt
-askable_columns (table ∷ tables) all = (all.0.1, askable_columns tables all.1)
-
 pub kept_answer : (tables : List TableDef) (versions : List (List Version)) (done : List RowOp) (text : List ℕ) (next : ℕ) → AllByRecursion IsAskable tables → is_utf8 text ≡ true → AreKept tables next versions → AllByRecursion (IsKeptOp tables next) done
     → AllByRecursion (IsKeptOp tables next) (sql_language.answer tables versions done text).ops
 kept_answer tables versions done text next askable utf8 kept all =
     kept_both tables next (sql_language.answer tables versions done text).ops
-    (leaves_sound_ops tables versions done text next (askable_apart tables askable) kept.0 (kept_sound tables next done all))
-    (leaves_such_rows tables versions done text (askable_columns tables askable) utf8 kept.1 (kept_told tables next done all))
+    (leaves_sound_ops tables versions done text next askable kept.0 (kept_sound tables next done all))
+    (leaves_such_rows tables versions done text utf8 kept.1 (kept_told tables next done all))
 
 -- one text more uses what it uses behind the texts before it
 pub uses_more : (language : Language) (tables : List TableDef) (versions : List (List Version)) (done : List RowOp) (texts : List (List ℕ)) (text : List ℕ) →

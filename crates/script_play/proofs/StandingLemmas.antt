@@ -8,8 +8,8 @@ use Rattle.cdb_values.specs.declared.items.Interval.{Interval}
 use Rattle.cdb_values.specs.declared.rows.RowOp.{RowOp}
 use Rattle.script_form.specs.declared.scripts.Script.{Script}
 use Rattle.report_text.specs.declared.reports.EntryLine.{EntryLine}
-use Rattle.report_text.specs.declared.reports.ReplyLine.{ReplyLine}
-use Rattle.report_text.specs.declared.reports.ReplyLine.TheVariants as reply
+use Rattle.cdb_values.specs.declared.replies.Reply.{Reply}
+use Rattle.cdb_values.specs.declared.replies.Reply.TheVariants as reply
 use Rattle.script_form.specs.CanRun.{tables_of}
 use Rattle.report_laws.specs.History.{rows_at, view_of}
 use Rattle.session_language.specs.Language.{Answered, alone}
@@ -23,9 +23,9 @@ use Rattle.report_laws.proofs.ToldLaws.{along_append, along_one, along_map}
 use Rattle.script_play.proofs.SoundLaws.{kept_later}
 use Rattle.script_play.specs.Start.{Start}
 use Rattle.script_play.specs.SoFar.{now_of, IsOpen, IsDoing, Standing}
-use Rattle.script_play.specs.Step.{state}
-use Rattle.script_play.specs.Doing.{SessionAt, Doing}
-use Rattle.script_play.specs.Doing as doing
+use Rattle.session_turns.specs.Step.{state}
+use Rattle.session_turns.specs.Doing.{SessionAt, Doing}
+use Rattle.session_turns.specs.Doing as doing
 
 -- the history stays, or grows by an entry
 abbrev pub Grows : List EntryLine → List EntryLine → Type 0
@@ -42,7 +42,7 @@ module _ (script : Script) (start : Start) (entries : List EntryLine) (e : Entry
       alone sql_language (tables_of script) (rows_at (from_start script start) grown begin) texts ≡ alone sql_language (tables_of script) (rows_at (from_start script start) entries begin) texts
   alone_stays texts begin within = ap (λ (r : Rows). alone sql_language (tables_of script) r texts) (rows_stay (from_start script start) entries e begin (omega (arith, within)))
 
-  open_stays : (next next' : ℕ) (texts : List (List ℕ)) (begin : ℕ) (ops : List RowOp) (uses : List GenidItem) (ranges : List Interval) (mine : List ReplyLine) → next ≤ next' → IsOpen script start entries next texts begin ops uses ranges mine → IsOpen script start grown next' texts begin ops uses ranges mine
+  open_stays : (next next' : ℕ) (texts : List (List ℕ)) (begin : ℕ) (ops : List RowOp) (uses : List GenidItem) (ranges : List Interval) (mine : List Reply) → next ≤ next' → IsOpen script start entries next texts begin ops uses ranges mine → IsOpen script start grown next' texts begin ops uses ranges mine
   open_stays next next' texts begin ops uses ranges mine le is = record {
     first = is.first;
     within = let w = is.within in omega (arith, w, longer);
@@ -53,7 +53,7 @@ module _ (script : Script) (start : Start) (entries : List EntryLine) (e : Entry
     sound = kept_later (tables_of script) next next' ops le is.sound;
   }
 
-  doing_stays : (next next' : ℕ) (p : Place) (q : Option (List (List ℕ))) (d : Doing) (mine : List ReplyLine) → next ≤ next' → IsDoing script start entries next p q d mine → IsDoing script start grown next' p q d mine
+  doing_stays : (next next' : ℕ) (p : Place) (q : Option (List (List ℕ))) (d : Doing) (mine : List Reply) → next ≤ next' → IsDoing script start entries next p q d mine → IsDoing script start grown next' p q d mine
   doing_stays next next' p None doing.No mine le is = is
   doing_stays next next' p None (doing.Open begin ops uses ranges) mine le is = absurd is
   doing_stays next next' p None doing.Aborted mine le is = absurd is
@@ -73,7 +73,7 @@ module _ (script : Script) (start : Start) (entries : List EntryLine) (e : Entry
   }
 
 -- the same open transaction, below a greater next genid
-open_later : (script : Script) (start : Start) (entries : List EntryLine) (next next' : ℕ) (p : Place) (q : Option (List (List ℕ))) (d : Doing) (mine : List ReplyLine) → next ≤ next' → IsDoing script start entries next p q d mine → IsDoing script start entries next' p q d mine
+open_later : (script : Script) (start : Start) (entries : List EntryLine) (next next' : ℕ) (p : Place) (q : Option (List (List ℕ))) (d : Doing) (mine : List Reply) → next ≤ next' → IsDoing script start entries next p q d mine → IsDoing script start entries next' p q d mine
 open_later script start entries next next' p None doing.No mine le is = is
 open_later script start entries next next' p None (doing.Open begin ops uses ranges) mine le is = absurd is
 open_later script start entries next next' p None doing.Aborted mine le is = absurd is
@@ -119,11 +119,11 @@ grows_length entries entries' (inr (e, grows)) = let n = ap (λ es. length es) g
 
 module _ (script : Script) (start : Start) (entries entries' : List EntryLine) (grows : Grows entries entries') (name : List ℕ) (p : Place) (before : List Numbered) (past : Along (IsTold (from_start script start) (view_of (from_start script start) entries) name) p.over before) where
   -- one thing more is over
-  over_more : (item : Item) (mine : List ReplyLine) → IsTold (from_start script start) (view_of (from_start script start) entries') name item mine → Along (IsTold (from_start script start) (view_of (from_start script start) entries') name) (p.over ++ item ∷ []) (before ++ numbered (number_of item) mine)
+  over_more : (item : Item) (mine : List Reply) → IsTold (from_start script start) (view_of (from_start script start) entries') name item mine → Along (IsTold (from_start script start) (view_of (from_start script start) entries') name) (p.over ++ item ∷ []) (before ++ numbered (number_of item) mine)
   over_more item mine is = along_append (IsTold (from_start script start) (view_of (from_start script start) entries') name) p.over (item ∷ []) before _ (overs_on script start entries entries' name p.over before grows past) (along_one (IsTold (from_start script start) (view_of (from_start script start) entries') name) item mine is)
 
   -- a session that did something is idle behind it
-  pub idle_after : (item : Item) (mine : List ReplyLine) (lines : List Numbered) (next number : ℕ) (level : Level) → IsTold (from_start script start) (view_of (from_start script start) entries') name item mine → lines ≡ before ++ numbered (number_of item) mine →
+  pub idle_after : (item : Item) (mine : List Reply) (lines : List Numbered) (next number : ℕ) (level : Level) → IsTold (from_start script start) (view_of (from_start script start) entries') name item mine → lines ≡ before ++ numbered (number_of item) mine →
       Standing script start entries' next name (record { over = p.over ++ item ∷ []; number = number; level = level; pending = None }) lines (state number level doing.No)
   idle_after item mine lines next number level is all = record {
     before = before ++ numbered (number_of item) mine;
@@ -136,7 +136,7 @@ module _ (script : Script) (start : Start) (entries entries' : List EntryLine) (
   }
 
   -- a session is in a transaction, of which these lines were told
-  pub in_transaction : (texts : List (List ℕ)) (mine : List ReplyLine) (lines : List Numbered) (next number : ℕ) (d : Doing) →
+  pub in_transaction : (texts : List (List ℕ)) (mine : List Reply) (lines : List Numbered) (next number : ℕ) (d : Doing) →
       IsDoing script start entries' next (with_open p (Some texts) number) (Some texts) d mine → lines ≡ before ++ numbered number mine →
       Standing script start entries' next name (with_open p (Some texts) number) lines (state number p.level d)
   in_transaction texts mine lines next number d is all = record {

@@ -23,11 +23,11 @@ use Rattle.script_form.specs.declared.scripts.Script.{Script}
 use Rattle.script_form.specs.declared.scripts.SessionLine.{SessionLine}
 use Rattle.script_play.specs.Basis.{from_start}
 use Rattle.script_play.specs.Decisions.{HasName}
-use Rattle.script_play.specs.Doing.{SessionAt}
+use Rattle.session_turns.specs.Doing.{SessionAt}
 use Rattle.script_play.specs.EntryLines.{AreTold}
 use Rattle.script_play.specs.Ready.{AreKept, CanBegin, GoesOn, IsLogged}
 use Rattle.script_play.specs.RunViews.{seen_in, IsOpening, IsOpenedBehind, IsOpenedLog}
-use Rattle.script_play.specs.Seen.{Seen}
+use Rattle.session_turns.specs.Seen.{Seen}
 use Rattle.script_play.specs.SoFar.{now_of, IsBefore, Stored, at_start}
 use Rattle.script_play.specs.Start.{Start, base, ground_of}
 use Rattle.script_play.proofs.SoundLaws.{kept_none}

@@ -26,8 +26,8 @@ use Rattle.sql_run.specs.Texts.{answer_to}
 use Rattle.report_text.specs.declared.reports.EntryLine.{EntryLine}
 use Rattle.report_text.specs.declared.reports.EntryLine.TheVariants.{Commit}
 use Rattle.report_text.specs.declared.reports.Line.{Line}
-use Rattle.report_text.specs.declared.reports.ReplyLine.{ReplyLine}
-use Rattle.report_text.specs.declared.reports.ReplyLine.TheVariants as reply
+use Rattle.cdb_values.specs.declared.replies.Reply.{Reply}
+use Rattle.cdb_values.specs.declared.replies.Reply.TheVariants as reply
 use Rattle.cdb_values.specs.Changes.{changes_of}
 use Rattle.session_language.specs.Language.{Kind, BeginText, CommitText, RollbackText, LevelText, OtherText}
 use Rattle.report_laws.specs.Told.{lines_of}
@@ -36,31 +36,30 @@ use Rattle.cdb_values.specs.declared.items.Interval.{Interval}
 use Rattle.store_log.specs.Held.{generation_of}
 use Rattle.store_log.specs.Keeps.{Stored}
 use Rattle.table_store.specs.Stored.{Stands}
-use Rattle.script_play.specs.Decisions.{added_by}
+use Rattle.session_turns.specs.Decisions.{added_by}
 use Rattle.script_play.proofs.LiveLemmas.{stands_distinct, text_alone_leaves_live}
 use Rattle.script_play.proofs.SqlLaws.{kept_answer}
-use Rattle.script_play.specs.Effects.{IsEffect, IsAdded, IsEntryOf, IsFreshIn, IsOfIts, Named, cut_in, lines_added, named_so}
-use Rattle.script_play.specs.Doing.{Doing}
-use Rattle.script_play.specs.Doing as doing
+use Rattle.script_play.specs.Effects.{IsEffect, IsAdded, IsEntryOf, IsFreshIn, IsOfIts, Named, lines_added, named_so}
+use Rattle.session_turns.specs.Cuts.{cut_in}
+use Rattle.session_turns.specs.Doing.{Doing}
+use Rattle.session_turns.specs.Doing as doing
 use Rattle.script_play.specs.Run.{run_of}
 use Rattle.script_play.specs.Down.{fallen_lines, with_entries, HasOutcome, IsFallenAt, IsKeptSo, TellsOutcome}
 use Rattle.script_play.specs.EntryLines.{AreTold, IsMadeIn, line_of, lines_from}
 use Rattle.script_play.specs.Ready.{AreKept, IsAble, IsKeptOp, IsLogged, IsReady}
-use Rattle.script_play.specs.RunViews.{state_in, seen_in, world, IsDoneFrom, IsOfText, IsOwn, IsOwnDoing, IsShut, IsTakenFrom}
-use Rattle.script_play.specs.declared.states.InTransaction.{InTransaction}
-use Rattle.script_play.specs.declared.states.InTransaction.TheVariants.{No, Open, Aborted}
+use Rattle.script_play.specs.RunViews.{seen_in, world, IsDoneFrom, IsOfText, IsTakenFrom}
+use Rattle.session_turns.specs.Views.{state_in, IsOwn, IsOwnDoing, IsShut}
+use Rattle.session_turns.specs.declared.states.InTransaction.{InTransaction}
+use Rattle.session_turns.specs.declared.states.InTransaction.TheVariants.{No, Open, Aborted}
 use Rattle.script_play.specs.Start.{Start, base, ground_of}
-use Rattle.script_play.specs.Step.{World, Turned, IsTurned, IsKept, answer_of, entries_added, outcome, turn_of, cut_by}
+use Rattle.session_turns.specs.Step.{World, Turned, answer_of, outcome, turn_of, cut_by}
+use Rattle.script_play.specs.Step.{IsTurned, IsKept, entries_added}
 use Rattle.script_play.specs.declared.effects.LineEffect.{LineEffect}
-use Rattle.script_play.specs.declared.states.SessionState.{SessionState}
+use Rattle.session_turns.specs.declared.states.SessionState.{SessionState}
 
 -- the pages of a log stand at a position
 pub stands_there : (start : Start) (tables : List TableDef) (now begin : ℕ) (log : List Entry) → IsLogged start tables now log → IsFrom (base start) begin → begin ≤ now → Stands (page_at log begin) tables (rows_over_at (ground_of start) log begin)
 stands_there start tables now begin log logged first within = logged.stands begin first (let n = logged.count in omega (arith, within, n))
-
-pub stands_now : (start : Start) (tables : List TableDef) (now begin : ℕ) (log : List Entry) → IsReady start tables now log → begin ≡ now → Stands (page_at log begin) tables (rows_over_at (ground_of start) log begin)
-stands_now start tables now begin log ready at =
-    stands_there start tables now begin log ready.logged (let o = ready.opened.0 in omega (arith, o, at), let o = ready.opened.1 in omega (arith, o, at)) (omega (arith, at))
 
 -- a transaction of one line can come to its commit
 pub own_able : (start : Start) (tables : List TableDef) (now begin : ℕ) (log : List Entry) (meant : Meaning) (ops done : List RowOp) → IsReady start tables now log → IsOfText tables meant → begin ≡ now → done ≡ [] →
@@ -83,18 +82,6 @@ own_able start tables now begin log meant ops done ready of_text at none are = r
     its : ops ≡ (sql_language.answer tables (rows_over_at (ground_of start) log begin).tables [] of_text.0).ops
     its = are ∙ ap (λ (o : List RowOp). (answer_to tables (rows_over_at (ground_of start) log begin).tables o meant).ops) none
         ∙ ap (λ (m : Meaning). (answer_to tables (rows_over_at (ground_of start) log begin).tables [] m).ops) of_text.2
-
--- what a transaction of one line is told, where it was answered step by step
-pub own_told : (w : World) (meant : Meaning) (begin : ℕ) (level : Level) (done ops : List RowOp) (uses : List GenidItem) (ranges : List Interval) (given all : List ReplyLine) (told : ReplyLine) → begin ≡ w.now → done ≡ [] →
-    given ≡ (answer_of w begin done meant).replies → ops ≡ (answer_of w begin done meant).ops → uses ≡ (answer_of w begin done meant).uses → ranges ≡ (answer_of w begin done meant).ranges → told ≡ outcome w begin level uses ranges ops → all ≡ reply.Begin begin ∷ (given ++ told ∷ []) →
-    all ≡ reply.Begin w.now ∷ ((answer_of w w.now [] meant).replies ++ outcome w w.now level (answer_of w w.now [] meant).uses (answer_of w w.now [] meant).ranges (answer_of w w.now [] meant).ops ∷ [])
-own_told w meant begin level done ops uses ranges given all told at none gives leaves takes reads decides is = rw (gives, decides, takes, reads, leaves, none, at) at is
-
--- and what it commits
-pub own_added : (w : World) (meant : Meaning) (begin : ℕ) (level : Level) (done ops : List RowOp) (uses : List GenidItem) (ranges : List Interval) → begin ≡ w.now → done ≡ [] →
-    ops ≡ (answer_of w begin done meant).ops → uses ≡ (answer_of w begin done meant).uses → ranges ≡ (answer_of w begin done meant).ranges →
-    added_by (outcome w begin level uses ranges ops) ops ≡ added_by (outcome w w.now level (answer_of w w.now [] meant).uses (answer_of w w.now [] meant).ranges (answer_of w w.now [] meant).ops) (answer_of w w.now [] meant).ops
-own_added w meant begin level done ops uses ranges at none leaves takes reads = rw (takes, reads, leaves, none, at) refl
 
 -- the entry that a line appends is the next one of the log
 added_fits : (start : Start) (tables : List TableDef) (log : List Entry) (added : Option Entry) (named : Named) (all : List (List RowOp)) → IsAdded start tables log added named all → IfSome added (Fits log)

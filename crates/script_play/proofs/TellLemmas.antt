@@ -19,19 +19,19 @@ use Rattle.report_laws.proofs.WorkLaws.{IsBegun, IsBelow, first_left}
 use Rattle.report_text.specs.declared.reports.EntryLine.{EntryLine}
 use Rattle.report_text.specs.declared.reports.Line.{Line}
 use Rattle.report_text.specs.declared.reports.Line.TheVariants as line
-use Rattle.report_text.specs.declared.reports.ReplyLine.TheVariants as reply
+use Rattle.cdb_values.specs.declared.replies.Reply.TheVariants as reply
 use Rattle.script_form.specs.CanRun.{CanRun, IsDeclared}
 use Rattle.script_form.specs.declared.scripts.Script.{Script}
 use Rattle.session_language.specs.Each.{EachAfter, StandsIn}
 use Rattle.session_language.specs.Language.{Kind, BeginText, CommitText, RollbackText, LevelText, OtherText}
 use Rattle.script_play.specs.Basis.{from_start}
-use Rattle.script_play.specs.Doing.{Doing, SessionAt}
-use Rattle.script_play.specs.Doing as doing
+use Rattle.session_turns.specs.Doing.{Doing, SessionAt}
+use Rattle.session_turns.specs.Doing as doing
 use Rattle.script_play.specs.Down.{down_line, turn_down}
-use Rattle.script_play.specs.Seen.{Seen}
+use Rattle.session_turns.specs.Seen.{Seen}
 use Rattle.script_play.specs.SoFar.{IsDown, IsGone, now_of}
 use Rattle.script_play.specs.Start.{Start}
-use Rattle.script_play.specs.Step.{Turned}
+use Rattle.session_turns.specs.Step.{Turned}
 use Rattle.script_play.proofs.LossLemmas.{at_the_node, each_front, loses, none_survives, none_told_lost}
 use Rattle.script_play.proofs.TurnLemmas.{Comes, WasCutUnder, cut_before}
 use Rattle.script_play.proofs.OpenLemmas.{begin_told, open_uncut}

@@ -9,8 +9,8 @@ use Rattle.report_laws.specs.Places.{HasItsCause, HasItsPlace}
 use Rattle.report_laws.specs.Play.{IsSaid, IsTimely, begins, is_own_by, node_of, since_begin, was_cut}
 use Rattle.report_laws.specs.Told.{lines_of}
 use Rattle.report_text.specs.declared.reports.Line.{Line}
-use Rattle.report_text.specs.declared.reports.ReplyLine.{ReplyLine}
-use Rattle.report_text.specs.declared.reports.ReplyLine.TheVariants as reply
+use Rattle.cdb_values.specs.declared.replies.Reply.{Reply}
+use Rattle.cdb_values.specs.declared.replies.Reply.TheVariants as reply
 use Rattle.script_form.specs.declared.scripts.Script.{Script}
 use Rattle.session_language.specs.Each.{EachAfter}
 use Rattle.session_language.specs.Language.{Kind}
@@ -46,7 +46,7 @@ module _ (script : Script) (origin : Origin) (one : script.nodes ≡ 1) (now : �
 
 module _ (script : Script) (origin : Origin) (now : ℕ) (lines : List Line) (name : List ℕ) where
   -- one outside a transaction that begins none has its one reply
-  pub told_lone : (k : Kind) (answer : ReplyLine) → begins k None ≡ false → are_up_to (is_last_of (is_own_by k None)) (answer ∷ []) ≡ true → IsTimely now (now + 0) answer → IsFreshAnswer origin lines name answer →
+  pub told_lone : (k : Kind) (answer : Reply) → begins k None ≡ false → are_up_to (is_last_of (is_own_by k None)) (answer ∷ []) ≡ true → IsTimely now (now + 0) answer → IsFreshAnswer origin lines name answer →
       HasItsCause script lines name 0 answer → AllByRecursion (λ b. b ≤ now) (named_by answer) → IsToldSo script origin now lines name 0 k None (lines_of name 0 (answer ∷ []))
   told_lone k answer starts up_to timely fresh placed named = record {
     said = inl (record {

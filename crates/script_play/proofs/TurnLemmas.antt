@@ -9,14 +9,14 @@ use Rattle.cdb_values.specs.Rows.{Rows, apply_all}
 use Rattle.cdb_values.specs.declared.rows.RowOp.{RowOp}
 use Rattle.cdb_values.specs.declared.rows.StatementError.TheVariants.{State}
 use Rattle.log_rows.specs.History.{IsFrom}
-use Rattle.script_play.specs.Seen.{Seen}
+use Rattle.session_turns.specs.Seen.{Seen}
 use Rattle.script_play.specs.Start.{Start, base}
 use Rattle.script_form.specs.CanRun.{tables_of}
 use Rattle.script_form.specs.declared.scripts.Script.{Script}
 use Rattle.report_text.specs.declared.reports.EntryLine.{EntryLine}
 use Rattle.report_text.specs.declared.reports.EntryLine.TheVariants.{Setup, Commit}
-use Rattle.report_text.specs.declared.reports.ReplyLine.{ReplyLine}
-use Rattle.report_text.specs.declared.reports.ReplyLine.TheVariants as reply
+use Rattle.cdb_values.specs.declared.replies.Reply.{Reply}
+use Rattle.cdb_values.specs.declared.replies.Reply.TheVariants as reply
 use Rattle.session_language.specs.Language.{Answered, alone, Kind, BeginText, CommitText, RollbackText, LevelText, OtherText}
 use Rattle.script_play.specs.Basis.{from_start}
 use Rattle.query_laws.specs.Alone.{sql_language}
@@ -42,15 +42,16 @@ use Rattle.session_language.specs.Answers.{ArePlain}
 use Rattle.session_language.specs.Touched.{Used}
 use Rattle.report_laws.proofs.PlainLaws.{plain_then, plain_paced}
 use Rattle.report_laws.proofs.ToldLaws.{numbered_append}
-use Rattle.script_play.specs.Decisions.{added_by, used_by}
+use Rattle.session_turns.specs.Decisions.{added_by, used_by}
 use Rattle.script_play.specs.Ready.{AreKept, IsAskable, IsKeptOp}
 use Rattle.script_play.proofs.SqlLaws.{sql_is_answered, kept_answer, uses_more, ranges_more}
 use Rattle.script_play.proofs.AppliedLaws.{kept_applied}
 use Rattle.script_play.proofs.FitLaws.{sound_fits}
 use Rattle.script_play.specs.SoFar.{now_of, Stored, IsOpen, IsDoing, IsPast, Standing}
-use Rattle.script_play.specs.Step.{World, Turned, state, turned, turn_by, outcome, answer_at, own_line, committed, goes_on, entries_added, IsKept}
-use Rattle.script_play.specs.Doing.{SessionAt, Doing}
-use Rattle.script_play.specs.Doing as doing
+use Rattle.session_turns.specs.Step.{World, Turned, state, turned, turn_by, outcome, answer_at, own_line, committed, goes_on}
+use Rattle.script_play.specs.Step.{entries_added, IsKept}
+use Rattle.session_turns.specs.Doing.{SessionAt, Doing}
+use Rattle.session_turns.specs.Doing as doing
 use Rattle.script_play.proofs.StoredLemmas.{Commits, entry_of, used_alike, world}
 use Rattle.script_play.proofs.DecisionLemmas.{Decided, decides, entries_after, changed_after}
 use Rattle.script_play.proofs.StandingLemmas.{Grows, alone_on, grows_length, idle_after, in_transaction}
@@ -61,7 +62,7 @@ IsPastOf name number pending (Setup position) = Unit {0}
 IsPastOf name number pending (Commit position session txn begin level) = bytes_eq session name ≡ true → IsPast number pending txn
 
 -- the session's transaction of that number, begun there, was told whole by the last of these lines, up to this reply
-pub record WasTold (script : Script) (start : Start) (entries : List EntryLine) (name : List ℕ) (number begin : ℕ) (outcome : ReplyLine) (lines : List Numbered) : Type 0 where
+pub record WasTold (script : Script) (start : Start) (entries : List EntryLine) (name : List ℕ) (number begin : ℕ) (outcome : Reply) (lines : List Numbered) : Type 0 where
   pub transaction : Transaction
   pub is_its : transaction_of sql_language name number script.body ≡ Some transaction
   pub within : begin ≤ now_of start entries
@@ -77,7 +78,7 @@ IsNews script start name lines entries entries' after t = (entries' ≡ entries)
 
 -- the transaction of that number was cut short
 abbrev pub WasCutUnder : List Numbered → ℕ → Type 0
-WasCutUnder lines told = (cause : ReplyLine) × (cuts cause ≡ true) × StandsIn lines (told, cause)
+WasCutUnder lines told = (cause : Reply) × (cuts cause ≡ true) × StandsIn lines (told, cause)
 
 -- what a line does is right
 pub record Turns (script : Script) (start : Start) (entries entries' : List EntryLine) (changed' : List (List Change)) (seen seen' : Seen) (name : List ℕ) (after : Place) (lines : List Numbered) (told : ℕ) (own : Bool) (t : Turned) : Type 0 where
@@ -96,7 +97,7 @@ pub record Comes (script : Script) (start : Start) (entries : List EntryLine) (c
   pub utf8 : is_utf8 text ≡ true
   pub stored : Stored script start entries changed seen
   pub before : List Numbered
-  pub mine : List ReplyLine
+  pub mine : List Reply
   pub is : lines ≡ before ++ numbered p.number mine
   pub past : Along (IsTold (from_start script start) (view_of (from_start script start) entries) name) p.over before
   pub doing : IsDoing script start entries seen.next p pending what mine
@@ -115,7 +116,7 @@ none_past name number n pending below (Commit position session txn begin level �
     go false past = refl
 
 -- a piece added to lines
-pub piece : (lines before : List Numbered) (number : ℕ) (mine more : List ReplyLine) → lines ≡ before ++ numbered number mine → lines ++ numbered number more ≡ before ++ numbered number (mine ++ more)
+pub piece : (lines before : List Numbered) (number : ℕ) (mine more : List Reply) → lines ≡ before ++ numbered number mine → lines ++ numbered number more ≡ before ++ numbered number (mine ++ more)
 piece lines before number mine more is =
     ap (λ ls. ls ++ numbered number more) is ∙ append_assoc before (numbered number mine) (numbered number more) ∙ ap (λ ls. before ++ ls) (sym (numbered_append number mine more))
 
@@ -124,7 +125,7 @@ module _ (script : Script) (start : Start) (entries : List EntryLine) (changed :
   w = world script start entries changed seen
 
   -- a line that adds nothing to the history
-  quiet : (k : Kind) (pending : Option (List (List ℕ))) (what : Doing) → Comes script start entries changed seen name p pending what text k lines → (after : Place) (told number : ℕ) (own : Bool) (replies : List ReplyLine) (at : SessionAt) → seen' ≡ seen →
+  quiet : (k : Kind) (pending : Option (List (List ℕ))) (what : Doing) → Comes script start entries changed seen name p pending what text k lines → (after : Place) (told number : ℕ) (own : Bool) (replies : List Reply) (at : SessionAt) → seen' ≡ seen →
       Standing script start entries seen.next name after (lines ++ numbered number replies) at → Paced (now_of start entries) (now_of start entries) replies → number ≡ told → (are_up_to (is_last_of own) replies ≡ true) ⊎ ((replies ≡ []) × WasCutUnder lines told) →
       Turns script start entries (entries ++ []) (changed ++ []) seen seen' name after lines told own (turned number replies at)
   quiet k pending what c after told number own replies at same stands paced number_is up_to =
@@ -177,7 +178,7 @@ module _ (script : Script) (start : Start) (entries : List EntryLine) (changed :
           (subst (λ n. AllByRecursion (IsKeptOp (tables_of script) n) ops) c.stored.next_is sound))
 
   -- a decision on a transaction that the line ends, behind these replies of it
-  decided_turn : (t : Transaction) (begin : ℕ) (uses : List GenidItem) (ranges : List Interval) (ops : List RowOp) (o : ReplyLine) (added : List (List RowOp)) → begin ≤ now_of start entries → IsFrom (base start) begin →
+  decided_turn : (t : Transaction) (begin : ℕ) (uses : List GenidItem) (ranges : List Interval) (ops : List RowOp) (o : Reply) (added : List (List RowOp)) → begin ≤ now_of start entries → IsFrom (base start) begin →
       Decided script start entries changed seen seen' name t begin uses ranges ops o added → Grows entries (entries_after start entries name t.number begin t.level added)
   decided_turn t begin uses ranges ops o added within first d = go d.told
     where
@@ -185,7 +186,7 @@ module _ (script : Script) (start : Start) (entries : List EntryLine) (changed :
       go (inl none) = inl (ap (λ (l : List (List RowOp)). entries_after start entries name t.number begin t.level l) none ∙ append-nil entries)
       go (inr (x, one, is)) = inr (entry_of name t.number begin t.level (now_of start entries), ap (λ (l : List (List RowOp)). entries_after start entries name t.number begin t.level l) one)
 
-  news_of : (t : Transaction) (begin : ℕ) (uses : List GenidItem) (ranges : List Interval) (ops : List RowOp) (o : ReplyLine) (added : List (List RowOp)) (after : Place) (turn : Turned) → turn.number ≡ t.number → turn.begin ≡ begin → turn.after.level ≡ t.level → StandsIn turn.replies o → IsPast after.number after.pending t.number → WasTold script start entries name turn.number turn.begin o (lines ++ numbered turn.number turn.replies) →
+  news_of : (t : Transaction) (begin : ℕ) (uses : List GenidItem) (ranges : List Interval) (ops : List RowOp) (o : Reply) (added : List (List RowOp)) (after : Place) (turn : Turned) → turn.number ≡ t.number → turn.begin ≡ begin → turn.after.level ≡ t.level → StandsIn turn.replies o → IsPast after.number after.pending t.number → WasTold script start entries name turn.number turn.begin o (lines ++ numbered turn.number turn.replies) →
       Decided script start entries changed seen seen' name t begin uses ranges ops o added → IsNews script start name lines entries (entries_after start entries name t.number begin t.level added) after turn
   news_of t begin uses ranges ops o added after turn number at level stands past begins d = go d.told
     where
@@ -197,7 +198,7 @@ module _ (script : Script) (start : Start) (entries : List EntryLine) (changed :
             ∙ ap (λ (l : Level). entries ++ entry_of name turn.number turn.begin l (now_of start entries) ∷ []) (sym level),
         subst (λ x. StandsIn turn.replies x) is stands,
         subst (λ n. IsPast after.number after.pending n) (sym number) past,
-        subst (λ (x : ReplyLine). WasTold script start entries name turn.number turn.begin x (lines ++ numbered turn.number turn.replies)) is begins,
+        subst (λ (x : Reply). WasTold script start entries name turn.number turn.begin x (lines ++ numbered turn.number turn.replies)) is begins,
       )
 
   -- what is kept for a line
@@ -219,7 +220,7 @@ module _ (script : Script) (start : Start) (entries : List EntryLine) (changed :
       (refl, refl) refl (inl refl)
 
   -- a line outside a transaction has its one reply
-  lone : (k : Kind) (c : Comes script start entries changed seen name p None doing.No text k lines) (answered : ReplyLine) (level : Level) → Paced (now_of start entries) (now_of start entries) (answered ∷ []) → are_up_to (is_last_of false) (answered ∷ []) ≡ true →
+  lone : (k : Kind) (c : Comes script start entries changed seen name p None doing.No text k lines) (answered : Reply) (level : Level) → Paced (now_of start entries) (now_of start entries) (answered ∷ []) → are_up_to (is_last_of false) (answered ∷ []) ≡ true →
       Goal (record { over = p.over ++ Lone answered ∷ []; number = p.number; level = level; pending = None }) 0 false (turned 0 (answered ∷ []) (state p.number level doing.No))
   lone k c answered level paced up_to kept = quiet k None doing.No c (record { over = p.over ++ Lone answered ∷ []; number = p.number; level = level; pending = None }) 0 0 false (answered ∷ []) (state p.number level doing.No) kept
       (idle_after script start entries entries (inl refl) name p c.before c.past (Lone answered) (answered ∷ []) (lines ++ numbered 0 (answered ∷ [])) seen.next p.number level refl
@@ -227,7 +228,7 @@ module _ (script : Script) (start : Start) (entries : List EntryLine) (changed :
       paced refl (inl up_to)
 
   -- a transaction was told up to its decision
-  ends_with : (t : Transaction) (begin : ℕ) (uses : List GenidItem) (ranges : List Interval) (ops : List RowOp) (front : List ReplyLine) (o : ReplyLine) (added : List (List RowOp)) → IsFrom (base start) begin → begin ≤ now_of start entries → (IsDecided o → Ends t.end (o ∷ [])) →
+  ends_with : (t : Transaction) (begin : ℕ) (uses : List GenidItem) (ranges : List Interval) (ops : List RowOp) (front : List Reply) (o : Reply) (added : List (List RowOp)) → IsFrom (base start) begin → begin ≤ now_of start entries → (IsDecided o → Ends t.end (o ∷ [])) →
       front ≡ reply.Begin begin ∷ (alone_at (from_start script start) (view_of (from_start script start) entries) t begin).replies → ops ≡ (alone_at (from_start script start) (view_of (from_start script start) entries) t begin).ops →
       uses ≡ (alone_at (from_start script start) (view_of (from_start script start) entries) t begin).uses → ranges ≡ (alone_at (from_start script start) (view_of (from_start script start) entries) t begin).ranges → Decided script start entries changed seen seen' name t begin uses ranges ops o added →
       IsWhole (from_start script start) (view_of (from_start script start) (entries_after start entries name t.number begin t.level added)) name t (front ++ o ∷ [])
@@ -269,13 +270,13 @@ module _ (script : Script) (start : Start) (entries : List EntryLine) (changed :
   abbrev pub own_txn : Transaction
   own_txn = transaction (p.number + 1) (text ∷ []) p.level WithItsLine
 
-  abbrev pub own_outcome : Answered → ReplyLine
+  abbrev pub own_outcome : Answered → Reply
   own_outcome a = outcome w (now_of start entries) p.level a.uses a.ranges a.ops
 
   abbrev pub own_added : Answered → List (List RowOp)
   own_added a = added_by (own_outcome a) a.ops
 
-  abbrev pub own_front : Answered → List ReplyLine
+  abbrev pub own_front : Answered → List Reply
   own_front a = reply.Begin (now_of start entries) ∷ a.replies
 
   abbrev pub own_entries : Answered → List EntryLine
@@ -305,7 +306,7 @@ module _ (script : Script) (start : Start) (entries : List EntryLine) (changed :
         is_its = c.its own_txn refl refl;
         within = omega arith;
         before = lines;
-        says = ap (λ (rs : List ReplyLine). lines ++ numbered (p.number + 1) (rs ++ own_outcome a ∷ [])) says;
+        says = ap (λ (rs : List Reply). lines ++ numbered (p.number + 1) (rs ++ own_outcome a ∷ [])) says;
       }
 
   own_is : (c : Comes script start entries changed seen name p None doing.No text OtherText lines) → answer_at w (now_of start entries) [] text ≡ sql_language.answer (tables_of script) (rows_at (from_start script start) entries (now_of start entries)).tables [] text
@@ -373,7 +374,7 @@ module _ (script : Script) (start : Start) (entries : List EntryLine) (changed :
     abbrev pub ending : Transaction
     ending = transaction p.number texts p.level ByCommit
 
-    abbrev pub last : ReplyLine
+    abbrev pub last : Reply
     last = outcome w begin p.level uses ranges ops
 
     commits_by : transaction_of sql_language name p.number script.body ≡ Some ending → Decided script start entries changed seen seen' name ending begin uses ranges ops last (added_by last ops) →
@@ -397,7 +398,7 @@ module _ (script : Script) (start : Start) (entries : List EntryLine) (changed :
           is_its = its;
           within = c.doing.within;
           before = c.before;
-          says = piece lines c.before p.number c.mine (last ∷ []) c.is ∙ ap (λ (rs : List ReplyLine). c.before ++ numbered p.number (rs ++ last ∷ [])) c.doing.says;
+          says = piece lines c.before p.number c.mine (last ∷ []) c.is ∙ ap (λ (rs : List Reply). c.before ++ numbered p.number (rs ++ last ∷ [])) c.doing.says;
         }
 
   comes_to_commit : (texts : List (List ℕ)) (begin : ℕ) (ops : List RowOp) (uses : List GenidItem) (ranges : List Interval) (c : Comes script start entries changed seen name p (Some texts) (doing.Open begin ops uses ranges) text CommitText lines) → Goal (closed p texts ByCommit) p.number false (committed w p.number p.level begin uses ranges ops)
@@ -429,7 +430,7 @@ module _ (script : Script) (start : Start) (entries : List EntryLine) (changed :
       says = c.doing.says;
     }
       where
-        more : List ReplyLine
+        more : List Reply
         more = (sql_language.answer (tables_of script) (rows_at (from_start script start) entries c.doing.begin).tables (alone sql_language (tables_of script) (rows_at (from_start script start) entries c.doing.begin) texts).ops text).replies
 
     pub cut_before : WasCutUnder lines p.number
@@ -439,7 +440,7 @@ module _ (script : Script) (start : Start) (entries : List EntryLine) (changed :
       (
         c.before ++ numbered p.number c.doing.front,
         [],
-        c.is ∙ ap (λ (rs : List ReplyLine). c.before ++ numbered p.number rs) c.doing.says ∙ ap (λ (ls : List Numbered). c.before ++ ls) (numbered_append p.number c.doing.front (c.doing.cause ∷ []))
+        c.is ∙ ap (λ (rs : List Reply). c.before ++ numbered p.number rs) c.doing.says ∙ ap (λ (ls : List Numbered). c.before ++ ls) (numbered_append p.number c.doing.front (c.doing.cause ∷ []))
             ∙ sym (append_assoc c.before (numbered p.number c.doing.front) (numbered p.number (c.doing.cause ∷ []))),
       ),
     )

@@ -1,20 +1,25 @@
 -- What is decided of a session's request is what the definitions decide of its transaction, and the entry is that of its
 -- operations.
-use Rattle.std.proofs.Common.{◌≡◌, ◌≢◌, ℕ, ◌+◌, ◌++◌, ◌∷◌, [], List, true, refl, sym, ◌∙◌, ap, subst, drop, Option, Some, None, Result, Ok, Err, IfOk}
+use Rattle.std.proofs.Common.{◌≡◌, ◌≢◌, ℕ, ◌+◌, ◌++◌, ◌∷◌, [], List, map, true, refl, sym, ◌∙◌, ap, subst, drop, Option, Some, None, Result, Ok, Err, IfOk}
 use Rattle.std.specs.Option.{is_some}
-use Rattle.std.specs.Prelude.{option_map}
+use Rattle.std.specs.Prelude.{option_map, slice_get}
 use Rattle.blkseq_table.specs.OfLogs.{HasId, id_of}
 use Rattle.block_processor.proofs.ChangedLemmas.{conflict_changed}
-use Rattle.block_processor.specs.Changed.{FirstUse, changed_in, first_use, found_of}
-use Rattle.block_processor.specs.Conflicts.{conflict_of, ranges_at}
+use Rattle.block_processor.specs.Changed as node
+use Rattle.block_processor.specs.Changed.{changed_in, found_of}
+use Rattle.block_processor.specs.Conflicts as since
+use Rattle.block_processor.specs.Conflicts.{conflict_of}
+use Rattle.script_play.proofs.UseLemmas.{item_alike, ranges_alike, use_out, uses_alike}
 use Rattle.block_processor.specs.Decided.{broken_by, IsConflict, IsDuplicate, IsNextEntry}
 use Rattle.cdb_values.specs.Changes.{changes_of, taken_by}
 use Rattle.cdb_values.specs.Good.{first_broken, KeyName}
 use Rattle.cdb_values.specs.Rows.{Rows, apply_all}
 use Rattle.cdb_values.specs.declared.items.Item.{Item}
 use Rattle.cdb_values.specs.declared.items.Item.TheVariants.{Genid, Range}
+use Rattle.cdb_values.specs.declared.items.Interval.{Interval}
 use Rattle.cdb_values.specs.declared.rows.Change.{Change}
 use Rattle.cdb_values.specs.declared.rows.RowOp.{RowOp}
+use Rattle.cdb_values.specs.declared.tables.KeyDef.{KeyDef}
 use Rattle.cdb_values.specs.declared.tables.TableDef.{TableDef}
 use Rattle.log_rows.proofs.HistoryLemmas.{rows_whole}
 use Rattle.log_rows.specs.History.{rows_over, rows_over_at, tables_of, IsCommit}
@@ -25,20 +30,23 @@ use Rattle.phys_log.specs.Logs.{pages_of}
 use Rattle.phys_log.specs.declared.entries.Entry.{Entry}
 use Rattle.phys_log.specs.declared.requests.CommitRequest.{CommitRequest}
 use Rattle.range_validate.specs.Touches.{changes_in}
-use Rattle.report_text.specs.declared.reports.ReplyLine.{ReplyLine}
-use Rattle.report_text.specs.declared.reports.ReplyLine.TheVariants as reply
+use Rattle.cdb_values.specs.declared.replies.Reply.{Reply}
+use Rattle.cdb_values.specs.declared.replies.Reply.TheVariants as reply
 use Rattle.script_play.proofs.RequestLemmas.{conflict_once, its_request, log_tables}
-use Rattle.script_play.specs.Decisions.{item_told, by_key, decision, judged, added_by, used_by, key_place}
+use Rattle.session_turns.specs.Decisions.{FirstUse, first_use, item_told, by_key, decision, judged, added_by, used_by}
+use Rattle.script_play.specs.Decisions.{key_place}
 use Rattle.script_play.specs.Effects.{IsVerdict, IsEntryOf, IsFreshIn, IsOfIts, IsUnusedIn, named_by}
 use Rattle.script_play.specs.EntryLines.{line_of}
 use Rattle.report_text.specs.declared.reports.EntryLine.{EntryLine}
 use Rattle.script_play.specs.Ready.{IsReady}
 use Rattle.script_play.specs.RunViews.{seen_in}
 use Rattle.script_play.specs.Start.{Start, ground_of}
-use Rattle.script_play.specs.Step.{World, outcome, world_of}
+use Rattle.session_turns.specs.Step.{World, outcome, world_of}
 use Rattle.script_play.specs.declared.verdicts.Verdict.{Verdict}
-use Rattle.session_language.specs.Touched.{Used}
-use Rattle.table_edits.specs.Broken.{KeyPlace, broken_place, named}
+use Rattle.session_language.specs.Touched.{Used, TheVersion, TheRange}
+use Rattle.session_turns.specs.Outcomes.{outcome_told}
+use Rattle.session_turns.specs.declared.answers.Outcome.TheVariants.{Duplicate}
+use Rattle.table_edits.specs.Broken.{KeyPlace, broken_place, key_name, name_in, named}
 use Rattle.table_store.specs.Stored.{Stands}
 
 -- a conflict, a duplicate and a commit add what their outcomes tell
@@ -47,12 +55,12 @@ decision_by : (tables : List TableDef) (changed : List (List Change)) (rows : Ro
 decision_by tables changed rows begin now used [] some = absurd (some refl)
 decision_by tables changed rows begin now used (op ∷ ops) some = refl
 
-judged_conflict : (tables : List TableDef) (rows : Rows) (now : ℕ) (ops : List RowOp) (touch : Option FirstUse) (position : ℕ) (item : Item) → option_map found_of touch ≡ Some (record { position = position; item = item }) →
+judged_conflict : (tables : List TableDef) (rows : Rows) (now : ℕ) (ops : List RowOp) (touch : Option FirstUse) (position : ℕ) (item : Item) → option_map found_of (option_map use_out touch) ≡ Some (record { position = position; item = item }) →
     judged tables rows now ops touch ≡ item_told tables position item
 judged_conflict tables rows now ops None position item is = absurd cc
-judged_conflict tables rows now ops (Some f) position item is = let same : found_of f ≡ record { position = position; item = item } = cc in λ j. item_told tables (same j).position (same j).item
+judged_conflict tables rows now ops (Some f) position item is = let same : found_of (use_out f) ≡ record { position = position; item = item } = cc in ap (item_told tables f.position) (item_alike f.item) ∙ (λ j. item_told tables (same j).position (same j).item)
 
-judged_free : (tables : List TableDef) (rows : Rows) (now : ℕ) (ops : List RowOp) (touch : Option FirstUse) → option_map found_of touch ≡ None →
+judged_free : (tables : List TableDef) (rows : Rows) (now : ℕ) (ops : List RowOp) (touch : Option FirstUse) → option_map found_of (option_map use_out touch) ≡ None →
     judged tables rows now ops touch ≡ by_key now (first_broken tables (apply_all rows ops).tables)
 judged_free tables rows now ops None is = refl
 judged_free tables rows now ops (Some f) is = absurd cc
@@ -91,6 +99,23 @@ abbrev pub NamesBroken : Type 0
 NamesBroken = ((tables : List TableDef) (rows : Rows) → first_broken tables rows.tables ≡ named tables (broken_place rows 0 tables))
     × ((tables : List TableDef) (rows : Rows) → is_some (first_broken tables rows.tables) ≡ is_some (broken_place rows 0 tables))
 
+-- a duplicate is told by the names of its key
+duplicate_told : (tables : List TableDef) (position table key : ℕ) (name : KeyName) → named tables (Some (key_place table key)) ≡ Some name →
+    outcome_told tables (Duplicate position table key) ≡ by_key position (Some name)
+duplicate_told tables position table key name is = at_table (slice_get tables table) refl
+  where
+    at_table : (t : Option TableDef) → slice_get tables table ≡ t → outcome_told tables (Duplicate position table key) ≡ by_key position (Some name)
+    at_table None none = let bad : name_in key None ≡ Some name = ap (name_in key) (sym none) ∙ is in absurd cc
+    at_table (Some t) some = at_key (slice_get t.keys key) refl
+      where
+        at_key : (k : Option KeyDef) → slice_get t.keys key ≡ k → outcome_told tables (Duplicate position table key) ≡ by_key position (Some name)
+        at_key None none =
+            let bad : key_name t None ≡ Some name = ap (key_name t) (sym none) ∙ ap (name_in key) (sym some) ∙ is in absurd cc
+        at_key (Some k) found =
+            let its : key_name t (Some k) ≡ Some name = ap (key_name t) (sym found) ∙ ap (name_in key) (sym some) ∙ is in
+            let same : record { table = t.name; key = k.name } ≡ name = cc in
+            rw (some, found) (ap (λ (n : KeyName). reply.Duplicate position n.table n.key) same)
+
 module _ (start : Start) (generation : ℕ) (tables : List TableDef) (now : ℕ) (log : List Entry) (s : Session) (request : CommitRequest) (ready : IsReady start tables now log) (asked : request_of s ≡ Some request) (names : NamesBroken) where
   abbrev pub w : World
   w = world_of tables (seen_in start log) (changed_in log) now
@@ -111,12 +136,14 @@ module _ (start : Start) (generation : ℕ) (tables : List TableDef) (now : ℕ)
   abbrev first : Option FirstUse
   first = first_use tables s.begin (drop s.begin (changed_in log)) used
 
-  conflict_is : conflict_of request log ≡ option_map found_of first
+  conflict_is : conflict_of request log ≡ option_map found_of (option_map use_out first)
   conflict_is =
       ap (λ (r : CommitRequest). conflict_of r log) its.0
-      ∙ conflict_changed (tables_of log) s.begin log (without_repeats (taken_by s.ops ++ s.genids)) (ranges_at s.level s.ranges)
-      ∙ ap (λ (touch : Option FirstUse). option_map found_of touch) (conflict_once (tables_of log) s.begin (drop s.begin (changed_in log)) (taken_by s.ops ++ s.genids) (ranges_at s.level s.ranges))
-      ∙ ap (λ (ts : List TableDef). option_map found_of (first_use ts s.begin (drop s.begin (changed_in log)) used)) same_tables
+      ∙ conflict_changed (tables_of log) s.begin log (without_repeats (taken_by s.ops ++ s.genids)) (since.ranges_at s.level s.ranges)
+      ∙ ap (λ (touch : Option node.FirstUse). option_map found_of touch) (conflict_once (tables_of log) s.begin (drop s.begin (changed_in log)) (taken_by s.ops ++ s.genids) (since.ranges_at s.level s.ranges))
+      ∙ ap (λ (rs : List Interval). option_map found_of (node.first_use (tables_of log) s.begin (drop s.begin (changed_in log)) (map TheVersion (taken_by s.ops ++ s.genids) ++ map TheRange rs))) (ranges_alike s.level s.ranges)
+      ∙ ap (λ (ts : List TableDef). option_map found_of (node.first_use ts s.begin (drop s.begin (changed_in log)) used)) same_tables
+      ∙ ap (option_map found_of) (uses_alike tables s.begin (drop s.begin (changed_in log)) used)
 
   outcome_is : outcome w s.begin s.level s.genids s.ranges s.ops ≡ judged tables (rows_over_at (ground_of start) log now) now s.ops first
   outcome_is = decision_by tables (changed_in log) (rows_over_at (ground_of start) log now) s.begin now used s.ops its.1
@@ -127,7 +154,7 @@ module _ (start : Start) (generation : ℕ) (tables : List TableDef) (now : ℕ)
   pub conflict_verdict : (v : Verdict) (position : ℕ) (item : Item) → IsConflict request log position item → v.outcome ≡ item_told tables position item → v.added ≡ None →
       IsVerdict start tables log v (outcome w s.begin s.level s.genids s.ranges s.ops) (named_by generation s) s.ops
   conflict_verdict v position item is told added =
-      subst (λ (o : ReplyLine). IsVerdict start tables log v o (named_by generation s) s.ops)
+      subst (λ (o : Reply). IsVerdict start tables log v o (named_by generation s) s.ops)
       (sym (outcome_is ∙ judged_conflict tables (rows_over_at (ground_of start) log now) now s.ops first position item (sym conflict_is ∙ is.first)))
       (record { told = told; added = rw (added_none tables position item s.ops, added) tt })
 
@@ -144,7 +171,7 @@ module _ (start : Start) (generation : ℕ) (tables : List TableDef) (now : ℕ)
       ∙ ap (λ (r : CommitRequest). broken_by (ground_of start) r log) (sym its.0) ∙ is)
 
   pub duplicate_verdict : (v : Verdict) (position table key : ℕ) → IsDuplicate (ground_of start) request log position table key →
-      ((name : KeyName) → named tables (Some (key_place table key)) ≡ Some name → v.outcome ≡ by_key position (Some name)) → v.added ≡ None →
+      v.outcome ≡ outcome_told tables (Duplicate position table key) → v.added ≡ None →
       IsVerdict start tables log v (outcome w s.begin s.level s.genids s.ranges s.ops) (named_by generation s) s.ops
   duplicate_verdict v position table key is told added = go (first_broken tables (apply_all (rows_over_at (ground_of start) log now) s.ops).tables) refl
     where
@@ -154,13 +181,13 @@ module _ (start : Start) (generation : ℕ) (tables : List TableDef) (now : ℕ)
       go : (found : Option KeyName) → first_broken tables (apply_all (rows_over_at (ground_of start) log now) s.ops).tables ≡ found → IsVerdict start tables log v (outcome w s.begin s.level s.genids s.ranges s.ops) (named_by generation s) s.ops
       go None unbroken = let there = is_broken (key_place table key) is.broken in absurd (cc)
       go (Some name) broken =
-          subst (λ (o : ReplyLine). IsVerdict start tables log v o (named_by generation s) s.ops) (sym (free_is is.free ∙ ap (λ (f : Option KeyName). by_key now f) broken))
-          (record { told = told name (sym (broken_is (Some (key_place table key)) is.broken) ∙ broken) ∙ ap (λ k. by_key k (Some name)) at; added = rw added tt })
+          subst (λ (o : Reply). IsVerdict start tables log v o (named_by generation s) s.ops) (sym (free_is is.free ∙ ap (λ (f : Option KeyName). by_key now f) broken))
+          (record { told = told ∙ duplicate_told tables position table key name (sym (broken_is (Some (key_place table key)) is.broken) ∙ broken) ∙ ap (λ k. by_key k (Some name)) at; added = rw added tt })
 
   pub commit_verdict : (v : Verdict) (next : Entry) → IsNextEntry (ground_of start) request log generation next → v.outcome ≡ reply.Committed (now + 1) → v.added ≡ Some next →
       IsVerdict start tables log v (outcome w s.begin s.level s.genids s.ranges s.ops) (named_by generation s) s.ops
   commit_verdict v next is told added =
-      subst (λ (o : ReplyLine). IsVerdict start tables log v o (named_by generation s) s.ops) (sym (free_is is.free ∙ ap (λ (f : Option KeyName). by_key now f) (broken_is None is.kept)))
+      subst (λ (o : Reply). IsVerdict start tables log v o (named_by generation s) s.ops) (sym (free_is is.free ∙ ap (λ (f : Option KeyName). by_key now f) (broken_is None is.kept)))
       (record { told = told; added = rw (added_some (now + 1) s.ops its.1, added) its_entry })
     where
       ops_are : request.ops ≡ s.ops

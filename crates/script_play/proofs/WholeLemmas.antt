@@ -4,7 +4,7 @@ use Rattle.std.proofs.lemmas.List.{append-nil}
 use Rattle.std.specs.List.{AllByRecursion}
 use Rattle.std.specs.Str.{bytes_eq}
 use Rattle.cdb_values.specs.declared.rows.RowOp.{RowOp}
-use Rattle.script_play.specs.Seen.{Seen}
+use Rattle.session_turns.specs.Seen.{Seen}
 use Rattle.script_play.specs.Start.{Start, base}
 use Rattle.script_form.specs.declared.scripts.Script.{Script}
 use Rattle.script_form.specs.declared.scripts.BodyLine.{BodyLine}
@@ -12,8 +12,8 @@ use Rattle.script_form.specs.declared.scripts.SessionLine.{SessionLine}
 use Rattle.report_text.specs.declared.reports.EntryLine.{EntryLine}
 use Rattle.report_text.specs.declared.reports.EntryLine.TheVariants.{Setup}
 use Rattle.report_text.specs.declared.reports.Line.{Line}
-use Rattle.report_text.specs.declared.reports.ReplyLine.{ReplyLine}
-use Rattle.report_text.specs.declared.reports.ReplyLine.TheVariants as reply
+use Rattle.cdb_values.specs.declared.replies.Reply.{Reply}
+use Rattle.cdb_values.specs.declared.replies.Reply.TheVariants as reply
 use Rattle.script_form.specs.CanRun.{tables_of}
 use Rattle.report_laws.specs.History.{rows_at, view_of}
 use Rattle.session_language.specs.Language.{alone}
@@ -30,8 +30,8 @@ use Rattle.cdb_values.specs.declared.rows.Change.{Change}
 use Rattle.report_laws.proofs.NodesLaws.{none_few}
 use Rattle.report_laws.proofs.ToldLaws.{along_append, along_one, along_map}
 use Rattle.script_play.specs.SoFar.{now_of, SoFar, Stored, Standing, IsEnded, IsOpen, IsDoing, at_start, state_of, report_of}
-use Rattle.script_play.specs.Doing.{SessionAt, Doing}
-use Rattle.script_play.specs.Doing as doing
+use Rattle.session_turns.specs.Doing.{SessionAt, Doing}
+use Rattle.session_turns.specs.Doing as doing
 
 -- a session that has done nothing is at its start
 pub starts : (name : List ℕ) (sessions : List SessionLine) → state_of name sessions (map (λ _. at_start) sessions) ≡ at_start
@@ -69,7 +69,7 @@ begins_so script start changed seen stored = record {
     at_first = opening (from_start script start).origin
 
 -- the open transaction, as it was told so far
-open_told : (script : Script) (start : Start) (entries : List EntryLine) (name : List ℕ) (next : ℕ) (texts : List (List ℕ)) (begin : ℕ) (ops : List RowOp) (uses : List GenidItem) (ranges : List Interval) (mine : List ReplyLine) (t : Transaction) → t.texts ≡ texts → t.end ≡ Nowhere → IsOpen script start entries next texts begin ops uses ranges mine →
+open_told : (script : Script) (start : Start) (entries : List EntryLine) (name : List ℕ) (next : ℕ) (texts : List (List ℕ)) (begin : ℕ) (ops : List RowOp) (uses : List GenidItem) (ranges : List Interval) (mine : List Reply) (t : Transaction) → t.texts ≡ texts → t.end ≡ Nowhere → IsOpen script start entries next texts begin ops uses ranges mine →
     IsTold (from_start script start) (view_of (from_start script start) entries) name (Does t) mine
 open_told script start entries name next texts begin ops uses ranges mine t same end is = inl (record {
   begin = begin;
@@ -85,8 +85,8 @@ open_told script start entries name next texts begin ops uses ranges mine t same
 })
 
 -- along all that a session did up to a place of its work
-along_place : (P : Item → List ReplyLine → Type 0) (script : Script) (start : Start) (entries : List EntryLine) (next : ℕ) (name : List ℕ) (p : Place) (pending : Option (List (List ℕ))) (d : Doing) (before : List Numbered) (mine : List ReplyLine) →
-    ((item : Item) (rs : List ReplyLine) → IsTold (from_start script start) (view_of (from_start script start) entries) name item rs → P item rs) →
+along_place : (P : Item → List Reply → Type 0) (script : Script) (start : Start) (entries : List EntryLine) (next : ℕ) (name : List ℕ) (p : Place) (pending : Option (List (List ℕ))) (d : Doing) (before : List Numbered) (mine : List Reply) →
+    ((item : Item) (rs : List Reply) → IsTold (from_start script start) (view_of (from_start script start) entries) name item rs → P item rs) →
     ((texts : List (List ℕ)) (begin : ℕ) (ops : List RowOp) (uses : List GenidItem) (ranges : List Interval) → IsOpen script start entries next texts begin ops uses ranges mine → P (Does (transaction p.number texts p.level Nowhere)) mine) →
     ((texts : List (List ℕ)) → IsCut (from_start script start) (view_of (from_start script start) entries) (transaction p.number texts p.level Nowhere) mine → P (Does (transaction p.number texts p.level Nowhere)) mine) →
     Along (IsTold (from_start script start) (view_of (from_start script start) entries) name) p.over before → IsDoing script start entries next p pending d mine → Along P (p.over ++ open_item p pending) (before ++ numbered p.number mine)

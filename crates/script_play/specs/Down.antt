@@ -9,7 +9,6 @@
 use Rattle.std.specs.Prelude.{◌≡◌, ℕ, ◌+◌, ◌-◌, ◌≤◌, ◌++◌, ◌∷◌, [], List, Bool, true, false, Option, Some, None, length, take, ◌⊎◌}
 use Rattle.cdb_outside.specs.Faults.{Rose}
 use Rattle.cdb_values.specs.declared.rows.Level.{Level}
-use Rattle.cdb_values.specs.declared.rows.StatementError.TheVariants.{State}
 use Rattle.node_log.specs.Logged.{Logged, Leaves, with_entry}
 use Rattle.phys_log.specs.declared.entries.Entry.{Entry}
 use Rattle.report_laws.specs.Told.{lines_of}
@@ -17,38 +16,28 @@ use Rattle.report_text.specs.declared.reports.EntryLine.{EntryLine}
 use Rattle.report_text.specs.declared.reports.EntryLine.TheVariants.{Commit}
 use Rattle.report_text.specs.declared.reports.Line.{Line}
 use Rattle.report_text.specs.declared.reports.Line.TheVariants as line
-use Rattle.report_text.specs.declared.reports.ReplyLine.{ReplyLine}
-use Rattle.report_text.specs.declared.reports.ReplyLine.TheVariants as reply
+use Rattle.cdb_values.specs.declared.replies.Reply.{Reply}
+use Rattle.cdb_values.specs.declared.replies.Reply.TheVariants as reply
 use Rattle.session_language.specs.Each.{StandsIn}
-use Rattle.session_language.specs.Language.{Kind, BeginText, CommitText, RollbackText, LevelText, OtherText}
-use Rattle.script_play.specs.Doing.{SessionAt, Doing}
-use Rattle.script_play.specs.Doing as doing
+use Rattle.session_language.specs.Language.{Kind}
+use Rattle.session_turns.specs.Doing.{SessionAt, Doing}
 use Rattle.script_play.specs.EntryLines.{line_of}
 use Rattle.script_play.specs.Run.{Run}
-use Rattle.script_play.specs.Step.{Turned, state, turned}
+use Rattle.session_turns.specs.Away.{turn_away}
+use Rattle.session_turns.specs.Step.{Turned}
+use Rattle.session_turns.specs.declared.away.Away.{Away}
 
 -- the line that the node went down
 abbrev pub down_line : Line
 down_line = line.Down 1 1 true
 
--- what a session is doing behind a line of a transaction that was cut short: its `commit` and `rollback` end it
-abbrev pub behind_cut : Kind → Doing
-behind_cut BeginText = doing.Aborted
-behind_cut CommitText = doing.No
-behind_cut RollbackText = doing.No
-behind_cut (LevelText later) = doing.Aborted
-behind_cut OtherText = doing.Aborted
+-- the one node as its sessions find it then: it went down by its first line, and none of one is up
+abbrev pub node_down : Away
+node_down = record { node = 1; down = 1; up = 0; nodes = 1 }
 
--- what a line does on a node that is down: that its transaction is lost comes first, then that no majority is up, and any
--- other line is answered as on a node that is up
+-- what a line does there
 abbrev pub turn_down : ℕ → Level → Kind → Doing → Turned
-turn_down number level k (doing.Open begin ops uses ranges) = turned number (reply.Lost 1 1 ∷ []) (state number level (behind_cut k))
-turn_down number level k doing.Aborted = turned number [] (state number level (behind_cut k))
-turn_down number level BeginText doing.No = turned (number + 1) (reply.NoMajority 0 1 ∷ []) (state (number + 1) level doing.Aborted)
-turn_down number level OtherText doing.No = turned (number + 1) (reply.NoMajority 0 1 ∷ []) (state (number + 1) level doing.No)
-turn_down number level CommitText doing.No = turned 0 (reply.Error State ∷ []) (state number level doing.No)
-turn_down number level RollbackText doing.No = turned 0 (reply.Error State ∷ []) (state number level doing.No)
-turn_down number level (LevelText later) doing.No = turned 0 (reply.Level later ∷ []) (state number later doing.No)
+turn_down number level k what = turn_away node_down number level k what
 
 -- a line of a session was told so, and the session is there behind it
 pub record IsToldDown (name : List ℕ) (t : Turned) (after : SessionAt) (lines lines' : List Line) : Type 0 where
@@ -57,7 +46,7 @@ pub record IsToldDown (name : List ℕ) (t : Turned) (after : SessionAt) (lines 
 
 -- what is told by a line at whose entry the node goes down: what comes before its outcome, that the node went down, and that
 -- the transaction is lost
-abbrev pub fallen_lines : List ℕ → ℕ → List ReplyLine → List Line
+abbrev pub fallen_lines : List ℕ → ℕ → List Reply → List Line
 fallen_lines name number front = lines_of name number front ++ down_line ∷ lines_of name number (reply.Lost 1 1 ∷ [])
 
 -- the history that was told of a log: where the store failed, the last entry is not in it
@@ -105,19 +94,19 @@ IsAppendedSo name number entry r r' =
     × IsFallenAt entry r r')
 
 -- the replies to a line that commits an entry: their last is its outcome
-pub record HasOutcome (replies : List ReplyLine) : Type 0 where
-  pub front : List ReplyLine
-  pub outcome : ReplyLine
+pub record HasOutcome (replies : List Reply) : Type 0 where
+  pub front : List Reply
+  pub outcome : Reply
   pub is : replies ≡ front ++ outcome ∷ []
 
 -- where an entry is to be appended, the replies have an outcome
-abbrev pub TellsOutcome : List ReplyLine → Option Entry → Type 0
+abbrev pub TellsOutcome : List Reply → Option Entry → Type 0
 TellsOutcome replies None = Unit {0}
 TellsOutcome replies (Some entry) = HasOutcome replies
 
 -- what is told and kept of a line that appends no entry, and of one that does: its replies, and the entry; or, where the
 -- store fails at it, the lines above
-abbrev pub IsKeptSo : List ℕ → ℕ → List ReplyLine → Option Entry → Run → Run → Type 0
+abbrev pub IsKeptSo : List ℕ → ℕ → List Reply → Option Entry → Run → Run → Type 0
 IsKeptSo name number replies None r r' = (r'.lines ≡ r.lines ++ lines_of name number replies) × (r'.entries ≡ r.entries) × (r'.log ≡ r.log)
 IsKeptSo name number replies (Some entry) r r' =
     ((r'.lines ≡ r.lines ++ lines_of name number replies) × IsEntered entry r r')

@@ -1,5 +1,5 @@
 -- What the code says of a line that is still to be done, and of one that was.
-use Rattle.std.specs.Prelude.{◌≡◌, ℕ, ◌+◌, ◌++◌, ◌∷◌, [], List, Option, Some, None, IfOk, Result, option_to_list}
+use Rattle.std.specs.Prelude.{◌≡◌, ℕ, ◌+◌, ◌++◌, ◌∷◌, [], List, Option, Some, None, length}
 use Rattle.blkseq_table.specs.OfLogs.{HasId, id_of}
 use Rattle.cdb_values.specs.Changes.{changes_of}
 use Rattle.cdb_values.specs.Rows.{apply_all}
@@ -17,17 +17,18 @@ use Rattle.range_validate.specs.Touches.{changes_in}
 use Rattle.report_text.specs.declared.reports.EntryLine.{EntryLine}
 use Rattle.report_text.specs.declared.reports.EntryLine.TheVariants.{Commit}
 use Rattle.report_text.specs.declared.reports.Line.{Line}
-use Rattle.report_text.specs.declared.reports.ReplyLine.{ReplyLine}
+use Rattle.cdb_values.specs.declared.replies.Reply.{Reply}
 use Rattle.table_store.specs.Stored.{Stands}
-use Rattle.script_play.specs.Decisions.{added_by}
+use Rattle.session_turns.specs.Decisions.{added_by}
 use Rattle.script_play.specs.EntryLines.{line_of}
-use Rattle.script_play.specs.RunViews.{state_in, world, IsOwn}
+use Rattle.script_play.specs.Ready.{IsAble}
+use Rattle.script_play.specs.RunViews.{world}
+use Rattle.session_turns.specs.Views.{state_in, IsOwn}
 use Rattle.script_play.specs.Start.{Start, ground_of}
-use Rattle.script_play.specs.Step.{outcome, Turned, Cut}
-use Rattle.script_play.specs.declared.downs.DownEffect.{DownEffect}
+use Rattle.session_turns.specs.Step.{outcome, Turned}
 use Rattle.script_play.specs.declared.effects.LineEffect.{LineEffect}
 use Rattle.script_play.specs.declared.verdicts.Verdict.{Verdict}
-use Rattle.script_play.specs.declared.states.SessionState.{SessionState}
+use Rattle.session_turns.specs.declared.states.SessionState.{SessionState}
 
 -- the transaction that an entry names: of a session, under its number, begun there, at a level; it is decided in a generation,
 -- and began in one
@@ -73,7 +74,7 @@ IsAdded start tables log (Some entry) named (ops ∷ []) = IsEntryOf start table
 IsAdded start tables log (Some entry) named (ops ∷ _ ∷ more) = ⊥
 
 -- what is decided on the operations of a transaction, and the entry that it appends
-pub record IsVerdict (start : Start) (tables : List TableDef) (log : List Entry) (v : Verdict) (outcome : ReplyLine) (named : Named) (ops : List RowOp) : Type 0 where
+pub record IsVerdict (start : Start) (tables : List TableDef) (log : List Entry) (v : Verdict) (outcome : Reply) (named : Named) (ops : List RowOp) : Type 0 where
   pub told : v.outcome ≡ outcome
   pub added : IsAdded start tables log v.added named (added_by outcome ops)
 
@@ -90,6 +91,12 @@ abbrev pub IsVerdictOn : Start → ℕ → List TableDef → List Entry → Sess
 IsVerdictOn start generation tables log s v =
     IsVerdict start tables log v (outcome (world start tables log) s.begin s.level s.genids s.ranges s.ops) (named_by generation s) s.ops
 
+-- the transaction that comes to its commit by a line can, if one does: its operations can be done where it began, and no entry
+-- has its identity
+abbrev pub CanCommit : Start → List TableDef → List Entry → Option Session → Type 0
+CanCommit start tables log None = Unit {0}
+CanCommit start tables log (Some s) = IsAble start tables (length log) log s.begin s.ops × IsUnusedIn log s.id
+
 -- an effect is what a line of a session does
 pub record IsEffect (start : Start) (generation : ℕ) (tables : List TableDef) (log : List Entry) (name : List ℕ) (p : LineEffect) (t : Turned) : Type 0 where
   pub number : p.number ≡ t.number
@@ -97,25 +104,6 @@ pub record IsEffect (start : Start) (generation : ℕ) (tables : List TableDef) 
   pub after : state_in p.after ≡ t.after
   pub own : IsOwn generation name p.after
   pub added : IsAdded start tables log p.added (named_so generation name t.number t.begin t.after.level) t.added
-
--- the same wherever the line is done, and of an answer
-abbrev pub IsEffectAnywhere : LineEffect → Turned → Type 0
-IsEffectAnywhere p t =
-    (start : Start) (generation : ℕ) (tables : List TableDef) (log : List Entry) (name : List ℕ) → IsEffect start generation tables log name p t
-
-abbrev pub AnswersAnywhere : {E : Type 0} → Result LineEffect E → Turned → Type 0
-AnswersAnywhere result t =
-    (start : Start) (generation : ℕ) (tables : List TableDef) (log : List Entry) (name : List ℕ) → IfOk result (λ p. IsEffect start generation tables log name p t)
-
--- what a line of a session does on a node that is down
-pub record IsEffectDown (p : DownEffect) (t : Turned) : Type 0 where
-  pub number : p.number ≡ t.number
-  pub replies : option_to_list p.reply ≡ t.replies
-  pub after : state_in p.after ≡ t.after
-
--- a cut, by where the session is behind it
-abbrev pub cut_in : SessionState → Option Cut
-cut_in after = Some (record { number = after.number; after = state_in after })
 
 -- lines were added behind others
 abbrev pub Grown : List Line → List Line → Type 0

@@ -4,10 +4,11 @@ use Rattle.cdb_values.specs.declared.rows.Change.{Change}
 use Rattle.report_text.specs.declared.reports.EntryLine.{EntryLine}
 use Rattle.report_text.specs.declared.reports.Line.{Line}
 use Rattle.sql_answer.specs.Reading.{kind_of_text}
-use Rattle.script_play.specs.Doing.{SessionAt}
+use Rattle.session_turns.specs.Doing.{SessionAt}
 use Rattle.script_play.specs.Down.{fallen_lines, turn_down, HasOutcome, IsToldDown}
-use Rattle.script_play.specs.Seen.{Seen}
-use Rattle.script_play.specs.Step.{World, Turned, turn, IsTaken, IsTurned}
+use Rattle.session_turns.specs.Seen.{Seen}
+use Rattle.session_turns.specs.Step.{World, Turned, turn}
+use Rattle.script_play.specs.Step.{IsTaken, IsTurned}
 
 -- the history and its rows are as they were
 pub record IsStill (w : World) (entries entries' : List EntryLine) (changed' : List (List Change)) (seen' : Seen) : Type 0 where

@@ -1,14 +1,13 @@
 pub mod Start
 pub mod Basis
 pub mod Serial
-pub mod Seen
-pub mod Doing
 pub mod Decisions
 pub mod EntryLines
 pub mod Run
 pub mod RunViews
 pub mod Effects
 pub mod Ready
+pub mod Reading
 pub mod SoFar
 pub mod Played
 pub mod Step

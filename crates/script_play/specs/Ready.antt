@@ -17,11 +17,10 @@ use Rattle.phys_log.specs.declared.entries.CommitId.{CommitId}
 use Rattle.phys_log.specs.declared.entries.Entry.{Entry}
 use Rattle.session_language.specs.Spelled.{WritesRow, HaveRows}
 use Rattle.sql_run.specs.Sound.{AreSound, HasDistinctColumns, IsSoundOp}
-use Rattle.sql_run.specs.Spelled.{HasColumns}
 use Rattle.table_store.specs.Stored.{Stands}
 use Rattle.script_play.specs.Start.{Start, base, ground_of}
-use Rattle.script_play.specs.Doing.{Doing}
-use Rattle.script_play.specs.Doing as doing
+use Rattle.session_turns.specs.Doing.{Doing}
+use Rattle.session_turns.specs.Doing as doing
 
 -- a sound operation, whose row has texts of UTF-8
 abbrev pub IsKeptOp : List TableDef → ℕ → RowOp → Type 0
@@ -31,9 +30,9 @@ IsKeptOp tables next op = IsSoundOp tables next op × WritesRow op
 abbrev pub AreKept : List TableDef → ℕ → List (List Version) → Type 0
 AreKept tables next versions = AreSound tables next versions × HaveRows versions
 
--- a table as texts ask for it: its columns have distinct names, and there is one
+-- a table as texts ask for it: its columns have distinct names
 abbrev pub IsAskable : TableDef → Type 0
-IsAskable table = HasDistinctColumns table × HasColumns table
+IsAskable table = HasDistinctColumns table
 
 -- a log that has entries can be gone on with over these tables: its first entry is their setup, all others are those of
 -- transactions, each once, and its pages stand for these rows, which are sound, with texts of UTF-8, and tell numbers

@@ -29,30 +29,18 @@ use Rattle.sql_answer.specs.Language.{meaning, bound_in}
 use Rattle.script_play.specs.Start.{Start, ground_of}
 use Rattle.script_play.specs.Down.{history_of, IsHeld, IsLostBy}
 use Rattle.script_play.specs.Falls.{IsDoneOn, IsTakenOn}
-use Rattle.script_play.specs.Doing.{Doing, SessionAt}
-use Rattle.script_play.specs.Doing as doing
+use Rattle.session_turns.specs.Views.{doing_in, state_in, IsOwn}
 use Rattle.script_play.specs.EntryLines.{AreTold}
 use Rattle.script_play.specs.Ready.{AreEarlier, IsReady, IsReadyToGo, IsLogged}
 use Rattle.script_play.specs.Run.{Run, run_of}
-use Rattle.script_play.specs.Seen.{Seen}
+use Rattle.session_turns.specs.Seen.{Seen}
 use Rattle.script_play.specs.SoFar.{IsBefore, Stored, now_of}
-use Rattle.script_play.specs.Step.{World, Turned, entries_added, turn, turn_of, world_of, IsTurned}
+use Rattle.session_turns.specs.Step.{World, Turned, turn, turn_of, world_of}
+use Rattle.script_play.specs.Step.{entries_added, IsTurned}
 use Rattle.script_play.specs.declared.run.RunSoFar.{RunSoFar}
-use Rattle.script_play.specs.declared.states.InTransaction.{InTransaction}
-use Rattle.script_play.specs.declared.states.InTransaction.TheVariants.{No, Open, Aborted}
-use Rattle.script_play.specs.declared.states.SessionState.{SessionState}
-
--- what a session is doing, and where it is
-abbrev pub doing_of : Session → Doing
-doing_of s = doing.Open s.begin s.ops s.genids s.ranges
-
-abbrev pub doing_in : InTransaction → Doing
-doing_in No = doing.No
-doing_in (Open session) = doing_of session
-doing_in Aborted = doing.Aborted
-
-abbrev pub state_in : SessionState → SessionAt
-state_in s = record { number = s.number; level = s.level; doing = doing_in s.doing }
+use Rattle.session_turns.specs.declared.states.InTransaction.{InTransaction}
+use Rattle.session_turns.specs.declared.states.InTransaction.TheVariants.{No, Open, Aborted}
+use Rattle.session_turns.specs.declared.states.SessionState.{SessionState}
 
 -- the run so far
 abbrev pub run_in : {D : Type 0} → RunSoFar D → Run
@@ -101,15 +89,6 @@ pub record IsOpening (tables : List TableDef) (generation : ℕ) (before : List 
 abbrev pub id_so : ℕ → List ℕ → ℕ → CommitId
 id_so generation name number = record { began = generation; session = name; txn = number }
 
--- an open transaction is that of a session of this name, under its number and at its level, begun in a generation
-abbrev pub IsOwnDoing : ℕ → List ℕ → ℕ → Level → InTransaction → Type 0
-IsOwnDoing generation name number level No = Unit {0}
-IsOwnDoing generation name number level (Open session) = (session.id ≡ id_so generation name number) × (session.level ≡ level)
-IsOwnDoing generation name number level Aborted = Unit {0}
-
-abbrev pub IsOwn : ℕ → List ℕ → SessionState → Type 0
-IsOwn generation name s = IsOwnDoing generation name s.number s.level s.doing
-
 -- the number of a transaction that is over, by how many the session has begun
 abbrev pub IsOverBy : InTransaction → ℕ → ℕ → Type 0
 IsOverBy No number txn = txn ≤ number
@@ -122,12 +101,6 @@ AreOverIn generation name number d log = (position txn : ℕ) → HasId log posi
 
 abbrev pub AreOver : ℕ → List ℕ → SessionState → List Entry → Type 0
 AreOver generation name s log = AreOverIn generation name s.number s.doing log
-
--- no transaction is open
-abbrev pub IsShut : InTransaction → Type 0
-IsShut No = Unit {0}
-IsShut (Open session) = ⊥
-IsShut Aborted = Unit {0}
 
 -- each session's open transaction is its own
 abbrev pub AreOwn : ℕ → List SessionLine → List SessionState → Type 0

@@ -6,7 +6,7 @@ use Rattle.std.specs.Str.{bytes_eq}
 use Rattle.cdb_values.specs.declared.rows.Level.TheVariants.{Snapshot}
 use Rattle.cdb_values.specs.declared.rows.RowOp.{RowOp}
 use Rattle.log_rows.specs.History.{IsFrom}
-use Rattle.script_play.specs.Seen.{Seen}
+use Rattle.session_turns.specs.Seen.{Seen}
 use Rattle.script_play.specs.Start.{Start, base}
 use Rattle.script_form.specs.CanRun.{CanRun, IsSaid, tables_of}
 use Rattle.script_form.specs.declared.scripts.Script.{Script}
@@ -16,8 +16,8 @@ use Rattle.report_text.specs.declared.reports.EntryLine.{EntryLine}
 use Rattle.report_text.specs.declared.reports.EntryLine.TheVariants.{Setup, Commit}
 use Rattle.report_text.specs.declared.reports.Line.{Line}
 use Rattle.report_text.specs.declared.reports.Report.{Report}
-use Rattle.report_text.specs.declared.reports.ReplyLine.{ReplyLine}
-use Rattle.report_text.specs.declared.reports.ReplyLine.TheVariants as reply
+use Rattle.cdb_values.specs.declared.replies.Reply.{Reply}
+use Rattle.cdb_values.specs.declared.replies.Reply.TheVariants as reply
 use Rattle.session_language.specs.Language.{alone}
 use Rattle.query_laws.specs.Alone.{sql_language}
 use Rattle.script_play.specs.Basis.{from_start}
@@ -34,10 +34,10 @@ use Rattle.cdb_values.specs.declared.items.Interval.{Interval}
 use Rattle.cdb_values.specs.declared.rows.Change.{Change}
 use Rattle.script_play.specs.Decisions.{HasName}
 use Rattle.script_play.specs.Ready.{AreKept, IsKeptOp}
-use Rattle.script_play.specs.Doing.{SessionAt, Doing}
-use Rattle.script_play.specs.Doing as doing
+use Rattle.session_turns.specs.Doing.{SessionAt, Doing}
+use Rattle.session_turns.specs.Doing as doing
 use Rattle.script_play.specs.Down.{down_line}
-use Rattle.script_play.specs.Step.{state}
+use Rattle.session_turns.specs.Step.{state}
 
 -- where a session is that has done nothing
 abbrev pub at_start : SessionAt
@@ -54,7 +54,7 @@ abbrev pub now_of : Start → List EntryLine → ℕ
 now_of start entries = base start + length entries
 
 -- the open transaction was told so far, has these operations, and its texts used these versions and read these intervals
-pub record IsOpen (script : Script) (start : Start) (entries : List EntryLine) (next : ℕ) (texts : List (List ℕ)) (begin : ℕ) (ops : List RowOp) (uses : List GenidItem) (ranges : List Interval) (mine : List ReplyLine) : Type 0 where
+pub record IsOpen (script : Script) (start : Start) (entries : List EntryLine) (next : ℕ) (texts : List (List ℕ)) (begin : ℕ) (ops : List RowOp) (uses : List GenidItem) (ranges : List Interval) (mine : List Reply) : Type 0 where
   pub first : IsFrom (base start) begin
   pub within : begin ≤ now_of start entries
   pub says : mine ≡ reply.Begin begin ∷ (alone sql_language (tables_of script) (rows_at (from_start script start) entries begin) texts).replies
@@ -64,7 +64,7 @@ pub record IsOpen (script : Script) (start : Start) (entries : List EntryLine) (
   pub sound : AllByRecursion (IsKeptOp (tables_of script) next) ops
 
 -- what a session is doing, by the transaction that is open in its work
-abbrev pub IsDoing : Script → Start → List EntryLine → ℕ → Place → Option (List (List ℕ)) → Doing → List ReplyLine → Type 0
+abbrev pub IsDoing : Script → Start → List EntryLine → ℕ → Place → Option (List (List ℕ)) → Doing → List Reply → Type 0
 IsDoing script start entries next p None doing.No mine = mine ≡ []
 IsDoing script start entries next p None (doing.Open begin ops uses ranges) mine = ⊥
 IsDoing script start entries next p None doing.Aborted mine = ⊥
@@ -75,7 +75,7 @@ IsDoing script start entries next p (Some texts) doing.Aborted mine = IsCut (fro
 -- a session's lines are those of its work so far, and it is where its work is
 pub record Standing (script : Script) (start : Start) (entries : List EntryLine) (next : ℕ) (name : List ℕ) (p : Place) (lines : List Numbered) (at : SessionAt) : Type 0 where
   pub before : List Numbered
-  pub mine : List ReplyLine
+  pub mine : List Reply
   pub is : lines ≡ before ++ numbered p.number mine
   pub past : Along (IsTold (from_start script start) (view_of (from_start script start) entries) name) p.over before
   pub number : at.number ≡ p.number

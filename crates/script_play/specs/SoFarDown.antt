@@ -10,21 +10,21 @@ use Rattle.report_laws.specs.Play.{InTurns}
 use Rattle.report_laws.specs.Told.{told, Along, IsTold, Numbered, numbered}
 use Rattle.report_laws.specs.Work.{Place, place_after}
 use Rattle.report_text.specs.declared.reports.Line.{Line}
-use Rattle.report_text.specs.declared.reports.ReplyLine.{ReplyLine}
-use Rattle.report_text.specs.declared.reports.ReplyLine.TheVariants as reply
+use Rattle.cdb_values.specs.declared.replies.Reply.{Reply}
+use Rattle.cdb_values.specs.declared.replies.Reply.TheVariants as reply
 use Rattle.script_form.specs.CanRun.{CanRun, IsSaid}
 use Rattle.script_form.specs.declared.scripts.BodyLine.{BodyLine}
 use Rattle.script_form.specs.declared.scripts.Script.{Script}
 use Rattle.session_language.specs.Each.{EachAfter}
 use Rattle.query_laws.specs.Alone.{sql_language}
 use Rattle.script_play.specs.Basis.{from_origin}
-use Rattle.script_play.specs.Doing.{SessionAt, Doing}
-use Rattle.script_play.specs.Doing as doing
+use Rattle.session_turns.specs.Doing.{SessionAt, Doing}
+use Rattle.session_turns.specs.Doing as doing
 use Rattle.script_play.specs.Down.{down_line}
 use Rattle.script_play.specs.SoFar.{state_of}
 
 -- what a session is doing, by the transaction that is open in its work: that one was told that no majority is up, and no more
-abbrev pub IsDoingDown : Option (List (List ℕ)) → Doing → List ReplyLine → Type 0
+abbrev pub IsDoingDown : Option (List (List ℕ)) → Doing → List Reply → Type 0
 IsDoingDown None doing.No mine = mine ≡ []
 IsDoingDown None (doing.Open begin ops uses ranges) mine = ⊥
 IsDoingDown None doing.Aborted mine = ⊥
@@ -35,7 +35,7 @@ IsDoingDown (Some texts) doing.Aborted mine = mine ≡ reply.NoMajority 0 1 ∷ 
 -- a session's lines are those of its work so far, and it is where its work is
 pub record StandingDown (basis : Basis) (name : List ℕ) (p : Place) (lines : List Numbered) (at : SessionAt) : Type 0 where
   pub before : List Numbered
-  pub mine : List ReplyLine
+  pub mine : List Reply
   pub is : lines ≡ before ++ numbered p.number mine
   pub past : Along (IsTold basis (view_of basis []) name) p.over before
   pub number : at.number ≡ p.number

@@ -1,122 +1,21 @@
--- What one line of a session does when nobody comes between, by where the session is.
---
--- Outside a transaction `begin` opens one at the last position, a line that does not fit there or
--- sets the level is answered so, and any other line is a transaction of its own. In a transaction
--- `commit` has it decided, `rollback` ends it, and any other line is answered. After a transaction
--- that want of memory ended, lines are skipped up to its `commit` or `rollback`.
-use Rattle.std.specs.Prelude.{◌≡◌, ℕ, ◌+◌, ◌<◌, ◌++◌, ◌∷◌, [], List, Option, Some, None, map, ◌⊎◌}
+-- What one line of a session leaves in the report and its history when nobody comes between: what it does is `turn_of` of
+-- `session_turns`.
+use Rattle.std.specs.Prelude.{◌≡◌, ℕ, ◌+◌, ◌<◌, ◌++◌, ◌∷◌, [], List, Some, map, ◌⊎◌}
+use Rattle.cdb_values.specs.Changes.{changes_of}
 use Rattle.cdb_values.specs.Rows.{apply_all}
+use Rattle.cdb_values.specs.declared.rows.Change.{Change}
 use Rattle.cdb_values.specs.declared.rows.Level.{Level}
 use Rattle.cdb_values.specs.declared.rows.RowOp.{RowOp}
-use Rattle.cdb_values.specs.declared.rows.StatementError.TheVariants.{State}
-use Rattle.cdb_values.specs.declared.tables.TableDef.{TableDef}
-use Rattle.script_play.specs.Seen.{Seen}
+use Rattle.report_laws.specs.Told.{lines_of}
 use Rattle.report_text.specs.declared.reports.EntryLine.{EntryLine}
 use Rattle.report_text.specs.declared.reports.EntryLine.TheVariants.{Commit}
 use Rattle.report_text.specs.declared.reports.Line.{Line}
-use Rattle.report_text.specs.declared.reports.ReplyLine.{ReplyLine}
-use Rattle.report_text.specs.declared.reports.ReplyLine.TheVariants as reply
-use Rattle.session_language.specs.Language.{Answered, Kind, BeginText, CommitText, RollbackText, LevelText, OtherText}
-use Rattle.sql_answer.specs.Answers.{Meaning}
-use Rattle.sql_answer.specs.Language.{meaning, bound_in}
+use Rattle.cdb_values.specs.declared.replies.Reply.TheVariants as reply
+use Rattle.session_language.specs.Language.{Kind}
+use Rattle.session_turns.specs.Doing.{SessionAt, Doing}
+use Rattle.session_turns.specs.Seen.{Seen}
+use Rattle.session_turns.specs.Step.{World, Turned, turn_by, Cut, cut_by}
 use Rattle.sql_answer.specs.Reading.{kind_of_text}
-use Rattle.sql_run.specs.Texts.{answer_to}
-use Rattle.cdb_values.specs.Changes.{changes_of}
-use Rattle.report_laws.specs.Told.{lines_of}
-use Rattle.cdb_values.specs.declared.items.GenidItem.{GenidItem}
-use Rattle.cdb_values.specs.declared.items.Interval.{Interval}
-use Rattle.cdb_values.specs.declared.rows.Change.{Change}
-use Rattle.script_play.specs.Decisions.{decision, added_by, used_by}
-use Rattle.script_play.specs.Doing.{SessionAt, Doing}
-use Rattle.script_play.specs.Doing as doing
-
-abbrev pub state : ℕ → Level → Doing → SessionAt
-state number level what = record { number = number; level = level; doing = what }
-
--- what a line adds: its replies and the number that they are told under, where the session is then,
--- and the operations of the transaction that it commits, if it commits one with operations, begun there
-pub record Turned : Type 0 where
-  pub number : ℕ
-  pub replies : List ReplyLine
-  pub after : SessionAt
-  pub begin : ℕ
-  pub added : List (List RowOp)
-
-abbrev pub turned : ℕ → List ReplyLine → SessionAt → Turned
-turned number replies after = record { number = number; replies = replies; after = after; begin = 0; added = [] }
-
--- what the run is before a line: the tables, the rows at each position, what each entry changed,
--- and the last position
-pub record World : Type 0 where
-  pub tables : List TableDef
-  pub seen : Seen
-  pub changed : List (List Change)
-  pub now : ℕ
-
-abbrev pub world_of : List TableDef → Seen → List (List Change) → ℕ → World
-world_of tables seen changed now = record { tables = tables; seen = seen; changed = changed; now = now }
-
--- a transaction that began at a position comes to its commit at a level with these operations, its texts having used these
--- versions and read these intervals
-abbrev pub outcome : World → ℕ → Level → List GenidItem → List Interval → List RowOp → ReplyLine
-outcome w begin level uses ranges ops = decision w.tables w.changed (w.seen.at w.now) begin w.now (used_by level ops uses ranges) ops
-
--- an answer in a transaction that began there, by what the text means
-abbrev pub answer_of : World → ℕ → List RowOp → Meaning → Answered
-answer_of w begin ops meant = answer_to w.tables (w.seen.at begin).tables ops meant
-
--- the same by the text
-abbrev pub answer_at : World → ℕ → List RowOp → List ℕ → Answered
-answer_at w begin ops text = answer_of w begin ops (meaning bound_in w.tables text)
-
--- a transaction of one line
-abbrev pub own_line : World → ℕ → Level → Answered → Turned
-own_line w number level a = record {
-  number = number;
-  replies = reply.Begin w.now ∷ (a.replies ++ outcome w w.now level a.uses a.ranges a.ops ∷ []);
-  after = state number level doing.No;
-  begin = w.now;
-  added = added_by (outcome w w.now level a.uses a.ranges a.ops) a.ops;
-}
-
--- a transaction comes to its commit
-abbrev pub committed : World → ℕ → Level → ℕ → List GenidItem → List Interval → List RowOp → Turned
-committed w number level begin uses ranges ops = record {
-  number = number;
-  replies = outcome w begin level uses ranges ops ∷ [];
-  after = state number level doing.No;
-  begin = begin;
-  added = added_by (outcome w begin level uses ranges ops) ops;
-}
-
--- a statement is answered in an open transaction, whose texts used these versions and read these intervals so far
-abbrev pub goes_on : ℕ → Level → ℕ → List GenidItem → List Interval → Answered → Turned
-goes_on number level begin uses ranges a = turned number a.replies (state number level (doing.Open begin a.ops (uses ++ a.uses) (ranges ++ a.ranges)))
-
--- what a line does, by what its text means and is to transactions
-abbrev pub turn_of : World → ℕ → Level → Meaning → Kind → Doing → Turned
-turn_of w number level meant BeginText doing.No = turned (number + 1) (reply.Begin w.now ∷ []) (state (number + 1) level (doing.Open w.now [] [] []))
-turn_of w number level meant CommitText doing.No = turned 0 (reply.Error State ∷ []) (state number level doing.No)
-turn_of w number level meant RollbackText doing.No = turned 0 (reply.Error State ∷ []) (state number level doing.No)
-turn_of w number level meant (LevelText later) doing.No = turned 0 (reply.Level later ∷ []) (state number later doing.No)
-turn_of w number level meant OtherText doing.No = own_line w (number + 1) level (answer_of w w.now [] meant)
-turn_of w number level meant BeginText (doing.Open begin ops uses ranges) = goes_on number level begin uses ranges (answer_of w begin ops meant)
-turn_of w number level meant CommitText (doing.Open begin ops uses ranges) = committed w number level begin uses ranges ops
-turn_of w number level meant RollbackText (doing.Open begin ops uses ranges) = turned number (reply.RolledBack ∷ []) (state number level doing.No)
-turn_of w number level meant (LevelText later) (doing.Open begin ops uses ranges) = goes_on number level begin uses ranges (answer_of w begin ops meant)
-turn_of w number level meant OtherText (doing.Open begin ops uses ranges) = goes_on number level begin uses ranges (answer_of w begin ops meant)
-turn_of w number level meant BeginText doing.Aborted = turned number [] (state number level doing.Aborted)
-turn_of w number level meant CommitText doing.Aborted = turned number [] (state number level doing.No)
-turn_of w number level meant RollbackText doing.Aborted = turned number [] (state number level doing.No)
-turn_of w number level meant (LevelText later) doing.Aborted = turned number [] (state number level doing.Aborted)
-turn_of w number level meant OtherText doing.Aborted = turned number [] (state number level doing.Aborted)
-
--- the same by the text
-abbrev pub turn_by : World → ℕ → Level → List ℕ → Kind → Doing → Turned
-turn_by w number level text k what = turn_of w number level (meaning bound_in w.tables text) k what
-
-abbrev pub turn : World → SessionAt → List ℕ → Turned
-turn w before text = turn_by w before.number before.level text (kind_of_text text) before.doing
 
 -- the entry of the transaction that a line commits
 abbrev pub entries_added : List ℕ → ℕ → Turned → List EntryLine
@@ -136,28 +35,6 @@ pub record IsTurned (w : World) (name : List ℕ) (t : Turned) (lines lines' : L
   pub entries_are : entries' ≡ entries ++ entries_added name w.now t
   pub changed_are : changed' ≡ w.changed ++ map (λ ops. changes_of ops w.seen.next) t.added
   pub rows_are : IsKept w.now w.seen seen' t.added
-
--- the number of a transaction that want of memory ends, and where the session is then: it skips the
--- lines of the transaction that are still to come
-pub record Cut : Type 0 where
-  pub number : ℕ
-  pub after : SessionAt
-
-abbrev pub cut : ℕ → SessionAt → Option Cut
-cut number after = Some (record { number = number; after = after })
-
-abbrev pub cut_by : ℕ → Level → Kind → Doing → Option Cut
-cut_by number level BeginText doing.No = cut (number + 1) (state (number + 1) level doing.Aborted)
-cut_by number level CommitText doing.No = None
-cut_by number level RollbackText doing.No = None
-cut_by number level (LevelText later) doing.No = None
-cut_by number level OtherText doing.No = cut (number + 1) (state (number + 1) level doing.No)
-cut_by number level BeginText (doing.Open begin ops uses ranges) = cut number (state number level doing.Aborted)
-cut_by number level CommitText (doing.Open begin ops uses ranges) = cut number (state number level doing.No)
-cut_by number level RollbackText (doing.Open begin ops uses ranges) = cut number (state number level doing.No)
-cut_by number level (LevelText later) (doing.Open begin ops uses ranges) = cut number (state number level doing.Aborted)
-cut_by number level OtherText (doing.Open begin ops uses ranges) = cut number (state number level doing.Aborted)
-cut_by number level _ doing.Aborted = None
 
 -- a line was cut short by want of memory, which is all that was told and done
 pub record IsCutShort (w : World) (name : List ℕ) (c : Cut) (lines lines' : List Line) (entries entries' : List EntryLine) (changed' : List (List Change)) (seen' : Seen) : Type 0 where

@@ -36,18 +36,19 @@
 //!
 //! | Notion | Code | Definition |
 //! |---|---|---|
-//! | where a session is | `states` | `specs/Doing.antt` |
-//! | what a line does | `effects`, `run` | `specs/Step.antt` |
+//! | where a session is, and what a line does | `take_turn` of `session_turns` | `Doing`, `Step` of `session_turns` |
+//! | what it leaves | `run` | `specs/Step.antt` |
 //! | what it does on a node that is down | `downs` | `specs/Down.antt` |
+//! | the node, as its sessions read it | `reader` | `specs/Reading.antt` |
 //! | what it leaves, by whether the node is down | `lines` | `specs/Falls.antt` |
 //! | what a text is answered | `reads` | `Texts` of `sql_run` |
-//! | what is decided at a commit | `verdicts` | `specs/Decisions.antt` |
-//! | what a line is to do, and what is done of it | `effects`, `run` | `specs/Effects.antt` |
+//! | what is decided at a commit | `verdicts` | `Decisions` of `session_turns` |
+//! | what a line is to do with its entry, and what is done of it | `effects`, `run` | `specs/Effects.antt` |
 //! | the run so far, as the code keeps it | `run` | `specs/Run.antt`, `specs/RunViews.antt` |
 //! | which transactions of a session are over | `verdicts` | `AreOver` in `specs/RunViews.antt` |
 //! | the log of the node, with the identities of its entries | `indexed` | `OfLogs` of `blkseq_table` |
 //! | where a run begins: the log before it, and the rows there | | `specs/Start.antt` |
-//! | the rows at each position | | `specs/Seen.antt` |
+//! | the rows at each position | | `Seen` of `session_turns` |
 //! | what the log and the rows keep from line to line | | `specs/Ready.antt` |
 //! | the run so far | `play` | `specs/SoFar.antt` |
 //! | the same on a node that is down from the opening on | `play_down` | `specs/SoFarDown.antt` |
@@ -62,9 +63,9 @@ mod holding;
 mod indexed;
 mod lines;
 mod playing;
+mod reader;
 mod reads;
 mod run;
-mod states;
 mod verdicts;
 
 pub use playing::{Played, play, play_down, schema_of};

@@ -6,24 +6,25 @@ ghost use Rattle.report_text.specs.declared.reports.Line.{Line};
 ghost use Rattle.sql_answer.specs.Language.{meaning, bound_in};
 ghost use Rattle.sql_answer.specs.Reading.{kind_of_text};
 ghost use Rattle.sql_run.specs.Texts.{plan_by};
-ghost use Rattle.sql_run.specs.Views.{kind_in, text_in};
+ghost use Rattle.sql_run.specs.Views.{text_in};
 ghost use Rattle.script_play.specs.RunViews.{run_in, turn_in, AreOver, CanGoOn};
-ghost use Rattle.script_play.specs.RunViews.{IsDoneFrom, IsOfText, IsOwn, IsReadyFor};
+ghost use Rattle.script_play.specs.RunViews.{IsDoneFrom, IsOfText, IsReadyFor};
+ghost use Rattle.session_turns.specs.Views.{IsOwn};
 ghost use Rattle.script_play.specs.RunViews.{IsSameHistory, IsTakenFrom};
 ghost use Rattle.script_play.specs.Down.{history_of, owner_of, IsHeldBy};
 ghost use Rattle.script_play.specs.Effects.{Grown};
 ghost use Rattle.script_play.specs.Start.{Start};
 
 use super::downs::run_down;
-use super::effects::{cut_state, effect_of};
+use super::effects::effect_of;
 use super::holding::beside;
 use super::run::{RunSoFar, add_reply, apply_effect};
-use super::states::SessionState;
 use cdb_outside::LogStore;
-use cdb_values::{Name, Schema};
-use report_text::ReplyLine;
-use sql_run::{Prepared, TextKind, prepare};
+use cdb_values::{Name, Reply, Schema};
+use session_turns::{SessionState, cut_state};
+use sql_run::{Prepared, prepare};
 use std::alloc::{AllocError, Global};
+use std::marker::Brand;
 
 /// More bytes than any line has.
 const TEXT_LIMIT: usize = 1 << 32;
@@ -59,7 +60,7 @@ pub(crate) fn run_session_line<D: LogStore>(
     }
     let cut = cut_state(&state, kind);
     let had = run.lines.len();
-    let done = run_whole(alloc, schema, generation, name, state, kind, &prepared, run);
+    let done = run_whole(alloc, schema, generation, name, state, &prepared, run);
     drop(prepared);
     match done {
         Ok(after) => {
@@ -95,7 +96,6 @@ fn run_whole<D: LogStore>(
     generation: u64,
     name: &Name,
     state: SessionState,
-    kind: TextKind,
     prepared: &Prepared,
     run: &mut RunSoFar<D>,
 ) -> Result<SessionState, AllocError>
@@ -109,13 +109,13 @@ fn run_whole<D: LogStore>(
     requires plan { (text_in prepared.now).plan ≡ plan_by schema.now (text_in prepared.now).meaning }
     requires of_text { IsOfText schema.now (text_in prepared.now).meaning }
     ensures ok { IfOk result (λ after. IsDoneFrom start generation schema.now name.now
-        (turn_in start schema.now run.old.log.entries state (text_in prepared.now).meaning (kind_in kind)) after
+        (turn_in start schema.now run.old.log.entries state (text_in prepared.now).meaning (text_in prepared.now).kind) after
         (run_in run.old) (run_in run.new)) }
     ensures err_lines { OnErr result (Grown run.old.lines.items run.new.lines.items) }
     ensures err_same { OnErr result (IsSameHistory (run_in run.old) (run_in run.new)) }
     ensures owner { owner_of run.new.log ≡ owner_of run.old.log }
 {
-    let effect = effect_of(
+    let effect = effect_of::<Brand>(
         alloc,
         schema,
         generation,
@@ -123,7 +123,6 @@ fn run_whole<D: LogStore>(
         run.log.known(),
         name,
         state,
-        kind,
         prepared,
     )?;
     apply_effect(alloc, name, effect, run)
@@ -138,13 +137,13 @@ fn cut_short<D: LogStore>(
 ) -> Result<SessionState, AllocError>
     ensures state { IfOk result (λ after. cut ≡ Some after) }
     ensures lines { IfOk result (λ after. (kept : List Line) → length kept ≡ had → Grown kept run.old.lines.items
-        → run.new.lines.items ≡ kept ++ lines_of name.now after.number (ReplyLine.NoMemory ∷ [])) }
+        → run.new.lines.items ≡ kept ++ lines_of name.now after.number (Reply.NoMemory ∷ [])) }
     ensures same { IsSameHistory (run_in run.old) (run_in run.new) }
 {
     run.lines.truncate(had);
     let Some(after) = cut else {
         return Err(AllocError);
     };
-    add_reply(&mut run.lines, name, after.number, ReplyLine::NoMemory)?;
+    add_reply(&mut run.lines, name, after.number, Reply::NoMemory)?;
     Ok(after)
 }

@@ -18,10 +18,11 @@ ghost use Rattle.script_play.specs.Down.{history_of, owner_of, with_entries, IsC
 ghost use Rattle.script_play.specs.EntryLines.{AreTold};
 ghost use Rattle.script_play.specs.Played.{changed_at, downs_by, IsFurther, IsGivenUp, IsPlayed};
 ghost use Rattle.script_play.specs.Ready.{AreEarlier, CanBegin};
-ghost use Rattle.script_play.specs.RunViews.{run_in, state_in, IsBeforeLine, IsOpenedBehind, IsSameHistory};
+ghost use Rattle.script_play.specs.RunViews.{run_in, IsBeforeLine, IsOpenedBehind, IsSameHistory};
+ghost use Rattle.session_turns.specs.Views.{state_in};
 ghost use Rattle.script_play.specs.Serial.{AreSerial};
 ghost use Rattle.script_play.specs.SoFarDown.{IsBeforeDown};
-ghost use Rattle.script_play.specs.declared.states.SessionState.{SessionState};
+ghost use Rattle.session_turns.specs.declared.states.SessionState.{SessionState};
 ghost use Rattle.script_play.specs.SoFar.{at_start, report_of, session_at};
 ghost use Rattle.script_play.specs.Start.{Start, ground_of};
 ghost use Rattle.std.specs.Str.{bytes_eq};
@@ -30,13 +31,13 @@ use super::downs::run_down;
 use super::indexed::IndexedLog;
 use super::lines::{read_text, run_session_line};
 use super::run::{RunSoFar, add_down, add_line};
-use super::states::{InTransaction, SessionState};
 use blkseq_table::BlkSeq;
 use cdb_outside::LogStore;
 use cdb_values::{Level, List, Name, Schema, TableDef};
 use node_log::NodeLog;
 use report_text::{EntryLine, Line, Report};
 use script_form::{Act, BodyLine, Script, SessionLine, TableLine};
+use session_turns::{InTransaction, SessionState};
 use std::alloc::{AllocError, Global};
 
 /// A script that was played.

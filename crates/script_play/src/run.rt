@@ -14,13 +14,13 @@ ghost use Rattle.store_log.specs.Held.{generation_of};
 use super::effects::LineEffect;
 use super::holding::beside;
 use super::indexed::IndexedLog;
-use super::states::SessionState;
 use cdb_outside::LogStore;
-use cdb_values::Name;
+use cdb_values::{Name, Reply};
 use entry_spelling::has_spelling;
 use node_log::KeepFault;
 use phys_log::Entry;
-use report_text::{EntryLine, Line, ReplyLine};
+use report_text::{EntryLine, Line};
+use session_turns::SessionState;
 use std::alloc::{AllocError, Global};
 
 /// The run so far: the lines and the history of its report, and the log of the node, whose pages have the rows at each
@@ -46,7 +46,7 @@ pub(crate) fn add_reply(
     lines: &mut Vec<Line>,
     name: &Name,
     number: u64,
-    reply: ReplyLine,
+    reply: Reply,
 ) -> Result<(), AllocError>
     ensures ok { OnOk result (lines.new.items ≡ lines.old.items ++ lines_of name.now number (reply ∷ [])) }
     ensures err { OnErr result (lines.new.items ≡ lines.old.items) }
@@ -66,7 +66,7 @@ fn add_replies(
     lines: &mut Vec<Line>,
     name: &Name,
     number: u64,
-    replies: Vec<ReplyLine>,
+    replies: Vec<Reply>,
 ) -> Result<(), AllocError>
     ensures ok { OnOk result (lines.new.items ≡ lines.old.items ++ lines_of name.now number replies.items) }
     ensures err { OnErr result (Grown lines.old.items lines.new.items) }
@@ -163,10 +163,10 @@ fn put_down(lines: &mut Vec<Line>)
 /// Adds the lines that a transaction is lost, and that the node went down, in this order.
 fn add_fall(lines: &mut Vec<Line>, name: &Name, number: u64) -> Result<(), AllocError>
     ensures ok { OnOk result (lines.new.items ≡
-        lines.old.items ++ (lines_of name.now number (ReplyLine.Lost 1 1 ∷ []) ++ down_line ∷ [])) }
+        lines.old.items ++ (lines_of name.now number (Reply.Lost 1 1 ∷ []) ++ down_line ∷ [])) }
     ensures err { OnErr result (Grown lines.old.items lines.new.items) }
 {
-    add_reply(lines, name, number, ReplyLine::Lost { node: 1, down: 1 })?;
+    add_reply(lines, name, number, Reply::Lost { node: 1, down: 1 })?;
     add_down(lines)
 }
 

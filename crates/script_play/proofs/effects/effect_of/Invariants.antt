@@ -1,8 +1,5 @@
 -- the same start
 use Rattle.script_play.proofs.effects.effect_of.Given as goal
 
-abbrev pub ghost-outside : goal.ghost-outside
-ghost-outside g a = g.start
-
-abbrev pub ghost-inside : goal.ghost-inside
-ghost-inside g a = g.start
+abbrev pub ghost-with_outcome : goal.ghost-with_outcome
+ghost-with_outcome g a = g.J.Footing.start

@@ -2,8 +2,9 @@ use Rattle.std.proofs.Common.{◌≡◌, ◌∙◌, length, false, true, arith, 
 use Rattle.std.specs.Str.{is_utf8}
 use Rattle.script_play.specs.Down.{history_by, IsHeldBy}
 use Rattle.script_play.specs.Ready.{IsLogged}
-use Rattle.script_play.specs.RunViews.{run_in, AreOver, CanGoOn, IsOwn, IsReadyFor, IsTakenFrom}
-use Rattle.script_play.specs.declared.states.SessionState.{SessionState}
+use Rattle.script_play.specs.RunViews.{run_in, AreOver, CanGoOn, IsReadyFor, IsTakenFrom}
+use Rattle.session_turns.specs.Views.{IsOwn}
+use Rattle.session_turns.specs.declared.states.SessionState.{SessionState}
 use Rattle.script_play.proofs.TakeLemmas.{cut_taken, of_ok}
 use Rattle.sql_answer.specs.Language.{meaning, bound_in}
 use Rattle.sql_answer.specs.Reading.{kind_of_text}

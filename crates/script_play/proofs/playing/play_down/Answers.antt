@@ -3,7 +3,7 @@ use Rattle.cdb_values.specs.Rows.{Rows}
 use Rattle.script_form.specs.CanRun.{tables_of}
 use Rattle.script_form.specs.declared.scripts.BodyLine.{BodyLine}
 use Rattle.script_play.specs.Down.{down_line}
-use Rattle.script_play.specs.RunViews.{state_in}
+use Rattle.session_turns.specs.Views.{state_in}
 use Rattle.script_play.specs.SoFar.{at_start}
 use Rattle.script_play.specs.SoFarDown.{IsBeforeDown}
 use Rattle.script_play.proofs.DownRunLemmas.{first_down_is, reports_out, IsOutReport}

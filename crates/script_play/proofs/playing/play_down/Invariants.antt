@@ -1,6 +1,6 @@
 use Rattle.std.proofs.Common.{◌≡◌, length, map}
 use Rattle.script_form.specs.CanRun.{tables_of}
-use Rattle.script_play.specs.RunViews.{state_in}
+use Rattle.session_turns.specs.Views.{state_in}
 use Rattle.script_play.specs.SoFarDown.{IsBeforeDown}
 use Rattle.script_play.proofs.playing.play_down.Given as goal
 

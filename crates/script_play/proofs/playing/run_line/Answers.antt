@@ -3,9 +3,10 @@ use Rattle.cdb_values.specs.declared.tables.TableDef.{TableDef}
 use Rattle.script_form.specs.declared.scripts.Act.TheVariants.{Say}
 use Rattle.script_play.specs.Down.{history_of}
 use Rattle.script_play.specs.Ready.{IsReadyToGo}
-use Rattle.script_play.specs.RunViews.{run_in, doing_in, IsBeforeLine, IsReadyFor, IsTakenFrom}
+use Rattle.script_play.specs.RunViews.{run_in, IsBeforeLine, IsReadyFor, IsTakenFrom}
+use Rattle.session_turns.specs.Views.{doing_in}
 use Rattle.script_play.specs.SoFar.{session_at}
-use Rattle.script_play.specs.declared.states.SessionState.{SessionState}
+use Rattle.session_turns.specs.declared.states.SessionState.{SessionState}
 use Rattle.script_play.proofs.LineLemmas.{declared_there, inside_there, ready_there, taken_there, IsReadyLine}
 use Rattle.script_play.proofs.SiteLemmas.{inside_set, set_again}
 use Rattle.script_play.proofs.playing.run_line.Goals as goal

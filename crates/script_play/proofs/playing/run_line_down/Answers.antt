@@ -6,12 +6,12 @@ use Rattle.script_form.specs.declared.scripts.Script.{Script}
 use Rattle.session_language.specs.Language.{Kind}
 use Rattle.sql_answer.specs.Reading.{kind_of_text}
 use Rattle.sql_run.specs.Views.{kind_in}
-use Rattle.script_play.specs.Doing.{SessionAt}
+use Rattle.session_turns.specs.Doing.{SessionAt}
 use Rattle.script_play.specs.Down.{turn_down, IsToldDown}
-use Rattle.script_play.specs.RunViews.{doing_in, state_in}
+use Rattle.session_turns.specs.Views.{doing_in, state_in}
 use Rattle.script_play.specs.SoFar.{session_at}
 use Rattle.script_play.specs.SoFarDown.{IsBeforeDown}
-use Rattle.script_play.specs.declared.states.SessionState.{SessionState}
+use Rattle.session_turns.specs.declared.states.SessionState.{SessionState}
 use Rattle.script_play.proofs.DownRunLemmas.{is_found, is_inside, went_down}
 use Rattle.script_play.proofs.SiteLemmas.{map_get, map_length, map_set, set_again}
 use Rattle.std.proofs.lemmas.List.{length-set}

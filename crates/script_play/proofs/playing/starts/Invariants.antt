@@ -1,5 +1,5 @@
 use Rattle.std.proofs.Common.{◌≡◌, ◌++◌, length, map}
-use Rattle.script_play.specs.RunViews.{state_in}
+use Rattle.session_turns.specs.Views.{state_in}
 use Rattle.script_play.specs.SoFar.{at_start}
 use Rattle.script_play.proofs.playing.starts.Given as goal
 

@@ -20,19 +20,19 @@ unreachable-requires g c =
 
 pub returns-in-Conflict : goal.returns-in-Conflict
 returns-in-Conflict g c =
-    on_both c.conflict.result
+    on_both c.refused.result
     (λ v told added. conflict_verdict g.start c.args.generation c.args.schema.now (length c.args.log.now) c.args.log.now c.args.session.now c.args.request.now c.requires.0 c.requires.1.1.1.1 (c.the_first_broken_key_has_its_name.ensures.named, c.the_first_broken_key_has_its_name.ensures.told) v
     c.in-Conflict.position c.in-Conflict.item
     (subst (λ (d : Decision). Decides (ground_of g.start) c.args.request.now c.args.log.now c.args.generation d) c.in-Conflict.is c.in_ok-decide.ensures) told added)
-    c.conflict.ensures.told c.conflict.ensures.added
+    c.refused.ensures.told c.refused.ensures.added
 
 pub returns-in-Duplicate : goal.returns-in-Duplicate
 returns-in-Duplicate g c =
-    on_both c.duplicate.result
+    on_both c.refused-in-Duplicate.result
     (λ v told added. duplicate_verdict g.start c.args.generation c.args.schema.now (length c.args.log.now) c.args.log.now c.args.session.now c.args.request.now c.requires.0 c.requires.1.1.1.1 (c.the_first_broken_key_has_its_name.ensures.named, c.the_first_broken_key_has_its_name.ensures.told) v
     c.in-Duplicate.position c.in-Duplicate.table c.in-Duplicate.key
     (subst (λ (d : Decision). Decides (ground_of g.start) c.args.request.now c.args.log.now c.args.generation d) c.in-Duplicate.is c.in_ok-decide.ensures) told added)
-    c.duplicate.ensures.told c.duplicate.ensures.added
+    c.refused-in-Duplicate.ensures.told c.refused-in-Duplicate.ensures.added
 
 pub returns-in-Commit : goal.returns-in-Commit
 returns-in-Commit g c =

@@ -1,5 +1,0 @@
--- the same start
-use Rattle.script_play.proofs.effects.commit.Given as goal
-
-abbrev pub ghost-decided : goal.ghost-decided
-ghost-decided g a = g.start

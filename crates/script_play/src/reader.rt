@@ -1,0 +1,95 @@
+//! The node of a run, as its sessions read it: where transactions begin, and what texts are answered.
+ghost use Rattle.std.specs.Prelude.{◌≡◌};
+ghost use Rattle.script_play.specs.Start.{Start};
+
+use super::reads::answer_text;
+use cdb_values::{List, Reply, Schema};
+use log_replay::PagedLog;
+use osql_session::OsqlSession;
+use session_turns::{Begun, SessionReader, Told};
+use sql_run::Prepared;
+use std::alloc::{AllocError, Global};
+use std::marker::{Brand, Model, PhantomData};
+
+/// Where a run began, which no code holds: a type stands for it. A proof picks it where a call passes `Brand`.
+pub(crate) trait Footing {
+    ghost start: { Start };
+}
+
+impl Footing for Brand {
+    ghost use Rattle.std.specs.Prelude.{[]};
+    ghost use Rattle.cdb_values.specs.Rows.{no_rows};
+
+    ghost start = { record { before = []; rows = no_rows [] } };
+}
+
+/// The node of a run that began there, for as long as its log does not grow. Contracts see it as a `Reader` of `specs/Reading`.
+#[derive(Drop)]
+pub(crate) struct LogReader<'a, J: Footing> {
+    schema: &'a Schema,
+    log: &'a PagedLog,
+    generation: u64,
+    of: PhantomData<J>,
+}
+
+impl<'a, J: Footing> Model for LogReader<'a, J> {
+    ghost use Rattle.script_play.specs.Reading.{Reader};
+
+    ghost Value = { Reader };
+
+    ghost view = { λ n. record { tables = n.schema.now; log = n.log.now; generation = n.generation } };
+}
+
+impl<'a, J: Footing> LogReader<'a, J> {
+    /// The node with this log, whose transactions begin in that generation. Takes no memory.
+    pub(crate) fn new(schema: &'a Schema, log: &'a PagedLog, generation: u64) -> LogReader<'a, J>
+        ensures { result ≡ record { tables = schema.now; log = log.now; generation = generation } }
+    {
+        LogReader {
+            schema,
+            log,
+            generation,
+            of: PhantomData,
+        }
+    }
+}
+
+impl<J: Footing> SessionReader for LogReader<'_, J> {
+    ghost use Rattle.std.proofs.Common.{◌∙◌};
+    ghost use Rattle.std.specs.Prelude.{◌≡◌, refl};
+    ghost use Rattle.script_play.specs.Reading.{CanRead};
+    ghost use Rattle.script_play.specs.RunViews.{world, IsReadyFor};
+
+    ghost history = { λ n. world J.start n.tables n.log };
+
+    ghost generation = { λ n. n.generation };
+
+    ghost ready = { λ n. IsReadyFor J.start n.tables n.log };
+
+    ghost reads = { λ n at. CanRead J.start n.tables n.log at };
+
+    ghost rests = { λ a b. b ≡ a };
+
+    ghost waits = { ⊥ };
+
+    fn begin(&mut self, _alloc: Global) -> Result<Told<Begun>, AllocError> {
+        Ok(Told::Now(Begun {
+            position: self.log.entries().len() as u64,
+            generation: self.generation,
+        }))
+    }
+
+    fn answer(
+        &mut self,
+        alloc: Global,
+        session: &mut OsqlSession,
+        prepared: &Prepared,
+    ) -> Result<Told<List<Reply>>, AllocError> {
+        let replies = answer_text(alloc, self.schema, self.log, session, prepared)?;
+        Ok(Told::Now(replies))
+    }
+
+    ghost rests_still = { λ a. refl };
+
+    ghost rests_on = { λ a b c first second. second ∙ first };
+}

@@ -1,0 +1,3 @@
+pub mod WorldLemmas
+pub mod TurnLemmas
+pub mod ReadLemmas

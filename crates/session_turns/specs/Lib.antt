@@ -1,0 +1,11 @@
+pub mod Doing
+pub mod Seen
+pub mod Decisions
+pub mod Step
+pub mod Away
+pub mod Worlds
+pub mod Asked
+pub mod Outcomes
+pub mod Views
+pub mod Answers
+pub mod Cuts
