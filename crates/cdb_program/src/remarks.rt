@@ -1,8 +1,8 @@
 //! What is said on standard error. Where it cannot be said the run goes on: its report and its status are the answer.
 use crate::NODES;
+use cdb_outside::Status;
 use cdb_values::Bytes;
 use file_store::FileStore;
-use script_main::Status;
 use status_words::status_words;
 use std::io::Write;
 

@@ -33,7 +33,6 @@ use Rattle.script_play.specs.Start.{Start, base, ground_of}
 use Rattle.session_language.specs.Each.{EachAfter}
 use Rattle.session_language.specs.Language.{Answered}
 use Rattle.session_language.proofs.EachLaws.{all_append, get_next}
-use Rattle.sound_log.specs.Columns.{HasColumns}
 use Rattle.sound_log.specs.Identities.{ids_in, AreApart}
 use Rattle.sound_log.specs.Sound.{IsBegunIn, IsSound}
 use Rattle.sound_log.proofs.GoOnLemmas.{sound_on}
@@ -239,13 +238,13 @@ module _ (script : Script) (start : Start) (generation : ℕ) (entries : List En
         within = let b : length history ≡ length start.before + length told.told.made = behind in omega arith
 
     -- where a run began behind a sound log, in a later generation, its log is sound in this generation
-    pub sound_again : (accepted : ℕ) → accepted < generation → IsSound accepted start.before → AllByRecursion HasColumns tables
+    pub sound_again : (accepted : ℕ) → accepted < generation → IsSound accepted start.before
         → (Stands (pages_of history) tables (rows_over (ground_of start) history) → AllFit tables (rows_over (ground_of start) history).tables
         → IsGood tables (rows_over (ground_of start) history).tables) → IsSound generation history
-    sound_again accepted later sound columns good =
+    sound_again accepted later sound good =
         subst (λ (es : List Entry). IsSound generation es) (sym told.told.behind)
         (sound_on accepted generation start.before told.told.made tables (rows_over (ground_of start) history) later sound
-        (subst (λ (es : List Entry). schema_of es ≡ Some tables) told.told.behind told.schema) columns
+        (subst (λ (es : List Entry). schema_of es ≡ Some tables) told.told.behind told.schema)
         (all_commits basis accepted (length start.before + 1) start.before told.told.made refl sound each)
         (begun_in generation told.told.made told.told.in_it)
         (apart_made basis [] (length start.before + 1) told.told.made each)

@@ -1,6 +1,5 @@
 -- The history of a run over a store is sound again, in the run's generation.
-use Rattle.std.proofs.Common.{◌≡◌, ◌≢◌, ℕ, ◌+◌, ◌≤◌, List, [], ◌∷◌, length, map, Option, Some, None, sym, subst, inl, inr, arith}
-use Rattle.std.specs.List.{AllByRecursion}
+use Rattle.std.proofs.Common.{◌≡◌, ℕ, ◌+◌, ◌≤◌, List, [], ◌∷◌, length, Option, Some, None, sym, subst, inl, inr, arith}
 use Rattle.cdb_values.specs.Good.{AllFit, IsGood}
 use Rattle.cdb_values.specs.Rows.{Rows}
 use Rattle.cdb_values.specs.declared.tables.TableDef.{TableDef}
@@ -12,12 +11,10 @@ use Rattle.page_store.specs.Image.{Image}
 use Rattle.phys_log.specs.Logs.{pages_of}
 use Rattle.phys_log.specs.declared.entries.Entry.{Entry}
 use Rattle.report_text.specs.declared.reports.EntryLine.{EntryLine}
-use Rattle.script_form.specs.CanRun.{tables_of, CanRun}
+use Rattle.script_form.specs.CanRun.{tables_of}
 use Rattle.script_form.specs.declared.scripts.Script.{Script}
-use Rattle.script_form.specs.declared.scripts.TableLine.{TableLine}
 use Rattle.script_play.specs.Played.{IsHistory}
 use Rattle.script_play.specs.Start.{Start, ground_of}
-use Rattle.sound_log.specs.Columns.{HasColumns}
 use Rattle.sound_log.specs.Sound.{IsSound}
 use Rattle.store_log.specs.declared.standings.Standing.TheVariants.{Log}
 use Rattle.store_log.specs.Held.{Held, after, after_all, AllMay, May, StandsFor, at_first, with_entry}
@@ -52,11 +49,6 @@ accepted_within c bytes p a es (inr s) =
     let y : (after_all at_first s.frames).accepted ≡ a = s.accepted in
     omega arith
 
--- tables of lines with columns
-pub all_columns : (lines : List TableLine) → AllByRecursion (λ (t : TableLine). t.table.columns ≢ []) lines → AllByRecursion HasColumns (map (λ (t : TableLine). t.table) lines)
-all_columns [] all = tt
-all_columns (l ∷ ls) all = (all.0, all_columns ls all.1)
-
 -- the state of a log with entries, of the script's tables
 state_of : (script : Script) (before : List Entry) (rows : Rows) → HasTables (tables_of script) before → HasRows before rows → 1 ≤ length before → HasState (pages_of before) (tables_of (with_tables script before)) rows
 state_of script [] rows tables has some = absurd (omega arith)
@@ -66,20 +58,14 @@ state_of script (e ∷ es) rows tables has some = subst (λ (ts : List TableDef)
 abbrev pub KeepTheirKeys : Type 0
 KeepTheirKeys = (pages : ℕ → Image) (tables : List TableDef) (rows : Rows) → Stands pages tables rows → AllFit tables rows.tables → IsGood tables rows.tables
 
--- the tables of a script that can run, or those that it takes from a sound log
-pub columns_with : (script : Script) (a : ℕ) (before : List Entry) → CanRun script → IsSound a before → HasTables (tables_of script) before → AllByRecursion HasColumns (tables_of (with_tables script before))
-columns_with script a [] can sound has = all_columns script.tables can.columns
-columns_with script a (e ∷ es) can (inl none) has = absurd cc
-columns_with script a (e ∷ es) can (inr sound) has = subst (λ (ts : List TableDef). AllByRecursion HasColumns ts) (sym (tables_with script (e ∷ es) has (omega arith))) sound.columns
-
 -- whatever lines tell it
-pub sound_behind : (script : Script) (c : ℕ) (bytes : List ℕ) (p a : ℕ) (before : List Entry) (start : Start) (entries : List EntryLine) (made : List Entry) → KeepTheirKeys → AllByRecursion HasColumns (tables_of (with_tables script before)) →
+pub sound_behind : (script : Script) (c : ℕ) (bytes : List ℕ) (p a : ℕ) (before : List Entry) (start : Start) (entries : List EntryLine) (made : List Entry) → KeepTheirKeys →
     start.before ≡ before → StandsForGood 1 c bytes (tables_of script) p a before → HasRows before start.rows → IsHistory (with_tables script before) start (p + 1) entries made →
     IsSound (p + 1) made
-sound_behind script c bytes p a before start entries made law columns behind stood has told =
+sound_behind script c bytes p a before start entries made law behind stood has told =
     let whole = with_tables script before in
     let l : a ≤ p = accepted_within c bytes p a before stood.stands in
     sound_again whole start (p + 1) entries made told
     (subst (λ (es : List Entry). 1 ≤ length es → HasState (pages_of es) (tables_of whole) start.rows) (sym behind) (state_of script before start.rows stood.good.tables has))
-    a (omega arith) (subst (λ (es : List Entry). IsSound a es) (sym behind) stood.good.sound) columns
+    a (omega arith) (subst (λ (es : List Entry). IsSound a es) (sym behind) stood.good.sound)
     (λ stands fit. law (pages_of made) (tables_of whole) (history.rows_over (ground_of start) made) stands fit)

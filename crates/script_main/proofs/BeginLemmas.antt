@@ -1,14 +1,13 @@
 -- A run can begin behind a log that was taken up: its rows fit their tables, have genids below the next one, and are rows
 -- that can be told.
-use Rattle.std.proofs.Common.{◌≡◌, ◌≢◌, ◌≤◌, ◌<◌, ◌+◌, ◌^◌, inl, inr, ℕ, List, [], ◌∷◌, length, refl, sym, ap, ◌∙◌, subst, arith}
+use Rattle.std.proofs.Common.{◌≡◌, ◌≤◌, ◌<◌, ◌+◌, ◌^◌, inl, inr, ℕ, List, [], ◌∷◌, length, refl, sym, ap, ◌∙◌, subst, arith}
 use Rattle.std.proofs.lemmas.Str.{is_utf8-from_IsUtf8}
 use Rattle.std.specs.List.{AllByRecursion}
 use Rattle.blkseq_table.specs.Known.{AreApart, IsAbsent}
 use Rattle.blkseq_table.specs.OfLogs.{identities_from}
-use Rattle.cdb_values.specs.Good.{AllFit, FitsColumns, FitsTable}
+use Rattle.cdb_values.specs.Good.{AllFit, FitsTable}
 use Rattle.cdb_values.specs.Rows.{Rows, no_rows}
 use Rattle.cdb_values.specs.declared.rows.Version.{Version}
-use Rattle.cdb_values.specs.declared.tables.ColumnDef.{ColumnDef}
 use Rattle.cdb_values.specs.declared.tables.TableDef.{TableDef}
 use Rattle.cdb_values.specs.declared.values.Value.{Value}
 use Rattle.cdb_values.specs.declared.values.Value.TheVariants.{Null, Int, Text, Blob}
@@ -24,7 +23,6 @@ use Rattle.script_play.specs.Ready.{CanBegin}
 use Rattle.script_play.specs.RunViews.{IsOpenedBehind, IsOpenedLog}
 use Rattle.session_language.specs.Spelled.{IsToldValue, IsToldRow, HaveRows}
 use Rattle.sound_log.specs.Bytes.{IsOfBytes, RowIsOfBytes, RowsAreOfBytes, AreOfBytes}
-use Rattle.sound_log.specs.Columns.{HasColumns}
 use Rattle.sound_log.specs.Identities.{ids_in}
 use Rattle.sound_log.specs.Identities as ids
 use Rattle.sound_log.specs.Sound.{IsSoundHistory, IsSound}
@@ -55,31 +53,18 @@ told_value (Int n) text bytes = tt
 told_value (Text words) text bytes = is_utf8-from_IsUtf8 words text
 told_value (Blob blob) text bytes = bytes
 
-told_values : (values : List Value) → AllByRecursion IsRowValue values → AllByRecursion IsOfBytes values → AllByRecursion IsToldValue values
+told_values : (values : List Value) → AllByRecursion IsRowValue values → AllByRecursion IsOfBytes values → IsToldRow values
 told_values [] coded bytes = tt
 told_values (v ∷ vs) coded bytes = (told_value v coded.0.text bytes.0, told_values vs coded.1 bytes.1)
 
--- a row of a table with columns
-told_row : (columns : List ColumnDef) (row : List Value) → columns ≢ [] → FitsColumns columns row → AllByRecursion IsRowValue row
-    → AllByRecursion IsOfBytes row → IsToldRow row
-told_row [] row some fits coded bytes = absurd (some refl)
-told_row (column ∷ columns) [] some fits coded bytes = absurd fits
-told_row (column ∷ columns) (v ∷ vs) some fits coded bytes = (told_value v coded.0.text bytes.0, told_values vs coded.1 bytes.1)
-
-told_versions : (table : TableDef) (versions : List Version) → HasColumns table → AllByRecursion (λ v. FitsTable table v.row) versions
-    → AllByRecursion (λ v. AllByRecursion IsRowValue v.row) versions → AllByRecursion RowIsOfBytes versions
+told_versions : (versions : List Version) → AllByRecursion (λ v. AllByRecursion IsRowValue v.row) versions → AllByRecursion RowIsOfBytes versions
     → AllByRecursion (λ v. IsToldRow v.row) versions
-told_versions table [] some fit coded bytes = tt
-told_versions table (v ∷ vs) some fit coded bytes =
-    (told_row table.columns v.row some fit.0.columns coded.0 bytes.0, told_versions table vs some fit.1 coded.1 bytes.1)
+told_versions [] coded bytes = tt
+told_versions (v ∷ vs) coded bytes = (told_values v.row coded.0 bytes.0, told_versions vs coded.1 bytes.1)
 
-told_rows : (tables : List TableDef) (next : ℕ) (versions : List (List Version)) → AllByRecursion HasColumns tables → AllFit tables versions
-    → AllByRecursion (AreVersions next) versions → RowsAreOfBytes versions → HaveRows versions
-told_rows [] next [] some fit are bytes = tt
-told_rows [] next (vs ∷ others) some fit are bytes = absurd fit
-told_rows (table ∷ tables) next [] some fit are bytes = absurd fit
-told_rows (table ∷ tables) next (vs ∷ others) some fit are bytes =
-    (told_versions table vs some.0 fit.0 are.0.coded bytes.0, told_rows tables next others some.1 fit.1 are.1 bytes.1)
+told_rows : (next : ℕ) (versions : List (List Version)) → AllByRecursion (AreVersions next) versions → RowsAreOfBytes versions → HaveRows versions
+told_rows next [] are bytes = tt
+told_rows next (vs ∷ others) are bytes = (told_versions vs are.0.coded bytes.0, told_rows next others are.1 bytes.1)
 
 -- an identity that is not among those of entries is absent from what a table has of them
 absent : (position : ℕ) (es : List Entry) (id : CommitId) → (IsAmong id (ids_in es) → ⊥) → IsAbsent (identities_from position es) id
@@ -105,8 +90,7 @@ can_begin accepted e es sound bytes = record {
   stands = state.stands;
   kept = (
     sound_rows (tables_of (e ∷ es)) sound.rows.next sound.rows.tables state.good.rows_fit state.stands.state.versions,
-    told_rows (tables_of (e ∷ es)) sound.rows.next sound.rows.tables sound.columns state.good.rows_fit state.stands.state.versions
-        (bytes sound.rows state),
+    told_rows sound.rows.next sound.rows.tables state.stands.state.versions (bytes sound.rows state),
   );
   small = record { genid = subst (λ (n : ℕ). n < 2 ^ 62) (sym state.stands.genid) state.next; count = state.count };
 }

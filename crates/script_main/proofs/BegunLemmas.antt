@@ -1,6 +1,7 @@
 -- A node that is up can begin a run behind the log that its store stood for.
-use Rattle.std.proofs.Common.{◌⊎◌, ◌≡◌, ◌≢◌, ℕ, zero, suc, ◌+◌, ◌-◌, ◌<◌, ◌≤◌, None, Some, List, [], ◌∷◌, length, take, map, false, refl, sym, subst, ap, ◌∙◌, inl, inr, arith}
+use Rattle.std.proofs.Common.{◌⊎◌, ◌≡◌, ◌≢◌, ℕ, zero, suc, ◌+◌, ◌-◌, ◌<◌, ◌≤◌, None, Some, List, [], ◌∷◌, length, take, map, Bool, false, not, ◌==◌, refl, sym, subst, ap, ◌∙◌, inl, inr, arith}
 use Rattle.std.proofs.Math.Seq.{take-length}
+use Rattle.std.proofs.lemmas.Bool.{ne_eqb, false≢true}
 use Rattle.std.specs.List.{AllByRecursion}
 use Rattle.std.specs.Prelude.{slice_get}
 use Rattle.blkseq_table.specs.OfLogs.{id_of}
@@ -18,7 +19,6 @@ use Rattle.script_form.specs.CanRun.{tables_of, CanRun}
 use Rattle.script_form.specs.declared.scripts.Script.{Script}
 use Rattle.script_play.specs.Ready.{AreEarlier}
 use Rattle.script_play.specs.RunViews.{IsOpenedBehind}
-use Rattle.sound_log.specs.Columns.{HasColumns}
 use Rattle.sound_log.specs.Identities.{ids_in}
 use Rattle.sound_log.specs.Sound.{IsBegunBy, IsSound}
 use Rattle.store_log.specs.Keeps.{Stored}
@@ -114,17 +114,6 @@ begun_at script old base log o =
     given : before ≡ [] → tables_of script ≡ tables
     given none = ap (λ (es : List Entry). tables_of (with_tables script es)) (sym none)
 
--- the tables of the log that was taken up have columns
-
-columns_of : (accepted : ℕ) (before : List Entry) → IsSound accepted before → AllByRecursion HasColumns (history.tables_of before)
-columns_of accepted before (inl none) = subst (λ (es : List Entry). AllByRecursion HasColumns (history.tables_of es)) (sym none) tt
-columns_of accepted before (inr sound) = sound.columns
-
-pub opened_columns : (script : Script) (old : Stored) (base : ℕ) (log : Logged) → IsOpened script old base log → AllByRecursion HasColumns (history.tables_of (log_before base log))
-opened_columns script old base log o =
-    subst (λ (es : List Entry). AllByRecursion HasColumns (history.tables_of es)) (sym (before_is script old base log o))
-    (columns_of o.taken.old_accepted o.taken.old_entries o.taken.stood.good.sound)
-
 -- where there was a log, it is the one that the node has
 
 some_behind : (generation : ℕ) (given : List TableDef) (before log : List Entry) (base : ℕ) → base ≡ length before → base ≢ 0 → GoesOn generation given before log → log ≡ before
@@ -146,11 +135,10 @@ some_before script old base log o some =
     one_or (suc n) not = omega arith
 
 -- a script that takes the tables of the log can run
-pub takes_tables : (script whole : Script) (old : Stored) (base : ℕ) (log : Logged) → CanRun script → IsOpened script old base log → ∥ AreSpelled log.entries ∥₁ →
-    base ≢ 0 → whole ≡ record script { tables = map unsaid (history.tables_of log.entries) } → CanRun whole
-takes_tables script whole old base log can o spelled some is =
-    subst CanRun (sym is) (can_run_unsaid script (history.tables_of log.entries) can (log_taken log.entries spelled)
-    (subst (λ (es : List Entry). AllByRecursion HasColumns (history.tables_of es)) (sym (log_is script old base log o some)) (opened_columns script old base log o)))
+pub takes_tables : (script whole : Script) (log : Logged) → CanRun script → ∥ AreSpelled log.entries ∥₁ →
+    whole ≡ record script { tables = map unsaid (history.tables_of log.entries) } → CanRun whole
+takes_tables script whole log can spelled is =
+    subst CanRun (sym is) (can_run_unsaid script (history.tables_of log.entries) can (log_taken log.entries spelled))
 
 -- and it is the script with those tables
 pub takes_as : (script whole : Script) (old : Stored) (base : ℕ) (log : Logged) → IsOpened script old base log →
@@ -163,3 +151,8 @@ takes_as script whole old base log o some none is =
 pub keeps_tables : (script : Script) (base : ℕ) (log : Logged) → (base ≡ 0) ⊎ (script.tables ≢ []) → script ≡ with_tables script (log_before base log)
 keeps_tables script base log (inl none) = ap (λ (es : List Entry). with_tables script es) (sym (ap (λ n. take n log.entries) none))
 keeps_tables script base log (inr some) = sym (own_tables script (log_before base log) some)
+
+-- a list is empty where the test of it says so
+pub nil_from_test : {A : Type 0} (xs : List A) (value empty : Bool) → value ≡ not empty → empty ≡ (length xs == 0) → value ≡ false → xs ≡ []
+nil_from_test [] value empty is test fails = refl
+nil_from_test (x ∷ xs) value empty is test fails = absurd (false≢true (sym fails ∙ is ∙ ap not (test ∙ ne_eqb (length (x ∷ xs)) 0 (λ h. let e : suc (length xs) ≡ 0 = h in omega arith))))

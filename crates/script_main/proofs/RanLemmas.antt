@@ -14,7 +14,7 @@ use Rattle.node_opening.specs.declared.up.WhyNotUp.TheVariants as why
 use Rattle.node_opening.specs.Goods.{StandsForGood}
 use Rattle.node_opening.specs.Left.{IsLeft, StandsPartway, StopsPartway}
 use Rattle.node_opening.specs.Up.{IsBegin}
-use Rattle.node_opening.specs.Why.{HasRisen, IsWhy}
+use Rattle.node_opening.specs.Why.{HasRisen, IsWhy, TellsLength}
 use Rattle.page_store.specs.Image.{Image}
 use Rattle.phys_log.specs.Logs.{pages_of}
 use Rattle.phys_log.specs.declared.entries.Entry.{Entry}
@@ -38,22 +38,20 @@ use Rattle.script_play.proofs.PlayLaws.{given_first}
 use Rattle.store_log.specs.declared.standings.Standing.TheVariants.{Log}
 use Rattle.store_log.specs.Held.{StandsFor}
 use Rattle.store_log.specs.Keeps.{Stored}
-use Rattle.script_main.proofs.AgainLemmas.{accepted_within, all_columns, columns_with, sound_behind, KeepTheirKeys}
+use Rattle.script_main.proofs.AgainLemmas.{accepted_within, sound_behind, KeepTheirKeys}
 use Rattle.script_main.proofs.BegunLemmas.{before_is, begins_at, begun_at}
-use Rattle.std.specs.List.{AllByRecursion}
-use Rattle.sound_log.specs.Columns.{HasColumns}
 use Rattle.sound_log.specs.Sound.{IsSound}
 use Rattle.sound_log.proofs.GrowthLemmas.{sound_first, sound_later}
 use Rattle.table_store.specs.Stored.{Stands}
 use Rattle.script_main.proofs.KnownLemmas.{only_state}
 use Rattle.script_main.proofs.SoundLemmas.{alike_again}
-use Rattle.script_main.proofs.ReportedLemmas.{one_such, spelled_over, told_in_grammar}
+use Rattle.script_main.proofs.ReportedLemmas.{in_nodes_order, lawful_of_nodes, one_such, spelled_over, told_in_grammar}
 use Rattle.script_main.specs.Known.{IsKnown}
 use Rattle.script_main.specs.Run.{IsTextOver}
 use Rattle.script_main.specs.Runs.{IsCutOff, IsLeftBy, IsMore, IsRun, IsSoundAgain, IsSoundFurther, IsSoundMore, IsSoundStore, Keeps}
 use Rattle.script_main.specs.Steps.{log_before, IsBegunAt, IsLeftBehind, IsLeftFrom, IsLeftOf, IsNotUpText, IsOpened, IsPlaceIn, IsPlayedText, IsReportText, IsRunText}
 use Rattle.script_main.specs.Stores.{cluster_of, start_at, with_tables, HasRows}
-use Rattle.script_main.specs.declared.statuses.Status.{Status}
+use Rattle.cdb_outside.specs.declared.statuses.Status.{Status}
 
 -- counts of faults
 
@@ -258,7 +256,7 @@ is_run law script old new base log before s text can names o same rows begun pla
     let start = start_at before rows in
     let sound_further = IsSoundFurther whole start (o.taken.old_promise + 1) played.report in
     let sound : (entries : List EntryLine) (made : List Entry) → IsHistory whole start (o.taken.old_promise + 1) entries made → IsSound (o.taken.old_promise + 1) made = λ entries made told.
-    sound_behind script (cluster_of script) old.synced o.taken.old_promise o.taken.old_accepted before start entries made law (all_columns whole.tables can.columns) refl
+    sound_behind script (cluster_of script) old.synced o.taken.old_promise o.taken.old_accepted before start entries made law refl
     (subst (λ (es : List Entry). StandsForGood 1 (cluster_of script) old.synced (tables_of script) o.taken.old_promise o.taken.old_accepted es) (sym same) o.taken.stood) begun.has_rows told in
     let basis = from_start whole (start_at before rows) in
     let p = played.told in
@@ -273,7 +271,9 @@ is_run law script old new base log before s text can names o same rows begun pla
       history = played.history;
       told = subst (λ (g : ℕ). IsTold whole (start_at before rows) g played.report played.history) o.taken.accepted p;
       serial = played.serial;
-      one = one_such whole (start_at before rows) played.report p.lawful p.in_order;
+      lawful = lawful_of_nodes whole (start_at before rows) played.report can p.lawful;
+      in_order = in_nodes_order whole (start_at before rows) played.report can p.lawful p.in_order;
+      one = one_such whole (start_at before rows) played.report can p.lawful p.in_order;
       is_report = λ called. told_in_grammar basis played.report (spelled_over script before rows can names begun.behind called) p.lawful p.in_order played.is_text.fits;
       is_text = played.is_text.is_text;
       left = left_older sound_further (downs played.report.lines) (cluster_of script) old log.store new (o.taken.old_promise + 1) played.history o.calm
@@ -311,12 +311,12 @@ opened_known script old base log o one =
     ∣ record { rows = (begins_at script old base log o).rows; has = (begun_at script old base log o).has_rows; one = only_state (log_before base log) one } ∣₁
 
 -- what is left of a store whose node stopped at the opening is sound again
-setup_sound : KeepTheirKeys → (accepted generation : ℕ) (tables : List TableDef) (entry : Entry) → AllByRecursion HasColumns tables → IsBegin generation tables entry → IsSound accepted (entry ∷ [])
-setup_sound law accepted generation tables entry columns begin =
-    sound_first accepted generation tables entry (law (pages_of (entry ∷ [])) tables (no_rows tables)) begin.setup columns begin.pages begin.small.count
+setup_sound : KeepTheirKeys → (accepted generation : ℕ) (tables : List TableDef) (entry : Entry) → IsBegin generation tables entry → IsSound accepted (entry ∷ [])
+setup_sound law accepted generation tables entry begin =
+    sound_first accepted generation tables entry (law (pages_of (entry ∷ [])) tables (no_rows tables)) begin.setup begin.pages begin.small.count
 
-partway_again : KeepTheirKeys → (script : Script) (old new : Stored) → CanRun script → StopsPartway 1 (cluster_of script) old.synced new.synced (tables_of script) → IsSoundAgain script old new
-partway_again law script old new can stops was = ∥∥₁_map stops.stands pick
+partway_again : KeepTheirKeys → (script : Script) (old new : Stored) → StopsPartway 1 (cluster_of script) old.synced new.synced (tables_of script) → IsSoundAgain script old new
+partway_again law script old new stops was = ∥∥₁_map stops.stands pick
   where
     p : ℕ
     p = stops.promised
@@ -342,26 +342,28 @@ partway_again law script old new can stops was = ∥∥₁_map stops.stands pick
       accepted = p + 1;
       entries = begun.entry ∷ [];
       stands = begun.stands;
-      sound = setup_sound law (p + 1) (p + 1) (tables_of script) begun.entry (all_columns script.tables can.columns) begun.begin;
+      sound = setup_sound law (p + 1) (p + 1) (tables_of script) begun.entry begun.begin;
     }
 
-fault_again : KeepTheirKeys → (script : Script) (size : ℕ) (old new : Stored) → CanRun script → IsLeft (why.StoreFault size) 1 (cluster_of script) old.synced new.synced (tables_of script) → IsSoundAgain script old new
-fault_again law script size old new can (inl alike) = alike_again script old new alike
-fault_again law script size old new can (inr fails) = partway_again law script old new can fails.partway
+fault_again : KeepTheirKeys → (script : Script) (size : ℕ) (old new : Stored) → IsLeft (why.StoreFault size) 1 (cluster_of script) old.synced new.synced (tables_of script) → IsSoundAgain script old new
+fault_again law script size old new (inl alike) = alike_again script old new alike
+fault_again law script size old new (inr fails) = partway_again law script old new fails.partway
 
 -- what is told of a node that is not up
 pub not_up_text : KeepTheirKeys → (script : Script) (w : WhyNotUp) (old new : Stored) (s : Status) (text : List ℕ) → IsWhy w 1 (cluster_of script) old.synced (tables_of script) old.faults new.faults →
-    IsLeft w 1 (cluster_of script) old.synced new.synced (tables_of script) → CanRun script → IsNotUpText script w s text → IsTextOver script old new s text
-not_up_text law script (why.StoreFault size) old new s text is left can told =
-    subst (λ (t : Status). IsTextOver script old new t text) (sym told.0) (inr (record { size = size; told = told.1; fault = is; left = left; again = fault_again law script size old new can left }))
-not_up_text law script (why.Refused at) old new s text is left can told =
+    TellsLength w 1 (cluster_of script) old.synced (tables_of script) old.writes new.writes →
+    IsLeft w 1 (cluster_of script) old.synced new.synced (tables_of script) → IsNotUpText script w s text → IsTextOver script old new s text
+not_up_text law script (why.StoreFault size) old new s text is length left told =
+    subst (λ (t : Status). IsTextOver script old new t text) (sym told.0)
+    (inr (record { size = size; told = told.1; fault = is; length = length; left = left; again = fault_again law script size old new left }))
+not_up_text law script (why.Refused at) old new s text is length left told =
     subst (λ (t : Status). IsTextOver script old new t text) (sym told.0) (refl, is, left, told.1)
-not_up_text law script why.Unsound old new s text is left can told =
+not_up_text law script why.Unsound old new s text is length left told =
     subst (λ (t : Status). IsTextOver script old new t text) (sym told.0) (refl, is, left, told.1)
-not_up_text law script (why.Differs place) old new s text is left can told =
+not_up_text law script (why.Differs place) old new s text is length left told =
     subst (λ (t : Status). IsTextOver script old new t text) (sym told.status_is)
     (record { place = place; other = is; said = told.said; at = told.at; line_is = refl }, refl, left, told.text_is)
-not_up_text law script why.NoMemory old new s text is left can told = absurd told
+not_up_text law script why.NoMemory old new s text is length left told = absurd told
 
 -- the place of a table that differs is that of one of the script's
 pub place_in : (script : Script) (w : WhyNotUp) (old : List ℕ) (before now : ℕ) → IsWhy w 1 (cluster_of script) old (tables_of script) before now → IsPlaceIn w (tables_of script)
@@ -377,6 +379,11 @@ pub why_of : (script : Script) (w : WhyNotUp) (cluster : ℕ) (given : List Tabl
 why_of script w cluster given old before now is same why =
     subst (λ (c : ℕ). IsWhy w 1 c old (tables_of script) before now) is (subst (λ (ts : List TableDef). IsWhy w 1 cluster old ts before now) same why)
 
+pub length_as : (script : Script) (w : WhyNotUp) (cluster : ℕ) (given : List TableDef) (old : List ℕ) (before now : ℕ) → cluster ≡ cluster_of script → given ≡ tables_of script →
+    TellsLength w 1 cluster old given before now → TellsLength w 1 (cluster_of script) old (tables_of script) before now
+length_as script w cluster given old before now is same told =
+    subst (λ (c : ℕ). TellsLength w 1 c old (tables_of script) before now) is (subst (λ (ts : List TableDef). TellsLength w 1 cluster old ts before now) same told)
+
 pub left_as : (script : Script) (w : WhyNotUp) (cluster : ℕ) (given : List TableDef) (old new : List ℕ) → cluster ≡ cluster_of script → given ≡ tables_of script →
     IsLeft w 1 cluster old new given → IsLeft w 1 (cluster_of script) old new (tables_of script)
 left_as script w cluster given old new is same left =
@@ -391,17 +398,17 @@ run_text script old new s text r = subst (λ (t : Status). IsTextOver script old
 pub same_cut : (script : Script) (old new : Stored) → new ≡ old → IsCutOff script old new
 same_cut script old new same = subst (λ (s : Stored). IsCutOff script old s) (sym same) (inl (λ s stands. stands))
 
-pub left_cut : KeepTheirKeys → (script : Script) (w : WhyNotUp) (old new : Stored) → CanRun script → IsLeft w 1 (cluster_of script) old.synced new.synced (tables_of script) → IsCutOff script old new
-left_cut law script (why.StoreFault size) old new can (inl alike) = inl alike
-left_cut law script (why.StoreFault size) old new can (inr fails) = inr (inl (record { partway = fails.partway; again = partway_again law script old new can fails.partway }))
-left_cut law script (why.Refused at) old new can alike = inl alike
-left_cut law script why.Unsound old new can alike = inl alike
-left_cut law script (why.Differs place) old new can alike = inl alike
-left_cut law script why.NoMemory old new can (inl alike) = inl alike
-left_cut law script why.NoMemory old new can (inr partway) = inr (inl (record { partway = partway; again = partway_again law script old new can partway }))
+pub left_cut : KeepTheirKeys → (script : Script) (w : WhyNotUp) (old new : Stored) → IsLeft w 1 (cluster_of script) old.synced new.synced (tables_of script) → IsCutOff script old new
+left_cut law script (why.StoreFault size) old new (inl alike) = inl alike
+left_cut law script (why.StoreFault size) old new (inr fails) = inr (inl (record { partway = fails.partway; again = partway_again law script old new fails.partway }))
+left_cut law script (why.Refused at) old new alike = inl alike
+left_cut law script why.Unsound old new alike = inl alike
+left_cut law script (why.Differs place) old new alike = inl alike
+left_cut law script why.NoMemory old new (inl alike) = inl alike
+left_cut law script why.NoMemory old new (inr partway) = inr (inl (record { partway = partway; again = partway_again law script old new partway }))
 
-pub run_cut : KeepTheirKeys → (script : Script) (old new : Stored) (base : ℕ) (log : Logged) → CanRun script → IsOpened script old base log → IsLeftBehind script (log_before base log) log new → IsCutOff script old new
-run_cut law script old new base log can o l =
+pub run_cut : KeepTheirKeys → (script : Script) (old new : Stored) (base : ℕ) (log : Logged) → IsOpened script old base log → IsLeftBehind script (log_before base log) log new → IsCutOff script old new
+run_cut law script old new base log o l =
     let before = log_before base log in
     let whole = with_tables script before in
     let made = o.taken.old_promise + 1 in
@@ -409,8 +416,7 @@ run_cut law script old new base log can o l =
     let stood : StandsForGood 1 (cluster_of script) old.synced (tables_of script) o.taken.old_promise o.taken.old_accepted before =
     subst (λ (es : List Entry). StandsForGood 1 (cluster_of script) old.synced (tables_of script) o.taken.old_promise o.taken.old_accepted es) (sym (before_is script old base log o)) o.taken.stood in
     let sound : (entries : List EntryLine) (history : List Entry) → IsHistory whole l.start made entries history → IsSound made history = λ entries history told.
-    sound_behind script (cluster_of script) old.synced o.taken.old_promise o.taken.old_accepted before l.start entries history law
-    (columns_with script o.taken.old_accepted before can stood.good.sound stood.good.tables) l.behind stood l.has_rows told in
+    sound_behind script (cluster_of script) old.synced o.taken.old_promise o.taken.old_accepted before l.start entries history law l.behind stood l.has_rows told in
     let told : IsHistory whole l.start made l.entries l.history = subst (λ (g : ℕ). IsHistory whole l.start g l.entries l.history) o.taken.accepted l.told in
     inr (inr (record {
       promised = o.taken.old_promise;

@@ -1,12 +1,21 @@
--- The report of a run is of the grammar, since the names of the script are names and the numbers of what was printed fit their types;
+-- The report of a run is of the grammar, since the names of the script are names, its tables have columns, and the numbers of what was printed fit their types;
 -- and there is no other such report.
-use Rattle.std.proofs.Common.{◌≡◌, ◌≢◌, ℕ, List, [], ◌∷◌, map, refl, sym, subst, inl, inr}
+use Rattle.std.proofs.Common.{◌≡◌, ◌≢◌, ℕ, List, [], ◌∷◌, map, refl, sym, subst, inl, inr, ◌⊎◌, Bool, true, false, if◌then◌else◌}
+use Rattle.std.proofs.lemmas.Bool.{both_ways}
+use Rattle.std.proofs.lemmas.Slice.Eq.{bytes_eq-Decides}
+use Rattle.std.specs.Str.{bytes_eq}
 use Rattle.std.specs.List.{AllByRecursion}
 use Rattle.cdb_values.specs.Rows.{Rows, no_rows}
 use Rattle.cdb_values.specs.declared.tables.ColumnDef.{ColumnDef}
-use Rattle.cdb_values.specs.declared.tables.KeyDef.{KeyDef}
 use Rattle.cdb_values.specs.declared.tables.TableDef.{TableDef}
-use Rattle.script_form.specs.CanRun.{CanRun, IsSaid, tables_of}
+use Rattle.node_reports.specs.Lawful.{LawfulOfNodes}
+use Rattle.node_reports.specs.OneNode.{IsOfOneNode, IsPlain}
+use Rattle.node_reports.specs.Order.{InNodesOrder}
+use Rattle.node_reports.proofs.Firsts.{nodes_order}
+use Rattle.node_reports.proofs.OneBack.{lawful_back, none_survives}
+use Rattle.node_reports.proofs.OneLawful.{lawful_of}
+use Rattle.node_reports.proofs.OneOrder.{one_order}
+use Rattle.script_form.specs.CanRun.{CanRun, IsDeclared, IsSaid, tables_of}
 use Rattle.script_form.specs.Named as script
 use Rattle.script_form.specs.declared.scripts.SessionLine.{SessionLine}
 use Rattle.sql_run.proofs.RowLaws.{replies_by_such_rows, leaves_such_rows}
@@ -21,17 +30,18 @@ use Rattle.query_laws.specs.Alone.{reads_of, sql_language}
 use Rattle.report_laws.specs.History.{Basis}
 use Rattle.report_laws.specs.Lawful.{Lawful}
 use Rattle.report_laws.specs.Nodes.{downs, BeginsDown}
-use Rattle.report_laws.specs.Play.{InPlayOrder}
+use Rattle.report_laws.specs.Play.{node_among, InPlayOrder}
 use Rattle.report_laws.specs.Spelled.{IsNamedTable, SaysAsNamed, IsSpelled}
 use Rattle.report_laws.proofs.OneLaws.{one_report}
 use Rattle.report_laws.proofs.SpelledLaws.{of_the_grammar}
-use Rattle.report_text.specs.Grammar.{IsName, IsKey, IsReport}
+use Rattle.report_text.specs.Grammar.{IsReport}
 use Rattle.report_text.specs.Text.{report_text}
 use Rattle.report_text.specs.Types.{FitsTypes}
 use Rattle.report_text.specs.declared.reports.Report.{Report}
 use Rattle.script_play.specs.Basis.{from_base, from_start}
 use Rattle.script_play.specs.Ready.{CanBegin}
 use Rattle.script_play.specs.Start.{Start}
+use Rattle.session_language.proofs.EachLaws.{all_map}
 use Rattle.session_language.specs.Answers.{Answers}
 use Rattle.session_language.specs.Language.{Language}
 use Rattle.session_language.specs.Spelled.{HaveRows, KeepsRows}
@@ -47,24 +57,16 @@ sql_is_answered = sql_answers bound_in reads_of
 sql_keeps : (tables : List TableDef) → AllByRecursion HasColumns tables → KeepsRows sql_language tables
 sql_keeps tables columns = record {
   replies = λ versions done text utf8 have all. replies_by_such_rows tables versions done text columns utf8 have all;
-  ops = λ versions done text utf8 have all. leaves_such_rows tables versions done text columns utf8 have all;
+  ops = λ versions done text utf8 have all. leaves_such_rows tables versions done text utf8 have all;
 }
 
--- a name of a script is a name of a report
-
-named : (name : List ℕ) → script.IsName name → IsName name
-named name is = record { bytes = is.bytes; begun = is.begun; short = is.short }
-
-keys_named : (keys : List KeyDef) → AllByRecursion (λ (k : KeyDef). script.IsFreeKey k.name) keys → AllByRecursion (λ (k : KeyDef). IsKey k.name) keys
-keys_named [] all = tt
-keys_named (k ∷ ks) all = (record { name = named k.name all.0.name; one = all.0.one }, keys_named ks all.1)
-
+-- the names of a script are names of a report
 tables_named : (tables : List TableLine) → AllByRecursion (λ (t : TableLine). script.IsNamedTable t.table) tables → AllByRecursion IsNamedTable (map (λ (t : TableLine). t.table) tables)
 tables_named [] all = tt
-tables_named (t ∷ ts) all = ((named t.table.name all.0.0, keys_named t.table.keys all.0.1), tables_named ts all.1)
+tables_named (t ∷ ts) all = (all.0, tables_named ts all.1)
 
 says_named : (sessions : List SessionLine) (a : Act) → script.SaysNamed a → IsSaid sessions a → SaysAsNamed a
-says_named sessions (act.Say session text) is said = (named session is, said.1)
+says_named sessions (act.Say session text) is said = (is, said.1)
 says_named sessions (act.Stop node) is said = tt
 says_named sessions (act.Start node) is said = tt
 says_named sessions (act.Arm session moment) is said = tt
@@ -85,10 +87,10 @@ have_columns (t ∷ ts) all = (some t.table.columns all.0, have_columns ts all.1
 
 -- what a report over these tables is asked, so that it is one of the grammar
 spelled_by : (s whole : Script) (basis : Basis) → CanRun whole → script.IsNamed s → whole.sessions ≡ s.sessions → whole.body ≡ s.body → basis.language ≡ sql_language →
-    basis.script ≡ whole → basis.origin.tables ≡ tables_of whole → HaveRows basis.origin.rows.tables → AllByRecursion IsNamedTable (tables_of whole) → IsSpelled basis
-spelled_by s whole basis can is sessions bodies language says same have named = record {
+    basis.script ≡ whole → basis.origin.tables ≡ tables_of whole → HaveRows basis.origin.rows.tables → AllByRecursion IsNamedTable (tables_of whole) → AllByRecursion HasColumns (tables_of whole) → IsSpelled basis
+spelled_by s whole basis can is sessions bodies language says same have named columns = record {
   language = subst (λ (l : Language). KeepsRows l basis.origin.tables) (sym language)
-      (subst (λ (ts : List TableDef). KeepsRows sql_language ts) (sym same) (sql_keeps (tables_of whole) (have_columns whole.tables can.columns)));
+      (subst (λ (ts : List TableDef). KeepsRows sql_language ts) (sym same) (sql_keeps (tables_of whole) columns));
   rows = have;
   tables = subst (λ (ts : List TableDef). AllByRecursion IsNamedTable ts) (sym same) named;
   body = subst (λ (w : Script). AllByRecursion (λ (l : BodyLine). SaysAsNamed l.act) w.body) (sym says)
@@ -99,6 +101,7 @@ spelled_by s whole basis can is sessions bodies language says same have named = 
 
 pub spelled : (s : Script) (size : ℕ) → CanRun s → script.IsNamed s → IsSpelled (from_base s size (no_rows []))
 spelled s size can is = spelled_by s s (from_base s size (no_rows [])) can is refl refl refl refl refl tt (tables_named s.tables is.tables)
+    (have_columns s.tables is.columns)
 
 same_sessions : (s : Script) (before : List Entry) → (with_tables s before).sessions ≡ s.sessions
 same_sessions s [] = refl
@@ -110,7 +113,11 @@ same_body s (e ∷ es) = refl
 
 named_with : (s : Script) (before : List Entry) → script.IsNamed s → AreCalled s (with_tables s before) → AllByRecursion IsNamedTable (tables_of (with_tables s before))
 named_with s before is (inl some) = subst (λ (w : Script). AllByRecursion IsNamedTable (tables_of w)) (sym (own_tables s before some)) (tables_named s.tables is.tables)
-named_with s before is (inr named) = named
+named_with s before is (inr logged) = logged.0
+
+columns_with : (s : Script) (before : List Entry) → script.IsNamed s → AreCalled s (with_tables s before) → AllByRecursion HasColumns (tables_of (with_tables s before))
+columns_with s before is (inl some) = subst (λ (w : Script). AllByRecursion HasColumns (tables_of w)) (sym (own_tables s before some)) (have_columns s.tables is.columns)
+columns_with s before is (inr logged) = logged.1
 
 have_rows : (tables : List TableDef) (before : List Entry) (rows : Rows) → CanBegin tables before rows → HaveRows rows.tables
 have_rows tables [] rows begins = subst (λ (r : Rows). HaveRows r.tables) (sym begins) tt
@@ -120,15 +127,52 @@ pub spelled_over : (s : Script) (before : List Entry) (rows : Rows) → CanRun (
     AreCalled s (with_tables s before) → IsSpelled (from_start (with_tables s before) (start_at before rows))
 spelled_over s before rows can is begins called =
     spelled_by s (with_tables s before) (from_start (with_tables s before) (start_at before rows)) can is (same_sessions s before) (same_body s before) refl refl refl
-    (have_rows (tables_of (with_tables s before)) before rows begins) (named_with s before is called)
+    (have_rows (tables_of (with_tables s before)) before rows begins) (named_with s before is called) (columns_with s before is called)
 
 pub told_in_grammar : (basis : Basis) (report : Report) → IsSpelled basis → Lawful basis report → InPlayOrder basis report → FitsTypes report → IsReport report
 told_in_grammar basis report spelled lawful in_order fits = of_the_grammar basis report spelled lawful in_order fits
 
+-- a script that can run has one node, and lines of its sessions alone
+home_of : (name : List ℕ) (sessions : List SessionLine) → AllByRecursion (λ s. (s.node ≡ 1) × (s.hasql ≡ false)) sessions → IsDeclared name sessions → node_among name sessions ≡ 1
+home_of name [] all is = absurd is
+home_of name (s ∷ ss) all is = go (bytes_eq s.name name) refl is (λ e. home_of name ss all.1 e)
+  where
+    go : (b : Bool) → bytes_eq s.name name ≡ b → (s.name ≡ name) ⊎ IsDeclared name ss → (IsDeclared name ss → node_among name ss ≡ 1) → (if b then s.node else node_among name ss) ≡ 1
+    go true e at more = all.0.0
+    go false e (inl same) more = absurd (both_ways (bytes_eq s.name name) e ((bytes_eq-Decides s.name name).1 same))
+    go false e (inr later) more = more later
+
+plain_act : (s : Script) → CanRun s → (a : Act) → IsSaid s.sessions a → IsPlain s a
+plain_act s can (act.Say session text) is = (
+  home_of session s.sessions can.no_hasql is.0,
+  none_survives session s.sessions (all_map (λ l. (l.node ≡ 1) × (l.hasql ≡ false)) (λ l. l.hasql ≡ false) (λ l is. is.1) s.sessions can.no_hasql),
+)
+plain_act s can (act.Stop node) is = absurd is
+plain_act s can (act.Start node) is = absurd is
+plain_act s can (act.Arm session moment) is = absurd is
+plain_act s can act.Barrier is = absurd is
+plain_act s can act.Feed is = absurd is
+
+one_node : (s : Script) → CanRun s → IsOfOneNode s
+one_node s can = record {
+  one = can.one_node;
+  unwatched = can.no_watches;
+  unmoved = all_map (λ l. (l.node ≡ 1) × (l.hasql ≡ false)) (λ l. l.hasql ≡ false) (λ l is. is.1) s.sessions can.no_hasql;
+  plain = all_map (λ l. IsSaid s.sessions l.act) (λ l. IsPlain s l.act) (λ l is. plain_act s can l.act is) s.body can.said;
+}
+
+-- so its report is lawful, and in the order of play, as one of several nodes
+pub lawful_of_nodes : (s : Script) (start : Start) (report : Report) → CanRun s → Lawful (from_start s start) report → LawfulOfNodes (from_start s start) report
+lawful_of_nodes s start report can lawful = lawful_of (from_start s start) report (one_node s can) lawful
+
+pub in_nodes_order : (s : Script) (start : Start) (report : Report) → CanRun s → Lawful (from_start s start) report → InPlayOrder (from_start s start) report → InNodesOrder (from_start s start) report
+in_nodes_order s start report can lawful in_order = nodes_order (from_start s start) report (one_node s can) sql_is_answered lawful in_order
+
 -- there is no other such report
-pub one_such : (s : Script) (start : Start) (report : Report) → Lawful (from_start s start) report → InPlayOrder (from_start s start) report → IsOne (from_start s start) report
-one_such s start report lawful in_order other uncut lawful' in_order' uncut' =
-    one_report (from_start s start) report other sql_is_answered lawful in_order uncut lawful' in_order' uncut'
+pub one_such : (s : Script) (start : Start) (report : Report) → CanRun s → Lawful (from_start s start) report → InPlayOrder (from_start s start) report → IsOne (from_start s start) report
+one_such s start report can lawful in_order other uncut lawful' in_order' uncut' =
+    one_report (from_start s start) report other sql_is_answered lawful in_order uncut
+    (lawful_back (from_start s start) other (one_node s can) sql_is_answered lawful' in_order') (one_order (from_start s start) other (one_node s can) in_order') uncut'
 
 -- the text of a report of a node that was down from the opening on, behind a log of that size. It tells no row, so it is one of
 -- the grammar whatever the rows are
@@ -136,8 +180,8 @@ pub down_text : (s : Script) (size : ℕ) (report : Report) (text : List ℕ) �
     ((rows : Rows) → InPlayOrder (from_base s size rows) report) → BeginsDown report.lines → downs report.lines ≡ 1 → report.entries ≡ [] → FitsTypes report → text ≡ report_text report → IsDownText s size text
 down_text s size report text can names lawful in_order first down none fits is = record {
   report = report;
-  lawful = lawful;
-  in_order = in_order;
+  lawful = λ rows. lawful_of (from_base s size rows) report (one_node s can) (lawful rows);
+  in_order = λ rows. nodes_order (from_base s size rows) report (one_node s can) sql_is_answered (lawful rows) (in_order rows);
   first = first;
   down = down;
   none = none;

@@ -1,9 +1,7 @@
--- A script with the tables of a log: it is the same script where it has tables of its own, and can run where these are lawful and
--- have columns.
+-- A script with the tables of a log: it is the same script where it has tables of its own, and can run where these are lawful.
 use Rattle.std.proofs.Common.{◌≡◌, ◌≢◌, ◌≤◌, List, [], ◌∷◌, ◌++◌, length, map, Bool, true, false, ◌&&◌, Option, Some, None, refl, sym, subst, ap, inl, inr, arith}
 use Rattle.std.proofs.Math.Logic.{∥∥₁_elim}
 use Rattle.std.specs.Coded.{Coded-set, coded_bool}
-use Rattle.std.specs.List.{AllByRecursion}
 use Rattle.cdb_values.specs.Tables.{add_fault}
 use Rattle.cdb_values.specs.declared.schemas.AddFault.{AddFault}
 use Rattle.cdb_values.specs.declared.tables.TableDef.{TableDef}
@@ -17,7 +15,6 @@ use Rattle.phys_log.specs.declared.entries.Entry.TheVariants as entry
 use Rattle.script_form.specs.CanRun.{tables_of, AreTaken, CanRun}
 use Rattle.script_form.specs.declared.scripts.Script.{Script}
 use Rattle.script_form.specs.declared.scripts.TableLine.{TableLine}
-use Rattle.sound_log.specs.Columns.{HasColumns}
 use Rattle.script_main.specs.Stores.{tables_or, unsaid, with_tables}
 
 -- tables that can be added one after the other are lawful ones, and the other way round
@@ -126,17 +123,12 @@ with_lines script copy lines tables same is = λ j. record (same j) { tables = i
 
 -- a script with the tables of a log can run
 
-all_said : (tables : List TableDef) → AllByRecursion HasColumns tables → AllByRecursion (λ (t : TableLine). t.table.columns ≢ []) (map unsaid tables)
-all_said [] all = tt
-all_said (t ∷ ts) all = (all.0, all_said ts all.1)
-
-pub can_run_unsaid : (script : Script) (tables : List TableDef) → CanRun script → AreTaken [] tables → AllByRecursion HasColumns tables → CanRun (record script { tables = map unsaid tables })
-can_run_unsaid script tables can lawful columns = record {
+pub can_run_unsaid : (script : Script) (tables : List TableDef) → CanRun script → AreTaken [] tables → CanRun (record script { tables = map unsaid tables })
+can_run_unsaid script tables can lawful = record {
   one_node = can.one_node;
   no_watches = can.no_watches;
   few_sessions = can.few_sessions;
   no_hasql = can.no_hasql;
   tables_lawful = subst (λ (ts : List TableDef). AreTaken [] ts) (sym (said_back tables)) lawful;
-  columns = all_said tables columns;
   said = can.said;
 }

@@ -12,8 +12,8 @@ use Rattle.store_log.specs.Keeps.{Stored}
 use Rattle.script_main.specs.Run.{AreCutOff, AreLeft, AreSoundAgain, IsText, IsTextOver, IsWritten, Writes}
 use Rattle.script_main.specs.Runs.{IsCutOff, IsGivenUp, IsLeftBy, IsRun, IsSoundAgain, IsSoundFurther, IsSoundMore, IsSoundStore, Keeps}
 use Rattle.script_main.specs.Stores.{cluster_of, start_at, with_tables, IsAlike}
-use Rattle.script_main.specs.declared.statuses.Status.{Status}
-use Rattle.script_main.specs.declared.statuses.Status.TheVariants as status
+use Rattle.cdb_outside.specs.declared.statuses.Status.{Status}
+use Rattle.cdb_outside.specs.declared.statuses.Status.TheVariants as status
 
 pub alike_again : (script : Script) (o n : Stored) → IsAlike script o n → IsSoundAgain script o n
 alike_again script o n alike was = ∣ record {

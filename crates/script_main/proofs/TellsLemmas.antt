@@ -10,8 +10,8 @@ use Rattle.store_log.specs.Keeps.{Stored}
 use Rattle.script_main.proofs.ApartLemmas.{good_not_other, good_not_unsound, log_not_other, log_not_refused, log_not_unsound, one_offset, other_not_unsound, same_place}
 use Rattle.script_main.specs.Run.{Completes, IsAnyFault, IsFault, IsFaultBy, IsGoodAt, IsGoodStore, IsRefusalText, IsRefusedAt, IsStoreBadAt, IsStoreUnsound, IsText, IsTextOver, IsUsageText, IsWritten, TellsRefusal, TellsStoreRefused, TellsUnsound, TellsUsage, Writes}
 use Rattle.script_main.specs.Stores.{cluster_of, HasId, IsBadAt, IsOtherAt, IsUnsound}
-use Rattle.script_main.specs.declared.statuses.Status.{Status}
-use Rattle.script_main.specs.declared.statuses.Status.TheVariants as status
+use Rattle.cdb_outside.specs.declared.statuses.Status.{Status}
+use Rattle.cdb_outside.specs.declared.statuses.Status.TheVariants as status
 
 not_both : (b : Bool) → b ≡ true → b ≡ false → ⊥
 not_both true t f = cc
@@ -78,7 +78,7 @@ same_line script o line other id a b =
 other_over : (script : Script) (o n : Stored) (s : Status) (text : List ℕ) (line : ℕ) → HasId script → IsOtherAt script o line → IsTextOver script o n s text → (s ≡ status.Refused line 9) ⊎ HasRisen o.faults n.faults
 other_over script o n status.Done text line id other (inl run) =
     absurd (good_not_other (cluster_of script) o.synced (tables_of script) run.promised run.accepted run.before other.place id run.stood other.other)
-other_over script o n status.Done text line id other (inr down) = inr down.fault.rose
+other_over script o n status.Done text line id other (inr down) = inr down.fault
 other_over script o n status.Usage text line id other t = absurd t
 other_over script o n (status.Refused l why) text line id other t =
     let a : l ≡ line = same_line script o l line id t.0 other in
@@ -95,7 +95,7 @@ other_over script o n status.NoMemory text line id other t = absurd t
 bad_over : (script : Script) (o n : Stored) (s : Status) (text : List ℕ) (at : ℕ) → HasId script → IsBadAt script o at → IsTextOver script o n s text → (s ≡ status.StoreRefused 1 at) ⊎ HasRisen o.faults n.faults
 bad_over script o n status.Done text at id bad (inl run) =
     absurd (log_not_refused (cluster_of script) o.synced run.promised run.accepted run.before at id run.stood.stands bad)
-bad_over script o n status.Done text at id bad (inr down) = inr down.fault.rose
+bad_over script o n status.Done text at id bad (inr down) = inr down.fault
 bad_over script o n status.Usage text at id bad t = absurd t
 bad_over script o n (status.Refused l why) text at id bad t =
     let w = t.0.other in absurd (log_not_refused (cluster_of script) o.synced w.promised w.accepted w.entries at id w.stood bad)
@@ -112,7 +112,7 @@ bad_over script o n status.NoMemory text at id bad t = absurd t
 unsound_over : (script : Script) (o n : Stored) (s : Status) (text : List ℕ) → HasId script → IsUnsound script o → IsTextOver script o n s text → (s ≡ status.Unsound 1) ⊎ HasRisen o.faults n.faults
 unsound_over script o n status.Done text id un (inl run) =
     absurd (good_not_unsound (cluster_of script) o.synced (tables_of script) run.promised run.accepted run.before id run.stood un)
-unsound_over script o n status.Done text id un (inr down) = inr down.fault.rose
+unsound_over script o n status.Done text id un (inr down) = inr down.fault
 unsound_over script o n status.Usage text id un t = absurd t
 unsound_over script o n (status.Refused l why) text id un t =
     absurd (other_not_unsound (cluster_of script) o.synced (tables_of script) t.0.place id t.0.other un)

@@ -12,8 +12,8 @@ use Rattle.script_form.specs.declared.scripts.Script.{Script}
 use Rattle.store_log.specs.Keeps.{Stored}
 use Rattle.script_main.specs.Run.{AreCutOff, AreLeft, IsText, IsTextOver, IsRefusalText, IsScriptText, IsUsageText, IsWritten, Finishes, LeavesStores, Writes, AnswersSource, IsStop, StopsAt}
 use Rattle.script_main.specs.Texts.{usage_text}
-use Rattle.script_main.specs.declared.statuses.Status.{Status}
-use Rattle.script_main.specs.declared.statuses.Status.TheVariants as status
+use Rattle.cdb_outside.specs.declared.statuses.Status.{Status}
+use Rattle.cdb_outside.specs.declared.statuses.Status.TheVariants as status
 
 -- a status that has a text
 abbrev pub HasText : Status → Type 0

@@ -1,7 +1,7 @@
 -- The status with which the process ends.
 use Rattle.std.specs.Prelude.{ℕ}
-use Rattle.script_main.specs.declared.statuses.Status.{Status}
-use Rattle.script_main.specs.declared.statuses.Status.TheVariants as status
+use Rattle.cdb_outside.specs.declared.statuses.Status.{Status}
+use Rattle.cdb_outside.specs.declared.statuses.Status.TheVariants as status
 
 abbrev pub exit_of : Status → ℕ
 exit_of status.Done = 0

@@ -16,8 +16,8 @@ use Rattle.store_log.specs.Keeps.{Stored}
 use Rattle.script_main.specs.Runs.{IsCutOff, IsRun, IsDownFirst, IsSoundAgain}
 use Rattle.script_main.specs.Stores.{cluster_of, IsAlike, IsBadAt, IsOtherAt, IsUnsound, FirstRose, HasId}
 use Rattle.script_main.specs.Texts.{refused_text, store_text, unsound_text, usage_text}
-use Rattle.script_main.specs.declared.statuses.Status.{Status}
-use Rattle.script_main.specs.declared.statuses.Status.TheVariants as status
+use Rattle.cdb_outside.specs.declared.statuses.Status.{Status}
+use Rattle.cdb_outside.specs.declared.statuses.Status.TheVariants as status
 
 -- the text that belongs to a status of a script that was read, by what the store of its node had before and has now; the
 -- other statuses have none

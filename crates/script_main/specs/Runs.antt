@@ -9,13 +9,13 @@ use Rattle.cdb_values.specs.Rows.{Rows}
 use Rattle.node_opening.specs.declared.up.WhyNotUp.TheVariants as why
 use Rattle.node_opening.specs.Goods.{StandsForGood}
 use Rattle.node_opening.specs.Left.{IsLeft, StopsPartway}
-use Rattle.node_opening.specs.Why.{HasRisen, IsFault}
+use Rattle.node_opening.specs.Why.{HasRisen, IsLengthOf}
 use Rattle.phys_log.specs.declared.entries.Entry.{Entry}
 use Rattle.report_laws.specs.History.{Basis}
-use Rattle.report_laws.specs.Lawful.{Lawful}
+use Rattle.node_reports.specs.Lawful.{LawfulOfNodes}
+use Rattle.node_reports.specs.Order.{InNodesOrder}
 use Rattle.report_laws.specs.Nodes.{downs, BeginsDown}
 use Rattle.report_laws.specs.One.{IsUncut}
-use Rattle.report_laws.specs.Play.{InPlayOrder}
 use Rattle.report_laws.specs.Spelled.{IsNamedTable}
 use Rattle.report_text.specs.Grammar.{IsReport}
 use Rattle.report_text.specs.Text.{report_text}
@@ -28,6 +28,7 @@ use Rattle.script_play.specs.Played.{IsFurther, IsHistory, IsTold}
 use Rattle.script_play.specs.Serial.{AreSerial}
 use Rattle.script_play.specs.Start.{Start}
 use Rattle.sound_log.specs.Sound.{IsSound}
+use Rattle.sql_run.specs.Spelled.{HasColumns}
 use Rattle.store_log.specs.declared.standings.Standing.TheVariants.{Log}
 use Rattle.store_log.specs.Held.{StandsFor}
 use Rattle.store_log.specs.Keeps.{Stored}
@@ -36,11 +37,13 @@ use Rattle.script_main.specs.Stores.{cluster_of, start_at, with_tables, HasRows,
 -- where no transaction is cut short and no node goes down, there is no other such report
 abbrev pub IsOne : Basis → Report → Type 0
 IsOne basis report =
-    (other : Report) → IsUncut report → Lawful basis other → InPlayOrder basis other → IsUncut other → report ≡ other
+    (other : Report) → IsUncut report → LawfulOfNodes basis other → InNodesOrder basis other → IsUncut other → report ≡ other
 
--- the script says its tables, or those that it takes from the log are called by names
+-- the script says its tables, or those that it takes from the log are called by names and have columns. Else a report may tell a
+-- row without values, or a name that is none
 abbrev pub AreCalled : Script → Script → Type 0
-AreCalled script whole = (script.tables ≢ []) ⊎ AllByRecursion IsNamedTable (tables_of whole)
+AreCalled script whole =
+    (script.tables ≢ []) ⊎ (AllByRecursion IsNamedTable (tables_of whole) × AllByRecursion HasColumns (tables_of whole))
 
 -- the bytes of a store stand for the history, promised and accepted in a generation
 abbrev pub Keeps : ℕ → List ℕ → ℕ → List Entry → Type 0
@@ -99,6 +102,8 @@ pub record IsRun (script : Script) (old new : Stored) (text : List ℕ) : Type 0
   pub report : Report
   pub history : List Entry
   pub told : IsTold (with_tables script before) (start_at before rows) (promised + 1) report history
+  pub lawful : LawfulOfNodes (from_start (with_tables script before) (start_at before rows)) report
+  pub in_order : InNodesOrder (from_start (with_tables script before) (start_at before rows)) report
   pub serial : AreSerial (from_start (with_tables script before) (start_at before rows)) report.entries
   pub one : IsOne (from_start (with_tables script before) (start_at before rows)) report
   pub is_report : AreCalled script (with_tables script before) → IsReport report
@@ -111,20 +116,21 @@ pub record IsRun (script : Script) (old new : Stored) (text : List ℕ) : Type 0
 -- down: so no transaction begins in it
 pub record IsDownText (script : Script) (size : ℕ) (text : List ℕ) : Type 0 where
   pub report : Report
-  pub lawful : (rows : Rows) → Lawful (from_base script size rows) report
-  pub in_order : (rows : Rows) → InPlayOrder (from_base script size rows) report
+  pub lawful : (rows : Rows) → LawfulOfNodes (from_base script size rows) report
+  pub in_order : (rows : Rows) → InNodesOrder (from_base script size rows) report
   pub first : BeginsDown report.lines
   pub down : downs report.lines ≡ 1
   pub none : report.entries ≡ []
   pub is_report : IsReport report
   pub is_text : text ≡ report_text report
 
--- the same where the store failed at the opening, once a log of that size was read, or none; and what is left of the
--- store, which is sound again
+-- the same where the store failed at the opening. The size is that of the log for which the store stood, or 0, where no
+-- call wrote to it (`IsLengthOf`). What is left of the store is sound again
 pub record IsDownFirst (script : Script) (old new : Stored) (text : List ℕ) : Type 0 where
   pub size : ℕ
   pub told : IsDownText script size text
-  pub fault : IsFault 1 (cluster_of script) old.synced (tables_of script) size old.faults new.faults
+  pub fault : HasRisen old.faults new.faults
+  pub length : IsLengthOf 1 (cluster_of script) old.synced (tables_of script) size old.writes new.writes
   pub left : IsLeft (why.StoreFault size) 1 (cluster_of script) old.synced new.synced (tables_of script)
   pub again : IsSoundAgain script old new
 

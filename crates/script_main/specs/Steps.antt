@@ -26,8 +26,8 @@ use Rattle.store_log.specs.Keeps.{Stored}
 use Rattle.script_main.specs.Runs.{IsDownText, IsLeftBy, IsMore, IsRun}
 use Rattle.script_main.specs.Stores.{cluster_of, with_tables, HasRows}
 use Rattle.script_main.specs.Texts.{refused_text, store_text, unsound_text}
-use Rattle.script_main.specs.declared.statuses.Status.{Status}
-use Rattle.script_main.specs.declared.statuses.Status.TheVariants as status
+use Rattle.cdb_outside.specs.declared.statuses.Status.{Status}
+use Rattle.cdb_outside.specs.declared.statuses.Status.TheVariants as status
 
 -- a place that is told of tables is that of one of them
 abbrev pub IsPlaceIn : WhyNotUp → List TableDef → Type 0

@@ -20,11 +20,12 @@ use Rattle.store_log.specs.Opens.{StandsAlike}
 use Rattle.table_state.specs.States.{HasState}
 
 -- what a store has, by the members of its type; and what each of some stores has
-abbrev pub kept_by : {A : Type 0} → (A → List ℕ) → (A → List ℕ) → (A → ℕ) → A → Stored
-kept_by synced pending faults store = record { synced = synced store; pending = pending store; faults = faults store }
+abbrev pub kept_by : {A : Type 0} → (A → List ℕ) → (A → List ℕ) → (A → ℕ) → (A → ℕ) → A → Stored
+kept_by synced pending faults writes store =
+    record { synced = synced store; pending = pending store; faults = faults store; writes = writes store }
 
-abbrev pub kept_all : {A : Type 0} → (A → List ℕ) → (A → List ℕ) → (A → ℕ) → List A → List Stored
-kept_all synced pending faults stores = map (kept_by synced pending faults) stores
+abbrev pub kept_all : {A : Type 0} → (A → List ℕ) → (A → List ℕ) → (A → ℕ) → (A → ℕ) → List A → List Stored
+kept_all synced pending faults writes stores = map (kept_by synced pending faults writes) stores
 
 -- the stores behind the first are as they were, and there are as many
 pub record IsFirstAlone {A : Type 0} (old new : List A) : Type 0 where

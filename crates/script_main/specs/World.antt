@@ -5,7 +5,7 @@ use Rattle.store_log.specs.Keeps.{Stored}
 use Rattle.script_main.specs.Run.{AreSoundAgain, Completes, TellsRefusal, TellsStoreRefused, TellsUnsound, Writes}
 use Rattle.script_main.specs.Stores.{kept_all}
 use Rattle.script_main.specs.declared.statuses.Outside.{Outside}
-use Rattle.script_main.specs.declared.statuses.Status.{Status}
+use Rattle.cdb_outside.specs.declared.statuses.Status.{Status}
 
 -- the bytes that are left in the source and those that the sink took, where they are told; what each store has; and how many
 -- stores and consumers there are
@@ -17,11 +17,11 @@ pub record World : Type 0 where
   pub consumers : ℕ
 
 -- the same, by the members of the types
-abbrev pub world : {S K D A : Type 0} {B : A → Type 0} → (S → Option (List ℕ)) → (K → Option (List ℕ)) → (D → List ℕ) → (D → List ℕ) → (D → ℕ) → Outside S K D A B → World
-world left taken synced pending faults o = record {
+abbrev pub world : {S K D A : Type 0} {B : A → Type 0} → (S → Option (List ℕ)) → (K → Option (List ℕ)) → (D → List ℕ) → (D → List ℕ) → (D → ℕ) → (D → ℕ) → Outside S K D A B → World
+world left taken synced pending faults writes o = record {
   left = left o.source;
   taken = taken o.sink;
-  stores = kept_all synced pending faults o.stores.items;
+  stores = kept_all synced pending faults writes o.stores.items;
   places = vec_len o.stores;
   consumers = vec_len o.consumers;
 }

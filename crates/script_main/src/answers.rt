@@ -8,9 +8,8 @@ ghost use Rattle.script_main.specs.Steps.{IsDifferText, IsReportText};
 ghost use Rattle.script_main.specs.Stores.{kept_all, IsFirstAlone};
 ghost use Rattle.script_main.specs.Texts.{store_text, unsound_text};
 
-use super::statuses::Status;
 use super::stores::play_first;
-use cdb_outside::LogStore;
+use cdb_outside::{LogStore, Status};
 use cdb_values::Bytes;
 use report_text::{Report, print};
 use script_form::{Script, TableLine};
@@ -35,12 +34,12 @@ pub(crate) fn answer_script<D: LogStore + Drop>(
 ) -> Result<Answer, AllocError>
     requires settled { AllByRecursion (λ d. D.pending d ≡ []) stores.old.items }
     ensures text { IfOk result (λ a. IsScriptText (script_of (vec_len stores.old) consumers bytes.now)
-        (kept_all D.synced D.pending D.faults stores.old.items)
-        (kept_all D.synced D.pending D.faults stores.new.items) a.status a.text) }
+        (kept_all D.synced D.pending D.faults D.writes stores.old.items)
+        (kept_all D.synced D.pending D.faults D.writes stores.new.items) a.status a.text) }
     ensures unchanged { IfOk result (λ a. LeavesStores a.status → stores.new.items ≡ stores.old.items) }
     ensures left { OnErr result (AreLeft (script_of (vec_len stores.old) consumers bytes.now)
-        (kept_all D.synced D.pending D.faults stores.old.items)
-        (kept_all D.synced D.pending D.faults stores.new.items)) }
+        (kept_all D.synced D.pending D.faults D.writes stores.old.items)
+        (kept_all D.synced D.pending D.faults D.writes stores.new.items)) }
     ensures others { IsFirstAlone stores.old.items stores.new.items }
     ensures settled { AllByRecursion (λ d. D.pending d ≡ []) stores.new.items }
 {

@@ -29,6 +29,7 @@ mod running;
 mod statuses;
 mod stores;
 
+pub use cdb_outside::Status;
 pub use commands::store_folder;
 pub use running::run;
-pub use statuses::{Outside, Status, exit_status};
+pub use statuses::{Outside, exit_status};

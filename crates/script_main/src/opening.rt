@@ -1,13 +1,9 @@
 //! A script is played over the store of its node.
-ghost use Rattle.std.specs.Prelude.{◌≡◌, ◌≢◌, ◌⊎◌, ◌++◌, ◌∷◌, [], map, IfOk, OnOk, IsErr};
+ghost use Rattle.std.specs.Prelude.{◌≡◌, ◌≢◌, ◌++◌, ◌∷◌, [], map, IfOk, OnOk, IsErr};
 ghost use Rattle.cdb_values.specs.Rows.{Rows};
 ghost use Rattle.log_rows.specs.History.{tables_of as tables_of_log};
 ghost use Rattle.script_form.specs.CanRun.{tables_of, CanRun};
 ghost use Rattle.script_form.specs.Named.{IsNamed};
-ghost use Rattle.report_laws.specs.Lawful.{Lawful};
-ghost use Rattle.report_laws.specs.Nodes.{downs, BeginsDown};
-ghost use Rattle.report_laws.specs.Play.{InPlayOrder};
-ghost use Rattle.script_play.specs.Basis.{from_base};
 ghost use Rattle.script_form.specs.declared.scripts.Script.{Script};
 ghost use Rattle.script_play.specs.Start.{Start};
 ghost use Rattle.store_log.specs.Keeps.{Stored};
@@ -15,18 +11,16 @@ ghost use Rattle.script_main.specs.Run.{IsTextOver};
 ghost use Rattle.script_main.specs.Runs.{IsCutOff, IsDownText};
 ghost use Rattle.script_main.specs.Steps.{log_before, IsBegunAt, IsLeftBehind, IsLeftFrom, IsLeftOf, IsNotUpText, IsOpened};
 ghost use Rattle.script_main.specs.Steps.{IsPlaceIn, IsPlayedText, IsReportText, IsRunText};
-ghost use Rattle.script_main.specs.Stores.{cluster_of, kept_by, start_at, unsaid, HasId};
+ghost use Rattle.script_main.specs.Stores.{kept_by, start_at, unsaid, HasId};
 
 use super::answers::{Answer, differs, reported, store_refused, unsound};
 use super::begun::Begun;
-use super::statuses::Status;
-use cdb_outside::LogStore;
-use cdb_values::{List, Schema, TableDef};
+use cdb_outside::{LogStore, Status};
+use cdb_values::{List, TableDef};
 use cluster_id::cluster_id;
 use log_replay::PagedLog;
 use node_log::NodeLog;
-use node_opening::{NotUp, UpNode, WhyNotUp, open_node};
-use report_text::{Report, print};
+use node_opening::{UpNode, WhyNotUp, open_node};
 use script_form::{Script, TableLine};
 use script_play::{Played, play, play_down, schema_of};
 use std::alloc::{AllocError, Global};
@@ -47,11 +41,11 @@ pub(crate) fn play_over<D: LogStore + Drop>(alloc: Global, script: &Script, stor
     requires runs { CanRun script.now }
     requires names { IsNamed script.now }
     requires settled { D.pending store ≡ [] }
-    ensures text { IfOk result.answer (λ a. IsTextOver script.now (kept_by D.synced D.pending D.faults store)
-        (kept_by D.synced D.pending D.faults result.store) a.status a.text) }
+    ensures text { IfOk result.answer (λ a. IsTextOver script.now (kept_by D.synced D.pending D.faults D.writes store)
+        (kept_by D.synced D.pending D.faults D.writes result.store) a.status a.text) }
     ensures id { IfOk result.answer (λ _. HasId script.now) }
-    ensures left { IsCutOff script.now (kept_by D.synced D.pending D.faults store)
-        (kept_by D.synced D.pending D.faults result.store) }
+    ensures left { IsCutOff script.now (kept_by D.synced D.pending D.faults D.writes store)
+        (kept_by D.synced D.pending D.faults D.writes result.store) }
     ensures settled { D.pending result.store ≡ [] }
 {
     let Ok(schema) = schema_of(alloc, script.tables.as_slice()) else {
@@ -60,34 +54,13 @@ pub(crate) fn play_over<D: LogStore + Drop>(alloc: Global, script: &Script, stor
     let Ok(cluster) = cluster_id(alloc, &script.cluster, script.nodes) else {
         return no_memory(store);
     };
-    let ended = open_and_play(alloc, script, store, cluster, &schema);
-    drop(schema);
-    ended
-}
-
-/// The same, by the id of the script's cluster and its tables.
-fn open_and_play<D: LogStore + Drop>(
-    alloc: Global,
-    script: &Script,
-    store: D,
-    cluster: u128,
-    schema: &Schema,
-) -> Ended<D>
-    requires runs { CanRun script.now }
-    requires names { IsNamed script.now }
-    requires settled { D.pending store ≡ [] }
-    requires cluster { cluster ≡ cluster_of script.now }
-    requires schema { schema.now ≡ tables_of script.now }
-    ensures text { IfOk result.answer (λ a. IsTextOver script.now (kept_by D.synced D.pending D.faults store)
-        (kept_by D.synced D.pending D.faults result.store) a.status a.text) }
-    ensures left { IsCutOff script.now (kept_by D.synced D.pending D.faults store)
-        (kept_by D.synced D.pending D.faults result.store) }
-    ensures settled { D.pending result.store ≡ [] }
-{
     pages_that_stand_keep_their_keys();
-    match open_node(alloc, store, NODE, cluster, schema) {
+    match open_node(alloc, store, NODE, cluster, &schema) {
         Ok(up) => play_up(alloc, script, up),
-        Err(down) => refuse(alloc, script, down),
+        Err(down) => Ended {
+            answer: not_up(alloc, script, down.why),
+            store: down.store,
+        },
     }
 }
 
@@ -99,20 +72,6 @@ fn no_memory<D: LogStore>(store: D) -> Ended<D>
     Ended {
         store,
         answer: Err(AllocError),
-    }
-}
-
-/// The answer to a script whose node is not up, and its store.
-fn refuse<D: LogStore>(alloc: Global, script: &Script, down: NotUp<D>) -> Ended<D>
-    requires runs { CanRun script.now }
-    requires names { IsNamed script.now }
-    requires place { IsPlaceIn down.why (tables_of script.now) }
-    ensures answer { IfOk result.answer (λ a. IsNotUpText script.now down.why a.status a.text) }
-    ensures store { result.store ≡ down.store }
-{
-    Ended {
-        answer: not_up(alloc, script, down.why),
-        store: down.store,
     }
 }
 
@@ -140,33 +99,7 @@ fn down(alloc: Global, script: &Script, size: u64) -> Result<Answer, AllocError>
     ensures { IfOk result (λ a. (a.status ≡ Status.Done) × IsDownText script.now size a.text) }
 {
     let report = play_down(alloc, script, size)?;
-    let answer = down_told(alloc, script, size, &report);
-    drop(report);
-    answer
-}
-
-/// The answer to a script by the report of a node that was down, behind a log of that size.
-#[tactic(auto, using(crate::proofs::ReportedLemmas::down_text))]
-fn down_told(
-    alloc: Global,
-    script: &Script,
-    size: u64,
-    report: &Report,
-) -> Result<Answer, AllocError>
-    requires runs { CanRun script.now }
-    requires names { IsNamed script.now }
-    requires lawful { (rows : Rows) → Lawful (from_base script.now size rows) report.now }
-    requires in_order { (rows : Rows) → InPlayOrder (from_base script.now size rows) report.now }
-    requires first { BeginsDown report.now.lines }
-    requires down { downs report.now.lines ≡ 1 }
-    requires none { report.now.entries ≡ [] }
-    ensures { IfOk result (λ a. (a.status ≡ Status.Done) × IsDownText script.now size a.text) }
-{
-    let text = print(alloc, report)?;
-    Ok(Answer {
-        status: Status::Done,
-        text,
-    })
+    reported(alloc, &report)
 }
 
 /// The answer to a script whose node is up. A script without tables has those of the log.
@@ -175,13 +108,15 @@ fn play_up<D: LogStore + Drop>(alloc: Global, script: &Script, up: UpNode<D>) ->
     requires names { IsNamed script.now }
     requires opened { (old : Stored) × IsOpened script.now old up.base up.log }
     ensures text { IfOk result.answer (λ a. (old : Stored) → IsOpened script.now old up.base up.log
-        → IsRunText script.now old (kept_by D.synced D.pending D.faults result.store) a.status a.text) }
-    ensures left { IsLeftBehind script.now (log_before up.base up.log) up.log (kept_by D.synced D.pending D.faults result.store) }
+        → IsRunText script.now old (kept_by D.synced D.pending D.faults D.writes result.store) a.status a.text) }
+    ensures left { IsLeftBehind script.now (log_before up.base up.log) up.log
+        (kept_by D.synced D.pending D.faults D.writes result.store) }
     ensures settled { D.pending result.store ≡ [] }
 {
+    pages_that_stand_keep_their_keys();
     let begun = begin(up);
     if begun.base == 0 || !script.tables.as_slice().is_empty() {
-        play_own(alloc, script, begun)
+        play_begun(alloc, script, begun)
     } else {
         play_logged(alloc, script, begun)
     }
@@ -200,22 +135,6 @@ fn begin<D: LogStore>(up: UpNode<D>) -> Begun<D>
     }
 }
 
-/// The answer to a script with tables of its own, or behind a log without entries.
-fn play_own<D: LogStore + Drop>(alloc: Global, script: &Script, begun: Begun<D>) -> Ended<D>
-    requires runs { CanRun script.now }
-    requires names { IsNamed script.now }
-    requires opened { (old : Stored) × IsOpened script.now old begun.base begun.log }
-    requires own { (begun.base ≡ 0) ⊎ (script.now.tables ≢ []) }
-    ensures text { IfOk result.answer (λ a. (old : Stored) → IsOpened script.now old begun.base begun.log
-        → IsRunText script.now old (kept_by D.synced D.pending D.faults result.store) a.status a.text) }
-    ensures left { IsLeftBehind script.now (log_before begun.base begun.log) begun.log
-        (kept_by D.synced D.pending D.faults result.store) }
-    ensures settled { D.pending result.store ≡ [] }
-{
-    pages_that_stand_keep_their_keys();
-    play_begun(alloc, script, begun)
-}
-
 /// The answer to a script without tables behind a log that has entries: it has the tables of that log.
 fn play_logged<D: LogStore + Drop>(alloc: Global, script: &Script, begun: Begun<D>) -> Ended<D>
     requires runs { CanRun script.now }
@@ -224,9 +143,9 @@ fn play_logged<D: LogStore + Drop>(alloc: Global, script: &Script, begun: Begun<
     requires some { begun.base ≢ 0 }
     requires none { script.now.tables ≡ [] }
     ensures text { IfOk result.answer (λ a. (old : Stored) → IsOpened script.now old begun.base begun.log
-        → IsRunText script.now old (kept_by D.synced D.pending D.faults result.store) a.status a.text) }
+        → IsRunText script.now old (kept_by D.synced D.pending D.faults D.writes result.store) a.status a.text) }
     ensures left { IsLeftBehind script.now (log_before begun.base begun.log) begun.log
-        (kept_by D.synced D.pending D.faults result.store) }
+        (kept_by D.synced D.pending D.faults D.writes result.store) }
     ensures settled { D.pending result.store ≡ [] }
 {
     pages_that_stand_keep_their_keys();
@@ -298,9 +217,9 @@ fn play_begun<D: LogStore + Drop>(alloc: Global, script: &Script, begun: Begun<D
     ensures text { IfOk result.answer (λ a. (rows : Rows)
         → IsBegunAt script.now begun.base (log_before begun.base begun.log) begun.log rows
         → IsPlayedText script.now (start_at (log_before begun.base begun.log) rows) begun.log
-        (kept_by D.synced D.pending D.faults result.store) a.status a.text) }
+        (kept_by D.synced D.pending D.faults D.writes result.store) a.status a.text) }
     ensures left { IsLeftFrom script.now (log_before begun.base begun.log) begun.log
-        (kept_by D.synced D.pending D.faults result.store) }
+        (kept_by D.synced D.pending D.faults D.writes result.store) }
     ensures settled { D.pending result.store ≡ [] }
 {
     pages_stand_for_one_state();
@@ -314,9 +233,9 @@ fn play_from<D: LogStore + Drop>(alloc: Global, script: &Script, begun: Begun<D>
     requires before { start.before ≡ log_before begun.base begun.log }
     requires begun { IsBegunAt script.now begun.base (log_before begun.base begun.log) begun.log start.rows }
     ensures text { IfOk result.answer (λ a. IsPlayedText script.now start begun.log
-        (kept_by D.synced D.pending D.faults result.store) a.status a.text) }
+        (kept_by D.synced D.pending D.faults D.writes result.store) a.status a.text) }
     ensures left { IsLeftFrom script.now start.before begun.log
-        (kept_by D.synced D.pending D.faults result.store) }
+        (kept_by D.synced D.pending D.faults D.writes result.store) }
     ensures settled { D.pending result.store ≡ [] }
 {
     let Begun { log, base } = begun;
@@ -329,7 +248,7 @@ fn play_from<D: LogStore + Drop>(alloc: Global, script: &Script, begun: Begun<D>
 /// The answer to a script that was played.
 fn told<D: LogStore + Drop>(alloc: Global, played: Played<D>) -> Ended<D>
     ensures text { IfOk result.answer (λ a. IsReportText played.report a.status a.text) }
-    ensures left { IsLeftOf played.log (kept_by D.synced D.pending D.faults result.store) }
+    ensures left { IsLeftOf played.log (kept_by D.synced D.pending D.faults D.writes result.store) }
     ensures settled { D.pending result.store ≡ [] }
 {
     let Played { report, log } = played;

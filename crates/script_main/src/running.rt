@@ -12,8 +12,8 @@ ghost use Rattle.script_main.specs.Words.{is_play};
 
 use super::answers::{Answer, answer_script};
 use super::commands::is_command;
-use super::statuses::{Outside, Status};
-use cdb_outside::{LogStore, ReadStop, Sink, Source, read_up_to, write_whole};
+use super::statuses::Outside;
+use cdb_outside::{LogStore, ReadStop, Sink, Source, Status, read_up_to, write_whole};
 use script_read::{MOST_BYTES, later_bytes_do_not_matter};
 use std::alloc::Global;
 
@@ -33,21 +33,21 @@ pub fn run<S: Source, K: Sink, D: LogStore + Send + Drop>(
     outside: &mut Outside<S, K, D>,
 ) -> Status
     requires settled { AllByRecursion (λ d. D.pending d ≡ []) outside.old.stores.items }
-    ensures says { WritesSo (is_play words.now) (world S.left K.taken D.synced D.pending D.faults outside.old)
-        (world S.left K.taken D.synced D.pending D.faults outside.new) result }
+    ensures says { WritesSo (is_play words.now) (world S.left K.taken D.synced D.pending D.faults D.writes outside.old)
+        (world S.left K.taken D.synced D.pending D.faults D.writes outside.new) result }
     ensures usage { TellsUsage (is_play words.now) result }
-    ensures refusal { RefusesSo (is_play words.now) (world S.left K.taken D.synced D.pending D.faults outside.old)
-        (world S.left K.taken D.synced D.pending D.faults outside.new) result }
+    ensures refusal { RefusesSo (is_play words.now) (world S.left K.taken D.synced D.pending D.faults D.writes outside.old)
+        (world S.left K.taken D.synced D.pending D.faults D.writes outside.new) result }
     ensures store_refused { RefusesStoreSo (is_play words.now)
-        (world S.left K.taken D.synced D.pending D.faults outside.old)
-        (world S.left K.taken D.synced D.pending D.faults outside.new) result }
-    ensures unsound { FindsUnsoundSo (is_play words.now) (world S.left K.taken D.synced D.pending D.faults outside.old)
-        (world S.left K.taken D.synced D.pending D.faults outside.new) result }
+        (world S.left K.taken D.synced D.pending D.faults D.writes outside.old)
+        (world S.left K.taken D.synced D.pending D.faults D.writes outside.new) result }
+    ensures unsound { FindsUnsoundSo (is_play words.now) (world S.left K.taken D.synced D.pending D.faults D.writes outside.old)
+        (world S.left K.taken D.synced D.pending D.faults D.writes outside.new) result }
     ensures complete { (Rose (S.faults outside.old.source) (S.faults outside.new.source) → ⊥)
         → (Rose (K.faults outside.old.sink) (K.faults outside.new.sink) → ⊥)
-        → CompletesSo (is_play words.now) (world S.left K.taken D.synced D.pending D.faults outside.old) result }
-    ensures again { StandsAgainSo (world S.left K.taken D.synced D.pending D.faults outside.old)
-        (world S.left K.taken D.synced D.pending D.faults outside.new) }
+        → CompletesSo (is_play words.now) (world S.left K.taken D.synced D.pending D.faults D.writes outside.old) result }
+    ensures again { StandsAgainSo (world S.left K.taken D.synced D.pending D.faults D.writes outside.old)
+        (world S.left K.taken D.synced D.pending D.faults D.writes outside.new) }
     ensures read { result ≡ Status.ReadFault → Rose (S.faults outside.old.source) (S.faults outside.new.source) }
     ensures write { result ≡ Status.WriteFault → Rose (K.faults outside.old.sink) (K.faults outside.new.sink) }
     ensures whole { result ≡ Status.Done → IsAtEnd (S.left outside.new.source) }
@@ -75,12 +75,12 @@ fn answer_source<S: Source, D: LogStore + Drop>(
 ) -> Result<Answer, Status>
     requires settled { AllByRecursion (λ d. D.pending d ≡ []) stores.old.items }
     ensures answers { IfOk result (λ a. AnswersSource (vec_len stores.old) consumers
-        (kept_all D.synced D.pending D.faults stores.old.items)
-        (kept_all D.synced D.pending D.faults stores.new.items)
+        (kept_all D.synced D.pending D.faults D.writes stores.old.items)
+        (kept_all D.synced D.pending D.faults D.writes stores.new.items)
         (S.left source.old) (S.left source.new) a.status a.text) }
     ensures stops { IfErr result (λ stop. StopsAt (vec_len stores.old) consumers
-        (kept_all D.synced D.pending D.faults stores.old.items)
-        (kept_all D.synced D.pending D.faults stores.new.items) (S.left source.old) stop) }
+        (kept_all D.synced D.pending D.faults D.writes stores.old.items)
+        (kept_all D.synced D.pending D.faults D.writes stores.new.items) (S.left source.old) stop) }
     ensures unchanged { IfOk result (λ a. LeavesStores a.status → stores.new.items ≡ stores.old.items) }
     ensures stopped { IfErr result (λ stop. LeavesStores stop → stores.new.items ≡ stores.old.items) }
     ensures others { IsFirstAlone stores.old.items stores.new.items }
@@ -89,34 +89,12 @@ fn answer_source<S: Source, D: LogStore + Drop>(
 {
     later_bytes_do_not_matter();
     match read_up_to(alloc, source, MOST_BYTES) {
-        Ok(bytes) => answer_bytes(alloc, bytes.as_slice(), stores, consumers),
+        Ok(bytes) => match answer_script(alloc, bytes.as_slice(), stores, consumers) {
+            Ok(answer) => Ok(answer),
+            Err(_) => Err(Status::NoMemory),
+        },
         Err(ReadStop::Fault) => Err(Status::ReadFault),
         Err(ReadStop::NoMemory) => Err(Status::NoMemory),
-    }
-}
-
-/// The answer to a script's bytes.
-fn answer_bytes<D: LogStore + Drop>(
-    alloc: Global,
-    bytes: &[u8],
-    stores: &mut Vec<D>,
-    consumers: u64,
-) -> Result<Answer, Status>
-    requires settled { AllByRecursion (λ d. D.pending d ≡ []) stores.old.items }
-    ensures answers { IfOk result (λ a. IsText true (script_of (vec_len stores.old) consumers bytes.now)
-        (kept_all D.synced D.pending D.faults stores.old.items)
-        (kept_all D.synced D.pending D.faults stores.new.items) a.status a.text) }
-    ensures stops { IfErr result (λ stop. (stop ≡ Status.NoMemory)
-        × AreLeft (script_of (vec_len stores.old) consumers bytes.now)
-        (kept_all D.synced D.pending D.faults stores.old.items)
-        (kept_all D.synced D.pending D.faults stores.new.items)) }
-    ensures unchanged { IfOk result (λ a. LeavesStores a.status → stores.new.items ≡ stores.old.items) }
-    ensures others { IsFirstAlone stores.old.items stores.new.items }
-    ensures settled { AllByRecursion (λ d. D.pending d ≡ []) stores.new.items }
-{
-    match answer_script(alloc, bytes, stores, consumers) {
-        Ok(answer) => Ok(answer),
-        Err(_) => Err(Status::NoMemory),
     }
 }
 

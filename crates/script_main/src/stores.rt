@@ -23,11 +23,11 @@ pub(crate) fn play_first<D: LogStore + Drop>(
     requires some { 1 ≤ vec_len stores.old }
     requires settled { AllByRecursion (λ d. D.pending d ≡ []) stores.old.items }
     ensures text { IfOk result (λ a. IsScriptText (Ok script.now)
-        (kept_all D.synced D.pending D.faults stores.old.items)
-        (kept_all D.synced D.pending D.faults stores.new.items) a.status a.text) }
+        (kept_all D.synced D.pending D.faults D.writes stores.old.items)
+        (kept_all D.synced D.pending D.faults D.writes stores.new.items) a.status a.text) }
     ensures left { AreCutOff script.now
-        (kept_all D.synced D.pending D.faults stores.old.items)
-        (kept_all D.synced D.pending D.faults stores.new.items) }
+        (kept_all D.synced D.pending D.faults D.writes stores.old.items)
+        (kept_all D.synced D.pending D.faults D.writes stores.new.items) }
     ensures others { IsFirstAlone stores.old.items stores.new.items }
     ensures settled { AllByRecursion (λ d. D.pending d ≡ []) stores.new.items }
 {

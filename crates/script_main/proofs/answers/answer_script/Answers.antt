@@ -16,4 +16,4 @@ play_first-answer-requires-clause-some g c =
 
 pub returns-in-Err-NoMemory-clause-left : goal.returns-in-Err-NoMemory-clause-left
 returns-in-Err-NoMemory-clause-left g c =
-    left_same (script_of (vec_len c.args.stores.now) c.args.consumers c.args.bytes.now) (map (kept_by g.D.LogStore.synced g.D.LogStore.pending g.D.LogStore.faults) c.args.stores.now.items)
+    left_same (script_of (vec_len c.args.stores.now) c.args.consumers c.args.bytes.now) (map (kept_by g.D.LogStore.synced g.D.LogStore.pending g.D.LogStore.faults g.D.LogStore.writes) c.args.stores.now.items)

@@ -26,7 +26,7 @@ pub returns-clause-text : goal.returns-clause-text
 returns-clause-text g c =
     let b = c.args.begun in
     let before = log_before b.base b.log in
-    let new = kept_by g.D.LogStore.synced g.D.LogStore.pending g.D.LogStore.faults c.play_from.result.store in
+    let new = kept_by g.D.LogStore.synced g.D.LogStore.pending g.D.LogStore.faults g.D.LogStore.writes c.play_from.result.store in
     IfOk-weaker c.play_from.result.answer
     (λ a. IsPlayedText c.args.script.now (start_at before (known_rows b.base b.log b.known)) b.log new a.status a.text)
     (λ a. (rows : Rows) → IsBegunAt c.args.script.now b.base before b.log rows → IsPlayedText c.args.script.now (start_at before rows) b.log new a.status a.text)

@@ -37,7 +37,7 @@ pub returns-in-Ok-clause-text : goal.returns-in-Ok-clause-text
 returns-in-Ok-clause-text g c =
     let p = c.in-Ok.ensures in
     let b = c.requires.1.1.1 in
-    let new = kept_by g.D.LogStore.synced g.D.LogStore.pending g.D.LogStore.faults c.told.result.store in
+    let new = kept_by g.D.LogStore.synced g.D.LogStore.pending g.D.LogStore.faults g.D.LogStore.writes c.told.result.store in
     let is_told = its_told c.args.script.now g.start c.args.begun.log.accepted c.in-Ok.played.report (history_of c.in-Ok.played.log) c.args.begun.base
     (b.place ∙ ap (λ (es : List Entry). length es) (sym c.requires.1.1.0)) p.lawful p.in_order p.entries p.schema p.changed p.rows p.stands p.small in
     IfOk-weaker c.told.result.answer (λ a. IsReportText c.in-Ok.played.report a.status a.text)
@@ -52,14 +52,14 @@ returns-in-Ok-clause-left g c =
     let b = c.requires.1.1.1 in
     let is_told = its_told c.args.script.now g.start c.args.begun.log.accepted c.in-Ok.played.report (history_of c.in-Ok.played.log) c.args.begun.base
     (b.place ∙ ap (λ (es : List Entry). length es) (sym c.requires.1.1.0)) p.lawful p.in_order p.entries p.schema p.changed p.rows p.stands p.small in
-    told_left c.args.script.now g.start c.args.begun.log c.in-Ok.played.log c.in-Ok.played.report (kept_by g.D.LogStore.synced g.D.LogStore.pending g.D.LogStore.faults c.told.result.store)
+    told_left c.args.script.now g.start c.args.begun.log c.in-Ok.played.log c.in-Ok.played.report (kept_by g.D.LogStore.synced g.D.LogStore.pending g.D.LogStore.faults g.D.LogStore.writes c.told.result.store)
     (subst (λ (es : List Entry). HasRows es g.start.rows) (sym c.requires.1.1.0) b.has_rows) p.owner b.node b.same is_told p.cause p.kept p.further c.told.ensures.left
 
 pub returns-in-Err-clause-left : goal.returns-in-Err-clause-left
 returns-in-Err-clause-left g c =
     let b = c.requires.1.1.1 in
     let back = c.give_back.ensures in
-    subst (λ store. IsLeftFrom c.args.script.now g.start.before c.args.begun.log (kept_by g.D.LogStore.synced g.D.LogStore.pending g.D.LogStore.faults store)) (sym c.no_memory.ensures.store)
-    (given_left c.args.script.now g.start c.args.begun.log c.in-Err.log (kept_by g.D.LogStore.synced g.D.LogStore.pending g.D.LogStore.faults c.give_back.result)
+    subst (λ store. IsLeftFrom c.args.script.now g.start.before c.args.begun.log (kept_by g.D.LogStore.synced g.D.LogStore.pending g.D.LogStore.faults g.D.LogStore.writes store)) (sym c.no_memory.ensures.store)
+    (given_left c.args.script.now g.start c.args.begun.log c.in-Err.log (kept_by g.D.LogStore.synced g.D.LogStore.pending g.D.LogStore.faults g.D.LogStore.writes c.give_back.result)
     (subst (λ (es : List Entry). HasRows es g.start.rows) (sym c.requires.1.1.0) b.has_rows) c.in-Err.ensures.owner b.node b.same c.in-Err.ensures.given_up
     (record { joined = back.joined; calm = back.calm; stands = back.stands }))

@@ -19,7 +19,7 @@ play_begun-ended-requires-clause-runs g c =
     let o = c.requires.opened in
     let is : c.in-Ok.whole ≡ record script { tables = map unsaid (history.tables_of b.log.entries) } =
     c.in-Ok.ensures ∙ ap (λ (es : List Entry). record script { tables = map unsaid (history.tables_of es) }) c.log.ensures.entries in
-    takes_tables script c.in-Ok.whole o.0 b.base b.log c.requires.runs o.1 (c.log.ensures.spelled o.1.running) c.requires.some is
+    takes_tables script c.in-Ok.whole b.log c.requires.runs (c.log.ensures.spelled o.1.running) is
 
 pub play_begun-ended-requires-clause-begun : goal.play_begun-ended-requires-clause-begun
 play_begun-ended-requires-clause-begun g c =
@@ -36,7 +36,7 @@ returns-in-Ok-clause-text g c =
     let script = c.args.script.now in
     let before = log_before b.base b.log in
     let o = c.requires.opened in
-    let new = kept_by g.D.LogStore.synced g.D.LogStore.pending g.D.LogStore.faults c.play_begun-ended.result.store in
+    let new = kept_by g.D.LogStore.synced g.D.LogStore.pending g.D.LogStore.faults g.D.LogStore.writes c.play_begun-ended.result.store in
     let is : c.in-Ok.whole ≡ record script { tables = map unsaid (history.tables_of b.log.entries) } =
     c.in-Ok.ensures ∙ ap (λ (es : List Entry). record script { tables = map unsaid (history.tables_of es) }) c.log.ensures.entries in
     IfOk-weaker c.play_begun-ended.result.answer
@@ -44,7 +44,7 @@ returns-in-Ok-clause-text g c =
     (λ a. (old : Stored) → IsOpened script old b.base b.log → IsRunText script old new a.status a.text)
     (λ a told old opened. whole_runs c.pages_that_stand_keep_their_keys.ensures.good script c.in-Ok.whole old new b.base b.log a.status a.text
     (takes_as script c.in-Ok.whole o.0 b.base b.log o.1 c.requires.some c.requires.none is)
-    (takes_tables script c.in-Ok.whole o.0 b.base b.log c.requires.runs o.1 (c.log.ensures.spelled o.1.running) c.requires.some is) c.requires.names opened told)
+    (takes_tables script c.in-Ok.whole b.log c.requires.runs (c.log.ensures.spelled o.1.running) is) c.requires.names opened told)
     c.play_begun-ended.ensures.text
 
 pub returns-in-Ok-clause-left : goal.returns-in-Ok-clause-left
@@ -55,7 +55,7 @@ returns-in-Ok-clause-left g c =
     let o = c.requires.opened in
     let is : c.in-Ok.whole ≡ record script { tables = map unsaid (history.tables_of b.log.entries) } =
     c.in-Ok.ensures ∙ ap (λ (es : List Entry). record script { tables = map unsaid (history.tables_of es) }) c.log.ensures.entries in
-    subst (λ (s : Script). IsLeftFrom s before b.log (kept_by g.D.LogStore.synced g.D.LogStore.pending g.D.LogStore.faults c.play_begun-ended.result.store))
+    subst (λ (s : Script). IsLeftFrom s before b.log (kept_by g.D.LogStore.synced g.D.LogStore.pending g.D.LogStore.faults g.D.LogStore.writes c.play_begun-ended.result.store))
     (takes_as script c.in-Ok.whole o.0 b.base b.log o.1 c.requires.some c.requires.none is) c.play_begun-ended.ensures.left
 
 pub returns-in-Err-clause-left : goal.returns-in-Err-clause-left
@@ -65,7 +65,7 @@ returns-in-Err-clause-left g c =
     let o = c.requires.opened in
     let back = c.give_back.ensures in
     let whole : Script = record script { tables = map unsaid (history.tables_of b.log.entries) } in
-    subst (λ store. IsLeftBehind script (log_before b.base b.log) b.log (kept_by g.D.LogStore.synced g.D.LogStore.pending g.D.LogStore.faults store)) (sym c.no_memory.ensures.store)
-    (opened_left script o.0 b.base b.log (kept_by g.D.LogStore.synced g.D.LogStore.pending g.D.LogStore.faults c.give_back.result)
-    (subst CanRun (takes_as script whole o.0 b.base b.log o.1 c.requires.some c.requires.none refl) (takes_tables script whole o.0 b.base b.log c.requires.runs o.1 (c.log.ensures.spelled o.1.running) c.requires.some refl))
+    subst (λ store. IsLeftBehind script (log_before b.base b.log) b.log (kept_by g.D.LogStore.synced g.D.LogStore.pending g.D.LogStore.faults g.D.LogStore.writes store)) (sym c.no_memory.ensures.store)
+    (opened_left script o.0 b.base b.log (kept_by g.D.LogStore.synced g.D.LogStore.pending g.D.LogStore.faults g.D.LogStore.writes c.give_back.result)
+    (subst CanRun (takes_as script whole o.0 b.base b.log o.1 c.requires.some c.requires.none refl) (takes_tables script whole b.log c.requires.runs (c.log.ensures.spelled o.1.running) refl))
     o.1 (record { joined = back.joined; calm = back.calm; stands = back.stands }))
