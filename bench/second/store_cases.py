@@ -231,8 +231,8 @@ class Node:
         given = first[0].tables if first and isinstance(first[0], Setup) else []
         try:
             self.open_log()
-        except Failed:
-            self.told.append("fault 0")
+        except Failed as failed:
+            self.told.append(f"fault {failed.args[0] if failed.args else 0}")
         except Foreign:
             self.told.append("refused 0")
         except BadFrame as bad:
@@ -596,7 +596,7 @@ def drawn_node(draw, number):
     tables = [table] + [draw.table(b"u")] * draw.random.randint(0, 1)
     tree = Tree(tables)
     entries = [Setup(1, tables, tree.pages.taken())]
-    sound = all(one.columns for one in tables)
+    have_columns = all(one.columns for one in tables)
     for txn in range(1, 4):
         change = tree.add(0, tuple(fitting_value(draw, one, txn) for one in table.columns))
         entries.append(Commit(1, 1, 1, b"s", txn, txn, [change], tree.pages.taken()))
@@ -605,7 +605,7 @@ def drawn_node(draw, number):
         name = spoilt(draw, tree)
         entries.append(Commit(1, 1, 1, b"s", 4, 4, [], tree.pages.taken()))
     pieces = [model.header(), model.promise(1), model.accept(1)] + [model.entry(one) for one in entries]
-    yield f"case drawn node {number}: {name}" + ("" if sound else ", a table without columns")
+    yield f"case drawn node {number}: {name}" + ("" if have_columns else ", a table without columns")
     yield from bytes_lines(pieces)
     yield "run node size"
     yield "given"

@@ -554,7 +554,6 @@ def is_sound(accepted, log):
         return True
     try:
         need(isinstance(entries[0], Setup) and all(isinstance(one, Commit) for one in entries[1:]))
-        need(all(table.columns for table in entries[0].tables))
         need(are_apart([(one.began, one.session, one.txn) for one in entries[1:]]))
         need(all(one.began <= accepted for one in entries[1:]))
         check_state(log.pages, entries[0].tables)
@@ -578,7 +577,7 @@ def differing_table(logged, given):
 
 
 class Failed(Exception):
-    """A call of a store fails."""
+    """A call of a store fails. Behind a log that was read it has the length of that log as its argument."""
 
 
 class MemStore:
@@ -635,8 +634,11 @@ def open_log(store, node, cluster):
     """What a store stands for. It gets its header where it has none, and what stands for nothing is cut off."""
     found = read_store(store.read, node, cluster)
     closed = found.closed or 0
-    if closed < found.size:
-        store.cut(closed)
-    if found.closed is None:
-        keep(store, header(1, node, cluster))
+    try:
+        if closed < found.size:
+            store.cut(closed)
+        if found.closed is None:
+            keep(store, header(1, node, cluster))
+    except Failed:
+        raise Failed(len(found.log.entries)) from None
     return found
