@@ -9,14 +9,17 @@
 //! |---|---|---|
 //! | the version that an operation takes away | `apply_op` | `specs/Targets.antt` |
 //! | what an operation makes of the rows | `apply_op` | `Rows` of `cdb_values` |
+//! | the writes of a transaction in turn, and their net operations | `net_is_in_turn` | `specs/InTurn.antt` |
 //!
 //! For example: with one table, and 1 as the next genid, `insert (7)` and `insert (8)` give the
 //! versions `1: (7)`, `2: (8)` and the next genid 3. An update of the first own write to `(9)`,
 //! with `made` as `1, 2`, takes version 1 away and adds `3: (9)` at the end: `2: (8)`, `3: (9)`.
 #![tactic(auto)]
 
+mod laws;
 mod operations;
 mod state;
 
+pub use laws::net_is_in_turn;
 pub use operations::{OpFault, apply_op};
 pub use state::State;

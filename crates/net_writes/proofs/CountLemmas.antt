@@ -1,12 +1,12 @@
 -- One more write: the places, and how many of them stand for something.
-use Rattle.std.proofs.Common.{◌≡◌, ℕ, zero, suc, ◌+◌, ◌-◌, ◌^◌, ◌<◌, ◌≤◌, ◌++◌, ◌∷◌, ◌==◌, [], List, Bool, true, false, map, filter, length, refl, sym, ◌∙◌, ap, subst, arith, length-append}
-use Rattle.std.specs.Prelude.{slice_get, slice_set, if◌then◌else◌, is_some, Option, Some, None}
+use Rattle.std.proofs.Common.{◌≡◌, ℕ, zero, suc, ◌+◌, ◌-◌, ◌<◌, ◌≤◌, ◌++◌, ◌∷◌, ◌==◌, [], List, false, map, length, refl, sym, ◌∙◌, ap, arith, length-append}
+use Rattle.std.specs.Prelude.{slice_get, slice_set, if◌then◌else◌, Option, Some, None}
 use Rattle.std.proofs.lemmas.Bool.Decides.{nat_tests}
 use Rattle.cdb_values.specs.declared.rows.RowOp.{RowOp}
 use Rattle.cdb_values.specs.declared.rows.RowOp.TheVariants.{Insert, Update, Delete}
 use Rattle.cdb_values.specs.declared.rows.RowRef.{RowRef}
 use Rattle.cdb_values.specs.declared.rows.RowRef.TheVariants.{Base, Own}
-use Rattle.net_writes.specs.Net.{held_at, held_of, taken_out, held_with, standing, and_then}
+use Rattle.net_writes.specs.Net.{held_at, held_of, taken_out, held_with, standing}
 use Rattle.net_writes.specs.Steps.{own_held, own_out, held_by, out_by, stands_for}
 
 pub standing_append : (a b : List (Option RowOp)) → standing (a ++ b) ≡ standing a ++ standing b
@@ -102,58 +102,6 @@ written held op taken out last took left at =
     ∙ put_last (out_by held op) (stands_for (held_by held op) op)
     ∙ sym (held_is held op)
 
--- how many stand for something
-abbrev pub ones : Option RowOp → ℕ
-ones one = if is_some one then 1 else 0
-
-counts_first : (x : Option RowOp) (held : List (Option RowOp)) → length (standing held) + ones x ≡ length (standing (x ∷ held))
-counts_first None held = omega arith
-counts_first (Some op) held = omega arith
-
-counts_later : (x : Option RowOp) (held other : List (Option RowOp)) (n : ℕ) → length (standing held) + n ≡ length (standing other) → length (standing (x ∷ held)) + n ≡ length (standing (x ∷ other))
-counts_later None held other n is = is
-counts_later (Some op) held other n is = omega arith
-
-counts_out : (held : List (Option RowOp)) (i : ℕ) → length (standing (slice_set held i None)) + ones (held_of (slice_get held i)) ≡ length (standing held)
-counts_out [] zero = refl
-counts_out [] (suc i) = refl
-counts_out (x ∷ held) zero = counts_first x held
-counts_out (x ∷ held) (suc i) = counts_later x (slice_set held i None) held (ones (held_of (slice_get held i))) (counts_out held i)
-
-counts_none : (n : ℕ) → n + 0 ≡ n
-counts_none n = omega arith
-
-counts_own : (held : List (Option RowOp)) (target : RowRef) → length (standing (own_out held target)) + ones (own_held held target) ≡ length (standing held)
-counts_own held (Base genid) = counts_none (length (standing held))
-counts_own held (Own zero) = counts_none (length (standing held))
-counts_own held (Own (suc i)) = (λ j. length (standing (out_suc held i j)) + ones (at_suc held i j)) ∙ counts_out held i
-
-counts_by : (held : List (Option RowOp)) (op : RowOp) → length (standing (out_by held op)) + ones (held_by held op) ≡ length (standing held)
-counts_by held (Insert table row) = counts_none (length (standing held))
-counts_by held (Update table target old row) = counts_own held target
-counts_by held (Delete table target old) = counts_own held target
-
-counts_behind : (held : List (Option RowOp)) (x : Option RowOp) → length (standing (held ++ x ∷ [])) ≡ length (standing held) + ones x
-counts_behind [] None = refl
-counts_behind [] (Some op) = refl
-counts_behind (None ∷ held) x = counts_behind held x
-counts_behind (Some op ∷ held) x = let rest = counts_behind held x in omega arith
-
-pub counts_with : (held : List (Option RowOp)) (op : RowOp) → length (standing (held_with held op)) + ones (held_by held op) ≡ length (standing held) + ones (stands_for (held_by held op) op)
-counts_with held op =
-    let now : Option RowOp = stands_for (held_by held op) op in
-    let is : length (standing (held_with held op)) ≡ length (standing (out_by held op ++ now ∷ [])) = ap (λ l. length (standing l)) (held_is held op) in
-    let behind : length (standing (out_by held op ++ now ∷ [])) ≡ length (standing (out_by held op)) + ones now = counts_behind (out_by held op) now in
-    let by : length (standing (out_by held op)) + ones (held_by held op) ≡ length (standing held) = counts_by held op in
-    omega arith
-
--- where a place stood for something, there is one
-pub counts_some : (held : List (Option RowOp)) (op : RowOp) → is_some (held_by held op) ≡ true → 0 < length (standing held)
-counts_some held op is =
-    let one : ones (held_by held op) ≡ 1 = ap (λ b. if b then 1 else 0) is in
-    let by : length (standing (out_by held op)) + ones (held_by held op) ≡ length (standing held) = counts_by held op in
-    omega arith
-
 -- those that stand for something alone
 pub squeezed : (held : List (Option RowOp)) → standing (map (λ op. Some op) (standing held)) ≡ standing held
 squeezed held = all (standing held)
@@ -161,11 +109,6 @@ squeezed held = all (standing held)
     all : (ops : List RowOp) → standing (map (λ op. Some op) ops) ≡ ops
     all [] = refl
     all (op ∷ ops) = ap (λ l. op ∷ l) (all ops)
-
-pub those_that_stand : (held : List (Option RowOp)) → filter (λ one. is_some one) held ≡ map (λ op. Some op) (standing held)
-those_that_stand [] = refl
-those_that_stand (None ∷ held) = those_that_stand held
-those_that_stand (Some op ∷ held) = ap (λ l. Some op ∷ l) (those_that_stand held)
 
 -- the last of the places, of which one more is empty
 pub last_is : (held pushed : List (Option RowOp)) (n : ℕ) → pushed ≡ held ++ None ∷ [] → n ≡ length pushed → n - 1 ≡ length held
@@ -177,35 +120,9 @@ last_there held pushed out op n is size left =
     let stays : length out ≡ length pushed = ap length left ∙ out_length pushed op in
     omega arith
 
--- there are fewer of those that stand for something than the greatest number of 64 bits
-pub counts_small : (held pushed : List (Option RowOp)) (count n : ℕ) → pushed ≡ held ++ None ∷ [] → n ≡ length pushed → n < 2 ^ 64 → count ≡ length (standing held) → count < 2 ^ 64 - 1
-counts_small held pushed count n is size fits counted =
-    let behind : length pushed ≡ length held + 1 = ap length is ∙ length-append held (None ∷ []) in
-    let short = standing_short held in
-    omega arith
-
-pub counts_taken : (held pushed : List (Option RowOp)) (op : RowOp) (taken : Option RowOp) (b : Bool) (count : ℕ) → pushed ≡ held ++ None ∷ [] → taken ≡ held_by pushed op → b ≡ is_some taken → count ≡ length (standing held)
-    → b ≡ true → 0 < count
-counts_taken held pushed op taken b count is took was counted true_ =
-    let by : taken ≡ held_by held op = took ∙ ap (λ l. held_by l op) is ∙ held_by_more held op in
-    let some : is_some (held_by held op) ≡ true = ap is_some (sym by) ∙ sym was ∙ true_ in
-    let one = counts_some held op some in
-    omega arith
-
 pub all_written : (held pushed out after : List (Option RowOp)) (op : RowOp) (taken now : Option RowOp) (n : ℕ) → pushed ≡ held ++ None ∷ [] → n ≡ length pushed → taken ≡ held_by pushed op
     → out ≡ out_by pushed op → now ≡ stands_for taken op → after ≡ slice_set out (n - 1) now → after ≡ held_with held op
 all_written held pushed out after op taken now n is size took left stands put =
     put
     ∙ ap (λ x. slice_set out (n - 1) x) stands
     ∙ written held op taken out (n - 1) (took ∙ ap (λ l. held_by l op) is) (left ∙ ap (λ l. out_by l op) is) (last_is held pushed n is size)
-
-pub all_counted : (held pushed after : List (Option RowOp)) (op : RowOp) (taken now : Option RowOp) (was has : Bool) (count counted : ℕ) → pushed ≡ held ++ None ∷ [] → taken ≡ held_by pushed op
-    → now ≡ stands_for taken op → was ≡ is_some taken → has ≡ is_some now → count ≡ length (standing held) → counted + (if was then 1 else 0) ≡ count + (if has then 1 else 0) → after ≡ held_with held op
-    → counted ≡ length (standing after)
-all_counted held pushed after op taken now was has count counted is took stands was_is has_is count_is counted_is after_is =
-    let by : taken ≡ held_by held op = took ∙ ap (λ l. held_by l op) is ∙ held_by_more held op in
-    let out_ones : (if was then 1 else 0) ≡ ones (held_by held op) = ap (λ b. if b then 1 else 0) (was_is ∙ ap is_some by) in
-    let in_ones : (if has then 1 else 0) ≡ ones (stands_for (held_by held op) op) = ap (λ b. if b then 1 else 0) (has_is ∙ ap is_some (stands ∙ ap (λ x. stands_for x op) by)) in
-    let after_count : length (standing after) ≡ length (standing (held_with held op)) = ap (λ l. length (standing l)) after_is in
-    let with = counts_with held op in
-    omega arith

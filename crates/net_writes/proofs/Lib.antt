@@ -1,5 +1,3 @@
 pub mod CountLemmas
-pub mod InTurnLemmas
-pub mod OwnLemmas
 pub mod SlotLemmas
 pub mod StandingLemmas

@@ -1,4 +1,3 @@
-pub mod InTurn
 pub mod Net
 pub mod Slots
 pub mod Steps

@@ -21,13 +21,11 @@
 //! insert (2)            1: insert (1)   2: insert (2)
 //! update 1 to (3)       1:              2: insert (2)   3: insert (3)
 //! delete 2              1:              2:              3: insert (3)   4:
-//! squeeze               1: insert (3)
 //! ```
 #![tactic(auto)]
 
 ghost use Rattle.std.specs.Prelude.{◌≡◌, ◌++◌, ◌∷◌, [], List as Many, IfOk};
 ghost use Rattle.cdb_values.specs.declared.rows.RowOp.{RowOp as OneOp};
-ghost use Rattle.net_writes.specs.InTurn.{NetIsInTurn, NoRowsAreNumbered, StaysNumbered};
 ghost use Rattle.net_writes.specs.Net.{held_with, held_after, standing, net_of};
 ghost use Rattle.net_writes.specs.Slots.{NumbersAreAsGood};
 
@@ -57,15 +55,6 @@ fn copied(op: &RowOp) -> Result<RowOp, AllocError>
 {
     op.clone()
 }
-
-/// A law for the crates above: on every base whose genids are below its next one, the net operations
-/// of writes that apply one after the other give the same rows, in the same order, as the writes do.
-/// Tables without rows are such a base, and operations keep it.
-pub fn net_is_in_turn()
-    ensures same { NetIsInTurn }
-    ensures begins { NoRowsAreNumbered }
-    ensures stays { StaysNumbered }
-{}
 
 /// The law that what is kept up a write at a time is the net of the writes so far: a write more is held behind them.
 /// Where later writes name own ones by their numbers, they come to the same net operations as where they name them by

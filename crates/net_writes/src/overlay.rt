@@ -1,31 +1,25 @@
-ghost use Rattle.std.specs.Prelude.{◌≡◌, ◌++◌, ◌∷◌, [], ◌<◌, ◌+◌, ◌-◌, ◌^◌, length, map, true, if◌then◌else◌, is_some, IfOk, OnOk, OnErr, Some};
-ghost use Rattle.std.specs.Option.{option_copied};
+ghost use Rattle.std.specs.Prelude.{◌≡◌, ◌++◌, ◌∷◌, [], IfOk, OnOk, OnErr};
 ghost use Rattle.net_writes.specs.Net.{held_at, taken_out, rewritten, undone, held_with, standing};
 ghost use Rattle.net_writes.specs.Steps.{held_by, out_by, own_held, own_out, stands_for};
 
 use cdb_values::{List, Row, RowOp, RowRef};
 use std::alloc::{AllocError, Global};
 use std::marker::Model;
-use std::mem;
 
 /// What the writes of a transaction stand for, kept up one write at a time. Contracts see what each write is held as,
 /// in the order of the writes: an operation on the base, or nothing.
 #[derive(Drop)]
 pub struct Overlay {
     held: List<Option<RowOp>>,
-    count: usize,
 }
 
 impl Model for Overlay {
-    ghost use Rattle.std.specs.Prelude.{◌≡◌, List as Many, Option, length};
+    ghost use Rattle.std.specs.Prelude.{List as Many, Option};
     ghost use Rattle.cdb_values.specs.declared.rows.RowOp.{RowOp as OneOp};
-    ghost use Rattle.net_writes.specs.Net.{standing};
 
     ghost Value = { Many (Option OneOp) };
 
     ghost view = { λ o. o.held };
-
-    ghost invariant = { λ o. o.count ≡ length (standing o.held) };
 }
 
 impl Overlay {
@@ -35,7 +29,6 @@ impl Overlay {
     {
         Overlay {
             held: List::new(alloc),
-            count: 0,
         }
     }
 
@@ -48,51 +41,9 @@ impl Overlay {
         self.held.push(None)?;
         let last = self.held.len() - 1;
         let taken = take_target(&mut self.held, &op);
-        let was_held = taken.is_some();
         let now = meant(taken, op);
-        let is_held = now.is_some();
         let _nothing = self.held.replace_at(last, now);
-        self.count = counted(self.count, was_held, is_held);
         Ok(())
-    }
-
-    /// The number of writes.
-    pub fn writes(&self) -> usize
-        ensures { result ≡ length self.now }
-    {
-        self.held.len()
-    }
-
-    /// The number of net operations, which is kept.
-    pub fn count(&self) -> usize
-        ensures { result ≡ length (standing self.now) }
-    {
-        self.count
-    }
-
-    /// What the write of a number, from 1, stands for.
-    pub fn held(&self, write: u64) -> Option<&RowOp>
-        ensures { option_copied result ≡ held_at self.now write }
-    {
-        if write == 0 || write > self.held.len() as u64 {
-            return None;
-        }
-        match self.held.as_slice().get((write - 1) as usize) {
-            Some(Some(op)) => Some(op),
-            _ => None,
-        }
-    }
-
-    /// Forgets the writes that stand for nothing, and numbers the others anew, from 1 in their order. Takes no memory.
-    /// What it costs grows with the writes: called whenever half of them stand for nothing, it costs no more than they
-    /// did.
-    pub fn squeeze(&mut self, alloc: Global)
-        ensures { self.new ≡ map (λ op. Some op) (standing self.old) }
-    {
-        let held = mem::replace(&mut self.held, List::new(alloc));
-        let mut items = held.into_vec();
-        items.retain(|held| held.is_some());
-        self.held = List::from_vec(items);
     }
 
     /// The net operations, in order. `Err` is want of memory.
@@ -192,19 +143,6 @@ fn undo(before: Option<RowOp>) -> Option<RowOp>
             },
         ) => Some(RowOp::Delete { table, target, old }),
         _ => None,
-    }
-}
-
-/// The number of net operations after a write, by whether one was taken out and whether the write stands for one.
-fn counted(count: usize, was_held: bool, is_held: bool) -> usize
-    requires some { was_held ≡ true → 0 < count }
-    requires small { count < 2 ^ 64 - 1 }
-    ensures { result + (if was_held then 1 else 0) ≡ count + (if is_held then 1 else 0) }
-{
-    match (was_held, is_held) {
-        (true, false) => count - 1,
-        (false, true) => count + 1,
-        _ => count,
     }
 }
 

@@ -16,9 +16,9 @@ use Rattle.cdb_values.specs.declared.values.Value.{Value}
 use Rattle.genid_rows.specs.Targets.{based, own_genid, genid_of, is_genid_live, or_own}
 use Rattle.net_writes.specs.Net.{held_with, held_after, held_at, held_of, taken_out, rewritten, undone, standing}
 use Rattle.cdb_values.specs.Views.{rows_in}
-use Rattle.net_writes.specs.InTurn.{IsNumbered, Applies, ApplyInTurn, in_turn, made_with, NetIsInTurn, NoRowsAreNumbered, StaysNumbered}
+use Rattle.genid_rows.specs.InTurn.{IsNumbered, Applies, ApplyInTurn, in_turn, made_with, NetIsInTurn, NoRowsAreNumbered, StaysNumbered}
 use Rattle.cdb_values.proofs.ViewLaws.{view_applied, placed_here, placed_there, same_place, other_place, eq_flip, neither}
-use Rattle.net_writes.proofs.OwnLemmas.{own, own_one, own_rows, own_more, gone, gone_is, gone_more, gone_out, takes_held, others, others_own, others_out, in_second, still_there, IsStillThere, IsWrittenTo, LeavesNone, IsHeldOn, stands_on, held_more, held_out, held_there, Recorded, recorded_next, recorded_none, recorded_out, recorded_above}
+use Rattle.genid_rows.proofs.OwnLemmas.{own, own_one, own_rows, own_more, gone, gone_is, gone_more, gone_out, takes_held, others, others_own, others_out, in_second, still_there, IsStillThere, IsWrittenTo, LeavesNone, IsHeldOn, stands_on, held_more, held_out, held_there, Recorded, recorded_next, recorded_none, recorded_out, recorded_above}
 
 -- the versions of the base that the writes have left in a table
 abbrev pub left : Rows → List (Option RowOp) → ℕ → List Version

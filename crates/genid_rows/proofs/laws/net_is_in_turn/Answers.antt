@@ -1,5 +1,5 @@
-use Rattle.net_writes.proofs.InTurnLemmas.{same, begins, stays}
-use Rattle.net_writes.proofs.net_is_in_turn.Goals as goal
+use Rattle.genid_rows.proofs.InTurnLemmas.{same, begins, stays}
+use Rattle.genid_rows.proofs.laws.net_is_in_turn.Goals as goal
 
 pub returns-clause-same : goal.returns-clause-same
 returns-clause-same c = same
