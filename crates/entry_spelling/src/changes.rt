@@ -3,8 +3,7 @@ ghost use Rattle.std.specs.Prelude.{◌<◌, ◌^◌, length};
 ghost use Rattle.std.specs.Bool.{Decides};
 ghost use Rattle.std.specs.List.{AllByRecursion};
 ghost use Rattle.std.specs.Str.{IsUtf8};
-ghost use Rattle.cdb_values.specs.declared.values.Value.TheVariants.{Int};
-ghost use Rattle.key_code.specs.Codes.{row_code, IsInRange, IsRowValue};
+ghost use Rattle.key_code.specs.Codes.{row_code, IsRowValue};
 ghost use Rattle.frame_code.specs.Spelled.{IsStoredRow, IsOneRow, IsChange};
 
 use crate::numbers::is_number;
@@ -89,25 +88,20 @@ fn are_values(values: &[Value]) -> bool
     true
 }
 
-/// Whether a value has a code in a row.
+/// Whether a value has a code in a row. An integer of the code is one of 64 bits.
 fn is_value(value: &Value) -> bool
     ensures { Decides result (IsRowValue value.now) }
 {
     match value {
         Value::Null => true,
         Value::Int(x) => {
-            read_int(*x);
+            let _in_range = *x;
             true
         }
         Value::Text(text) => text.len() < BYTES_END && is_utf8(text),
         Value::Blob(blob) => blob.len() < BYTES_END,
     }
 }
-
-/// An integer of the code is one of 64 bits.
-fn read_int(x: i64)
-    ensures { IsInRange (Int x) }
-{}
 
 /// Whether a text is UTF-8.
 fn is_utf8(text: &Text) -> bool

@@ -30,14 +30,6 @@ impl<'a, P: PageSource> PageRows<'a, P> {
     {
         PageRows { pages, schema }
     }
-
-    /// The pages, which stand for the state still. Takes no memory.
-    pub fn into_pages(self) -> P
-        ensures pages { result ≡ self.entry.pages }
-        ensures stands { ∥ Stands (P.pages result) self.entry.schema.now self.entry.standing.0 ∥₁ }
-    {
-        self.pages
-    }
 }
 
 impl<P: PageSource> RowSource for PageRows<'_, P> {

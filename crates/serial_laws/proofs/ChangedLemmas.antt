@@ -2,7 +2,7 @@
 use Rattle.std.proofs.Common.{◌≡◌, ℕ, zero, suc, ◌+◌, ◌-◌, ◌<◌, ◌≤◌, List, [], ◌∷◌, length, refl, sym, ap, subst, ◌∙◌, Bool, true, false, ◌&&◌, ◌||◌, eqb, Option, Some, arith}
 use Rattle.std.proofs.lemmas.Bool.{or_parts, eqb-true}
 use Rattle.std.specs.List.{AllByRecursion, list_any, slice_get}
-use Rattle.cdb_values.specs.Rows.{Rows, versions_of, taken, added, apply, apply_all}
+use Rattle.cdb_values.specs.Rows.{Rows, versions_of, taken, added, apply}
 use Rattle.cdb_values.specs.declared.rows.RowOp.{RowOp}
 use Rattle.cdb_values.specs.declared.rows.RowOp.TheVariants as op
 use Rattle.cdb_values.specs.declared.rows.RowRef.TheVariants.{Base, Own}
@@ -19,35 +19,7 @@ use Rattle.serial_laws.specs.Histories.{Entry, Setup, Commit, Origin, alone, sta
 use Rattle.session_language.specs.Serial.{IsRowOf, IsTrueOp, IsSound}
 use Rattle.serial_laws.specs.Changed.{lies_in, changes_touch, TellsTrue, IsUnchanged, IsFair, AllFair}
 use Rattle.serial_laws.proofs.SerialLemmas.{place, now, IsStep, step_at, rows_step, states_stay, get_within, right_is_serial}
-use Rattle.session_language.proofs.SoundLaws.{taken_all, added_all, taken_keeps, added_keeps, op_keeps, new_same, neither, no_rows_sound}
-
--- an operation that names its target's row rightly does so after each other one
-pub ops_keep : (rows : Rows) (os ps : List RowOp) → AllByRecursion (IsTrueOp rows) ps → AllByRecursion (IsTrueOp (apply_all rows os)) ps
-ops_keep rows [] ps was = was
-ops_keep rows (o ∷ os) ps was = ops_keep (apply rows o) os ps (all_weaker (IsTrueOp rows) (IsTrueOp (apply rows o)) (op_keeps rows o) ps was)
-
--- sound rows stay so
-taken_sound : (rows : Rows) (t g : ℕ) → IsSound rows → IsSound (taken rows t g)
-taken_sound rows t g sound table =
-    all_weaker (λ v. IsRowOf rows table v.genid v.row) (λ v. IsRowOf (taken rows t g) table v.genid v.row) (λ v. taken_keeps rows t g table v.genid v.row) (versions_of (taken rows t g) table)
-    (taken_all (λ v. IsRowOf rows table v.genid v.row) rows t g table (sound table))
-
-added_sound : (rows : Rows) (t : ℕ) (row : List Value) → IsSound rows → IsSound (added rows t row)
-added_sound rows t row sound table =
-    added_all (λ v. IsRowOf (added rows t row) table v.genid v.row) rows t row table
-    (λ is. record { below = omega arith; same = added_all (λ v. v.genid ≡ rows.next → v.row ≡ row) rows t row table (λ _ _. refl) (new_same rows table row (versions_of rows table) (sound table)) })
-    (all_weaker (λ v. IsRowOf rows table v.genid v.row) (λ v. IsRowOf (added rows t row) table v.genid v.row) (λ v. added_keeps rows t row table v.genid v.row) (versions_of rows table) (sound table))
-
-sound_step : (rows : Rows) (o : RowOp) → IsSound rows → IsSound (apply rows o)
-sound_step rows (op.Insert t row) sound = added_sound rows t row sound
-sound_step rows (op.Update t (Base g) o row) sound = added_sound (taken rows t g) t row (taken_sound rows t g sound)
-sound_step rows (op.Update t (Own w) o row) sound = sound
-sound_step rows (op.Delete t (Base g) o) sound = taken_sound rows t g sound
-sound_step rows (op.Delete t (Own w) o) sound = sound
-
-pub sound_stays : (rows : Rows) (os : List RowOp) → IsSound rows → IsSound (apply_all rows os)
-sound_stays rows [] sound = sound
-sound_stays rows (o ∷ os) sound = sound_stays (apply rows o) os (sound_step rows o sound)
+use Rattle.session_language.proofs.SoundLaws.{op_keeps, ops_keep, neither, no_rows_sound, sound_stays}
 
 -- a version that does not lie in a range by the row that is named does not leave it
 none_leaves : (tables : List TableDef) (range : Interval) (genid : ℕ) (old : List Value) (vs : List Version) → AllByRecursion (λ v. v.genid ≡ genid → v.row ≡ old) vs → lies tables range old ≡ false →

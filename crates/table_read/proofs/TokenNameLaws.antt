@@ -1,9 +1,11 @@
 -- The names of tokens: the bytes of a word that is not reserved, folded to lower case.
-use Rattle.std.proofs.Common.{◌≡◌, ℕ, ◌+◌, ◌≤◌, Bool, true, false, ◌&&◌, ◌||◌, ◌==◌, nat_le, List, [], ◌∷◌, length, map, codes, bytes_eq, refl, sym, ◌∙◌, ap, ap₂, arith}
+use Rattle.std.proofs.Common.{◌≡◌, ℕ, ◌+◌, ◌≤◌, Bool, true, false, ◌&&◌, ◌||◌, ◌==◌, List, [], ◌∷◌, length, map, codes, bytes_eq, refl, sym, ◌∙◌, ap, ap₂, arith}
 use Rattle.std.specs.Char.{to_ascii_lowercase}
 use Rattle.std.specs.List.{list_all, AllByRecursion}
 use Rattle.std.proofs.lemmas.Bool.Decides.{nat_tests}
 use Rattle.std.proofs.lemmas.Slice.Eq.{bytes_eq-Decides}
+use Rattle.byte_words.specs.Names.{is_name_byte, begins_lower}
+use Rattle.byte_words.specs.Words.{is_lower}
 use Rattle.sql_tokens.specs.Letters.{is_word_byte, is_word_start, next_is, Each}
 use Rattle.sql_tokens.specs.Spot.{Spot, token_of}
 use Rattle.sql_tokens.specs.Token.{IsToken, IsName}
@@ -13,23 +15,10 @@ use Rattle.sql_tokens.specs.declared.kinds.Keyword.TheVariants.{All}
 use Rattle.sql_tokens.specs.declared.kinds.Token.{Token}
 use Rattle.sql_tokens.specs.declared.kinds.Token.TheVariants as token
 
-abbrev pub is_lower : ℕ → Bool
-is_lower b = nat_le 97 b && nat_le b 122
-
-abbrev pub is_digit : ℕ → Bool
-is_digit b = nat_le 48 b && nat_le b 57
-
-abbrev pub is_name_byte : ℕ → Bool
-is_name_byte b = is_lower b || (is_digit b || (b == 95))
-
-abbrev pub is_begun : List ℕ → Bool
-is_begun [] = false
-is_begun (b ∷ bs) = is_lower b || (b == 95)
-
 -- a name of at most 32 bytes that a token may have
 pub record IsTokenName (name : List ℕ) : Type 0 where
   pub bytes : list_all is_name_byte name ≡ true
-  pub begun : is_begun name ≡ true
+  pub begun : begins_lower name ≡ true
   pub short : length name ≤ 32
   pub free : bytes_eq (codes "all") name ≡ false
 
@@ -43,7 +32,7 @@ folded_bytes : (w : List ℕ) → Each is_word_byte w → list_all is_name_byte 
 folded_bytes [] each = refl
 folded_bytes (b ∷ w) each = ap₂ (λ one all. one && all) (folded_byte b each.0) (folded_bytes w each.1)
 
-folded_begun : (w : List ℕ) → next_is is_word_start w ≡ true → is_begun (folded w) ≡ true
+folded_begun : (w : List ℕ) → next_is is_word_start w ≡ true → begins_lower (folded w) ≡ true
 folded_begun [] h = h
 folded_begun (b ∷ w) h = folded_start b h
 
@@ -57,7 +46,7 @@ not_equal a b differ = go (bytes_eq a b) refl
 is_token_name : (n w rest : List ℕ) → IsName n w rest → length n ≤ 32 → IsTokenName n
 is_token_name n w rest h short = record {
   bytes = ap (list_all is_name_byte) h.spelled ∙ folded_bytes w h.word.each;
-  begun = ap is_begun h.spelled ∙ folded_begun w h.word.begins;
+  begun = ap begins_lower h.spelled ∙ folded_begun w h.word.begins;
   short = short;
   free = not_equal (codes "all") n (h.free All);
 }

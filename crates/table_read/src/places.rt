@@ -64,13 +64,8 @@ fn places(alloc: Global, columns: &[ColumnDef], names: &[Name]) -> Result<List<u
     requires { length columns.now < 256 }
     ensures { IfOk result (λ places. places ≡ map (place_among columns.now) names.now) }
 {
-    let mut places = List::new(alloc);
-    let mut rest = names;
-    'names: while let Some((name, after)) = rest.split_first() {
-        places.push(place(columns, name))?;
-        rest = after;
-    }
-    Ok(places)
+    let places = names.iter().map(|name| place(columns, name));
+    Ok(List::from_vec(places.collect(alloc)?))
 }
 
 /// The place of the first of these columns with that name, or the place behind the last one.

@@ -1,5 +1,4 @@
-use Rattle.serial_laws.proofs.ChangedLemmas.{sound_stays}
-use Rattle.session_language.proofs.SoundLaws.{no_rows_sound}
+use Rattle.session_language.proofs.SoundLaws.{no_rows_sound, sound_stays}
 use Rattle.serial_laws.proofs.laws.rows_stay_sound.Goals as goal
 
 pub returns : goal.returns
