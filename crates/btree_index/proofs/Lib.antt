@@ -20,5 +20,6 @@ pub mod DepthLemmas
 pub mod PlaceLemmas
 pub mod ChoiceLemmas
 pub mod LoneLemmas
+pub mod LeafWays
 pub mod ForkLemmas
 pub mod PruneLemmas

@@ -15,12 +15,14 @@ use Rattle.btree_index.specs.Cells.{child_of, inner_cell, IsLeafCell}
 use Rattle.btree_index.specs.Changes.{Stands, Becomes}
 use Rattle.btree_index.specs.Steps.{Alters}
 use Rattle.btree_index.specs.Trees.{Entry, below, spread, leaves, cells_of, pages_of, IsLeafPage, IsFenced, top, pair_of}
-use Rattle.btree_index.specs.Prunes.{IsLone, lone_pages, rekeyed, Shrunk, Unlinks, IsFork, AreStray, FreesAll, DropsChild, Rekeys, SetsRight}
+use Rattle.btree_index.specs.Prunes.{IsLone, lone_pages, rekeyed, Shrunk, Unlinks, IsFork, lone_leaf, AreStray, FreesAll, DropsChild, LosesLeaf, Rekeys, SetsRight}
 use Rattle.btree_index.specs.declared.prunes.Fork.{Fork}
 use Rattle.btree_index.proofs.ApartLaws.{in_left, in_right, in_either}
 use Rattle.btree_index.proofs.LevelLemmas.{SameOn}
 use Rattle.btree_index.proofs.LeafLaws.{holds_same}
+use Rattle.btree_index.proofs.LeafWays.{free_page_in, lone_inside, lone_root}
 use Rattle.btree_index.proofs.RootLaws.{pages_same}
+use Rattle.btree_index.proofs.StandLemmas.{becomes_none}
 
 -- the free pages where none of them changed, nor the meta page, nor one that was never written
 free_same : (old new : ℕ → Image) (free : List ℕ) → AreFree old free → new 0 ≡ old 0 → SameOn old new free
@@ -168,9 +170,9 @@ free_inner old mid late new (suc height) id child root own free list s lone kind
 
 -- a tree out of which an empty leaf was taken, and then freed
 pub pruned : (old mid new : ℕ → Image) (root : ℕ) (own free : List ℕ) (list : List (Key × List ℕ)) (fork : Fork) → (s : Stands old root own free list)
-    → IsFork old s.height (top root) s.cells fork → Unlinks old mid fork
+    → (f : IsFork old s.height (top root) s.cells fork) → Unlinks old mid fork
     → ((h : ℕ) (mine : List ℕ) → IsLone mid h fork.child → Stands mid root mine free list → AreStray mid mine free (lone_pages mid h fork.child)
-    → FreesAll mid new root mine free list (lone_pages mid h fork.child)) → Becomes old new root own free list
+    → FreesAll mid new root mine free list (lone_pages mid h fork.child)) → LosesLeaf old new root own free list (lone_leaf old f.depth fork.child)
 pruned old mid new root own free list fork s f u frees =
     let ids = lone_pages old f.depth fork.child in
     let mine = pages_of mid s.height (top root) in
@@ -207,22 +209,26 @@ pruned old mid new root own free list fork s f u frees =
     (frees f.depth mine l.0 stands (subst (λ (l : List ℕ). AreStray mid mine free l) (sym l.1) stray)) in
     let all : count_of new ≡ count_of old = r.count ∙ count in
     record {
-      more = mine;
-      spare = ids ++ free;
-      stands = r.stands;
-      changes = record {
-        genid = r.genid ∙ genid_same old mid zeroth;
-        count = omega arith;
-        few = λ h. subst (λ (c : ℕ). c < 2 ^ 62) (sym all) h;
-        others = λ n h z off_own off_free. r.others n z (λ i. off_own (gone n i)) ∙ same n off_own;
-        tree = λ n i. inl (from n i);
-        unused = λ n i. was n gone (in_either n ids free i);
+      becomes = record {
+        more = mine;
+        spare = ids ++ free;
+        stands = r.stands;
+        changes = record {
+          genid = r.genid ∙ genid_same old mid zeroth;
+          count = omega arith;
+          few = λ h. subst (λ (c : ℕ). c < 2 ^ 62) (sym all) h;
+          others = λ n h z off_own off_free. r.others n z (λ i. off_own (gone n i)) ∙ same n off_own;
+          tree = λ n i. inl (from n i);
+          unused = λ n i. was n gone (in_either n ids free i);
+        };
+        lost = record {
+          tree = λ n i. still n (k.keeps n (subst (λ (l : List ℕ). IsIn n l) (sym s.own_is) i));
+          unused = λ n i. inr (in_right n ids free i);
+          taken = λ n a b. absurd (none n a b all);
+        };
       };
-      lost = record {
-        tree = λ n i. still n (k.keeps n (subst (λ (l : List ℕ). IsIn n l) (sym s.own_is) i));
-        unused = λ n i. inr (in_right n ids free i);
-        taken = λ n a b. absurd (none n a b all);
-      };
+      went = inr (free_page_in new (lone_leaf old f.depth fork.child) (ids ++ free) r.stands.spare.kept
+          (in_left (lone_leaf old f.depth fork.child) ids free (lone_inside old f.depth fork.child)));
     }
   where
     past : (n : ℕ) {c : ℕ} → c ≤ n → n < c → ⊥
@@ -258,7 +264,7 @@ flatten_from : (old mid new : ℕ → Image) (root child height : ℕ) (own free
     → s.height ≡ height → IsLone old height root → (old root).head.kind ≡ Inner → child ≡ child_of (first_cell (old root).cells)
     → Alters old mid root (record { kind = Leaf; level = 0; right = 0 }) (remove (old root).cells 0)
     → ((h : ℕ) (mine : List ℕ) → IsLone mid h child → Stands mid root mine free list → AreStray mid mine free (lone_pages mid h child)
-    → FreesAll mid new root mine free list (lone_pages mid h child)) → Becomes old new root own free list
+    → FreesAll mid new root mine free list (lone_pages mid h child)) → LosesLeaf old new root own free list (lone_leaf old height root)
 flatten_from old mid new root child zero own free list s tall lone kind is a frees = absurd (let e = sym kind ∙ lone.0 in cc)
 flatten_from old mid new root child (suc height) own free list s tall lone kind is a frees =
     let c = child_of (first_cell (old root).cells) in
@@ -316,22 +322,26 @@ flatten_from old mid new root child (suc height) own free list s tall lone kind 
     (at l.0 stands (subst (λ (l : List ℕ). AreStray mid mine free l) (sym l.1) stray)) in
     let all : count_of new ≡ count_of old = r.count ∙ count in
     record {
-      more = mine;
-      spare = ids ++ free;
-      stands = r.stands;
-      changes = record {
-        genid = r.genid ∙ genid_same old mid zeroth;
-        count = omega arith;
-        few = λ h. subst (λ (c : ℕ). c < 2 ^ 62) (sym all) h;
-        others = λ n h z off_own off_free. r.others n z (λ i. off_own (gone n i)) ∙ same n off_own;
-        tree = λ n i. inl (from n i);
-        unused = λ n i. was n gone (in_either n ids free i);
+      becomes = record {
+        more = mine;
+        spare = ids ++ free;
+        stands = r.stands;
+        changes = record {
+          genid = r.genid ∙ genid_same old mid zeroth;
+          count = omega arith;
+          few = λ h. subst (λ (c : ℕ). c < 2 ^ 62) (sym all) h;
+          others = λ n h z off_own off_free. r.others n z (λ i. off_own (gone n i)) ∙ same n off_own;
+          tree = λ n i. inl (from n i);
+          unused = λ n i. was n gone (in_either n ids free i);
+        };
+        lost = record {
+          tree = λ n i. still n (subst (λ (l : List ℕ). IsIn n l) own_is i);
+          unused = λ n i. inr (in_right n ids free i);
+          taken = λ n a b. absurd (never n a b all);
+        };
       };
-      lost = record {
-        tree = λ n i. still n (subst (λ (l : List ℕ). IsIn n l) own_is i);
-        unused = λ n i. inr (in_right n ids free i);
-        taken = λ n a b. absurd (never n a b all);
-      };
+      went = inr (free_page_in new (lone_leaf old height c) (ids ++ free) r.stands.spare.kept
+          (in_left (lone_leaf old height c) ids free (lone_inside old height c)));
     }
   where
     past : (n : ℕ) {c : ℕ} → c ≤ n → n < c → ⊥
@@ -359,9 +369,17 @@ pub flattened : (old mid new : ℕ → Image) (root child : ℕ) (own free : Lis
     → IsLone old s.height root → (old root).head.kind ≡ Inner → child ≡ child_of (first_cell (old root).cells)
     → Alters old mid root (record { kind = Leaf; level = 0; right = 0 }) (remove (old root).cells 0)
     → ((h : ℕ) (mine : List ℕ) → IsLone mid h child → Stands mid root mine free list → AreStray mid mine free (lone_pages mid h child)
-    → FreesAll mid new root mine free list (lone_pages mid h child)) → Becomes old new root own free list
+    → FreesAll mid new root mine free list (lone_pages mid h child)) → LosesLeaf old new root own free list (lone_leaf old s.height root)
 flattened old mid new root child own free list s lone kind is a frees =
     flatten_from old mid new root child s.height own free list s refl lone kind is a frees
+
+-- a root that is an empty leaf stays
+pub stays_leaf : (old new : ℕ → Image) (root : ℕ) (own free : List ℕ) (list : List (Key × List ℕ)) → new ≡ old → (s : Stands old root own free list)
+    → IsLone old s.height root → (old root).head.kind ≡ Leaf → LosesLeaf old new root own free list (lone_leaf old s.height root)
+stays_leaf old new root own free list same s lone kind = record {
+  becomes = subst (λ (p : ℕ → Image). Becomes old p root own free list) (sym same) (becomes_none old root own free list s);
+  went = inl (lone_root old s.height root lone kind);
+}
 
 -- a cell is taken from a page, and the first one that is left gets the empty key
 pub drops_first : (old mid new : ℕ → Image) (page : ℕ) → Alters old mid page (old page).head (remove (old page).cells 0) → Rekeys mid new page
@@ -404,11 +422,11 @@ unlinks old mid new fork d r room =
 
 -- the same from pages that were read before
 pub pruned_after : (old read new : ℕ → Image) (root : ℕ) (own free : List ℕ) (list : List (Key × List ℕ)) (fork : Fork) → read ≡ old
-    → (s : Stands old root own free list) → IsFork old s.height (top root) s.cells fork
+    → (s : Stands old root own free list) → (f : IsFork old s.height (top root) s.cells fork)
     → ((mid : ℕ → Image) × Unlinks read mid fork × ((height root : ℕ) (own free : List ℕ) (list : List (Key × List ℕ)) → Stands mid root own free list
     → IsLone mid height fork.child → AreStray mid own free (lone_pages mid height fork.child)
     → FreesAll mid new root own free list (lone_pages mid height fork.child)))
-    → Becomes old new root own free list
+    → LosesLeaf old new root own free list (lone_leaf old f.depth fork.child)
 pruned_after old read new root own free list fork same s f (mid, u, frees) =
     pruned old mid new root own free list fork s f (subst (λ (g : ℕ → Image). Unlinks g mid fork) same u)
     (λ h mine lone stands stray. frees h root mine free list stands lone stray)

@@ -123,3 +123,8 @@ pub record IsWay (pages : ℕ → Image) (root : ℕ) (key : Key) (way : Way) : 
   pub kind : (pages way.leaf).head.kind ≡ Leaf
   pub roomy : LeadsOver pages root key way.roomy
   pub full : IsFullUntil pages key way.roomy way.leaf
+
+-- whether a key is in the list, and where it is not the way to its leaf
+abbrev pub IsPlace : (ℕ → Image) → ℕ → Key → List (Key × List ℕ) → Option Way → Type 0
+IsPlace pages root key list None = is_some (value_at key list) ≡ true
+IsPlace pages root key list (Some way) = (value_at key list ≡ None) × IsWay pages root key way

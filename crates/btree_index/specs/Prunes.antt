@@ -13,11 +13,12 @@ use Rattle.std.specs.Prelude.{◌≡◌, ◌⊎◌, ℕ, zero, suc, ◌<◌, ◌
 use Rattle.std.specs.List.{remove, slice_get, slice_set}
 use Rattle.page_store.specs.Image.{Image, HasRoom}
 use Rattle.page_store.specs.declared.pages.PageKind.TheVariants.{Leaf, Inner}
-use Rattle.page_workspace.specs.Spare.{IsIn, AreApart, first_cell, count_of, next_genid}
+use Rattle.page_workspace.specs.Spare.{IsIn, AreApart, IsFreePage, first_cell, count_of, next_genid}
 use Rattle.btree_index.specs.Keys.{Key}
 use Rattle.btree_index.specs.Cells.{child_of, inner_cell}
 use Rattle.btree_index.specs.Trees.{Entry, leaves, pages_of, Holds}
-use Rattle.btree_index.specs.Changes.{Stands}
+use Rattle.btree_index.specs.Changes.{Stands, Becomes}
+use Rattle.btree_index.specs.Pairs.{HasKeyAt, choice}
 use Rattle.btree_index.specs.Steps.{Alters}
 use Rattle.btree_index.specs.declared.finds.Below.{Below}
 use Rattle.btree_index.specs.declared.prunes.Fork.{Fork}
@@ -172,3 +173,54 @@ pub record SetsRight (old new : ℕ → Image) (page : ℕ) (left : Option ℕ) 
 -- a root is a leaf without cells now
 abbrev pub Empties : (ℕ → Image) → (ℕ → Image) → ℕ → Type 0
 Empties old new root = Alters old new root (record { kind = Leaf; level = 0; right = 0 }) (remove (old root).cells 0)
+
+-- over any pages, the leaf to which the way to a key comes from a page, so many steps below it
+abbrev pub IsLeafBelow : (ℕ → Image) → Key → ℕ → ℕ → ℕ → Type 0
+IsLeafBelow pages key page zero leaf = (page ≡ leaf) × ((pages page).head.kind ≡ Leaf)
+IsLeafBelow pages key page (suc steps) leaf = ((pages page).head.kind ≡ Inner) × IsLeafBelow pages key (choice key (pages page).cells) steps leaf
+
+pub record HasLeaf (pages : ℕ → Image) (key : Key) (page leaf : ℕ) : Type 0 where
+  pub steps : ℕ
+  pub is : IsLeafBelow pages key page steps leaf
+
+-- the way to the key from one page goes on at another
+abbrev pub GoesOn : (ℕ → Image) → Key → ℕ → ℕ → Type 0
+GoesOn pages key from page = (leaf : ℕ) → HasLeaf pages key page leaf → HasLeaf pages key from leaf
+
+-- what the way to a key came to: a leaf with cells, or a fork on the way
+abbrev pub LeadsTo : (ℕ → Image) → Key → ℕ → Found → Type 0
+LeadsTo pages key page Full = (leaf : ℕ) × HasLeaf pages key page leaf × ((pages leaf).cells ≡ [] → ⊥)
+LeadsTo pages key page (Lone lone) = Unit {0}
+LeadsTo pages key page (Forked fork) = GoesOn pages key page fork.child
+
+-- the tree of this list stands, and a leaf of it is its root, or is a free page now
+pub record LosesLeaf (old new : ℕ → Image) (root : ℕ) (own free : List ℕ) (list : List (Key × List ℕ)) (leaf : ℕ) : Type 0 where
+  pub becomes : Becomes old new root own free list
+  pub went : (leaf ≡ root) ⊎ IsFreePage (new leaf)
+
+-- the leaf on the way to a key has cells, or is the root, or is a free page now
+pub record FreesEmpty (old new : ℕ → Image) (root : ℕ) (key : Key) : Type 0 where
+  pub leaf : ℕ
+  pub way : HasLeaf old key root leaf
+  pub went : ((old leaf).cells ≡ [] → ⊥) ⊎ (leaf ≡ root) ⊎ IsFreePage (new leaf)
+
+-- the key's cell was taken from a leaf that had so many; where there was none, nothing is said
+pub record Takes (old new : ℕ → Image) (root : ℕ) (key : Key) (count : ℕ) : Type 0 where
+  pub leaf : ℕ
+  pub way : HasLeaf old key root leaf
+  pub at : ℕ
+  pub had : HasKeyAt key (old leaf).cells at
+  pub alters : Alters old new leaf (old leaf).head (remove (old leaf).cells at)
+  pub all : count ≡ length (old leaf).cells
+
+abbrev pub IsTaken : (ℕ → Image) → (ℕ → Image) → ℕ → Key → Option ℕ → Type 0
+IsTaken old new root key None = Unit {0}
+IsTaken old new root key (Some count) = Takes old new root key count
+
+-- the leaf that had the key has other cells, or is the root, or is a free page now
+pub record FreesEmptied (old new : ℕ → Image) (root : ℕ) (key : Key) : Type 0 where
+  pub leaf : ℕ
+  pub way : HasLeaf old key root leaf
+  pub at : ℕ
+  pub had : HasKeyAt key (old leaf).cells at
+  pub went : ((new leaf).cells ≡ [] → ⊥) ⊎ (leaf ≡ root) ⊎ IsFreePage (new leaf)

@@ -8,7 +8,7 @@ ghost use Rattle.page_store.specs.Image.{Image};
 ghost use Rattle.page_workspace.specs.Drafts.{meant, IsExcused};
 ghost use Rattle.btree_index.specs.Keys.{Key};
 ghost use Rattle.btree_index.specs.Changes.{Becomes, Stands};
-ghost use Rattle.btree_index.specs.Prunes.{lone_pages, AreStray, DropsChild, Empties, FreesAll, IsLone, Rekeys, SetsRight, Unlinks};
+ghost use Rattle.btree_index.specs.Prunes.{lone_pages, AreStray, DropsChild, Empties, FreesAll, FreesEmpty, IsLone, lone_leaf, LosesLeaf, Rekeys, SetsRight, Unlinks};
 
 use crate::cells::{child_in, make_inner_cell};
 use crate::finds::turns_from;
@@ -21,7 +21,7 @@ use std::alloc::Global;
 /// Frees the leaf on the way to a key, where it has no cells and is no root, together with the pages above it that have
 /// no other child. The list stays. `Gone` comes only where the source lost its pages; the other errors are want of memory,
 /// where a tree stands at the root. After an error the workspace may only be dropped.
-pub fn free_empty_leaf<P: PageSource>(
+pub(crate) fn free_empty_leaf<P: PageSource>(
     alloc: Global,
     space: &mut Workspace<P>,
     root: u64,
@@ -29,6 +29,8 @@ pub fn free_empty_leaf<P: PageSource>(
 ) -> Result<(), EditFault>
     ensures freed { (own free : List ℕ) (list : List (Key × List ℕ)) → Stands (meant P.pages space.old) root own free list →
         OnOk result (Becomes (meant P.pages space.old) (meant P.pages space.new) root own free list) }
+    ensures gone { (own free : List ℕ) (list : List (Key × List ℕ)) → Stands (meant P.pages space.old) root own free list →
+        OnOk result (FreesEmpty (meant P.pages space.old) (meant P.pages space.new) root key.now) }
     ensures base { P.pages space.new.base ≡ P.pages space.old.base }
     ensures excused { IsExcused result (P.losses space.old.base) (P.losses space.new.base) }
 {
@@ -63,7 +65,7 @@ fn flatten<P: PageSource>(
 ) -> Result<(), EditFault>
     ensures flattened { (own free : List ℕ) (list : List (Key × List ℕ)) (stands : Stands (meant P.pages space.old) root own free list) →
         IsLone (meant P.pages space.old) stands.height root →
-        OnOk result (Becomes (meant P.pages space.old) (meant P.pages space.new) root own free list) }
+        OnOk result (LosesLeaf (meant P.pages space.old) (meant P.pages space.new) root own free list (lone_leaf (meant P.pages space.old) stands.height root)) }
     ensures base { P.pages space.new.base ≡ P.pages space.old.base }
     ensures excused { IsExcused result (P.losses space.old.base) (P.losses space.new.base) }
 {

@@ -1,4 +1,4 @@
-ghost use Rattle.std.specs.Prelude.{ℕ, ◌≡◌, ◌↔◌, ◌+◌, ◌≤◌, false, true, List, None, IfOk, IsErrOf, IsTrue, OnOk, is_some, length};
+ghost use Rattle.std.specs.Prelude.{ℕ, ◌≡◌, ◌↔◌, ◌+◌, ◌≤◌, false, true, List, None, IfOk, IsErrOf, IsTrue, OnOk, length};
 ghost use Rattle.page_workspace.specs.Drafts.{meant, IsExcused, IsNotUnfit};
 ghost use Rattle.std.specs.List.{insert};
 ghost use Rattle.page_store.specs.Image.{HasRoom, room, taken};
@@ -8,10 +8,10 @@ ghost use Rattle.btree_index.specs.Steps.{Alters};
 ghost use Rattle.btree_index.specs.Pairs.{place_in, value_at, with_pair};
 ghost use Rattle.btree_index.specs.Fits.{IsFullUnder};
 ghost use Rattle.btree_index.specs.Trees.{Ascends, TreeList};
-ghost use Rattle.btree_index.specs.Changes.{Stands, Becomes, LeadsOver, IsHeld, IsInserted, IsPutAbsent, IsPassed, IsExcusedInsert};
+ghost use Rattle.btree_index.specs.Changes.{Stands, Becomes, LeadsOver, IsHeld, IsInserted, IsPlace, IsPutAbsent, IsWay, IsPassed, IsExcusedInsert};
 
 use crate::cells::make_leaf_cell;
-use crate::paths::{key_place, way_for};
+use crate::paths::{Way, key_place, way_for};
 use crate::places::count_before;
 use crate::splits::{crown, split_below};
 use crate::steps::alter;
@@ -103,35 +103,63 @@ fn put_absent<P: PageSource>(
     ensures base { P.pages space.new.base ≡ P.pages space.old.base }
     ensures excused { IsExcused result (P.losses space.old.base) (P.losses space.new.base) }
 {
-    let there = is_there(space, root, key)?;
-    if there {
+    let found = way_of_absent(space, root, key)?;
+    let Some(way) = found else {
         // no room was made for it
         return Ok(false);
-    }
-    put_new(alloc, space, root, key, value)?;
+    };
+    put_behind(alloc, space, root, way, key, value)?;
     Ok(true)
 }
 
-/// Whether a key is in the tree below a root. `Unfit` comes only where the pages hold no tree.
-fn is_there<P: PageSource>(
+/// The way to the leaf where a key that is not there has its place; `None` where the key is in the tree below the root.
+/// `Unfit` comes only where the pages hold no tree.
+fn way_of_absent<P: PageSource>(
     space: &mut Workspace<P>,
     root: u64,
     key: &[u8],
-) -> Result<bool, EditFault>
+) -> Result<Option<Way>, EditFault>
     ensures there { (own free : List ℕ) (list : List (Key × List ℕ)) → Stands (meant P.pages space.old) root own free list →
-        IfOk result (λ there. there ≡ is_some (value_at key.now list)) }
-    ensures held { IfOk result (λ there. there ≡ true → IsHeld (meant P.pages space.old) root key.now) }
+        IfOk result (IsPlace (meant P.pages space.old) root key.now list) }
+    ensures held { IfOk result (λ way. way ≡ None → IsHeld (meant P.pages space.old) root key.now) }
     ensures fit { (list : List (Key × List ℕ)) → TreeList (meant P.pages space.old) root list → IsNotUnfit result }
     ensures edits { space.new.edits ≡ space.old.edits }
     ensures pages { meant P.pages space.new ≡ meant P.pages space.old }
     ensures base { P.pages space.new.base ≡ P.pages space.old.base }
     ensures excused { IsExcused result (P.losses space.old.base) (P.losses space.new.base) }
 {
-    way_for(space, root, key)?;
+    let way = way_for(space, root, key)?;
     match key_place(space.page(), key) {
-        Some(_) => Ok(true),
-        None => Ok(false),
+        Some(_) => Ok(None),
+        None => Ok(Some(way)),
     }
+}
+
+/// Puts a pair whose key is not there behind the way that was found to its leaf; where that has no room, pass after pass.
+/// `Unfit` comes only where the pages hold no tree.
+fn put_behind<P: PageSource>(
+    alloc: Global,
+    space: &mut Workspace<P>,
+    root: u64,
+    way: Way,
+    key: &[u8],
+    value: &[u8],
+) -> Result<(), EditFault>
+    requires key { length key.now ≤ 1630 }
+    requires cell { 2 + length key.now + length value.now ≤ 1640 }
+    ensures put { (own free : List ℕ) (list : List (Key × List ℕ)) → Stands (meant P.pages space.old) root own free list →
+        value_at key.now list ≡ None → IsWay (meant P.pages space.old) root key.now way →
+        OnOk result (Becomes (meant P.pages space.old) (meant P.pages space.new) root own free (with_pair key.now value.now list)) }
+    ensures fit { (own free : List ℕ) (list : List (Key × List ℕ)) →
+        Stands (meant P.pages space.old) root own free list → value_at key.now list ≡ None → IsNotUnfit result }
+    ensures base { P.pages space.new.base ≡ P.pages space.old.base }
+    ensures excused { IsExcused result (P.losses space.old.base) (P.losses space.new.base) }
+{
+    space.load_to_edit(way.leaf)?;
+    if has_room(space.page(), key, value) {
+        return put_pair(alloc, space, way.leaf, key, value);
+    }
+    put_new(alloc, space, root, key, value)
 }
 
 /// Puts a pair whose key is not there, in as many passes as it needs. `Unfit` comes only where the pages hold no tree.

@@ -38,7 +38,7 @@
 //! one child, and it stands one level higher under its own number. So after the split of that child the cells of a root
 //! stand on two new pages.
 //!
-//! A remove leaves a leaf that became empty where it is; `free_empty_leaf` takes it out of the tree, with each page above
+//! A `remove` leaves a leaf that became empty where it is; `remove_and_free` takes it out of the tree, with each page above
 //! it that has no other child, and puts them in front of the free pages, from where the next split takes its fresh page.
 //! The leaf before gets the right link of the one that goes:
 //!
@@ -76,9 +76,8 @@ mod steps;
 
 pub use cells::{key_in, value_in};
 pub use finds::find;
-pub use frees::free_empty_leaf;
 pub use inserts::{InsertFault, insert};
 pub use keys::is_before;
 pub use laws::trees_have_one_list;
-pub use removes::remove;
+pub use removes::{remove, remove_and_free};
 pub use scans::scan;

@@ -5,6 +5,7 @@ ghost use Rattle.btree_index.specs.Trees.{Ascends, TreeList};
 ghost use Rattle.btree_index.specs.Fits.{HasSpare, IsFull};
 ghost use Rattle.btree_index.specs.Pairs.{cell_value, HasKeyAt};
 ghost use Rattle.btree_index.specs.Changes.{IsBelow, IsWay};
+ghost use Rattle.btree_index.specs.Prunes.{HasLeaf};
 
 use crate::cells::key_in;
 use crate::finds::{child_for, turns_from};
@@ -32,6 +33,7 @@ pub(crate) fn way_for<P: PageSource>(
 ) -> Result<Way, EditFault>
     ensures way { IfOk result (IsWay (meant P.pages space.old) root key.now) }
     ensures below { IfOk result (λ way. IsBelow (meant P.pages space.old) root key.now way.leaf) }
+    ensures leaf { IfOk result (λ way. HasLeaf (meant P.pages space.old) key.now root way.leaf) }
     ensures fit { (list : List (Key × List ℕ)) → TreeList (meant P.pages space.old) root list → IsNotUnfit result }
     ensures edits { space.new.edits ≡ space.old.edits }
     ensures loaded { IfOk result (λ way. space.new.loaded ≡ Some (meant P.pages space.old way.leaf)) }

@@ -2,7 +2,7 @@
 ghost use Rattle.std.specs.Prelude.{ℕ, ◌≡◌, ◌++◌, ◌∷◌, [], List, None, Some, IfOk, IfSome};
 ghost use Rattle.page_workspace.specs.Drafts.{meant, IsExcused};
 ghost use Rattle.btree_index.specs.Keys.{Key};
-ghost use Rattle.btree_index.specs.Prunes.{hung_found, last_page, IsBeside, IsChildAt, IsChildIn, IsFound, IsLastChild, IsOnly};
+ghost use Rattle.btree_index.specs.Prunes.{hung_found, last_page, IsBeside, IsChildAt, IsChildIn, IsFound, IsLastChild, IsOnly, LeadsTo};
 ghost use Rattle.btree_index.specs.declared.prunes.Found.TheVariants.{Full, Lone};
 ghost use Rattle.btree_index.specs.Trees.{Entry, Holds};
 
@@ -51,6 +51,7 @@ pub(crate) fn look_below<P: PageSource>(
     ensures found { (height : ℕ) (front others : List Entry) (low : Key) (cells : List (List ℕ)) →
         Holds (meant P.pages space.old) height (front ++ (record { low = low; page = id } ∷ others)) cells → last_page front ≡ left →
         IfOk result (IsFound (meant P.pages space.old) height front low id others cells) }
+    ensures way { IfOk result (LeadsTo (meant P.pages space.old) key.now id) }
     ensures edits { space.new.edits ≡ space.old.edits }
     ensures pages { meant P.pages space.new ≡ meant P.pages space.old }
     ensures base { P.pages space.new.base ≡ P.pages space.old.base }

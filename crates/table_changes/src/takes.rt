@@ -9,7 +9,7 @@ ghost use Rattle.table_store.specs.Forests.{Pair};
 ghost use Rattle.table_store.specs.Operations.{gone, removed};
 ghost use Rattle.table_changes.specs.Changed.{born_if, gone_by};
 
-use btree_index::remove;
+use btree_index::remove_and_free;
 use cdb_values::{KeyDef, Row, RowOp, RowRef};
 use page_store::{PageFault, PageSource};
 use page_workspace::Workspace;
@@ -132,6 +132,6 @@ fn take_version<P: PageSource>(
     ensures excused { IsExcused result (P.losses space.old.base) (P.losses space.new.base) }
 {
     let key = key_for(alloc, key, genid, row).map_err(|_| PageFault::NoMemory)?;
-    let _was = remove(alloc, space, root, key.as_bytes())?;
+    let _was = remove_and_free(alloc, space, root, key.as_bytes())?;
     Ok(())
 }

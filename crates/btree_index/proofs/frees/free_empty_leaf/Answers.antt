@@ -5,10 +5,11 @@ use Rattle.page_store.specs.Image.{Image}
 use Rattle.page_workspace.specs.Drafts.{meant}
 use Rattle.page_workspace.proofs.OwnLaws.{ok_all}
 use Rattle.btree_index.specs.Changes.{Stands, Becomes}
-use Rattle.btree_index.specs.Prunes.{IsFound, IsFork, IsLone}
+use Rattle.btree_index.specs.Prunes.{lone_leaf, GoesOn, IsFound, IsFork, IsLone, LeadsTo, LosesLeaf}
 use Rattle.btree_index.specs.Trees.{Holds, top}
 use Rattle.btree_index.specs.declared.prunes.Found.{Found}
 use Rattle.btree_index.specs.declared.prunes.Found.TheVariants.{Lone}
+use Rattle.btree_index.proofs.LeafWays.{frees_fork, frees_lone, frees_none}
 use Rattle.btree_index.proofs.PruneLemmas.{pruned_after}
 use Rattle.btree_index.proofs.frees.free_empty_leaf.Goals as goal
 
@@ -27,8 +28,9 @@ returns-in-Lone-clause-freed g c = λ own free list stands.
     (subst (λ (p : ℕ → Image). Holds p stands.height (top root) stands.cells) (sym one) stands.holds) refl) in
     let lone : IsFound pages stands.height [] [] root [] stands.cells (Lone c.in-Lone.field-0) =
     subst (λ (f : Found). IsFound pages stands.height [] [] root [] stands.cells f) c.in-Lone.is there in
-    let R : (ℕ → Image) → Type 0 = λ p. (s : Stands p root own free list) → IsLone p s.height root → OnOk c.flatten.result (Becomes p new root own free list) in
-    subst R same (λ s l. c.flatten.ensures.flattened own free list s l) stands lone.0
+    let R : (ℕ → Image) → Type 0 = λ p. (s : Stands p root own free list) → IsLone p s.height root → OnOk c.flatten.result (LosesLeaf p new root own free list (lone_leaf p s.height root)) in
+    ok_all c.flatten.result (λ (l : LosesLeaf pages new root own free list (lone_leaf pages stands.height root)). l.becomes)
+    (subst R same (λ s l. c.flatten.ensures.flattened own free list s l) stands lone.0)
 
 pub returns-in-Forked-clause-freed : goal.returns-in-Forked-clause-freed
 returns-in-Forked-clause-freed g c = λ own free list stands.
@@ -46,4 +48,55 @@ returns-in-Forked-clause-freed g c = λ own free list stands.
     (subst (λ (p : ℕ → Image). Holds p stands.height (top root) stands.cells) (sym one) stands.holds) refl) in
     let forked : IsFork pages stands.height (top root) stands.cells fork =
     subst (λ (f : Found). IsFound pages stands.height [] [] root [] stands.cells f) c.in-Forked.is there in
-    ok_all c.cut.result (λ w. pruned_after pages read new root own free list fork same stands forked w) c.cut.ensures.cut
+    ok_all c.cut.result (λ w. (pruned_after pages read new root own free list fork same stands forked w).becomes) c.cut.ensures.cut
+
+pub returns-in-Lone-clause-gone : goal.returns-in-Lone-clause-gone
+returns-in-Lone-clause-gone g c = λ own free list stands.
+    let pages = meant g.P.PageSource.pages c.args.space.now in
+    let first = meant g.P.PageSource.pages c.load_to_edit.new.self in
+    let read = meant g.P.PageSource.pages c.look_below.new.space in
+    let new = meant g.P.PageSource.pages c.flatten.new.space in
+    let root = c.args.root in
+    let one : first ≡ pages = c.in_ok-load_to_edit.ensures.pages in
+    let same : read ≡ pages = c.in_ok-found.ensures.pages ∙ one in
+    let there : IsFound pages stands.height [] [] root [] stands.cells c.in_ok-found.found =
+    subst (λ (p : ℕ → Image). IsFound p stands.height [] [] root [] stands.cells c.in_ok-found.found) one
+    (c.in_ok-found.ensures.found stands.height [] [] [] stands.cells
+    (subst (λ (p : ℕ → Image). Holds p stands.height (top root) stands.cells) (sym one) stands.holds) refl) in
+    let lone : IsFound pages stands.height [] [] root [] stands.cells (Lone c.in-Lone.field-0) =
+    subst (λ (f : Found). IsFound pages stands.height [] [] root [] stands.cells f) c.in-Lone.is there in
+    let R : (ℕ → Image) → Type 0 = λ p. (s : Stands p root own free list) → IsLone p s.height root → OnOk c.flatten.result (LosesLeaf p new root own free list (lone_leaf p s.height root)) in
+    ok_all c.flatten.result (λ (l : LosesLeaf pages new root own free list (lone_leaf pages stands.height root)). frees_lone pages new root c.args.key.now own free list stands lone.0 l)
+    (subst R same (λ s l. c.flatten.ensures.flattened own free list s l) stands lone.0)
+
+pub returns-in-Forked-clause-gone : goal.returns-in-Forked-clause-gone
+returns-in-Forked-clause-gone g c = λ own free list stands.
+    let pages = meant g.P.PageSource.pages c.args.space.now in
+    let first = meant g.P.PageSource.pages c.load_to_edit.new.self in
+    let read = meant g.P.PageSource.pages c.look_below.new.space in
+    let new = meant g.P.PageSource.pages c.cut.new.space in
+    let root = c.args.root in
+    let fork = c.in-Forked.fork in
+    let one : first ≡ pages = c.in_ok-load_to_edit.ensures.pages in
+    let same : read ≡ pages = c.in_ok-found.ensures.pages ∙ one in
+    let there : IsFound pages stands.height [] [] root [] stands.cells c.in_ok-found.found =
+    subst (λ (p : ℕ → Image). IsFound p stands.height [] [] root [] stands.cells c.in_ok-found.found) one
+    (c.in_ok-found.ensures.found stands.height [] [] [] stands.cells
+    (subst (λ (p : ℕ → Image). Holds p stands.height (top root) stands.cells) (sym one) stands.holds) refl) in
+    let forked : IsFork pages stands.height (top root) stands.cells fork =
+    subst (λ (f : Found). IsFound pages stands.height [] [] root [] stands.cells f) c.in-Forked.is there in
+    let leads : LeadsTo pages c.args.key.now root c.in_ok-found.found =
+    subst (λ (p : ℕ → Image). LeadsTo p c.args.key.now root c.in_ok-found.found) one c.in_ok-found.ensures.way in
+    let on : GoesOn pages c.args.key.now root fork.child = subst (λ (f : Found). LeadsTo pages c.args.key.now root f) c.in-Forked.is leads in
+    ok_all c.cut.result
+    (λ w. frees_fork pages new root c.args.key.now own free list stands fork forked on (pruned_after pages read new root own free list fork same stands forked w))
+    c.cut.ensures.cut
+
+pub returns-in-Full-clause-gone : goal.returns-in-Full-clause-gone
+returns-in-Full-clause-gone g c = λ own free list stands.
+    let pages = meant g.P.PageSource.pages c.args.space.now in
+    let read = meant g.P.PageSource.pages c.look_below.new.space in
+    let root = c.args.root in
+    let leads : LeadsTo pages c.args.key.now root c.in_ok-found.found =
+    subst (λ (p : ℕ → Image). LeadsTo p c.args.key.now root c.in_ok-found.found) c.in_ok-load_to_edit.ensures.pages c.in_ok-found.ensures.way in
+    frees_none pages read root c.args.key.now (subst (λ (f : Found). LeadsTo pages c.args.key.now root f) c.in-Full.is leads)

@@ -10,8 +10,10 @@ use Rattle.page_workspace.specs.Drafts.{meant}
 use Rattle.btree_index.specs.Pairs.{choice}
 use Rattle.btree_index.specs.Fits.{HasSpare, IsFull, IsFullUntil}
 use Rattle.btree_index.specs.Changes.{Leads}
+use Rattle.btree_index.specs.Prunes.{GoesOn, HasLeaf}
 use Rattle.btree_index.specs.Trees.{IsInnerPage}
 use Rattle.btree_index.proofs.DepthLemmas.{IsDeep, placed_page, inner_page, page_kind, deep_begins, deep_on, until_more, turns_enough}
+use Rattle.btree_index.proofs.LeafWays.{goes_on, leaf_itself}
 use Rattle.btree_index.proofs.PathLemmas.{path_begins, path_on, leads_over}
 use Rattle.btree_index.proofs.paths.way_for.Goals as goal
 
@@ -23,6 +25,7 @@ down-init g c = record {
   losses = c.in_ok-load_to_edit.ensures.excused;
   leads = path_begins (meant g.P.PageSource.pages c.args.space.now) c.args.root c.args.key.now;
   below = record { steps = 0; is = refl };
+  on = λ leaf h. h;
   over = tt;
   small = c.ranges.root.fits;
   full = tt;
@@ -56,6 +59,8 @@ down-preserved g c =
         steps = suc kept.below.steps;
         is = ap (λ (n : ℕ). choice c.args.key.now (pages n).cells) kept.below.is ∙ sym child;
       };
+      on = subst (λ (n : ℕ). GoesOn pages c.args.key.now c.args.root n) (sym child)
+          (goes_on pages c.args.key.now c.args.root c.down.leaf kept.on kind);
       over = leads_over pages c.args.root c.args.key.now c.down.leaf c.down.roomy roomy kept.leads kind kept.over roomier;
       small = search rules;
       full = subst (λ (n : ℕ). IsFullUntil pages c.args.key.now roomy n) (sym child)

@@ -5,6 +5,7 @@ use Rattle.btree_index.specs.Keys.{Key}
 use Rattle.btree_index.specs.Trees.{TreeList}
 use Rattle.btree_index.specs.Fits.{IsFullUntil}
 use Rattle.btree_index.specs.Changes.{IsBelow, Leads, LeadsOver}
+use Rattle.btree_index.specs.Prunes.{GoesOn}
 use Rattle.btree_index.proofs.DepthLemmas.{IsDeep}
 use Rattle.btree_index.proofs.paths.way_for.Given as goal
 
@@ -16,6 +17,7 @@ invariant-down g l = record {
   losses : g.P.PageSource.losses l.fn.space.base ≤ g.P.PageSource.losses l.space.base;
   leads : Leads (meant g.P.PageSource.pages l.fn.space) l.root l.key l.leaf;
   below : IsBelow (meant g.P.PageSource.pages l.fn.space) l.root l.key l.leaf;
+  on : GoesOn (meant g.P.PageSource.pages l.fn.space) l.key l.root l.leaf;
   over : LeadsOver (meant g.P.PageSource.pages l.fn.space) l.root l.key l.roomy;
   small : l.leaf < 2 ^ 64;
   full : IsFullUntil (meant g.P.PageSource.pages l.fn.space) l.key l.roomy l.leaf;

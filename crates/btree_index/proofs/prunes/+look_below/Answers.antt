@@ -6,13 +6,15 @@ use Rattle.page_store.specs.Image.{Image}
 use Rattle.page_store.specs.declared.pages.Head.{Head}
 use Rattle.page_store.specs.declared.pages.PageKind.TheVariants.{Leaf, Inner}
 use Rattle.page_workspace.specs.Drafts.{meant}
-use Rattle.btree_index.specs.Prunes.{IsFound, IsBeside, last_page}
+use Rattle.btree_index.specs.Pairs.{choice}
+use Rattle.btree_index.specs.Prunes.{IsFound, IsBeside, LeadsTo, last_page}
 use Rattle.btree_index.specs.Steps.{IsBelow}
 use Rattle.btree_index.specs.Trees.{Entry, Holds}
 use Rattle.btree_index.specs.Keys.{Key}
 use Rattle.btree_index.specs.declared.prunes.Found.{Found}
 use Rattle.btree_index.specs.declared.prunes.Found.TheVariants.{Full, Lone}
 use Rattle.btree_index.proofs.ForkLemmas.{found_at_leaf, found_hung}
+use Rattle.btree_index.proofs.LeafWays.{hung_leads, leaf_leads}
 use Rattle.btree_index.proofs.prunes.+look_below.Goals as goal
 
 pub returns-in-Leaf-clause-found : goal.returns-in-Leaf-clause-found
@@ -55,3 +57,34 @@ returns-in_ok-found-in-Inner-clause-found g t c = λ height front others low cel
     (found_hung pages height front low id others cells c.args.left next below found (nat_lt 1 c.count-several.result) h last kind at by
     (λ k. subst (λ (n : ℕ). 1 < n) count (ltb-true 1 c.count-several.result k))
     (λ k. subst (λ (n : ℕ). n ≤ 1) count (ltb-false 1 c.count-several.result k)) rec)
+
+pub returns-in-Leaf-clause-way : goal.returns-in-Leaf-clause-way
+returns-in-Leaf-clause-way g t c =
+    let pages = meant g.P.PageSource.pages c.args.space.now in
+    let id = c.args.id in
+    let image = c.page-page.result.now in
+    let found = c.leaf_found.result in
+    let is : image ≡ pages id = same_Some image (pages id) (sym c.page-page.ensures ∙ c.in_ok-load_to_edit.ensures.loaded) in
+    let kind : (pages id).head.kind ≡ Leaf =
+    ap (λ (i : Image). i.head.kind) (sym is) ∙ ap (λ (h : Head). h.kind) (sym c.head.ensures) ∙ c.in-Leaf.is in
+    let R : Image → Type 0 = λ i. (i.cells ≡ [] → found ≡ Lone (record { left = c.args.left; right = i.head.right })) × ((i.cells ≡ [] → ⊥) → found ≡ Full) in
+    let told : R (pages id) = subst R is c.leaf_found.ensures in
+    leaf_leads pages c.args.key.now id c.args.left found kind told.0 told.1
+
+pub returns-in_ok-found-in-Inner-clause-way : goal.returns-in_ok-found-in-Inner-clause-way
+returns-in_ok-found-in-Inner-clause-way g t c =
+    let pages = meant g.P.PageSource.pages c.args.space.now in
+    let read = meant g.P.PageSource.pages c.beside.new.space in
+    let id = c.args.id in
+    let image = c.page-page.result.now in
+    let below = c.in-Some.below in
+    let found = c.in_ok-found-in-Inner.found in
+    let is : image ≡ pages id = same_Some image (pages id) (sym c.page-page.ensures ∙ c.in_ok-load_to_edit.ensures.loaded) in
+    let kind : (pages id).head.kind ≡ Inner =
+    ap (λ (i : Image). i.head.kind) (sym is) ∙ ap (λ (h : Head). h.kind) (sym c.head.ensures) ∙ c.in-Inner.is in
+    let child : below.child ≡ choice c.args.key.now (pages id).cells = c.in-Some.ensures.child ∙ ap (λ (i : Image). choice c.args.key.now i.cells) is in
+    let same : read ≡ pages = c.in_ok-next-in-Inner.ensures.pages ∙ c.in_ok-load_to_edit.ensures.pages in
+    let rec : LeadsTo pages c.args.key.now below.child found =
+    subst (λ (p : ℕ → Image). LeadsTo p c.args.key.now below.child found) same c.in_ok-found-in-Inner.ensures.way in
+    subst (λ (r : Found). LeadsTo pages c.args.key.now id r) (sym c.hung.ensures)
+    (hung_leads pages c.args.key.now id below found (nat_lt 1 c.count-several.result) kind child rec)

@@ -1,5 +1,5 @@
 -- The leaf of the way has the key's cell, or no leaf has.
-use Rattle.std.proofs.Common.{◌≡◌, ◌+◌, ℕ, None, Some, sym, ap, ◌∙◌, subst, arith, rules}
+use Rattle.std.proofs.Common.{◌≡◌, ◌+◌, ℕ, length, None, Some, sym, ap, ◌∙◌, subst, arith, rules}
 use Rattle.std.proofs.lemmas.Option.{same_Some}
 use Rattle.std.specs.List.{remove, slice_get}
 use Rattle.page_store.specs.Image.{Image, HasRoom, taken}
@@ -9,6 +9,7 @@ use Rattle.page_workspace.specs.Drafts.{meant, edited}
 use Rattle.btree_index.specs.Pairs.{cell_value, HasKeyAt}
 use Rattle.btree_index.specs.Trees.{Ascends}
 use Rattle.btree_index.proofs.FitLemmas.{take_fits, not_unfit}
+use Rattle.btree_index.proofs.LeafLaws.{ChangesCells}
 use Rattle.btree_index.proofs.PlaceLemmas.{leaf_rises}
 use Rattle.btree_index.proofs.StandLemmas.{removes, removes_none, takes_cell}
 use Rattle.btree_index.proofs.removes.take_key.Goals as goal
@@ -62,3 +63,24 @@ returns-in_err-edit-clause-fit g c = λ list tree.
 
 pub returns-in_err-way-clause-fit : goal.returns-in_err-way-clause-fit
 returns-in_err-way-clause-fit g c = λ list tree. search (rules, c.in_err-way.ensures.fit list tree)
+
+pub returns-clause-taken : goal.returns-clause-taken
+returns-clause-taken g c =
+    let pages = meant g.P.PageSource.pages c.args.space.now in
+    let way = c.in_ok-way.way in
+    let said = c.in_ok-way.ensures in
+    let page = c.page-page.result.now in
+    let new = meant g.P.PageSource.pages c.edit.new.self in
+    let at = c.in-Some.at in
+    let now : page ≡ pages way.leaf = same_Some page (pages way.leaf) (sym c.page-page.ensures ∙ said.loaded) in
+    let is : new ≡ edited pages way.leaf (TakeCell at c.in_ok-cell.cell) =
+    c.in_ok-edit.ensures.pages ∙ ap (λ (f : ℕ → Image). edited f way.leaf (TakeCell at c.in_ok-cell.cell)) said.pages in
+    let changes : ChangesCells pages new way.leaf (remove (pages way.leaf).cells at) = takes_cell pages new way.leaf at c.in_ok-cell.cell is in
+    record {
+      leaf = way.leaf;
+      way = said.leaf;
+      at = at;
+      had = subst (λ (i : Image). HasKeyAt c.args.key.now i.cells at) now c.in-Some.ensures;
+      alters = record { head_is = changes.head; is = changes.is; others = changes.others };
+      all = c.count-count.ensures ∙ ap (λ (i : Image). length i.cells) now;
+    }
