@@ -1,5 +1,5 @@
 //! One level of a walk.
-ghost use Rattle.std.specs.Prelude.{◌≡◌, ◌++◌, IfOk, OnOk, true, false, option_map};
+ghost use Rattle.std.specs.Prelude.{◌≡◌, ◌+◌, ◌≤◌, ◌++◌, IfOk, OnOk, length, true, false, option_map};
 ghost use Rattle.page_store.specs.Sources.{IsExcused};
 ghost use Rattle.btree_index.specs.Trees.{below};
 ghost use Rattle.tree_walk.specs.Walks.{is_inner, is_leaf_of, descend, gather};
@@ -7,7 +7,8 @@ ghost use Rattle.tree_walk.specs.Walks.{is_inner, is_leaf_of, descend, gather};
 use crate::cells::cells_in;
 use crate::checks::{is_inner_page, is_leaf_here};
 use crate::lows::{Low, add_below};
-use page_store::{Cell, Page, PageFault, PageSource};
+use crate::visits::VisitedPages;
+use page_store::{Cell, Page, PageFault};
 use std::alloc::{AllocError, Global};
 
 /// Adds the entries below a page, and tells whether it is what it is to be.
@@ -30,7 +31,7 @@ fn add_page(
 }
 
 /// One level down; `None` where a page is not what it is to be.
-pub(crate) fn inner_level<P: PageSource>(
+pub(crate) fn inner_level<P: VisitedPages>(
     alloc: Global,
     pages: &mut P,
     height: u64,
@@ -39,12 +40,13 @@ pub(crate) fn inner_level<P: PageSource>(
     ensures found { IfOk result (λ r. option_map (λ v. v.items) r ≡ descend (P.pages pages.old) height level.now) }
     ensures pages { P.pages pages.new ≡ P.pages pages.old }
     ensures below { P.below pages.new ≡ P.below pages.old }
+    ensures visited { P.visits pages.new ≤ P.visits pages.old + length level.now }
     ensures excused { IsExcused result (P.losses pages.old) (P.losses pages.new) }
 {
     let mut next = Vec::new(alloc);
     let mut rest = level;
     'along: while let Some((entry, after)) = rest.split_first() {
-        pages.load(entry.page)?;
+        pages.visit(entry.page)?;
         let went = add_page(alloc, pages.page(), height, &entry.low, &mut next).map_err(
             |_| PageFault::NoMemory,
         )?;
@@ -88,7 +90,7 @@ fn add_cells(alloc: Global, found: &mut Vec<Cell>, cells: &[Cell]) -> Result<(),
 }
 
 /// The cells of the leaves; `None` where one is not what it is to be.
-pub(crate) fn leaf_level<P: PageSource>(
+pub(crate) fn leaf_level<P: VisitedPages>(
     alloc: Global,
     pages: &mut P,
     level: &[Low],
@@ -96,12 +98,13 @@ pub(crate) fn leaf_level<P: PageSource>(
     ensures found { IfOk result (λ r. option_map (λ v. v.items) r ≡ gather (P.pages pages.old) level.now) }
     ensures pages { P.pages pages.new ≡ P.pages pages.old }
     ensures below { P.below pages.new ≡ P.below pages.old }
+    ensures visited { P.visits pages.new ≤ P.visits pages.old + length level.now }
     ensures excused { IsExcused result (P.losses pages.old) (P.losses pages.new) }
 {
     let mut found = Vec::new(alloc);
     let mut rest = level;
     'along: while let Some((entry, after)) = rest.split_first() {
-        pages.load(entry.page)?;
+        pages.visit(entry.page)?;
         let went = add_leaf(alloc, pages.page(), entry, after, &mut found).map_err(
             |_| PageFault::NoMemory,
         )?;

@@ -1,5 +1,5 @@
 //! The walk.
-ghost use Rattle.std.specs.Prelude.{ℕ, ◌≡◌, ◌≤◌, ◌++◌, IfOk, IfSome, OnOk, false, length, map, nat_lt};
+ghost use Rattle.std.specs.Prelude.{ℕ, ◌≡◌, ◌+◌, ◌*◌, ◌≤◌, ◌++◌, IfOk, IfSome, OnOk, false, length, map, nat_lt};
 ghost use Rattle.page_store.specs.Sources.{IsExcused};
 ghost use Rattle.btree_index.specs.Trees.{top, page_of};
 ghost use Rattle.tree_walk.specs.Walks.{left_child, depth_from, IsDown, IsWalked};
@@ -8,7 +8,8 @@ use crate::cells::{child_in, may_stand_above};
 use crate::checks::{is_inner_page_kind, is_leaf_page_kind};
 use crate::levels::{inner_level, leaf_level};
 use crate::lows::{Low, top_level};
-use page_store::{Cell, Page, PageFault, PageSource};
+use crate::visits::VisitedPages;
+use page_store::{Cell, Page, PageFault};
 use std::alloc::{AllocError, Global};
 
 /// The pages of a tree, from the root down, and the cells of its leaves.
@@ -21,8 +22,9 @@ pub struct Walked {
 }
 
 /// The tree below a root of any pages, by its pages and the cells of its leaves; `None` where there is none, or where it has
-/// more pages than the limit. That no page comes twice is not asked; one that comes twice counts twice.
-pub fn walk<P: PageSource>(
+/// more pages than the limit. That no page comes twice is not asked; one that comes twice counts twice. Whatever comes of it,
+/// the source is asked for no more pages than the limit on the way along the first cells, and for no more on the way down.
+pub fn walk<P: VisitedPages>(
     alloc: Global,
     pages: &mut P,
     root: u64,
@@ -32,6 +34,7 @@ pub fn walk<P: PageSource>(
     ensures few { IfOk result (λ found. IfSome found (λ w. length w.own.items ≤ limit)) }
     ensures pages { P.pages pages.new ≡ P.pages pages.old }
     ensures below { P.below pages.new ≡ P.below pages.old }
+    ensures visited { P.visits pages.new ≤ P.visits pages.old + 2 * limit }
     ensures excused { IsExcused result (P.losses pages.old) (P.losses pages.new) }
 {
     let Some(height) = height_of(pages, root, limit)? else {
@@ -52,17 +55,22 @@ fn first_child(page: &Page) -> Option<u64>
 }
 
 /// How far above the leaves a root stands, by the way along the first cells.
-fn height_of<P: PageSource>(pages: &mut P, root: u64, limit: u64) -> Result<Option<u64>, PageFault>
+fn height_of<P: VisitedPages>(
+    pages: &mut P,
+    root: u64,
+    limit: u64,
+) -> Result<Option<u64>, PageFault>
     ensures found { IfOk result (λ r. r ≡ depth_from (P.pages pages.old) limit root 0) }
     ensures pages { P.pages pages.new ≡ P.pages pages.old }
     ensures below { P.below pages.new ≡ P.below pages.old }
+    ensures visited { P.visits pages.new ≤ P.visits pages.old + limit }
     ensures excused { IsExcused result (P.losses pages.old) (P.losses pages.new) }
 {
     let mut id = root;
     let mut turns = limit;
     let mut height = 0;
     'down: while turns > 0 {
-        pages.load(id)?;
+        pages.visit(id)?;
         let page = pages.page();
         if is_leaf_page_kind(page.head().kind) {
             return Ok(Some(height));
@@ -101,7 +109,7 @@ fn is_past(own: &Vec<u64>, limit: u64) -> bool
 }
 
 /// The way down from a root of this height.
-fn walk_down<P: PageSource>(
+fn walk_down<P: VisitedPages>(
     alloc: Global,
     pages: &mut P,
     root: u64,
@@ -112,6 +120,7 @@ fn walk_down<P: PageSource>(
     ensures few { IfOk result (λ found. IfSome found (λ w. length w.own.items ≤ limit)) }
     ensures pages { P.pages pages.new ≡ P.pages pages.old }
     ensures below { P.below pages.new ≡ P.below pages.old }
+    ensures visited { P.visits pages.new ≤ P.visits pages.old + limit }
     ensures excused { IsExcused result (P.losses pages.old) (P.losses pages.new) }
 {
     let mut own = Vec::new(alloc);

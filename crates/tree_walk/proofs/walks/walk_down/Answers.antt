@@ -1,4 +1,5 @@
-use Rattle.std.proofs.Common.{ℕ, ◌≡◌, ◌≤◌, ◌++◌, List, map, Some, None, inl, inr, sym, ap, ◌∙◌, arith, length, ◌<◌}
+use Rattle.std.proofs.Common.{ℕ, ◌≡◌, ◌≤◌, ◌++◌, List, map, Some, None, inl, inr, sym, ap, ◌∙◌, arith, length, ◌<◌, ◌+◌, length-append}
+use Rattle.std.proofs.lemmas.List.{length-map}
 use Rattle.std.proofs.lemmas.Bool.{ltb-true}
 use Rattle.page_store.specs.Image.{Image}
 use Rattle.btree_index.specs.Trees.{Entry, page_of, top, pages_of}
@@ -26,11 +27,18 @@ down-preserved g c =
     let below : descend (g.P.PageSource.pages c.args.pages.now) c.down.above c.down.level.items ≡ Some c.in-Some.next.items =
     ap (λ (f : ℕ → Image). descend f c.down.above c.down.level.items) (sym c.down.invariant.pages)
     ∙ ap (λ (l : List Entry). descend (g.P.PageSource.pages c.down.pages) c.down.above l) (sym c.as_slice-in-down.ensures.value) ∙ sym found in
+    let sum : length c.add_pages.new.own.items ≡ length c.down.own.items + length c.as_slice.result.now =
+    ap length added ∙ length-append c.down.own.items (map page_of c.as_slice.result.now) ∙ ap (λ (n : ℕ). length c.down.own.items + n) (length-map c.as_slice.result.now page_of) in
+    let visited : g.P.VisitedPages.visits c.down.pages ≤ g.P.VisitedPages.visits c.args.pages.now + length c.down.own.items = c.down.invariant.visited in
+    let asked : g.P.VisitedPages.visits c.inner_level.new.pages ≤ g.P.VisitedPages.visits c.down.pages + length c.as_slice-in-down.result.now = c.in_ok-next.ensures.visited in
+    let same : length c.as_slice-in-down.result.now ≡ length c.as_slice.result.now = ap length (c.as_slice-in-down.ensures.value ∙ sym c.as_slice.ensures.value) in
     let rose : g.P.PageSource.losses c.down.pages ≤ g.P.PageSource.losses c.inner_level.new.pages = c.in_ok-next.ensures.excused in
     record {
       pages = c.in_ok-next.ensures.pages ∙ c.down.invariant.pages;
       below = c.in_ok-next.ensures.below ∙ c.down.invariant.below;
       losses = omega arith;
+      few = c.is_past.ensures.few c.if-is_past.false;
+      visited = omega (arith, sum, visited, asked, same);
       own = pages_next old c.down.above c.down.level.items c.in-Some.next.items c.down.own.items c.add_pages.new.own.items (pages_of old c.args.height (top c.args.root)) c.down-test.true below
           (added ∙ ap (λ (l : List Entry). c.down.own.items ++ map page_of l) c.as_slice.ensures.value) c.down.invariant.own;
       found = walk_next old c.down.above c.down.level.items c.in-Some.next.items (walk_from old c.args.height (top c.args.root)) c.down-test.true below c.down.invariant.found;
