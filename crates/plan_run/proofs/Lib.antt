@@ -1,4 +1,5 @@
 pub mod PlanWalkLemmas
 pub mod ReachLemmas
+pub mod FoldLemmas
 pub mod LyingLemmas
 pub mod TriedLemmas

@@ -16,6 +16,7 @@
 //! | how far a conjunct reaches, and the outer combinations | `reaches`, `outers` | `query_laws`, `Conjuncts` and `Walks` |
 //! | whether a row lies in an interval | `lying` | `query_laws`, `Intervals` |
 //! | the walk by a plan | `walks` | `specs/PlanWalks` |
+//! | the last place of a query's walk | `folds` | `sql_eval`, `Shaped` |
 //! | the answer | `executes` | `sql_answer`, `Answers` |
 //!
 //! For example, over t(id, v) with the keys pk(id) and by_v(v), `where v = 3 and id > 5` asks the source for the versions
@@ -27,6 +28,7 @@
 #![tactic(auto)]
 
 mod executes;
+mod folds;
 mod lying;
 mod outers;
 mod reaches;

@@ -29,4 +29,5 @@ pub use answers::{answer, finish};
 pub use combinations::{copied_combination, versions_of};
 pub use laying::{Answer, answered_by, refused};
 pub use outcomes::Outcome;
+pub use queries::rows_told;
 pub use seen::Seen;

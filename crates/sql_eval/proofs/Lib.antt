@@ -4,5 +4,6 @@ pub mod LevelLaws
 pub mod OrderSteps
 pub mod ShapeLemmas
 pub mod SortLemmas
+pub mod TallyLemmas
 pub mod ThereLemmas
 pub mod TotalLemmas

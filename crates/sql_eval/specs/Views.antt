@@ -1,6 +1,5 @@
 -- What values of the code say.
 use Rattle.std.specs.Prelude.{List, map, Option, unwrap_or}
-use Rattle.std.specs.Borrow.{Bor}
 use Rattle.cdb_values.specs.declared.rows.Version.{Version}
 use Rattle.cdb_values.specs.declared.values.Value.{Value}
 use Rattle.cdb_values.specs.declared.values.Value.TheVariants.{Null}
@@ -18,10 +17,6 @@ truth_in Yes = truths.Yes
 -- the rows of a combination of versions
 abbrev pub rows_in : List Version → List (List Value)
 rows_in versions = map (λ v. v.row) versions
-
--- the rows of combinations that are borrowed
-abbrev pub group_in : List (Bor (List Version)) → List (List (List Value))
-group_in members = map (λ m. rows_in m.now) members
 
 -- a value, NULL where there is none
 abbrev pub value_or_null : Option Value → Value

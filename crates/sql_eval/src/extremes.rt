@@ -1,15 +1,12 @@
 //! MIN and MAX: the first of the least or the greatest values of a column in a group, without NULL.
-ghost use Rattle.std.specs.Prelude.{◌≡◌};
+ghost use Rattle.std.specs.Prelude.{◌≡◌, IfOk};
 ghost use Rattle.std.specs.Option.{option_copied};
-ghost use Rattle.cdb_values.specs.declared.values.Value.TheVariants.{Null};
-ghost use Rattle.sql_answer.specs.Aggregates.{values_in};
-ghost use Rattle.sql_eval.specs.Folds.{beats as beats_of, better as better_of, best_from};
-ghost use Rattle.sql_eval.specs.Views.{group_in, value_or_null};
+ghost use Rattle.sql_eval.specs.Folds.{beats as beats_of, better as better_of};
+ghost use Rattle.sql_eval.specs.Views.{value_or_null};
 
-use crate::operands::column_of;
 use crate::truths::is_null;
-use cdb_values::{List, Value, Version, order};
-use sql_bind::BoundColumn;
+use cdb_values::{Value, order};
+use std::alloc::AllocError;
 use std::cmp::Ordering;
 
 /// Which of the values is asked for.
@@ -21,48 +18,34 @@ pub(crate) enum Extreme {
     Greatest,
 }
 
-/// The best value of a column in a group; `None`, or NULL, where none stands there.
-pub(crate) fn best_of<'a>(
-    members: &[&'a List<Version>],
-    column: BoundColumn,
-    extreme: Extreme,
-) -> Option<&'a Value>
-    ensures { value_or_null (option_copied result) ≡ best_from extreme Null (values_in (group_in members.now) column) }
-{
-    let mut best = None;
-    'seeking: for rows in members {
-        best = better(best, column_of(rows.as_slice(), column), extreme);
-    }
-    best
-}
-
 /// The better of the best value so far and one more. NULL is no value.
-fn better<'a>(
-    best: Option<&'a Value>,
-    value: Option<&'a Value>,
+pub(crate) fn better(
     extreme: Extreme,
-) -> Option<&'a Value>
-    ensures { value_or_null (option_copied result)
-        ≡ better_of extreme (value_or_null (option_copied best.entry)) (value_or_null (option_copied value.entry)) }
+    best: Value,
+    value: Option<&Value>,
+) -> Result<Value, AllocError>
+    ensures { IfOk result (λ v. v ≡ better_of extreme best (value_or_null (option_copied value.entry))) }
 {
-    match (best, value) {
-        (_, None) => best,
-        (None, Some(_)) => value,
-        (Some(old), Some(new)) => Some(better_value(old, new, extreme)),
+    match value {
+        Some(value) => better_value(extreme, best, value),
+        None => Ok(best),
     }
 }
 
 /// The better of two values. NULL is no value.
-fn better_value<'a>(best: &'a Value, value: &'a Value, extreme: Extreme) -> &'a Value
-    ensures { result.now ≡ better_of extreme best.now value.now }
+fn better_value(extreme: Extreme, best: Value, value: &Value) -> Result<Value, AllocError>
+    ensures { IfOk result (λ v. v ≡ better_of extreme best value.now) }
 {
     if is_null(value) {
-        return best;
+        return Ok(best);
     }
-    if is_null(best) || beats(extreme, order(value, best)) {
-        value
+    if is_null(&best) {
+        return value.clone();
+    }
+    if beats(extreme, order(value, &best)) {
+        value.clone()
     } else {
-        best
+        Ok(best)
     }
 }
 

@@ -8,13 +8,13 @@
 //! |---|---|---|
 //! | the three truth values, and comparisons | `not3`, `and3`, `or3`, `compare` | `Truth` |
 //! | the truth of a condition on a combination | `test` | `Conditions` |
-//! | COUNT, SUM, MIN and MAX; integers of 64 bits | `items`, `sums`, `extremes`; `int_value` | `Aggregates` |
-//! | groups, order and LIMIT | `shape` | `Shapes` |
+//! | COUNT, SUM, MIN and MAX; integers of 64 bits | `tallies`, `sums`, `extremes`; `int_value` | `Aggregates` |
+//! | groups, order and LIMIT | `Shaping`, `shape` | `Shapes` |
 //!
-//! A query goes through four steps:
+//! A query goes through three steps, of which the first is taken for each combination as it comes:
 //!
 //! ```text
-//! combinations  -- groups -->  members of each group  -- items -->  rows with keys  -- sort, LIMIT -->  rows
+//! a combination  -- groups, items -->  what is kept of each group  -- values -->  rows with keys  -- sort, LIMIT -->  rows
 //! ```
 //!
 //! For example, over the combinations 1|10, 2|null and 3|10 of t(id, v) the query
@@ -29,16 +29,16 @@ mod conditions;
 mod extremes;
 mod faults;
 mod groups;
-mod items;
 mod keys;
 mod operands;
 mod orders;
 mod shapes;
 mod sums;
+mod tallies;
 mod truths;
 
 pub use conditions::test;
 pub use faults::EvalFault;
-pub use shapes::shape;
+pub use shapes::{Shaping, shape};
 pub use sums::int_value;
 pub use truths::{Truth, and3, compare, not3, or3};

@@ -1,70 +1,54 @@
-//! SUM: integers are added in 128 bits, which no number of integers of 64 bits that memory can hold leaves. So only the
-//! total has to be one of 64 bits, whatever the partial sums are.
-ghost use Rattle.std.specs.Prelude.{◌≡◌, ℕ, ◌+◌, ◌+ℤ◌, pos, unwrap_or};
+//! SUM: integers are added in 128 bits, which no number of integers that a walk lives to see leaves. So only the total has
+//! to be one of 64 bits, whatever the partial sums are.
+ghost use Rattle.std.specs.Prelude.{◌≡◌, ◌+ℤ◌, pos, unwrap_or, Some, IfOk};
 ghost use Rattle.std.specs.Option.{option_copied};
-ghost use Rattle.sql_answer.specs.Aggregates.{int_value as int_value_of, values_in};
-ghost use Rattle.sql_eval.specs.Folds.{added as added_of, total_from, total_value, HasRoom, IsWithin};
+ghost use Rattle.sql_answer.specs.Aggregates.{int_value as int_value_of};
+ghost use Rattle.sql_eval.specs.Folds.{added as added_of, total_value};
 ghost use Rattle.sql_eval.specs.Gives.{Gives};
-ghost use Rattle.sql_eval.specs.Views.{group_in, value_or_null};
+ghost use Rattle.sql_eval.specs.Views.{value_or_null};
 
 use crate::faults::EvalFault;
-use crate::operands::column_of;
-use cdb_values::{List, Value, Version};
-use sql_bind::BoundColumn;
-
-/// The total of a column in a group; `None` exactly where no integer stands there.
-pub(crate) fn total_of(members: &[&List<Version>], column: BoundColumn) -> Option<i128>
-    ensures { result ≡ total_from None (values_in (group_in members.now) column) }
-{
-    let mut total = None;
-    'adding: for rows in members {
-        total = added(total, column_of(rows.as_slice(), column));
-    }
-    total
-}
+use cdb_values::Value;
+use std::alloc::AllocError;
 
 /// A total with one value more; `None` is NULL.
-fn added(total: Option<i128>, value: Option<&Value>) -> Option<i128>
-    requires { HasRoom total }
-    ensures total { result ≡ added_of total (value_or_null (option_copied value.entry)) }
-    ensures within { (n : ℕ) → IsWithin n total → IsWithin (n + 1) result }
+pub(crate) fn added(total: Option<i128>, value: Option<&Value>) -> Result<Option<i128>, AllocError>
+    ensures { IfOk result (λ sum. sum ≡ added_of total (value_or_null (option_copied value.entry))) }
 {
     match value {
         Some(value) => added_value(total, value),
-        None => total,
+        None => Ok(total),
     }
 }
 
 /// A total with one value more. What is no integer is skipped.
-fn added_value(total: Option<i128>, value: &Value) -> Option<i128>
-    requires { HasRoom total }
-    ensures total { result ≡ added_of total value.now }
-    ensures within { (n : ℕ) → IsWithin n total → IsWithin (n + 1) result }
+fn added_value(total: Option<i128>, value: &Value) -> Result<Option<i128>, AllocError>
+    ensures { IfOk result (λ sum. sum ≡ added_of total value.now) }
 {
     match value {
-        Value::Int(x) => Some(plus(total, *x)),
-        Value::Null | Value::Text(_) | Value::Blob(_) => total,
+        Value::Int(x) => plus(total, *x),
+        Value::Null | Value::Text(_) | Value::Blob(_) => Ok(total),
     }
 }
 
-/// The total of an integer more.
-fn plus(total: Option<i128>, x: i64) -> i128
-    requires { HasRoom total }
-    ensures total { result ≡ unwrap_or total (pos 0) +ℤ x }
-    ensures within { (n : ℕ) → IsWithin n total → IsWithin (n + 1) (Some result) }
+/// The total of an integer more. One that leaves 128 bits is told as want of memory.
+fn plus(total: Option<i128>, x: i64) -> Result<Option<i128>, AllocError>
+    ensures { IfOk result (λ sum. sum ≡ Some (unwrap_or total (pos 0) +ℤ x)) }
 {
     match total {
         Some(total) => more(total, x),
-        None => i128::from(x),
+        None => Ok(Some(i128::from(x))),
     }
 }
 
 /// A total and an integer more.
-fn more(total: i128, x: i64) -> i128
-    requires { HasRoom (Some total) }
-    ensures { result ≡ total +ℤ x }
+fn more(total: i128, x: i64) -> Result<Option<i128>, AllocError>
+    ensures { IfOk result (λ sum. sum ≡ Some (total +ℤ x)) }
 {
-    total + i128::from(x)
+    match total.checked_add(i128::from(x)) {
+        Some(sum) => Ok(Some(sum)),
+        None => Err(AllocError),
+    }
 }
 
 /// The value of a total: NULL of no integer. `Overflow` is told where it leaves 64 bits.
