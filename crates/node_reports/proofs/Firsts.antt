@@ -21,7 +21,7 @@ use Rattle.node_reports.specs.Site.{is_line_of}
 use Rattle.node_reports.specs.OneNode.{IsOfOneNode}
 use Rattle.node_reports.proofs.OneNode.{IsFirstIfBegin}
 use Rattle.node_reports.specs.Order as new
-use Rattle.node_reports.proofs.OnePiece.{begin_is}
+use Rattle.node_reports.proofs.PieceLines.{begin_is}
 use Rattle.node_reports.proofs.OneOrder.{back_order}
 
 under_none : (name : List ℕ) (n : ℕ) (xs : List Line) → under name n xs ≡ [] → list_any (is_line_of name n) xs ≡ false

@@ -6,3 +6,4 @@ pub mod OneLawful
 pub mod OneNode
 pub mod OneOrder
 pub mod OnePiece
+pub mod PieceLines

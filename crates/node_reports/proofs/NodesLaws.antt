@@ -24,7 +24,7 @@ use Rattle.report_text.specs.declared.reports.Line.TheVariants as line
 use Rattle.report_text.specs.declared.reports.Report.{Report}
 use Rattle.node_reports.specs.Lawful.{LawfulOfNodes}
 use Rattle.node_reports.specs.Places.{HasPlace}
-use Rattle.node_reports.proofs.OnePiece.{each_front}
+use Rattle.node_reports.proofs.PieceLines.{each_front}
 
 -- each entry at level serializable is serial
 pub entries_serial : (basis : Basis) (report : Report) (position : ℕ) (session : List ℕ) (txn begin : ℕ) → IsByReads basis.language basis.origin.tables → IsSound basis.origin.rows → LawfulOfNodes basis report →

@@ -26,7 +26,8 @@ use Rattle.node_reports.specs.OneNode.{IsPlain, ArePlain, IsOfOneNode}
 use Rattle.node_reports.specs.Order as new
 use Rattle.node_reports.specs.Piece.{Saying, IsDue}
 use Rattle.node_reports.proofs.OneNode.{IsFirstIfBegin, IsOnes}
-use Rattle.node_reports.proofs.OnePiece.{FallAtChanges, falls_are, and_one, one_piece, back_piece, each_front, each_back}
+use Rattle.node_reports.proofs.OnePiece.{one_piece, back_piece}
+use Rattle.node_reports.proofs.PieceLines.{FallAtChanges, falls_are, and_one, each_front, each_back}
 
 -- no arm waits
 no_arms : (script : Script) (session : List ℕ) (arms : List Moment) (done : List BodyLine) → arms ≡ [] → ArePlain script done → waiting_from session arms done ≡ []

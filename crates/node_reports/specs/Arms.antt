@@ -28,7 +28,7 @@ waiting_from session arms (b ∷ bs) = waiting_from session (waiting_by session 
 abbrev pub waiting : List ℕ → List BodyLine → List Moment
 waiting session done = waiting_from session [] done
 
--- whether an arm is of that row, and how many arms are of a commit
+-- whether an arm is of that row, how many arms are of a commit, and how many of these of its append
 abbrev pub is_of_row : ℕ → Moment → Bool
 is_of_row n (moment.Row r) = r == n
 is_of_row n moment.Append = false
@@ -39,6 +39,12 @@ of_commit [] = 0
 of_commit (moment.Row r ∷ arms) = of_commit arms
 of_commit (moment.Append ∷ arms) = of_commit arms + 1
 of_commit (moment.Ship ∷ arms) = of_commit arms + 1
+
+abbrev pub of_append : List Moment → ℕ
+of_append [] = 0
+of_append (moment.Row r ∷ arms) = of_append arms
+of_append (moment.Append ∷ arms) = of_append arms + 1
+of_append (moment.Ship ∷ arms) = of_append arms
 
 -- how many rows these lines tell a session, and whether the last of them is one
 abbrev pub rows_of : List ℕ → List Line → ℕ

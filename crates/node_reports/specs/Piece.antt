@@ -10,27 +10,31 @@
 --
 -- A node goes down in a piece by the arm of a row, right behind that row; at a commit, between the last reply and
 -- the outcome, while a majority is up: by a fault, or by an arm of the commit; and by a fault right behind another.
-use Rattle.std.specs.Prelude.{◌≡◌, ℕ, ◌+◌, ◌≤◌, ◌++◌, ◌∷◌, ◌==◌, ◌&&◌, ◌||◌, [], List, length, map, Bool, true, false, not, Option, Some, None, if◌then◌else◌, ◌⊎◌}
+use Rattle.std.specs.Prelude.{◌≡◌, ◌≢◌, ℕ, ◌+◌, ◌≤◌, ◌++◌, ◌∷◌, ◌==◌, ◌&&◌, ◌||◌, [], List, length, map, Bool, true, false, not, Option, Some, None, if◌then◌else◌, ◌⊎◌}
 use Rattle.std.specs.List.{list_any}
+use Rattle.cdb_values.specs.Good.{first_broken}
+use Rattle.cdb_values.specs.Rows.{apply_all}
 use Rattle.cdb_values.specs.declared.rows.Level.{Level}
 use Rattle.script_form.specs.declared.scripts.Moment.{Moment}
 use Rattle.session_language.specs.Each.{EachAfter, StandsIn}
-use Rattle.session_language.specs.Language.{Kind}
+use Rattle.session_language.specs.Language.{Answered, Kind}
 use Rattle.session_language.specs.Replies.{are_up_to, are_none, is_last_of, is_outcome}
+use Rattle.session_language.specs.Touched.{used_at}
 use Rattle.report_laws.specs.Cut.{cuts}
 use Rattle.report_laws.specs.History.{Basis}
 use Rattle.report_laws.specs.Nodes.{downs, is_up, up_count, are_few, first_down}
 use Rattle.report_laws.specs.Places.{survives}
 use Rattle.report_laws.specs.Play.{IsTimely, is_own_by, begins, commits, was_cut, since_begin, is_begin, lacks_majority, HasChanges, IsOrMemory}
-use Rattle.report_laws.specs.Told.{told}
-use Rattle.report_laws.specs.View.{View}
+use Rattle.report_laws.specs.Told.{alone_at, told}
+use Rattle.report_laws.specs.View.{IsUntouched, View}
+use Rattle.report_laws.specs.Work.{Transaction, transaction_of}
 use Rattle.report_text.specs.declared.reports.EntryLine.{EntryLine}
 use Rattle.report_text.specs.declared.reports.EntryLine.TheVariants.{Commit}
 use Rattle.report_text.specs.declared.reports.Line.{Line}
 use Rattle.report_text.specs.declared.reports.Line.TheVariants as line
 use Rattle.cdb_values.specs.declared.replies.Reply.{Reply}
 use Rattle.cdb_values.specs.declared.replies.Reply.TheVariants as reply
-use Rattle.node_reports.specs.Arms.{of_commit, stops, is_last_a_down, is_row_due}
+use Rattle.node_reports.specs.Arms.{of_append, of_commit, stops, is_last_a_down, is_row_due}
 use Rattle.node_reports.specs.Site.{Site, site_of, is_gone, is_inside}
 
 -- a line of the script that a session says: by what the report is judged, the history of the whole run, whose line it is,
@@ -129,10 +133,10 @@ pub record IsKept (s : Saying) (front : List Line) : Type 0 where
   pub kept : loss_at s front ≡ None
   pub unstopped : (survives s.basis.script s.session ≡ true) ⊎ (stops front ≡ 0)
 
--- it is told that no majority is up
+-- it is told that no majority is up: at a begin or a move, or at the commit of a transaction with operations
 pub record IsShortAt (s : Saying) (front : List Line) (answer : Reply) : Type 0 where
   pub kept : IsKept s front
-  pub lacks : (lacks_at s front ≡ true) ⊎ (wanes_at s front ≡ true)
+  pub lacks : (lacks_at s front ≡ true) ⊎ ((wanes_at s front ≡ true) × HasChanges s.basis s.view (s.before ++ front) s.session s.number)
   pub says : IsOrMemory (reply.NoMajority (up_count s.basis.script.nodes (s.before ++ front)) s.basis.script.nodes) answer
 
 -- it is answered, at the last position `now` and `after` behind its piece
@@ -198,6 +202,24 @@ Appends s now mine others (e ∷ es) =
     (es ≡ []) × (begin : ℕ) × (level : Level) × (e ≡ Commit (now + 1) s.session s.number begin level)
     × (StandsIn (replies_in s.session mine) (reply.Committed (now + 1)) ⊎ IsUnacknowledged s mine others)
 
+-- the commit of a transaction is appended at the position behind `now`: no entry since its begin touches what it uses, and its
+-- operations break no key
+pub record Enters (s : Saying) (now : ℕ) (before : List Line) : Type 0 where
+  pub transaction : Transaction
+  pub is_its : transaction_of s.basis.language s.session s.number s.basis.script.body ≡ Some transaction
+  pub begin : ℕ
+  pub begun : StandsIn before (line.Session s.session s.number (reply.Begin begin))
+  pub ran : Answered
+  pub is_ran : ran ≡ alone_at s.basis s.view transaction begin
+  pub untouched : IsUntouched s.view begin (now + 1) (used_at transaction.level ran)
+  pub unbroken : first_broken s.basis.origin.tables (apply_all (s.view.rows now) ran.ops).tables ≡ None
+
+-- a node that is stopped by an arm of the commit is stopped behind the append, and the entry stands where no arm of an append
+-- waits: then it was durable
+pub record FiresAtCommit (s : Saying) (now : ℕ) (mine : List Line) (added : List EntryLine) : Type 0 where
+  pub enters : Enters s now (s.before ++ mine)
+  pub durable : of_append s.arms ≡ 0 → added ≢ []
+
 -- nothing is told where the transaction was cut short before; that is no line that begins one while few are up
 pub record IsSkipped (s : Saying) (mine : List Line) : Type 0 where
   pub none : mine ≡ []
@@ -214,3 +236,5 @@ pub record IsPiece (s : Saying) (now : ℕ) (mine others : List Line) (added : L
   pub fires : (added ≡ []) ⊎ ((of_commit s.arms ≡ 0) ⊎ (1 ≤ downs mine))
   -- and where its commit is told, a node was stopped by one: the master was up when the entry became durable
   pub fired : StandsIn (replies_in s.session mine) (reply.Committed (now + 1)) → (of_commit s.arms ≡ 0) ⊎ (1 ≤ stops mine)
+  -- an arm of the commit fires where the transaction is appended
+  pub moment : 1 ≤ of_commit s.arms → (front back : List Line) (count node : ℕ) → mine ≡ front ++ line.Down count node false ∷ back → commits_at s front ≡ true → FiresAtCommit s now mine added

@@ -1,5 +1,5 @@
 -- Reports of several nodes that are not lawful: what was told or done again, and a majority that was not missing.
-use Rattle.std.proofs.Common.{◌≡◌, ℕ, List, [], ◌∷◌, ◌++◌, refl, sym, subst, ap, arith, ◌∙◌, Bool, true, false, inl, inr, codes, take, drop}
+use Rattle.std.proofs.Common.{◌≡◌, ℕ, List, [], ◌∷◌, ◌++◌, refl, sym, subst, ap, arith, ◌∙◌, true, false, inl, inr, codes, take, drop}
 use Rattle.std.proofs.lemmas.Bool.{both_ways, true≢false}
 use Rattle.std.proofs.lemmas.List.{append-nil}
 use Rattle.cdb_values.specs.declared.replies.Reply.{Reply}
@@ -9,8 +9,7 @@ use Rattle.session_language.proofs.UpToLaws.{same_head, same_tail}
 use Rattle.session_language.specs.Language.{Answered}
 use Rattle.report_laws.specs.Cut.{cuts}
 use Rattle.report_laws.specs.History.{view_of}
-use Rattle.report_laws.specs.Places.{IsShort}
-use Rattle.report_laws.specs.Told.{alone_at, numbered, told, Along, Numbered}
+use Rattle.report_laws.specs.Told.{alone_at, numbered, Along, Numbered}
 use Rattle.report_laws.specs.Work.{transaction, Does, Item, Transaction, WithItsLine}
 use Rattle.report_laws.proofs.AlongLaws.{of_number, of_its}
 use Rattle.report_laws.proofs.GrowLaws.{first_begin, first_rest, same_last}

@@ -1,5 +1,5 @@
 -- What the lawful stories use: laws on each session, where two of them say and are told something.
-use Rattle.std.proofs.Common.{◌≡◌, ℕ, ◌≤◌, List, [], ◌∷◌, ◌++◌, refl, sym, subst, ap, ◌∙◌, Option, Some, None, Bool, true, false, codes, inl, inr, ◌⊎◌}
+use Rattle.std.proofs.Common.{◌≡◌, ℕ, ◌≤◌, List, [], ◌∷◌, ◌++◌, refl, sym, subst, ap, ◌∙◌, Option, Some, None, Bool, true, false, codes, inl, inr}
 use Rattle.std.specs.List.{AllByRecursion}
 use Rattle.std.specs.Str.{bytes_eq}
 use Rattle.std.proofs.lemmas.Slice.Eq.{bytes_eq-Decides}
@@ -19,7 +19,7 @@ use Rattle.report_text.specs.declared.reports.Line.{Line}
 use Rattle.report_text.specs.declared.reports.Line.TheVariants as line
 use Rattle.report_worked.specs.Small.{small_language}
 use Rattle.report_worked.proofs.WorkedLemmas.{IsTheirs}
-use Rattle.node_reports.specs.Fed.{is_read, IsFedAt}
+use Rattle.node_reports.specs.Fed.{IsFedAt}
 use Rattle.node_reports.specs.Pieces.{AreOf, ArePieces}
 
 -- whose line it is, if a session's: of a or of b

@@ -1,7 +1,6 @@
 -- Stories of several nodes that are lawful, computed.
 use Rattle.std.proofs.Common.{◌≡◌, ◌==◌, ℕ, List, [], ◌∷◌, refl, sym, subst, ◌∙◌, arith, codes, inl, inr, Bool, true, false, Option, Some, None, if◌then◌else◌, take, drop}
 use Rattle.std.proofs.lemmas.Bool.{eqb-true}
-use Rattle.cdb_values.specs.declared.replies.Reply.{Reply}
 use Rattle.cdb_values.specs.declared.replies.Reply.TheVariants as reply
 use Rattle.report_laws.proofs.HistoryLaws.{none_stands}
 use Rattle.report_laws.proofs.LineLaws.{fresh_begin}

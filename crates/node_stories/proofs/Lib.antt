@@ -1,8 +1,16 @@
 pub mod AgainWrong
+pub mod ArmTerms
 pub mod HeardLemmas
 pub mod HeardTerms
 pub mod HeardWrong
-pub mod LaterTerms
+pub mod LawfulArms
+pub mod LawfulForm
+pub mod LawfulOpenings
+pub mod LawfulTerms
+pub mod LetThrough
+pub mod LineWrong
+pub mod OneWrong
+pub mod OpeningTerms
 pub mod ShortTerms
 pub mod StillSo
 pub mod StoryLemmas

@@ -1,14 +1,12 @@
 -- Two more stories that are lawful, computed: a session with hasql that finds no majority as it would move, and a base without a
 -- master.
-use Rattle.std.proofs.Common.{◌≡◌, ℕ, List, [], ◌∷◌, refl, arith, codes, inl, inr, true, false, take}
+use Rattle.std.proofs.Common.{[], ◌∷◌, refl, arith, codes, inl, inr, true, false, take}
 use Rattle.cdb_values.specs.Rows.{no_rows}
-use Rattle.cdb_values.specs.declared.replies.Reply.{Reply}
 use Rattle.cdb_values.specs.declared.replies.Reply.TheVariants as reply
 use Rattle.cdb_values.specs.declared.rows.Level.TheVariants.{Snapshot}
 use Rattle.report_laws.proofs.LineLaws.{fresh_begin}
 use Rattle.report_laws.specs.History.{nothing_before, view_of, Basis}
 use Rattle.report_laws.specs.Work.{transaction, ByRollback, Does, Transaction, WithItsLine}
-use Rattle.report_text.specs.declared.reports.EntryLine.TheVariants.{Setup}
 use Rattle.report_text.specs.declared.reports.Line.TheVariants as line
 use Rattle.report_worked.specs.Small.{from_log, from_nothing}
 use Rattle.report_worked.specs.Worked.{worked_table}

@@ -1,19 +1,22 @@
 -- What the stories use: lines that are due.
-use Rattle.std.proofs.Common.{◌≡◌, ℕ, zero, suc, ◌+◌, ◌≤◌, ◌==◌, ◌&&◌, List, [], ◌∷◌, ◌++◌, refl, sym, subst, ap, arith, ◌∙◌, append_assoc, None, Bool, true, false, if◌then◌else◌, ◌⊎◌, inr}
+use Rattle.std.proofs.Common.{◌≡◌, ℕ, zero, suc, ◌+◌, ◌≤◌, ◌==◌, ◌&&◌, List, [], ◌∷◌, ◌++◌, length, refl, sym, subst, ap, arith, ◌∙◌, append_assoc, None, Bool, true, false, if◌then◌else◌, ◌⊎◌, inl, inr}
+use Rattle.std.specs.Prelude.{◌≢◌}
 use Rattle.std.proofs.lemmas.Bool.{both_ways, true≢false, or_parts, or_from, eqb-true, eqb-false}
 use Rattle.std.specs.List.{AllByRecursion, list_any}
-use Rattle.session_language.specs.Each.{StandsIn}
+use Rattle.session_language.specs.Each.{EachAfter, StandsIn}
+use Rattle.session_language.specs.Replies.{are_up_to, is_last_of}
 use Rattle.report_laws.proofs.PieceLaws.{all_at}
 use Rattle.session_language.proofs.UpToLaws.{same_tail}
-use Rattle.report_laws.specs.Nodes.{is_up, up_from, up_count}
-use Rattle.report_laws.specs.Play.{IsTimely}
+use Rattle.report_laws.specs.Nodes.{downs, is_up, up_from, up_count}
+use Rattle.report_laws.specs.Play.{IsTimely, is_own_by}
 use Rattle.report_laws.specs.Places.{survives}
+use Rattle.report_text.specs.declared.reports.EntryLine.{EntryLine}
 use Rattle.report_text.specs.declared.reports.Line.{Line}
 use Rattle.report_text.specs.declared.reports.Line.TheVariants as line
 use Rattle.cdb_values.specs.declared.replies.Reply.{Reply}
-use Rattle.node_reports.specs.Arms.{stops, is_row_due, is_last_a_down}
+use Rattle.node_reports.specs.Arms.{of_append, of_commit, stops, is_row_due, is_last_a_down}
 use Rattle.node_reports.specs.Order.{is_fault}
-use Rattle.node_reports.specs.Piece.{Saying, IsDue, loss_at, lacks_at, wanes_at, commits_at, site_at}
+use Rattle.node_reports.specs.Piece.{Saying, Appends, Enters, IsDue, IsPiece, replies_in, loss_at, lacks_at, wanes_at, commits_at, site_at}
 
 pub no_true : {P : Type 0} (b : Bool) → b ≡ false → b ≡ true → P
 no_true b is e = absurd (both_ways b is e)
@@ -96,3 +99,13 @@ IsFaultOf k (line.Fed position) = Unit {0}
 
 pub comes_up : (k : ℕ) (mine front back others : List Line) (count node : ℕ) → AllByRecursion (IsFaultOf k) mine → mine ≡ front ++ line.Down count node true ∷ back → StandsIn others (line.Up k) → StandsIn others (line.Up node)
 comes_up k mine front back others count node all is stands = subst (λ (i : ℕ). StandsIn others (line.Up i)) (sym (all_at (IsFaultOf k) mine (line.Down count node true) all (front, back, is))) stands
+
+-- a piece during which no arm of the commit waits
+pub plain : {s : Saying} {now : ℕ} {mine others : List Line} {added : List EntryLine} → are_up_to (is_last_of (is_own_by s.kind s.pending)) (replies_in s.session mine) ≡ true → EachAfter (IsDue s now (now + length added)) [] mine → Appends s now mine others added → of_commit s.arms ≡ 0 → IsPiece s now mine others added
+plain {s} {now} {mine} {others} {added} up each appended none =
+    record { up_to = inl up; each = each; appended = appended; fires = inr (inl none); fired = λ told. inl none; moment = λ armed front back count node is at. absurd (omega (arith, armed, none)) }
+
+-- one during which it fires
+pub armed : {s : Saying} {now : ℕ} {mine others : List Line} {added : List EntryLine} → are_up_to (is_last_of (is_own_by s.kind s.pending)) (replies_in s.session mine) ≡ true → EachAfter (IsDue s now (now + length added)) [] mine → Appends s now mine others added → Enters s now (s.before ++ mine) → (of_append s.arms ≡ 0 → added ≢ []) → 1 ≤ stops mine → 1 ≤ downs mine → IsPiece s now mine others added
+armed {s} {now} {mine} {others} {added} up each appended enters durable stopped fell =
+    record { up_to = inl up; each = each; appended = appended; fires = inr (inr fell); fired = λ told. inr stopped; moment = λ waits front back count node is at. record { enters = enters; durable = durable } }

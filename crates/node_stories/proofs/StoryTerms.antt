@@ -1,16 +1,15 @@
--- The stories are in the order of play, computed.
+-- Stories of nodes that fall, are stopped and come back are in the order of play, computed.
 use Rattle.std.proofs.Common.{[], ◌∷◌, refl, arith, codes, inl, inr, true, false}
+use Rattle.cdb_values.specs.declared.replies.Reply.TheVariants as reply
 use Rattle.cdb_values.specs.declared.rows.Level.TheVariants.{Snapshot}
+use Rattle.report_laws.specs.Work.{transaction, WithItsLine}
 use Rattle.report_text.specs.declared.reports.EntryLine.TheVariants.{Setup}
 use Rattle.report_text.specs.declared.reports.Line.TheVariants as line
-use Rattle.cdb_values.specs.declared.replies.Reply.TheVariants as reply
-use Rattle.report_laws.specs.Work.{transaction, WithItsLine}
-use Rattle.cdb_values.specs.Rows.{no_rows}
-use Rattle.report_worked.specs.Small.{from_log, from_nothing}
-use Rattle.report_worked.specs.Worked.{worked_table, row, of_a, of_b}
+use Rattle.report_worked.specs.Small.{from_nothing}
+use Rattle.report_worked.specs.Worked.{row, of_a, of_b}
 use Rattle.node_reports.specs.Order.{InNodesOrder}
-use Rattle.node_stories.specs.Stories.{few_opened, few_opened_report, based_on_none_report, opened_later, opened_later_report, moves_at_rollback, moves_at_rollback_report, falls_at_election, falls_at_election_report, wanting, wanting_report, replica_falls, replica_falls_report, master_falls, master_falls_report, came_back, came_back_report, armed_row, armed_row_report, armed_row_survives, armed_row_survives_report, armed_append, armed_append_report, kept_by_start, kept_by_start_report, late_majority, late_majority_report, shipped, shipped_report, few_at_commit, few_at_commit_report, few_but_read, few_but_read_report, fed_twice, fed_twice_report, moves_on_one, moves_on_one_report, lost_stands, lost_stands_report, falls_while_down, falls_while_down_report, taken_and_fallen, taken_and_fallen_report, falls_and_stops, falls_and_stops_report, sent_again, sent_again_report}
-use Rattle.node_stories.proofs.StoryLemmas.{answers, no_fault, never_alone, comes_up, some_entry, no_true}
+use Rattle.node_stories.specs.Stories.{replica_falls, replica_falls_report, master_falls, master_falls_report, came_back, came_back_report, kept_by_start, kept_by_start_report, few_at_commit, few_at_commit_report, few_but_read, few_but_read_report, read_while_few, read_while_few_report, fed_twice, fed_twice_report, falls_while_down, falls_while_down_report, taken_and_fallen, taken_and_fallen_report, moves_on_one, moves_on_one_report, moves_at_rollback, moves_at_rollback_report, wanting, wanting_report, tail_stands, tail_stands_report}
+use Rattle.node_stories.proofs.StoryLemmas.{answers, armed, comes_up, never_alone, no_true, plain, some_entry}
 
 pub replica_falls_is_in_order : InNodesOrder (from_nothing replica_falls) replica_falls_report
 replica_falls_is_in_order = record {
@@ -29,7 +28,7 @@ replica_falls_is_in_order = record {
     [],
     refl,
     refl,
-    record { up_to = inl refl; each = (answers refl (inr refl) refl refl refl refl refl, (answers refl (inr refl) refl refl tt refl refl, (record { counted = refl; of_script = (omega arith, omega arith); was_up = refl; cause = inl (record { at_commit = refl; uncut = refl; kept = inl refl; majority = refl; changes = record { transaction = transaction 1 (codes "insert into t values(1, 10)" ∷ []) Snapshot WithItsLine; is_its = refl; begin = 1; begun = ([], (line.Session (codes "a") 1 (reply.Changed 1) ∷ []), refl); has_ops = λ is. cc }; by = inl refl }) }, ((refl, refl, refl, inl (record { down = 1; is_lost = refl; says = inl refl })), tt)))); appended = (refl, 1, Snapshot, refl, inr (record { at_commit = refl; fell = omega arith; cut = refl; comes_up = λ front back count node is none. never_alone 3 1 ([]) (line.Session (codes "a") 1 (reply.Begin 1) ∷ line.Session (codes "a") 1 (reply.Changed 1) ∷ line.Down 1 2 true ∷ line.Session (codes "a") 1 (reply.Lost 2 1) ∷ []) front back count node (omega arith) (omega arith) refl is none })); fires = inr (inr (omega arith)); fired = λ told. inl refl },
+    plain refl (answers refl (inr refl) refl refl refl refl refl, (answers refl (inr refl) refl refl tt refl refl, (record { counted = refl; of_script = (omega arith, omega arith); was_up = refl; cause = inl (record { at_commit = refl; uncut = refl; kept = inl refl; majority = refl; changes = record { transaction = transaction 1 (codes "insert into t values(1, 10)" ∷ []) Snapshot WithItsLine; is_its = refl; begin = 1; begun = ([], (line.Session (codes "a") 1 (reply.Changed 1) ∷ []), refl); has_ops = λ is. cc }; by = inl refl }) }, ((refl, refl, refl, inl (record { down = 1; is_lost = refl; says = inl refl })), tt)))) (refl, 1, Snapshot, refl, inr (record { at_commit = refl; fell = omega arith; cut = refl; comes_up = λ front back count node is none. never_alone 3 1 ([]) (line.Session (codes "a") 1 (reply.Begin 1) ∷ line.Session (codes "a") 1 (reply.Changed 1) ∷ line.Down 1 2 true ∷ line.Session (codes "a") 1 (reply.Lost 2 1) ∷ []) front back count node (omega arith) (omega arith) refl is none })) refl,
     (
       line.Session (codes "a") 2 (reply.Begin 2) ∷ line.Session (codes "a") 2 (row 1 10) ∷ line.Session (codes "a") 2 (reply.Done 1) ∷ line.Session (codes "a") 2 (reply.Committed 2) ∷ [],
       [],
@@ -37,7 +36,7 @@ replica_falls_is_in_order = record {
       [],
       refl,
       refl,
-      record { up_to = inl refl; each = (answers refl (inr refl) refl refl refl refl refl, (answers refl (inr refl) refl refl tt refl refl, (answers refl (inr refl) refl refl tt refl refl, (answers refl (inr refl) refl refl (omega arith) refl refl, tt)))); appended = tt; fires = inl refl; fired = λ told. inl refl },
+      plain refl (answers refl (inr refl) refl refl refl refl refl, (answers refl (inr refl) refl refl tt refl refl, (answers refl (inr refl) refl refl tt refl refl, (answers refl (inr refl) refl refl (omega arith) refl refl, tt)))) tt refl,
       (refl, refl),
     ),
   );
@@ -60,7 +59,7 @@ master_falls_is_in_order = record {
     [],
     refl,
     refl,
-    record { up_to = inl refl; each = (answers refl (inr refl) refl refl refl refl refl, (answers refl (inr refl) refl refl tt refl refl, (record { counted = refl; of_script = (omega arith, omega arith); was_up = refl; cause = inl (record { at_commit = refl; uncut = refl; kept = inl refl; majority = refl; changes = record { transaction = transaction 1 (codes "insert into t values(1, 10)" ∷ []) Snapshot WithItsLine; is_its = refl; begin = 1; begun = ([], (line.Session (codes "a") 1 (reply.Changed 1) ∷ []), refl); has_ops = λ is. cc }; by = inl refl }) }, ((refl, refl, refl, inr (inl (record { kept = refl; stays = refl; at_commit = refl; node = 1; down = 1; fault = true; fell = (line.Session (codes "a") 1 (reply.Begin 1) ∷ line.Session (codes "a") 1 (reply.Changed 1) ∷ [], [], refl); says = inl refl }))), tt)))); appended = tt; fires = inl refl; fired = λ told. inl refl },
+    plain refl (answers refl (inr refl) refl refl refl refl refl, (answers refl (inr refl) refl refl tt refl refl, (record { counted = refl; of_script = (omega arith, omega arith); was_up = refl; cause = inl (record { at_commit = refl; uncut = refl; kept = inl refl; majority = refl; changes = record { transaction = transaction 1 (codes "insert into t values(1, 10)" ∷ []) Snapshot WithItsLine; is_its = refl; begin = 1; begun = ([], (line.Session (codes "a") 1 (reply.Changed 1) ∷ []), refl); has_ops = λ is. cc }; by = inl refl }) }, ((refl, refl, refl, inr (inl (record { kept = refl; stays = refl; at_commit = refl; node = 1; down = 1; fault = true; fell = (line.Session (codes "a") 1 (reply.Begin 1) ∷ line.Session (codes "a") 1 (reply.Changed 1) ∷ [], [], refl); says = inl refl }))), tt)))) tt refl,
     (
       line.Session (codes "a") 2 (reply.Begin 1) ∷ line.Session (codes "a") 2 (reply.Done 0) ∷ line.Session (codes "a") 2 (reply.Committed 1) ∷ [],
       line.Up 1 ∷ [],
@@ -68,7 +67,7 @@ master_falls_is_in_order = record {
       [],
       refl,
       refl,
-      record { up_to = inl refl; each = (answers refl (inr refl) refl refl refl refl refl, (answers refl (inr refl) refl refl tt refl refl, (answers refl (inr refl) refl refl (omega arith) refl refl, tt))); appended = tt; fires = inl refl; fired = λ told. inl refl },
+      plain refl (answers refl (inr refl) refl refl refl refl refl, (answers refl (inr refl) refl refl tt refl refl, (answers refl (inr refl) refl refl (omega arith) refl refl, tt))) tt refl,
       (
         line.Up 1 ∷ [],
         [],
@@ -100,7 +99,7 @@ came_back_is_in_order = record {
     [],
     refl,
     refl,
-    record { up_to = inl refl; each = (answers refl (inr refl) refl refl refl refl refl, tt); appended = tt; fires = inl refl; fired = λ told. inl refl },
+    plain refl (answers refl (inr refl) refl refl refl refl refl, tt) tt refl,
     (
       line.Down 1 2 false ∷ [],
       line.Up 2 ∷ line.Session (codes "a") 1 (reply.Lost 2 1) ∷ [],
@@ -124,138 +123,9 @@ came_back_is_in_order = record {
           [],
           refl,
           refl,
-          record { up_to = inl refl; each = ((refl, refl, refl, inl (record { down = 1; is_lost = refl; says = inl refl })), tt); appended = tt; fires = inl refl; fired = λ told. inl refl },
+          plain refl ((refl, refl, refl, inl (record { down = 1; is_lost = refl; says = inl refl })), tt) tt refl,
           (refl, refl),
         ),
-      ),
-    ),
-  );
-}
-
-pub armed_row_is_in_order : InNodesOrder (from_nothing armed_row) armed_row_report
-armed_row_is_in_order = record {
-  first = [];
-  go_down = tt;
-  opening = Setup 1 ∷ [];
-  opened = (refl, refl, refl, refl, inl refl);
-  rest = line.Session (codes "a") 1 (reply.Begin 1) ∷ line.Session (codes "a") 1 (reply.Changed 1) ∷ line.Session (codes "a") 1 (reply.Committed 2) ∷ line.Session (codes "a") 2 (reply.Begin 2) ∷ line.Session (codes "a") 2 (row 1 10) ∷ line.Down 1 2 false ∷ line.Session (codes "a") 2 (reply.Lost 2 1) ∷ [];
-  lines_are = refl;
-  later = of_a 2 1 1 ∷ [];
-  entries_are = refl;
-  order = (
-    line.Session (codes "a") 1 (reply.Begin 1) ∷ line.Session (codes "a") 1 (reply.Changed 1) ∷ line.Session (codes "a") 1 (reply.Committed 2) ∷ [],
-    line.Session (codes "a") 2 (reply.Begin 2) ∷ line.Session (codes "a") 2 (row 1 10) ∷ line.Down 1 2 false ∷ line.Session (codes "a") 2 (reply.Lost 2 1) ∷ [],
-    of_a 2 1 1 ∷ [],
-    [],
-    refl,
-    refl,
-    record { up_to = inl refl; each = (answers refl (inr refl) refl refl refl refl refl, (answers refl (inr refl) refl refl tt refl refl, (answers refl (inr refl) refl refl (omega arith) refl refl, tt))); appended = (refl, 1, Snapshot, refl, inl (reply.Begin 1 ∷ reply.Changed 1 ∷ [], [], refl)); fires = inr (inl refl); fired = λ told. inl refl },
-    (
-      [],
-      line.Session (codes "a") 2 (reply.Begin 2) ∷ line.Session (codes "a") 2 (row 1 10) ∷ line.Down 1 2 false ∷ line.Session (codes "a") 2 (reply.Lost 2 1) ∷ [],
-      [],
-      [],
-      refl,
-      refl,
-      (refl, refl),
-      (
-        line.Session (codes "a") 2 (reply.Begin 2) ∷ line.Session (codes "a") 2 (row 1 10) ∷ line.Down 1 2 false ∷ line.Session (codes "a") 2 (reply.Lost 2 1) ∷ [],
-        [],
-        [],
-        [],
-        refl,
-        refl,
-        record { up_to = inl refl; each = (answers refl (inr refl) refl refl refl refl refl, (answers refl (inr refl) refl refl tt refl refl, (record { counted = refl; of_script = (omega arith, omega arith); was_up = refl; cause = inr (inl (record { due = refl; its = refl; stopped = refl })) }, ((refl, refl, refl, inl (record { down = 1; is_lost = refl; says = inl refl })), tt)))); appended = tt; fires = inl refl; fired = λ told. inl refl },
-        (refl, refl),
-      ),
-    ),
-  );
-}
-
-pub armed_row_survives_is_in_order : InNodesOrder (from_nothing armed_row_survives) armed_row_survives_report
-armed_row_survives_is_in_order = record {
-  first = [];
-  go_down = tt;
-  opening = Setup 1 ∷ [];
-  opened = (refl, refl, refl, refl, inl refl);
-  rest = line.Session (codes "a") 1 (reply.Begin 1) ∷ line.Session (codes "a") 1 (reply.Changed 1) ∷ line.Session (codes "a") 1 (reply.Committed 2) ∷ line.Session (codes "b") 1 (reply.Begin 2) ∷ line.Session (codes "b") 1 (row 1 10) ∷ line.Down 1 3 false ∷ line.Session (codes "b") 1 (reply.Done 1) ∷ line.Session (codes "b") 1 (reply.Committed 2) ∷ line.Session (codes "b") 2 (reply.Begin 2) ∷ line.Session (codes "b") 2 (row 1 10) ∷ line.Session (codes "b") 2 (reply.Done 1) ∷ line.Session (codes "b") 2 (reply.Committed 2) ∷ [];
-  lines_are = refl;
-  later = of_a 2 1 1 ∷ [];
-  entries_are = refl;
-  order = (
-    line.Session (codes "a") 1 (reply.Begin 1) ∷ line.Session (codes "a") 1 (reply.Changed 1) ∷ line.Session (codes "a") 1 (reply.Committed 2) ∷ [],
-    line.Session (codes "b") 1 (reply.Begin 2) ∷ line.Session (codes "b") 1 (row 1 10) ∷ line.Down 1 3 false ∷ line.Session (codes "b") 1 (reply.Done 1) ∷ line.Session (codes "b") 1 (reply.Committed 2) ∷ line.Session (codes "b") 2 (reply.Begin 2) ∷ line.Session (codes "b") 2 (row 1 10) ∷ line.Session (codes "b") 2 (reply.Done 1) ∷ line.Session (codes "b") 2 (reply.Committed 2) ∷ [],
-    of_a 2 1 1 ∷ [],
-    [],
-    refl,
-    refl,
-    record { up_to = inl refl; each = (answers refl (inr refl) refl refl refl refl refl, (answers refl (inr refl) refl refl tt refl refl, (answers refl (inr refl) refl refl (omega arith) refl refl, tt))); appended = (refl, 1, Snapshot, refl, inl (reply.Begin 1 ∷ reply.Changed 1 ∷ [], [], refl)); fires = inr (inl refl); fired = λ told. inl refl },
-    (
-      [],
-      line.Session (codes "b") 1 (reply.Begin 2) ∷ line.Session (codes "b") 1 (row 1 10) ∷ line.Down 1 3 false ∷ line.Session (codes "b") 1 (reply.Done 1) ∷ line.Session (codes "b") 1 (reply.Committed 2) ∷ line.Session (codes "b") 2 (reply.Begin 2) ∷ line.Session (codes "b") 2 (row 1 10) ∷ line.Session (codes "b") 2 (reply.Done 1) ∷ line.Session (codes "b") 2 (reply.Committed 2) ∷ [],
-      [],
-      [],
-      refl,
-      refl,
-      (refl, refl),
-      (
-        line.Session (codes "b") 1 (reply.Begin 2) ∷ line.Session (codes "b") 1 (row 1 10) ∷ line.Down 1 3 false ∷ line.Session (codes "b") 1 (reply.Done 1) ∷ line.Session (codes "b") 1 (reply.Committed 2) ∷ [],
-        line.Session (codes "b") 2 (reply.Begin 2) ∷ line.Session (codes "b") 2 (row 1 10) ∷ line.Session (codes "b") 2 (reply.Done 1) ∷ line.Session (codes "b") 2 (reply.Committed 2) ∷ [],
-        [],
-        [],
-        refl,
-        refl,
-        record { up_to = inl refl; each = (answers refl (inr refl) refl refl refl refl refl, (answers refl (inr refl) refl refl tt refl refl, (record { counted = refl; of_script = (omega arith, omega arith); was_up = refl; cause = inr (inl (record { due = refl; its = refl; stopped = refl })) }, (answers refl (inl refl) refl refl tt refl refl, (answers refl (inl refl) refl refl (omega arith) refl refl, tt))))); appended = tt; fires = inl refl; fired = λ told. inl refl },
-        (
-          line.Session (codes "b") 2 (reply.Begin 2) ∷ line.Session (codes "b") 2 (row 1 10) ∷ line.Session (codes "b") 2 (reply.Done 1) ∷ line.Session (codes "b") 2 (reply.Committed 2) ∷ [],
-          [],
-          [],
-          [],
-          refl,
-          refl,
-          record { up_to = inl refl; each = (answers refl (inr refl) refl refl refl refl refl, (answers refl (inr refl) refl refl tt refl refl, (answers refl (inr refl) refl refl tt refl refl, (answers refl (inr refl) refl refl (omega arith) refl refl, tt)))); appended = tt; fires = inl refl; fired = λ told. inl refl },
-          (refl, refl),
-        ),
-      ),
-    ),
-  );
-}
-
-pub armed_append_is_in_order : InNodesOrder (from_nothing armed_append) armed_append_report
-armed_append_is_in_order = record {
-  first = [];
-  go_down = tt;
-  opening = Setup 1 ∷ [];
-  opened = (refl, refl, refl, refl, inl refl);
-  rest = line.Session (codes "a") 1 (reply.Begin 1) ∷ line.Session (codes "a") 1 (reply.Changed 1) ∷ line.Down 1 1 false ∷ line.Session (codes "a") 1 (reply.Lost 1 1) ∷ line.Session (codes "a") 2 (reply.NoMajority 0 1) ∷ [];
-  lines_are = refl;
-  later = of_a 2 1 1 ∷ [];
-  entries_are = refl;
-  order = (
-    [],
-    line.Session (codes "a") 1 (reply.Begin 1) ∷ line.Session (codes "a") 1 (reply.Changed 1) ∷ line.Down 1 1 false ∷ line.Session (codes "a") 1 (reply.Lost 1 1) ∷ line.Session (codes "a") 2 (reply.NoMajority 0 1) ∷ [],
-    [],
-    of_a 2 1 1 ∷ [],
-    refl,
-    refl,
-    (refl, refl),
-    (
-      line.Session (codes "a") 1 (reply.Begin 1) ∷ line.Session (codes "a") 1 (reply.Changed 1) ∷ line.Down 1 1 false ∷ line.Session (codes "a") 1 (reply.Lost 1 1) ∷ [],
-      line.Session (codes "a") 2 (reply.NoMajority 0 1) ∷ [],
-      of_a 2 1 1 ∷ [],
-      [],
-      refl,
-      refl,
-      record { up_to = inl refl; each = (answers refl (inr refl) refl refl refl refl refl, (answers refl (inr refl) refl refl tt refl refl, (record { counted = refl; of_script = (omega arith, omega arith); was_up = refl; cause = inl (record { at_commit = refl; uncut = refl; kept = inl refl; majority = refl; changes = record { transaction = transaction 1 (codes "insert into t values(1, 10)" ∷ []) Snapshot WithItsLine; is_its = refl; begin = 1; begun = ([], (line.Session (codes "a") 1 (reply.Changed 1) ∷ []), refl); has_ops = λ is. cc }; by = inr (omega arith) }) }, ((refl, refl, refl, inl (record { down = 1; is_lost = refl; says = inl refl })), tt)))); appended = (refl, 1, Snapshot, refl, inr (record { at_commit = refl; fell = omega arith; cut = refl; comes_up = λ front back count node is none. absurd (no_fault _ front back count node refl is) })); fires = inr (inr (omega arith)); fired = λ told. inr (omega arith) },
-      (
-        line.Session (codes "a") 2 (reply.NoMajority 0 1) ∷ [],
-        [],
-        [],
-        [],
-        refl,
-        refl,
-        record { up_to = inl refl; each = ((refl, refl, refl, inr (inr (inl (record { kept = record { kept = refl; unstopped = inr refl }; lacks = inl refl; says = inl refl })))), tt); appended = tt; fires = inl refl; fired = λ told. inl refl },
-        (refl, refl),
       ),
     ),
   );
@@ -278,7 +148,7 @@ kept_by_start_is_in_order = record {
     [],
     refl,
     refl,
-    record { up_to = inl refl; each = (answers refl (inr refl) refl refl refl refl refl, (answers refl (inr refl) refl refl tt refl refl, (record { counted = refl; of_script = (omega arith, omega arith); was_up = refl; cause = inl (record { at_commit = refl; uncut = refl; kept = inl refl; majority = refl; changes = record { transaction = transaction 1 (codes "insert into t values(1, 10)" ∷ []) Snapshot WithItsLine; is_its = refl; begin = 1; begun = ([], (line.Session (codes "a") 1 (reply.Changed 1) ∷ []), refl); has_ops = λ is. cc }; by = inl refl }) }, ((refl, refl, refl, inl (record { down = 1; is_lost = refl; says = inl refl })), tt)))); appended = (refl, 1, Snapshot, refl, inr (record { at_commit = refl; fell = omega arith; cut = refl; comes_up = λ front back count node is none. comes_up 1 _ front back _ count node (tt, (tt, (refl, (tt, tt)))) is ([], _, refl) })); fires = inr (inr (omega arith)); fired = λ told. inl refl },
+    plain refl (answers refl (inr refl) refl refl refl refl refl, (answers refl (inr refl) refl refl tt refl refl, (record { counted = refl; of_script = (omega arith, omega arith); was_up = refl; cause = inl (record { at_commit = refl; uncut = refl; kept = inl refl; majority = refl; changes = record { transaction = transaction 1 (codes "insert into t values(1, 10)" ∷ []) Snapshot WithItsLine; is_its = refl; begin = 1; begun = ([], (line.Session (codes "a") 1 (reply.Changed 1) ∷ []), refl); has_ops = λ is. cc }; by = inl refl }) }, ((refl, refl, refl, inl (record { down = 1; is_lost = refl; says = inl refl })), tt)))) (refl, 1, Snapshot, refl, inr (record { at_commit = refl; fell = omega arith; cut = refl; comes_up = λ front back count node is none. comes_up 1 _ front back _ count node (tt, (tt, (refl, (tt, tt)))) is ([], _, refl) })) refl,
     (
       line.Up 1 ∷ [],
       line.Session (codes "a") 2 (reply.Begin 2) ∷ line.Session (codes "a") 2 (row 1 10) ∷ line.Session (codes "a") 2 (reply.Done 1) ∷ line.Session (codes "a") 2 (reply.Committed 2) ∷ [],
@@ -294,106 +164,8 @@ kept_by_start_is_in_order = record {
         [],
         refl,
         refl,
-        record { up_to = inl refl; each = (answers refl (inr refl) refl refl refl refl refl, (answers refl (inr refl) refl refl tt refl refl, (answers refl (inr refl) refl refl tt refl refl, (answers refl (inr refl) refl refl (omega arith) refl refl, tt)))); appended = tt; fires = inl refl; fired = λ told. inl refl },
+        plain refl (answers refl (inr refl) refl refl refl refl refl, (answers refl (inr refl) refl refl tt refl refl, (answers refl (inr refl) refl refl tt refl refl, (answers refl (inr refl) refl refl (omega arith) refl refl, tt)))) tt refl,
         (refl, refl),
-      ),
-    ),
-  );
-}
-
-pub late_majority_is_in_order : InNodesOrder (from_nothing late_majority) late_majority_report
-late_majority_is_in_order = record {
-  first = line.Down 1 2 true ∷ line.Down 2 3 true ∷ [];
-  go_down = (record { counted = refl; of_script = (omega arith, omega arith); was_up = refl; by_fault = refl }, (record { counted = refl; of_script = (omega arith, omega arith); was_up = refl; by_fault = refl }, tt));
-  opening = Setup 1 ∷ [];
-  opened = (refl, refl, refl, refl, inr (refl, inl (omega arith)));
-  rest = line.Up 2 ∷ line.Session (codes "a") 1 (reply.Begin 1) ∷ line.Session (codes "a") 1 (reply.Done 0) ∷ line.Session (codes "a") 1 (reply.Committed 1) ∷ [];
-  lines_are = refl;
-  later = [];
-  entries_are = refl;
-  order = (
-    line.Up 2 ∷ [],
-    line.Session (codes "a") 1 (reply.Begin 1) ∷ line.Session (codes "a") 1 (reply.Done 0) ∷ line.Session (codes "a") 1 (reply.Committed 1) ∷ [],
-    [],
-    [],
-    refl,
-    refl,
-    (inr (inl (record { was = refl; faults = []; says = refl; each = tt })), λ base empty. some_entry _ _ empty),
-    (
-      line.Session (codes "a") 1 (reply.Begin 1) ∷ line.Session (codes "a") 1 (reply.Done 0) ∷ line.Session (codes "a") 1 (reply.Committed 1) ∷ [],
-      [],
-      [],
-      [],
-      refl,
-      refl,
-      record { up_to = inl refl; each = (answers refl (inr refl) refl refl refl refl refl, (answers refl (inr refl) refl refl tt refl refl, (answers refl (inr refl) refl refl (omega arith) refl refl, tt))); appended = tt; fires = inl refl; fired = λ told. inl refl },
-      (refl, refl),
-    ),
-  );
-}
-
-pub shipped_is_in_order : InNodesOrder (from_nothing shipped) shipped_report
-shipped_is_in_order = record {
-  first = [];
-  go_down = tt;
-  opening = Setup 1 ∷ [];
-  opened = (refl, refl, refl, refl, inl refl);
-  rest = line.Down 1 2 false ∷ line.Session (codes "b") 1 (reply.Begin 1) ∷ line.Session (codes "b") 1 (reply.Changed 1) ∷ line.Down 2 1 false ∷ line.Session (codes "b") 1 (reply.NoMajority 1 3) ∷ line.Session (codes "b") 2 (reply.NoMajority 1 3) ∷ line.Up 2 ∷ line.Session (codes "b") 3 (reply.Begin 2) ∷ line.Session (codes "b") 3 (row 1 10) ∷ line.Session (codes "b") 3 (reply.Done 1) ∷ line.Session (codes "b") 3 (reply.Committed 2) ∷ [];
-  lines_are = refl;
-  later = of_b 2 1 1 ∷ [];
-  entries_are = refl;
-  order = (
-    line.Down 1 2 false ∷ [],
-    line.Session (codes "b") 1 (reply.Begin 1) ∷ line.Session (codes "b") 1 (reply.Changed 1) ∷ line.Down 2 1 false ∷ line.Session (codes "b") 1 (reply.NoMajority 1 3) ∷ line.Session (codes "b") 2 (reply.NoMajority 1 3) ∷ line.Up 2 ∷ line.Session (codes "b") 3 (reply.Begin 2) ∷ line.Session (codes "b") 3 (row 1 10) ∷ line.Session (codes "b") 3 (reply.Done 1) ∷ line.Session (codes "b") 3 (reply.Committed 2) ∷ [],
-    [],
-    of_b 2 1 1 ∷ [],
-    refl,
-    refl,
-    (inr (record { was = refl; faults = []; says = refl; each = tt }), λ base empty. some_entry _ _ empty),
-    (
-      [],
-      line.Session (codes "b") 1 (reply.Begin 1) ∷ line.Session (codes "b") 1 (reply.Changed 1) ∷ line.Down 2 1 false ∷ line.Session (codes "b") 1 (reply.NoMajority 1 3) ∷ line.Session (codes "b") 2 (reply.NoMajority 1 3) ∷ line.Up 2 ∷ line.Session (codes "b") 3 (reply.Begin 2) ∷ line.Session (codes "b") 3 (row 1 10) ∷ line.Session (codes "b") 3 (reply.Done 1) ∷ line.Session (codes "b") 3 (reply.Committed 2) ∷ [],
-      [],
-      of_b 2 1 1 ∷ [],
-      refl,
-      refl,
-      (refl, refl),
-      (
-        line.Session (codes "b") 1 (reply.Begin 1) ∷ line.Session (codes "b") 1 (reply.Changed 1) ∷ line.Down 2 1 false ∷ line.Session (codes "b") 1 (reply.NoMajority 1 3) ∷ [],
-        line.Session (codes "b") 2 (reply.NoMajority 1 3) ∷ line.Up 2 ∷ line.Session (codes "b") 3 (reply.Begin 2) ∷ line.Session (codes "b") 3 (row 1 10) ∷ line.Session (codes "b") 3 (reply.Done 1) ∷ line.Session (codes "b") 3 (reply.Committed 2) ∷ [],
-        of_b 2 1 1 ∷ [],
-        [],
-        refl,
-        refl,
-        record { up_to = inl refl; each = (answers refl (inr refl) refl refl refl refl refl, (answers refl (inr refl) refl refl tt refl refl, (record { counted = refl; of_script = (omega arith, omega arith); was_up = refl; cause = inl (record { at_commit = refl; uncut = refl; kept = inl refl; majority = refl; changes = record { transaction = transaction 1 (codes "insert into t values(1, 10)" ∷ []) Snapshot WithItsLine; is_its = refl; begin = 1; begun = ((line.Down 1 2 false ∷ []), (line.Session (codes "b") 1 (reply.Changed 1) ∷ []), refl); has_ops = λ is. cc }; by = inr (omega arith) }) }, ((refl, refl, refl, inr (inr (inl (record { kept = record { kept = refl; unstopped = inl refl }; lacks = inr refl; says = inl refl })))), tt)))); appended = (refl, 1, Snapshot, refl, inr (record { at_commit = refl; fell = omega arith; cut = refl; comes_up = λ front back count node is none. absurd (no_fault _ front back count node refl is) })); fires = inr (inr (omega arith)); fired = λ told. inr (omega arith) },
-        (
-          line.Session (codes "b") 2 (reply.NoMajority 1 3) ∷ [],
-          line.Up 2 ∷ line.Session (codes "b") 3 (reply.Begin 2) ∷ line.Session (codes "b") 3 (row 1 10) ∷ line.Session (codes "b") 3 (reply.Done 1) ∷ line.Session (codes "b") 3 (reply.Committed 2) ∷ [],
-          [],
-          [],
-          refl,
-          refl,
-          record { up_to = inl refl; each = ((refl, refl, refl, inr (inr (inl (record { kept = record { kept = refl; unstopped = inr refl }; lacks = inl refl; says = inl refl })))), tt); appended = tt; fires = inl refl; fired = λ told. inl refl },
-          (
-            line.Up 2 ∷ [],
-            line.Session (codes "b") 3 (reply.Begin 2) ∷ line.Session (codes "b") 3 (row 1 10) ∷ line.Session (codes "b") 3 (reply.Done 1) ∷ line.Session (codes "b") 3 (reply.Committed 2) ∷ [],
-            [],
-            [],
-            refl,
-            refl,
-            (inr (inl (record { was = refl; faults = []; says = refl; each = tt })), λ base empty. some_entry _ _ empty),
-            (
-              line.Session (codes "b") 3 (reply.Begin 2) ∷ line.Session (codes "b") 3 (row 1 10) ∷ line.Session (codes "b") 3 (reply.Done 1) ∷ line.Session (codes "b") 3 (reply.Committed 2) ∷ [],
-              [],
-              [],
-              [],
-              refl,
-              refl,
-              record { up_to = inl refl; each = (answers refl (inr refl) refl refl refl refl refl, (answers refl (inr refl) refl refl tt refl refl, (answers refl (inr refl) refl refl tt refl refl, (answers refl (inr refl) refl refl (omega arith) refl refl, tt)))); appended = tt; fires = inl refl; fired = λ told. inl refl },
-              (refl, refl),
-            ),
-          ),
-        ),
       ),
     ),
   );
@@ -416,7 +188,7 @@ few_at_commit_is_in_order = record {
     [],
     refl,
     refl,
-    record { up_to = inl refl; each = (answers refl (inr refl) refl refl refl refl refl, (answers refl (inr refl) refl refl tt refl refl, (record { counted = refl; of_script = (omega arith, omega arith); was_up = refl; cause = inl (record { at_commit = refl; uncut = refl; kept = inl refl; majority = refl; changes = record { transaction = transaction 1 (codes "insert into t values(1, 10)" ∷ []) Snapshot WithItsLine; is_its = refl; begin = 1; begun = ([], (line.Session (codes "a") 1 (reply.Changed 1) ∷ []), refl); has_ops = λ is. cc }; by = inl refl }) }, (record { counted = refl; of_script = (omega arith, omega arith); was_up = refl; cause = inr (inr (refl, refl)) }, ((refl, refl, refl, inr (inr (inl (record { kept = record { kept = refl; unstopped = inr refl }; lacks = inr refl; says = inl refl })))), tt))))); appended = (refl, 1, Snapshot, refl, inr (record { at_commit = refl; fell = omega arith; cut = refl; comes_up = λ front back count node is none. never_alone 3 1 ([]) (line.Session (codes "a") 1 (reply.Begin 1) ∷ line.Session (codes "a") 1 (reply.Changed 1) ∷ line.Down 1 2 true ∷ line.Down 2 3 true ∷ line.Session (codes "a") 1 (reply.NoMajority 1 3) ∷ []) front back count node (omega arith) (omega arith) refl is none })); fires = inr (inr (omega arith)); fired = λ told. inl refl },
+    plain refl (answers refl (inr refl) refl refl refl refl refl, (answers refl (inr refl) refl refl tt refl refl, (record { counted = refl; of_script = (omega arith, omega arith); was_up = refl; cause = inl (record { at_commit = refl; uncut = refl; kept = inl refl; majority = refl; changes = record { transaction = transaction 1 (codes "insert into t values(1, 10)" ∷ []) Snapshot WithItsLine; is_its = refl; begin = 1; begun = ([], (line.Session (codes "a") 1 (reply.Changed 1) ∷ []), refl); has_ops = λ is. cc }; by = inl refl }) }, (record { counted = refl; of_script = (omega arith, omega arith); was_up = refl; cause = inr (inr (refl, refl)) }, ((refl, refl, refl, inr (inr (inl (record { kept = record { kept = refl; unstopped = inr refl }; lacks = inr (refl, record { transaction = transaction 1 (codes "insert into t values(1, 10)" ∷ []) Snapshot WithItsLine; is_its = refl; begin = 1; begun = ([], (line.Session (codes "a") 1 (reply.Changed 1) ∷ line.Down 1 2 true ∷ line.Down 2 3 true ∷ []), refl); has_ops = λ is. cc }); says = inl refl })))), tt))))) (refl, 1, Snapshot, refl, inr (record { at_commit = refl; fell = omega arith; cut = refl; comes_up = λ front back count node is none. never_alone 3 1 ([]) (line.Session (codes "a") 1 (reply.Begin 1) ∷ line.Session (codes "a") 1 (reply.Changed 1) ∷ line.Down 1 2 true ∷ line.Down 2 3 true ∷ line.Session (codes "a") 1 (reply.NoMajority 1 3) ∷ []) front back count node (omega arith) (omega arith) refl is none })) refl,
     (
       line.Up 2 ∷ [],
       line.Session (codes "a") 2 (reply.Begin 2) ∷ line.Session (codes "a") 2 (row 1 10) ∷ line.Session (codes "a") 2 (reply.Done 1) ∷ line.Session (codes "a") 2 (reply.Committed 2) ∷ [],
@@ -432,7 +204,7 @@ few_at_commit_is_in_order = record {
         [],
         refl,
         refl,
-        record { up_to = inl refl; each = (answers refl (inr refl) refl refl refl refl refl, (answers refl (inr refl) refl refl tt refl refl, (answers refl (inr refl) refl refl tt refl refl, (answers refl (inr refl) refl refl (omega arith) refl refl, tt)))); appended = tt; fires = inl refl; fired = λ told. inl refl },
+        plain refl (answers refl (inr refl) refl refl refl refl refl, (answers refl (inr refl) refl refl tt refl refl, (answers refl (inr refl) refl refl tt refl refl, (answers refl (inr refl) refl refl (omega arith) refl refl, tt)))) tt refl,
         (refl, refl),
       ),
     ),
@@ -456,7 +228,7 @@ few_but_read_is_in_order = record {
     [],
     refl,
     refl,
-    record { up_to = inl refl; each = (answers refl (inr refl) refl refl refl refl refl, tt); appended = tt; fires = inl refl; fired = λ told. inl refl },
+    plain refl (answers refl (inr refl) refl refl refl refl refl, tt) tt refl,
     (
       line.Down 1 2 false ∷ [],
       line.Down 2 3 false ∷ line.Session (codes "a") 1 (reply.Committed 1) ∷ [],
@@ -480,7 +252,56 @@ few_but_read_is_in_order = record {
           [],
           refl,
           refl,
-          record { up_to = inl refl; each = ((refl, refl, refl, inr (inr (inr (record { kept = record { kept = refl; unstopped = inr refl }; majority = refl; unsent = λ e. (refl, tt); sent = λ e. no_true false refl e; timely = (omega arith) })))), tt); appended = tt; fires = inl refl; fired = λ told. inl refl },
+          plain refl ((refl, refl, refl, inr (inr (inr (record { kept = record { kept = refl; unstopped = inr refl }; majority = refl; unsent = λ e. (refl, tt); sent = λ e. no_true false refl e; timely = (omega arith) })))), tt) tt refl,
+          (refl, refl),
+        ),
+      ),
+    ),
+  );
+}
+
+pub read_while_few_is_in_order : InNodesOrder (from_nothing read_while_few) read_while_few_report
+read_while_few_is_in_order = record {
+  first = [];
+  go_down = tt;
+  opening = Setup 1 ∷ [];
+  opened = (refl, refl, refl, refl, inl refl);
+  rest = line.Session (codes "b") 1 (reply.Begin 1) ∷ line.Down 1 1 false ∷ line.Down 2 2 false ∷ line.Session (codes "b") 1 (reply.Committed 1) ∷ [];
+  lines_are = refl;
+  later = [];
+  entries_are = refl;
+  order = (
+    line.Session (codes "b") 1 (reply.Begin 1) ∷ [],
+    line.Down 1 1 false ∷ line.Down 2 2 false ∷ line.Session (codes "b") 1 (reply.Committed 1) ∷ [],
+    [],
+    [],
+    refl,
+    refl,
+    plain refl (answers refl (inr refl) refl refl refl refl refl, tt) tt refl,
+    (
+      line.Down 1 1 false ∷ [],
+      line.Down 2 2 false ∷ line.Session (codes "b") 1 (reply.Committed 1) ∷ [],
+      [],
+      [],
+      refl,
+      refl,
+      (inr (record { was = refl; faults = []; says = refl; each = tt }), λ base empty. some_entry _ _ empty),
+      (
+        line.Down 2 2 false ∷ [],
+        line.Session (codes "b") 1 (reply.Committed 1) ∷ [],
+        [],
+        [],
+        refl,
+        refl,
+        (inr (record { was = refl; faults = []; says = refl; each = tt }), λ base empty. some_entry _ _ empty),
+        (
+          line.Session (codes "b") 1 (reply.Committed 1) ∷ [],
+          [],
+          [],
+          [],
+          refl,
+          refl,
+          plain refl ((refl, refl, refl, inr (inr (inr (record { kept = record { kept = refl; unstopped = inl refl }; majority = refl; unsent = λ e. (refl, tt); sent = λ e. no_true false refl e; timely = (omega arith) })))), tt) tt refl,
           (refl, refl),
         ),
       ),
@@ -505,7 +326,7 @@ fed_twice_is_in_order = record {
     [],
     refl,
     refl,
-    record { up_to = inl refl; each = (answers refl (inr refl) refl refl refl refl refl, (answers refl (inr refl) refl refl tt refl refl, (answers refl (inr refl) refl refl (omega arith) refl refl, tt))); appended = (refl, 1, Snapshot, refl, inl (reply.Begin 1 ∷ reply.Changed 1 ∷ [], [], refl)); fires = inr (inl refl); fired = λ told. inl refl },
+    plain refl (answers refl (inr refl) refl refl refl refl refl, (answers refl (inr refl) refl refl tt refl refl, (answers refl (inr refl) refl refl (omega arith) refl refl, tt))) (refl, 1, Snapshot, refl, inl (reply.Begin 1 ∷ reply.Changed 1 ∷ [], [], refl)) refl,
     (
       line.Barrier ∷ [],
       line.Fed 2 ∷ line.Down 1 2 false ∷ line.Down 2 3 false ∷ line.Fed 2 ∷ [],
@@ -555,167 +376,6 @@ fed_twice_is_in_order = record {
   );
 }
 
-pub moves_on_one_is_in_order : InNodesOrder (from_nothing moves_on_one) moves_on_one_report
-moves_on_one_is_in_order = record {
-  first = [];
-  go_down = tt;
-  opening = Setup 1 ∷ [];
-  opened = (refl, refl, refl, refl, inl refl);
-  rest = line.Session (codes "b") 1 (reply.Begin 1) ∷ line.Session (codes "b") 1 (reply.Changed 1) ∷ line.Down 1 1 false ∷ line.Up 1 ∷ line.Session (codes "b") 1 (reply.Committed 2) ∷ line.Session (codes "b") 2 (reply.Begin 2) ∷ line.Down 2 1 false ∷ line.Session (codes "b") 2 (reply.NoMajority 0 1) ∷ [];
-  lines_are = refl;
-  later = of_b 2 1 1 ∷ [];
-  entries_are = refl;
-  order = (
-    line.Session (codes "b") 1 (reply.Begin 1) ∷ [],
-    line.Session (codes "b") 1 (reply.Changed 1) ∷ line.Down 1 1 false ∷ line.Up 1 ∷ line.Session (codes "b") 1 (reply.Committed 2) ∷ line.Session (codes "b") 2 (reply.Begin 2) ∷ line.Down 2 1 false ∷ line.Session (codes "b") 2 (reply.NoMajority 0 1) ∷ [],
-    [],
-    of_b 2 1 1 ∷ [],
-    refl,
-    refl,
-    record { up_to = inl refl; each = (answers refl (inr refl) refl refl refl refl refl, tt); appended = tt; fires = inl refl; fired = λ told. inl refl },
-    (
-      line.Session (codes "b") 1 (reply.Changed 1) ∷ [],
-      line.Down 1 1 false ∷ line.Up 1 ∷ line.Session (codes "b") 1 (reply.Committed 2) ∷ line.Session (codes "b") 2 (reply.Begin 2) ∷ line.Down 2 1 false ∷ line.Session (codes "b") 2 (reply.NoMajority 0 1) ∷ [],
-      [],
-      of_b 2 1 1 ∷ [],
-      refl,
-      refl,
-      record { up_to = inl refl; each = (answers refl (inr refl) refl refl tt refl refl, tt); appended = tt; fires = inl refl; fired = λ told. inl refl },
-      (
-        line.Down 1 1 false ∷ [],
-        line.Up 1 ∷ line.Session (codes "b") 1 (reply.Committed 2) ∷ line.Session (codes "b") 2 (reply.Begin 2) ∷ line.Down 2 1 false ∷ line.Session (codes "b") 2 (reply.NoMajority 0 1) ∷ [],
-        [],
-        of_b 2 1 1 ∷ [],
-        refl,
-        refl,
-        (inr (record { was = refl; faults = []; says = refl; each = tt }), λ base empty. some_entry _ _ empty),
-        (
-          line.Up 1 ∷ [],
-          line.Session (codes "b") 1 (reply.Committed 2) ∷ line.Session (codes "b") 2 (reply.Begin 2) ∷ line.Down 2 1 false ∷ line.Session (codes "b") 2 (reply.NoMajority 0 1) ∷ [],
-          [],
-          of_b 2 1 1 ∷ [],
-          refl,
-          refl,
-          (inr (inl (record { was = refl; faults = []; says = refl; each = tt })), λ base empty. some_entry _ _ empty),
-          (
-            line.Session (codes "b") 1 (reply.Committed 2) ∷ [],
-            line.Session (codes "b") 2 (reply.Begin 2) ∷ line.Down 2 1 false ∷ line.Session (codes "b") 2 (reply.NoMajority 0 1) ∷ [],
-            of_b 2 1 1 ∷ [],
-            [],
-            refl,
-            refl,
-            record { up_to = inl refl; each = (answers refl (inr refl) refl refl (omega arith) refl refl, tt); appended = (refl, 1, Snapshot, refl, inl ([], [], refl)); fires = inr (inl refl); fired = λ told. inl refl },
-            (
-              line.Session (codes "b") 2 (reply.Begin 2) ∷ [],
-              line.Down 2 1 false ∷ line.Session (codes "b") 2 (reply.NoMajority 0 1) ∷ [],
-              [],
-              [],
-              refl,
-              refl,
-              record { up_to = inl refl; each = (answers refl (inr refl) refl refl refl refl refl, tt); appended = tt; fires = inl refl; fired = λ told. inl refl },
-              (
-                line.Down 2 1 false ∷ [],
-                line.Session (codes "b") 2 (reply.NoMajority 0 1) ∷ [],
-                [],
-                [],
-                refl,
-                refl,
-                (inr (record { was = refl; faults = []; says = refl; each = tt }), λ base empty. some_entry _ _ empty),
-                (
-                  line.Session (codes "b") 2 (reply.NoMajority 0 1) ∷ [],
-                  [],
-                  [],
-                  [],
-                  refl,
-                  refl,
-                  record { up_to = inl refl; each = ((refl, refl, refl, inr (inr (inl (record { kept = record { kept = refl; unstopped = inr refl }; lacks = inl refl; says = inl refl })))), tt); appended = tt; fires = inl refl; fired = λ told. inl refl },
-                  (
-                    [],
-                    [],
-                    [],
-                    [],
-                    refl,
-                    refl,
-                    record { up_to = inr (record { none = refl; cut = refl; majority = refl }); each = tt; appended = tt; fires = inl refl; fired = λ told. inl refl },
-                    (refl, refl),
-                  ),
-                ),
-              ),
-            ),
-          ),
-        ),
-      ),
-    ),
-  );
-}
-
-pub lost_stands_is_in_order : InNodesOrder (from_nothing lost_stands) lost_stands_report
-lost_stands_is_in_order = record {
-  first = [];
-  go_down = tt;
-  opening = Setup 1 ∷ [];
-  opened = (refl, refl, refl, refl, inl refl);
-  rest = line.Session (codes "a") 1 (reply.Begin 1) ∷ line.Session (codes "a") 1 (reply.Changed 1) ∷ line.Session (codes "a") 1 (reply.Committed 2) ∷ line.Down 1 3 false ∷ line.Session (codes "a") 2 (reply.Begin 2) ∷ line.Session (codes "a") 2 (reply.Changed 1) ∷ line.Down 2 1 false ∷ line.Session (codes "a") 2 (reply.Lost 1 2) ∷ line.Up 1 ∷ line.Session (codes "a") 3 (reply.Begin 3) ∷ line.Session (codes "a") 3 (row 1 10) ∷ line.Session (codes "a") 3 (row 2 20) ∷ line.Session (codes "a") 3 (reply.Done 2) ∷ line.Session (codes "a") 3 (reply.Committed 3) ∷ [];
-  lines_are = refl;
-  later = of_a 2 1 1 ∷ of_a 3 2 2 ∷ [];
-  entries_are = refl;
-  order = (
-    line.Session (codes "a") 1 (reply.Begin 1) ∷ line.Session (codes "a") 1 (reply.Changed 1) ∷ line.Session (codes "a") 1 (reply.Committed 2) ∷ [],
-    line.Down 1 3 false ∷ line.Session (codes "a") 2 (reply.Begin 2) ∷ line.Session (codes "a") 2 (reply.Changed 1) ∷ line.Down 2 1 false ∷ line.Session (codes "a") 2 (reply.Lost 1 2) ∷ line.Up 1 ∷ line.Session (codes "a") 3 (reply.Begin 3) ∷ line.Session (codes "a") 3 (row 1 10) ∷ line.Session (codes "a") 3 (row 2 20) ∷ line.Session (codes "a") 3 (reply.Done 2) ∷ line.Session (codes "a") 3 (reply.Committed 3) ∷ [],
-    of_a 2 1 1 ∷ [],
-    of_a 3 2 2 ∷ [],
-    refl,
-    refl,
-    record { up_to = inl refl; each = (answers refl (inr refl) refl refl refl refl refl, (answers refl (inr refl) refl refl tt refl refl, (answers refl (inr refl) refl refl (omega arith) refl refl, tt))); appended = (refl, 1, Snapshot, refl, inl (reply.Begin 1 ∷ reply.Changed 1 ∷ [], [], refl)); fires = inr (inl refl); fired = λ told. inl refl },
-    (
-      line.Down 1 3 false ∷ [],
-      line.Session (codes "a") 2 (reply.Begin 2) ∷ line.Session (codes "a") 2 (reply.Changed 1) ∷ line.Down 2 1 false ∷ line.Session (codes "a") 2 (reply.Lost 1 2) ∷ line.Up 1 ∷ line.Session (codes "a") 3 (reply.Begin 3) ∷ line.Session (codes "a") 3 (row 1 10) ∷ line.Session (codes "a") 3 (row 2 20) ∷ line.Session (codes "a") 3 (reply.Done 2) ∷ line.Session (codes "a") 3 (reply.Committed 3) ∷ [],
-      [],
-      of_a 3 2 2 ∷ [],
-      refl,
-      refl,
-      (inr (record { was = refl; faults = []; says = refl; each = tt }), λ base empty. some_entry _ _ empty),
-      (
-        [],
-        line.Session (codes "a") 2 (reply.Begin 2) ∷ line.Session (codes "a") 2 (reply.Changed 1) ∷ line.Down 2 1 false ∷ line.Session (codes "a") 2 (reply.Lost 1 2) ∷ line.Up 1 ∷ line.Session (codes "a") 3 (reply.Begin 3) ∷ line.Session (codes "a") 3 (row 1 10) ∷ line.Session (codes "a") 3 (row 2 20) ∷ line.Session (codes "a") 3 (reply.Done 2) ∷ line.Session (codes "a") 3 (reply.Committed 3) ∷ [],
-        [],
-        of_a 3 2 2 ∷ [],
-        refl,
-        refl,
-        (refl, refl),
-        (
-          line.Session (codes "a") 2 (reply.Begin 2) ∷ line.Session (codes "a") 2 (reply.Changed 1) ∷ line.Down 2 1 false ∷ line.Session (codes "a") 2 (reply.Lost 1 2) ∷ [],
-          line.Up 1 ∷ line.Session (codes "a") 3 (reply.Begin 3) ∷ line.Session (codes "a") 3 (row 1 10) ∷ line.Session (codes "a") 3 (row 2 20) ∷ line.Session (codes "a") 3 (reply.Done 2) ∷ line.Session (codes "a") 3 (reply.Committed 3) ∷ [],
-          of_a 3 2 2 ∷ [],
-          [],
-          refl,
-          refl,
-          record { up_to = inl refl; each = (answers refl (inr refl) refl refl refl refl refl, (answers refl (inr refl) refl refl tt refl refl, (record { counted = refl; of_script = (omega arith, omega arith); was_up = refl; cause = inl (record { at_commit = refl; uncut = refl; kept = inl refl; majority = refl; changes = record { transaction = transaction 2 (codes "insert into t values(2, 20)" ∷ []) Snapshot WithItsLine; is_its = refl; begin = 2; begun = ((line.Session (codes "a") 1 (reply.Begin 1) ∷ line.Session (codes "a") 1 (reply.Changed 1) ∷ line.Session (codes "a") 1 (reply.Committed 2) ∷ line.Down 1 3 false ∷ []), (line.Session (codes "a") 2 (reply.Changed 1) ∷ []), refl); has_ops = λ is. cc }; by = inr (omega arith) }) }, ((refl, refl, refl, inr (inl (record { kept = refl; stays = refl; at_commit = refl; node = 1; down = 2; fault = false; fell = (line.Session (codes "a") 2 (reply.Begin 2) ∷ line.Session (codes "a") 2 (reply.Changed 1) ∷ [], [], refl); says = inl refl }))), tt)))); appended = (refl, 2, Snapshot, refl, inr (record { at_commit = refl; fell = omega arith; cut = refl; comes_up = λ front back count node is none. absurd (no_fault _ front back count node refl is) })); fires = inr (inr (omega arith)); fired = λ told. inr (omega arith) },
-          (
-            line.Up 1 ∷ [],
-            line.Session (codes "a") 3 (reply.Begin 3) ∷ line.Session (codes "a") 3 (row 1 10) ∷ line.Session (codes "a") 3 (row 2 20) ∷ line.Session (codes "a") 3 (reply.Done 2) ∷ line.Session (codes "a") 3 (reply.Committed 3) ∷ [],
-            [],
-            [],
-            refl,
-            refl,
-            (inr (inl (record { was = refl; faults = []; says = refl; each = tt })), λ base empty. some_entry _ _ empty),
-            (
-              line.Session (codes "a") 3 (reply.Begin 3) ∷ line.Session (codes "a") 3 (row 1 10) ∷ line.Session (codes "a") 3 (row 2 20) ∷ line.Session (codes "a") 3 (reply.Done 2) ∷ line.Session (codes "a") 3 (reply.Committed 3) ∷ [],
-              [],
-              [],
-              [],
-              refl,
-              refl,
-              record { up_to = inl refl; each = (answers refl (inr refl) refl refl refl refl refl, (answers refl (inr refl) refl refl tt refl refl, (answers refl (inr refl) refl refl tt refl refl, (answers refl (inr refl) refl refl tt refl refl, (answers refl (inr refl) refl refl (omega arith) refl refl, tt))))); appended = tt; fires = inl refl; fired = λ told. inl refl },
-              (refl, refl),
-            ),
-          ),
-        ),
-      ),
-    ),
-  );
-}
-
 pub falls_while_down_is_in_order : InNodesOrder (from_nothing falls_while_down) falls_while_down_report
 falls_while_down_is_in_order = record {
   first = line.Down 1 2 true ∷ [];
@@ -741,7 +401,7 @@ falls_while_down_is_in_order = record {
       [],
       refl,
       refl,
-      record { up_to = inl refl; each = (answers refl (inr refl) refl refl refl refl refl, (answers refl (inr refl) refl refl tt refl refl, (answers refl (inr refl) refl refl (omega arith) refl refl, tt))); appended = tt; fires = inl refl; fired = λ told. inl refl },
+      plain refl (answers refl (inr refl) refl refl refl refl refl, (answers refl (inr refl) refl refl tt refl refl, (answers refl (inr refl) refl refl (omega arith) refl refl, tt))) tt refl,
       (
         line.Up 2 ∷ [],
         [],
@@ -781,179 +441,100 @@ taken_and_fallen_is_in_order = record {
       [],
       refl,
       refl,
-      record { up_to = inl refl; each = ((refl, refl, refl, inr (inr (inl (record { kept = record { kept = refl; unstopped = inr refl }; lacks = inl refl; says = inl refl })))), tt); appended = tt; fires = inl refl; fired = λ told. inl refl },
+      plain refl ((refl, refl, refl, inr (inr (inl (record { kept = record { kept = refl; unstopped = inr refl }; lacks = inl refl; says = inl refl })))), tt) tt refl,
       (refl, refl),
     ),
   );
 }
 
-pub falls_and_stops_is_in_order : InNodesOrder (from_nothing falls_and_stops) falls_and_stops_report
-falls_and_stops_is_in_order = record {
+pub moves_on_one_is_in_order : InNodesOrder (from_nothing moves_on_one) moves_on_one_report
+moves_on_one_is_in_order = record {
   first = [];
   go_down = tt;
   opening = Setup 1 ∷ [];
   opened = (refl, refl, refl, refl, inl refl);
-  rest = line.Session (codes "a") 1 (reply.Begin 1) ∷ line.Session (codes "a") 1 (reply.Changed 1) ∷ line.Down 1 3 true ∷ line.Down 2 1 false ∷ line.Session (codes "a") 1 (reply.Lost 3 1) ∷ [];
-  lines_are = refl;
-  later = of_a 2 1 1 ∷ [];
-  entries_are = refl;
-  order = (
-    [],
-    line.Session (codes "a") 1 (reply.Begin 1) ∷ line.Session (codes "a") 1 (reply.Changed 1) ∷ line.Down 1 3 true ∷ line.Down 2 1 false ∷ line.Session (codes "a") 1 (reply.Lost 3 1) ∷ [],
-    [],
-    of_a 2 1 1 ∷ [],
-    refl,
-    refl,
-    (refl, refl),
-    (
-      line.Session (codes "a") 1 (reply.Begin 1) ∷ line.Session (codes "a") 1 (reply.Changed 1) ∷ line.Down 1 3 true ∷ line.Down 2 1 false ∷ line.Session (codes "a") 1 (reply.Lost 3 1) ∷ [],
-      [],
-      of_a 2 1 1 ∷ [],
-      [],
-      refl,
-      refl,
-      record { up_to = inl refl; each = (answers refl (inr refl) refl refl refl refl refl, (answers refl (inr refl) refl refl tt refl refl, (record { counted = refl; of_script = (omega arith, omega arith); was_up = refl; cause = inl (record { at_commit = refl; uncut = refl; kept = inl refl; majority = refl; changes = record { transaction = transaction 1 (codes "insert into t values(1, 10)" ∷ []) Snapshot WithItsLine; is_its = refl; begin = 1; begun = ([], (line.Session (codes "a") 1 (reply.Changed 1) ∷ []), refl); has_ops = λ is. cc }; by = inl refl }) }, (record { counted = refl; of_script = (omega arith, omega arith); was_up = refl; cause = inl (record { at_commit = refl; uncut = refl; kept = inr refl; majority = refl; changes = record { transaction = transaction 1 (codes "insert into t values(1, 10)" ∷ []) Snapshot WithItsLine; is_its = refl; begin = 1; begun = ([], (line.Session (codes "a") 1 (reply.Changed 1) ∷ line.Down 1 3 true ∷ []), refl); has_ops = λ is. cc }; by = inr (omega arith) }) }, ((refl, refl, refl, inl (record { down = 1; is_lost = refl; says = inl refl })), tt))))); appended = (refl, 1, Snapshot, refl, inr (record { at_commit = refl; fell = omega arith; cut = refl; comes_up = λ front back count node is none. never_alone 5 2 ([]) (line.Session (codes "a") 1 (reply.Begin 1) ∷ line.Session (codes "a") 1 (reply.Changed 1) ∷ line.Down 1 3 true ∷ line.Down 2 1 false ∷ line.Session (codes "a") 1 (reply.Lost 3 1) ∷ []) front back count node (omega arith) (omega arith) refl is none })); fires = inr (inr (omega arith)); fired = λ told. inr (omega arith) },
-      (refl, refl),
-    ),
-  );
-}
-
-pub sent_again_is_in_order : InNodesOrder (from_nothing sent_again) sent_again_report
-sent_again_is_in_order = record {
-  first = [];
-  go_down = tt;
-  opening = Setup 1 ∷ [];
-  opened = (refl, refl, refl, refl, inl refl);
-  rest = line.Session (codes "b") 1 (reply.Begin 1) ∷ line.Session (codes "b") 1 (reply.Changed 1) ∷ line.Down 1 1 false ∷ line.Session (codes "b") 1 (reply.Committed 2) ∷ line.Up 1 ∷ line.Session (codes "b") 2 (reply.Begin 2) ∷ line.Session (codes "b") 2 (row 1 10) ∷ line.Session (codes "b") 2 (reply.Done 1) ∷ line.Session (codes "b") 2 (reply.Committed 2) ∷ [];
+  rest = line.Session (codes "b") 1 (reply.Begin 1) ∷ line.Session (codes "b") 1 (reply.Changed 1) ∷ line.Down 1 1 false ∷ line.Up 1 ∷ line.Session (codes "b") 1 (reply.Committed 2) ∷ line.Session (codes "b") 2 (reply.Begin 2) ∷ line.Down 2 1 false ∷ line.Session (codes "b") 2 (reply.NoMajority 0 1) ∷ [];
   lines_are = refl;
   later = of_b 2 1 1 ∷ [];
   entries_are = refl;
   order = (
-    [],
-    line.Session (codes "b") 1 (reply.Begin 1) ∷ line.Session (codes "b") 1 (reply.Changed 1) ∷ line.Down 1 1 false ∷ line.Session (codes "b") 1 (reply.Committed 2) ∷ line.Up 1 ∷ line.Session (codes "b") 2 (reply.Begin 2) ∷ line.Session (codes "b") 2 (row 1 10) ∷ line.Session (codes "b") 2 (reply.Done 1) ∷ line.Session (codes "b") 2 (reply.Committed 2) ∷ [],
+    line.Session (codes "b") 1 (reply.Begin 1) ∷ [],
+    line.Session (codes "b") 1 (reply.Changed 1) ∷ line.Down 1 1 false ∷ line.Up 1 ∷ line.Session (codes "b") 1 (reply.Committed 2) ∷ line.Session (codes "b") 2 (reply.Begin 2) ∷ line.Down 2 1 false ∷ line.Session (codes "b") 2 (reply.NoMajority 0 1) ∷ [],
     [],
     of_b 2 1 1 ∷ [],
     refl,
     refl,
-    (refl, refl),
+    plain refl (answers refl (inr refl) refl refl refl refl refl, tt) tt refl,
     (
-      line.Session (codes "b") 1 (reply.Begin 1) ∷ line.Session (codes "b") 1 (reply.Changed 1) ∷ line.Down 1 1 false ∷ line.Session (codes "b") 1 (reply.Committed 2) ∷ [],
-      line.Up 1 ∷ line.Session (codes "b") 2 (reply.Begin 2) ∷ line.Session (codes "b") 2 (row 1 10) ∷ line.Session (codes "b") 2 (reply.Done 1) ∷ line.Session (codes "b") 2 (reply.Committed 2) ∷ [],
+      line.Session (codes "b") 1 (reply.Changed 1) ∷ [],
+      line.Down 1 1 false ∷ line.Up 1 ∷ line.Session (codes "b") 1 (reply.Committed 2) ∷ line.Session (codes "b") 2 (reply.Begin 2) ∷ line.Down 2 1 false ∷ line.Session (codes "b") 2 (reply.NoMajority 0 1) ∷ [],
+      [],
       of_b 2 1 1 ∷ [],
-      [],
       refl,
       refl,
-      record { up_to = inl refl; each = (answers refl (inr refl) refl refl refl refl refl, (answers refl (inr refl) refl refl tt refl refl, (record { counted = refl; of_script = (omega arith, omega arith); was_up = refl; cause = inl (record { at_commit = refl; uncut = refl; kept = inl refl; majority = refl; changes = record { transaction = transaction 1 (codes "insert into t values(1, 10)" ∷ []) Snapshot WithItsLine; is_its = refl; begin = 1; begun = ([], (line.Session (codes "b") 1 (reply.Changed 1) ∷ []), refl); has_ops = λ is. cc }; by = inr (omega arith) }) }, ((refl, refl, refl, inr (inr (inr (record { kept = record { kept = refl; unstopped = inl refl }; majority = refl; unsent = λ e. no_true false refl e; sent = λ e. refl; timely = (omega arith) })))), tt)))); appended = (refl, 1, Snapshot, refl, inl (reply.Begin 1 ∷ reply.Changed 1 ∷ [], [], refl)); fires = inr (inr (omega arith)); fired = λ told. inr (omega arith) },
+      plain refl (answers refl (inr refl) refl refl tt refl refl, tt) tt refl,
       (
-        line.Up 1 ∷ [],
-        line.Session (codes "b") 2 (reply.Begin 2) ∷ line.Session (codes "b") 2 (row 1 10) ∷ line.Session (codes "b") 2 (reply.Done 1) ∷ line.Session (codes "b") 2 (reply.Committed 2) ∷ [],
+        line.Down 1 1 false ∷ [],
+        line.Up 1 ∷ line.Session (codes "b") 1 (reply.Committed 2) ∷ line.Session (codes "b") 2 (reply.Begin 2) ∷ line.Down 2 1 false ∷ line.Session (codes "b") 2 (reply.NoMajority 0 1) ∷ [],
         [],
-        [],
+        of_b 2 1 1 ∷ [],
         refl,
         refl,
-        (inr (inl (record { was = refl; faults = []; says = refl; each = tt })), λ base empty. some_entry _ _ empty),
+        (inr (record { was = refl; faults = []; says = refl; each = tt }), λ base empty. some_entry _ _ empty),
         (
-          line.Session (codes "b") 2 (reply.Begin 2) ∷ line.Session (codes "b") 2 (row 1 10) ∷ line.Session (codes "b") 2 (reply.Done 1) ∷ line.Session (codes "b") 2 (reply.Committed 2) ∷ [],
+          line.Up 1 ∷ [],
+          line.Session (codes "b") 1 (reply.Committed 2) ∷ line.Session (codes "b") 2 (reply.Begin 2) ∷ line.Down 2 1 false ∷ line.Session (codes "b") 2 (reply.NoMajority 0 1) ∷ [],
           [],
-          [],
-          [],
+          of_b 2 1 1 ∷ [],
           refl,
           refl,
-          record { up_to = inl refl; each = (answers refl (inr refl) refl refl refl refl refl, (answers refl (inr refl) refl refl tt refl refl, (answers refl (inr refl) refl refl tt refl refl, (answers refl (inr refl) refl refl (omega arith) refl refl, tt)))); appended = tt; fires = inl refl; fired = λ told. inl refl },
-          (refl, refl),
-        ),
-      ),
-    ),
-  );
-}
-
-pub few_opened_is_in_order : InNodesOrder (from_nothing few_opened) few_opened_report
-few_opened_is_in_order = record {
-  first = line.Down 1 2 true ∷ line.Down 2 3 true ∷ [];
-  go_down = (record { counted = refl; of_script = (omega arith, omega arith); was_up = refl; by_fault = refl }, (record { counted = refl; of_script = (omega arith, omega arith); was_up = refl; by_fault = refl }, tt));
-  opening = Setup 1 ∷ [];
-  opened = (refl, refl, refl, refl, inr (refl, inl (omega arith)));
-  rest = line.Session (codes "a") 1 (reply.NoMajority 1 3) ∷ [];
-  lines_are = refl;
-  later = [];
-  entries_are = refl;
-  order = (
-    line.Session (codes "a") 1 (reply.NoMajority 1 3) ∷ [],
-    [],
-    [],
-    [],
-    refl,
-    refl,
-    record { up_to = inl refl; each = ((refl, refl, refl, inr (inr (inl (record { kept = record { kept = refl; unstopped = inr refl }; lacks = inl refl; says = inl refl })))), tt); appended = tt; fires = inl refl; fired = λ told. inl refl },
-    (refl, refl),
-  );
-}
-
-pub based_on_none_is_in_order : InNodesOrder (from_log few_opened 1 (no_rows (worked_table ∷ []))) based_on_none_report
-based_on_none_is_in_order = record {
-  first = line.Down 1 2 true ∷ line.Down 2 3 true ∷ [];
-  go_down = (record { counted = refl; of_script = (omega arith, omega arith); was_up = refl; by_fault = refl }, (record { counted = refl; of_script = (omega arith, omega arith); was_up = refl; by_fault = refl }, tt));
-  opening = [];
-  opened = λ base empty. refl;
-  rest = line.Session (codes "a") 1 (reply.NoMajority 1 3) ∷ [];
-  lines_are = refl;
-  later = [];
-  entries_are = refl;
-  order = (
-    line.Session (codes "a") 1 (reply.NoMajority 1 3) ∷ [],
-    [],
-    [],
-    [],
-    refl,
-    refl,
-    record { up_to = inl refl; each = ((refl, refl, refl, inr (inr (inl (record { kept = record { kept = refl; unstopped = inr refl }; lacks = inl refl; says = inl refl })))), tt); appended = tt; fires = inl refl; fired = λ told. inl refl },
-    (refl, refl),
-  );
-}
-
-pub opened_later_is_in_order : InNodesOrder (from_nothing opened_later) opened_later_report
-opened_later_is_in_order = record {
-  first = line.Down 1 2 true ∷ line.Down 2 3 true ∷ [];
-  go_down = (record { counted = refl; of_script = (omega arith, omega arith); was_up = refl; by_fault = refl }, (record { counted = refl; of_script = (omega arith, omega arith); was_up = refl; by_fault = refl }, tt));
-  opening = [];
-  opened = λ base empty. refl;
-  rest = line.Down 3 1 false ∷ line.Up 2 ∷ line.Up 3 ∷ line.Session (codes "a") 1 (reply.Begin 1) ∷ line.Session (codes "a") 1 (reply.Done 0) ∷ line.Session (codes "a") 1 (reply.Committed 1) ∷ [];
-  lines_are = refl;
-  later = Setup 1 ∷ [];
-  entries_are = refl;
-  order = (
-    line.Down 3 1 false ∷ [],
-    line.Up 2 ∷ line.Up 3 ∷ line.Session (codes "a") 1 (reply.Begin 1) ∷ line.Session (codes "a") 1 (reply.Done 0) ∷ line.Session (codes "a") 1 (reply.Committed 1) ∷ [],
-    [],
-    Setup 1 ∷ [],
-    refl,
-    refl,
-    (inr (record { was = refl; faults = []; says = refl; each = tt }), λ base empty. refl),
-    (
-      line.Up 2 ∷ [],
-      line.Up 3 ∷ line.Session (codes "a") 1 (reply.Begin 1) ∷ line.Session (codes "a") 1 (reply.Done 0) ∷ line.Session (codes "a") 1 (reply.Committed 1) ∷ [],
-      [],
-      Setup 1 ∷ [],
-      refl,
-      refl,
-      (inr (inl (record { was = refl; faults = []; says = refl; each = tt })), λ base empty. refl),
-      (
-        line.Up 3 ∷ [],
-        line.Session (codes "a") 1 (reply.Begin 1) ∷ line.Session (codes "a") 1 (reply.Done 0) ∷ line.Session (codes "a") 1 (reply.Committed 1) ∷ [],
-        Setup 1 ∷ [],
-        [],
-        refl,
-        refl,
-        (inr (inl (record { was = refl; faults = []; says = refl; each = tt })), (refl, refl, refl, refl, inl refl)),
-        (
-          line.Session (codes "a") 1 (reply.Begin 1) ∷ line.Session (codes "a") 1 (reply.Done 0) ∷ line.Session (codes "a") 1 (reply.Committed 1) ∷ [],
-          [],
-          [],
-          [],
-          refl,
-          refl,
-          record { up_to = inl refl; each = (answers refl (inr refl) refl refl refl refl refl, (answers refl (inr refl) refl refl tt refl refl, (answers refl (inr refl) refl refl (omega arith) refl refl, tt))); appended = tt; fires = inl refl; fired = λ told. inl refl },
-          (refl, refl),
+          (inr (inl (record { was = refl; faults = []; says = refl; each = tt })), λ base empty. some_entry _ _ empty),
+          (
+            line.Session (codes "b") 1 (reply.Committed 2) ∷ [],
+            line.Session (codes "b") 2 (reply.Begin 2) ∷ line.Down 2 1 false ∷ line.Session (codes "b") 2 (reply.NoMajority 0 1) ∷ [],
+            of_b 2 1 1 ∷ [],
+            [],
+            refl,
+            refl,
+            plain refl (answers refl (inr refl) refl refl (omega arith) refl refl, tt) (refl, 1, Snapshot, refl, inl ([], [], refl)) refl,
+            (
+              line.Session (codes "b") 2 (reply.Begin 2) ∷ [],
+              line.Down 2 1 false ∷ line.Session (codes "b") 2 (reply.NoMajority 0 1) ∷ [],
+              [],
+              [],
+              refl,
+              refl,
+              plain refl (answers refl (inr refl) refl refl refl refl refl, tt) tt refl,
+              (
+                line.Down 2 1 false ∷ [],
+                line.Session (codes "b") 2 (reply.NoMajority 0 1) ∷ [],
+                [],
+                [],
+                refl,
+                refl,
+                (inr (record { was = refl; faults = []; says = refl; each = tt }), λ base empty. some_entry _ _ empty),
+                (
+                  line.Session (codes "b") 2 (reply.NoMajority 0 1) ∷ [],
+                  [],
+                  [],
+                  [],
+                  refl,
+                  refl,
+                  plain refl ((refl, refl, refl, inr (inr (inl (record { kept = record { kept = refl; unstopped = inr refl }; lacks = inl refl; says = inl refl })))), tt) tt refl,
+                  (
+                    [],
+                    [],
+                    [],
+                    [],
+                    refl,
+                    refl,
+                    record { up_to = inr (record { none = refl; cut = refl; majority = refl }); each = tt; appended = tt; fires = inl refl; fired = λ told. inl refl; moment = λ armed. absurd (omega (arith, armed)) },
+                    (refl, refl),
+                  ),
+                ),
+              ),
+            ),
+          ),
         ),
       ),
     ),
@@ -977,7 +558,7 @@ moves_at_rollback_is_in_order = record {
     [],
     refl,
     refl,
-    record { up_to = inl refl; each = (answers refl (inr refl) refl refl refl refl refl, tt); appended = tt; fires = inl refl; fired = λ told. inl refl },
+    plain refl (answers refl (inr refl) refl refl refl refl refl, tt) tt refl,
     (
       line.Session (codes "b") 1 (reply.Changed 1) ∷ [],
       line.Down 1 3 false ∷ line.Down 2 1 false ∷ line.Session (codes "b") 1 (reply.NoMajority 1 3) ∷ [],
@@ -985,7 +566,7 @@ moves_at_rollback_is_in_order = record {
       [],
       refl,
       refl,
-      record { up_to = inl refl; each = (answers refl (inr refl) refl refl tt refl refl, tt); appended = tt; fires = inl refl; fired = λ told. inl refl },
+      plain refl (answers refl (inr refl) refl refl tt refl refl, tt) tt refl,
       (
         line.Down 1 3 false ∷ [],
         line.Down 2 1 false ∷ line.Session (codes "b") 1 (reply.NoMajority 1 3) ∷ [],
@@ -1009,42 +590,11 @@ moves_at_rollback_is_in_order = record {
             [],
             refl,
             refl,
-            record { up_to = inl refl; each = ((refl, refl, refl, inr (inr (inl (record { kept = record { kept = refl; unstopped = inl refl }; lacks = inl refl; says = inl refl })))), tt); appended = tt; fires = inl refl; fired = λ told. inl refl },
+            plain refl ((refl, refl, refl, inr (inr (inl (record { kept = record { kept = refl; unstopped = inl refl }; lacks = inl refl; says = inl refl })))), tt) tt refl,
             (refl, refl),
           ),
         ),
       ),
-    ),
-  );
-}
-
-pub falls_at_election_is_in_order : InNodesOrder (from_nothing falls_at_election) falls_at_election_report
-falls_at_election_is_in_order = record {
-  first = [];
-  go_down = tt;
-  opening = Setup 1 ∷ [];
-  opened = (refl, refl, refl, refl, inl refl);
-  rest = line.Down 1 1 false ∷ line.Down 2 2 true ∷ line.Down 3 3 true ∷ line.Session (codes "a") 1 (reply.NoMajority 2 5) ∷ [];
-  lines_are = refl;
-  later = [];
-  entries_are = refl;
-  order = (
-    line.Down 1 1 false ∷ line.Down 2 2 true ∷ line.Down 3 3 true ∷ [],
-    line.Session (codes "a") 1 (reply.NoMajority 2 5) ∷ [],
-    [],
-    [],
-    refl,
-    refl,
-    (inr (record { was = refl; faults = line.Down 2 2 true ∷ line.Down 3 3 true ∷ []; says = refl; each = (record { counted = refl; of_script = (omega arith, omega arith); was_up = refl; by_fault = refl }, (record { counted = refl; of_script = (omega arith, omega arith); was_up = refl; by_fault = refl }, tt)) }), λ base empty. some_entry _ _ empty),
-    (
-      line.Session (codes "a") 1 (reply.NoMajority 2 5) ∷ [],
-      [],
-      [],
-      [],
-      refl,
-      refl,
-      record { up_to = inl refl; each = ((refl, refl, refl, inr (inr (inl (record { kept = record { kept = refl; unstopped = inr refl }; lacks = inl refl; says = inl refl })))), tt); appended = tt; fires = inl refl; fired = λ told. inl refl },
-      (refl, refl),
     ),
   );
 }
@@ -1066,7 +616,56 @@ wanting_is_in_order = record {
     [],
     refl,
     refl,
-    record { up_to = inl refl; each = ((refl, refl, refl, inr (inr (inl (record { kept = record { kept = refl; unstopped = inr refl }; lacks = inl refl; says = inr refl })))), tt); appended = tt; fires = inl refl; fired = λ told. inl refl },
+    plain refl ((refl, refl, refl, inr (inr (inl (record { kept = record { kept = refl; unstopped = inr refl }; lacks = inl refl; says = inr refl })))), tt) tt refl,
     (refl, refl),
+  );
+}
+
+pub tail_stands_is_in_order : InNodesOrder (from_nothing tail_stands) tail_stands_report
+tail_stands_is_in_order = record {
+  first = [];
+  go_down = tt;
+  opening = Setup 1 ∷ [];
+  opened = (refl, refl, refl, refl, inl refl);
+  rest = line.Down 1 3 false ∷ line.Session (codes "a") 1 (reply.Begin 1) ∷ line.Session (codes "a") 1 (reply.Changed 1) ∷ line.Down 2 1 true ∷ line.Session (codes "a") 1 (reply.Lost 1 2) ∷ line.Up 1 ∷ line.Session (codes "a") 2 (reply.Begin 2) ∷ line.Session (codes "a") 2 (row 1 10) ∷ line.Session (codes "a") 2 (reply.Done 1) ∷ line.Session (codes "a") 2 (reply.Committed 2) ∷ [];
+  lines_are = refl;
+  later = of_a 2 1 1 ∷ [];
+  entries_are = refl;
+  order = (
+    line.Down 1 3 false ∷ [],
+    line.Session (codes "a") 1 (reply.Begin 1) ∷ line.Session (codes "a") 1 (reply.Changed 1) ∷ line.Down 2 1 true ∷ line.Session (codes "a") 1 (reply.Lost 1 2) ∷ line.Up 1 ∷ line.Session (codes "a") 2 (reply.Begin 2) ∷ line.Session (codes "a") 2 (row 1 10) ∷ line.Session (codes "a") 2 (reply.Done 1) ∷ line.Session (codes "a") 2 (reply.Committed 2) ∷ [],
+    [],
+    of_a 2 1 1 ∷ [],
+    refl,
+    refl,
+    (inr (record { was = refl; faults = []; says = refl; each = tt }), λ base empty. some_entry _ _ empty),
+    (
+      line.Session (codes "a") 1 (reply.Begin 1) ∷ line.Session (codes "a") 1 (reply.Changed 1) ∷ line.Down 2 1 true ∷ line.Session (codes "a") 1 (reply.Lost 1 2) ∷ [],
+      line.Up 1 ∷ line.Session (codes "a") 2 (reply.Begin 2) ∷ line.Session (codes "a") 2 (row 1 10) ∷ line.Session (codes "a") 2 (reply.Done 1) ∷ line.Session (codes "a") 2 (reply.Committed 2) ∷ [],
+      of_a 2 1 1 ∷ [],
+      [],
+      refl,
+      refl,
+      plain refl (answers refl (inr refl) refl refl refl refl refl, (answers refl (inr refl) refl refl tt refl refl, (record { counted = refl; of_script = (omega arith, omega arith); was_up = refl; cause = inl (record { at_commit = refl; uncut = refl; kept = inl refl; majority = refl; changes = record { transaction = transaction 1 (codes "insert into t values(1, 10)" ∷ []) Snapshot WithItsLine; is_its = refl; begin = 1; begun = ((line.Down 1 3 false ∷ []), (line.Session (codes "a") 1 (reply.Changed 1) ∷ []), refl); has_ops = λ is. cc }; by = inl refl }) }, ((refl, refl, refl, inr (inl (record { kept = refl; stays = refl; at_commit = refl; node = 1; down = 2; fault = true; fell = (line.Session (codes "a") 1 (reply.Begin 1) ∷ line.Session (codes "a") 1 (reply.Changed 1) ∷ [], [], refl); says = inl refl }))), tt)))) (refl, 1, Snapshot, refl, inr (record { at_commit = refl; fell = omega arith; cut = refl; comes_up = λ front back count node is none. never_alone 3 2 (line.Down 1 3 false ∷ []) (line.Session (codes "a") 1 (reply.Begin 1) ∷ line.Session (codes "a") 1 (reply.Changed 1) ∷ line.Down 2 1 true ∷ line.Session (codes "a") 1 (reply.Lost 1 2) ∷ []) front back count node (omega arith) (omega arith) refl is none })) refl,
+      (
+        line.Up 1 ∷ [],
+        line.Session (codes "a") 2 (reply.Begin 2) ∷ line.Session (codes "a") 2 (row 1 10) ∷ line.Session (codes "a") 2 (reply.Done 1) ∷ line.Session (codes "a") 2 (reply.Committed 2) ∷ [],
+        [],
+        [],
+        refl,
+        refl,
+        (inr (inl (record { was = refl; faults = []; says = refl; each = tt })), λ base empty. some_entry _ _ empty),
+        (
+          line.Session (codes "a") 2 (reply.Begin 2) ∷ line.Session (codes "a") 2 (row 1 10) ∷ line.Session (codes "a") 2 (reply.Done 1) ∷ line.Session (codes "a") 2 (reply.Committed 2) ∷ [],
+          [],
+          [],
+          [],
+          refl,
+          refl,
+          plain refl (answers refl (inr refl) refl refl refl refl refl, (answers refl (inr refl) refl refl tt refl refl, (answers refl (inr refl) refl refl tt refl refl, (answers refl (inr refl) refl refl (omega arith) refl refl, tt)))) tt refl,
+          (refl, refl),
+        ),
+      ),
+    ),
   );
 }

@@ -1,13 +1,22 @@
 -- Reports of several nodes that are wrong in one line are not in the order of play.
-use Rattle.std.proofs.Common.{◌≡◌, ℕ, ◌+◌, ◌≤◌, ◌&&◌, List, [], ◌∷◌, ◌++◌, refl, sym, subst, ap, arith, ◌∙◌, Some, None, true, false, ◌⊎◌, inl, inr, codes, length, take, drop}
+use Rattle.std.proofs.Common.{◌≡◌, ℕ, ◌+◌, ◌≤◌, ◌&&◌, List, [], ◌∷◌, ◌++◌, refl, sym, subst, ap, arith, ◌∙◌, Option, Some, None, Bool, true, false, ◌⊎◌, inl, inr, codes, length, pos, take, drop}
 use Rattle.std.proofs.lemmas.Bool.{both_ways, false≢true, true≢false}
 use Rattle.std.proofs.lemmas.List.{append-nil, length-append}
+use Rattle.cdb_values.specs.Good.{KeyName, first_broken}
+use Rattle.cdb_values.specs.Rows.{apply_all}
+use Rattle.cdb_values.specs.declared.rows.Level.TheVariants.{Snapshot}
+use Rattle.cdb_values.specs.declared.rows.RowOp.{RowOp}
+use Rattle.cdb_values.specs.declared.rows.RowOp.TheVariants as op
+use Rattle.cdb_values.specs.declared.values.Value.TheVariants.{Int}
 use Rattle.script_form.specs.declared.scripts.Script.{Script}
 use Rattle.session_language.specs.Each.{EachAfter, StandsIn}
+use Rattle.session_language.specs.Language.{Answered}
 use Rattle.session_language.proofs.UpToLaws.{same_head}
 use Rattle.report_laws.specs.History.{Basis, view_of}
 use Rattle.report_laws.specs.Nodes.{is_up, are_few}
 use Rattle.report_laws.specs.Play.{IsOrMemory}
+use Rattle.report_laws.specs.Told.{alone_at}
+use Rattle.report_laws.specs.Work.{transaction, Transaction, WithItsLine}
 use Rattle.report_laws.proofs.PieceLaws.{commit_is_last}
 use Rattle.report_text.specs.declared.reports.Report.{Report}
 use Rattle.report_text.specs.declared.reports.EntryLine.{EntryLine}
@@ -17,9 +26,9 @@ use Rattle.cdb_values.specs.declared.replies.Reply.{Reply}
 use Rattle.cdb_values.specs.declared.replies.Reply.TheVariants as reply
 use Rattle.report_worked.specs.Small.{from_nothing}
 use Rattle.node_reports.specs.Order.{InNodesOrder, InTurns, IsFault, IsOpened, saying}
-use Rattle.node_reports.specs.Piece.{Saying, IsPiece, IsDue, IsGiven, FallsAtCommit, StopsAtRow, Appends, IsUnacknowledged, loss_at, wanes_at, site_at, replies_in}
+use Rattle.node_reports.specs.Piece.{Saying, Enters, IsPiece, IsDue, IsGiven, FallsAtCommit, StopsAtRow, Appends, IsUnacknowledged, loss_at, wanes_at, site_at, replies_in}
 use Rattle.node_reports.specs.Arms.{waiting, of_commit, stops, is_row_due, is_last_a_down}
-use Rattle.node_stories.specs.StoriesWrong.{armed_insert, ship_not_fired, insert_at, insert_told, other_node, not_lost, few_committed, unarmed_stop, unacknowledged, armed_select, not_fired, started, no_schema}
+use Rattle.node_stories.specs.StoriesWrong.{armed_insert, ship_not_fired, shipped_nothing, armed_again, over_a_row, stopped_at_a_duplicate, insert_at, insert_told, other_node, not_lost, few_committed, unarmed_stop, unacknowledged, armed_select, not_fired, started, no_schema}
 
 -- a line of a session stands behind the opening
 no_first : (script : Script) (first rest ls : List Line) (name : List ℕ) (txn : ℕ) (r : Reply) → line.Session name txn r ∷ ls ≡ first ++ rest → EachAfter (IsFault script) [] first → first ≡ []
@@ -52,6 +61,9 @@ insert_piece n node falls outcome order = go order.first (no_first (insert_at n 
           (subst (λ (ls : List Line). IsPiece (saying basis (view_of basis (insert_told falls outcome).entries) [] [] (codes "a") (codes "insert into t values(1, 10)")) (view_of basis order.opening).last mine ls added) ends.0 turn);
     }
     go (x ∷ xs) none lines_are opened turns = absurd (let no_such : x ∷ xs ≡ [] = none in cc)
+
+some_transaction : (t u : Transaction) → Some t ≡ Some u → t ≡ u
+some_transaction t u is = cc
 
 some_none : (d : ℕ) → Some d ≡ None → ⊥
 some_none d is = cc
@@ -219,3 +231,63 @@ ship_not_fired_is_not_in_order order = go order.first (no_first armed_insert ord
         last mine (order.opening ++ added) others later turn.0 (let one : length order.opening ≡ 1 = opened_once order.opening opened in let all : length (order.opening ++ added) ≡ length order.opening + length added = length-append order.opening added in
         let nothing : length added ≡ 0 = ap length turn.1 in omega (arith, one, all, nothing)) (lines_are ∙ parts ∙ ap (λ (ls : List Line). ls ++ others) turn.0) rest
     go (x ∷ xs) none lines_are opened turns = absurd (let no_such : x ∷ xs ≡ [] = none in cc)
+
+no_length : (xs : List EntryLine) → length xs ≡ 0 → xs ≡ []
+no_length [] is = refl
+no_length (x ∷ xs) is = absurd (omega (arith, is))
+
+-- the arm of a durable entry fires, and no entry stands
+pub shipped_nothing_is_not_in_order : InNodesOrder (from_nothing armed_insert) shipped_nothing → ⊥
+shipped_nothing_is_not_in_order order = go order.first (no_first armed_insert order.first order.rest _ (codes "a") 1 (reply.Begin 1) order.lines_are order.go_down) order.lines_are order.opened order.order
+  where
+    last : (before : List Line) (history : List EntryLine) (rest : List Line) (later : List EntryLine) → later ≡ [] → shipped_nothing.lines ≡ rest →
+        InTurns (from_nothing armed_insert) (view_of (from_nothing armed_insert) shipped_nothing.entries) (take 1 armed_insert.body) before history (drop 1 armed_insert.body) rest later → ⊥
+    last before history rest later none is (mine, others, added, more, parts, entries, turn, ends) =
+        (turn.moment (omega arith) (take 2 shipped_nothing.lines) (drop 3 shipped_nothing.lines) 1 1 (sym (is ∙ parts ∙ ap (λ (ls : List Line). mine ++ ls) ends.0 ∙ append-nil mine)) refl).durable refl (no_entries added more (sym none ∙ entries)).0
+
+    go : (first : List Line) → first ≡ [] → shipped_nothing.lines ≡ first ++ order.rest → IsOpened (from_nothing armed_insert) [] [] first order.opening →
+        InTurns (from_nothing armed_insert) (view_of (from_nothing armed_insert) shipped_nothing.entries) [] first order.opening armed_insert.body order.rest order.later → ⊥
+    go [] none lines_are opened (mine, others, added, later, parts, entries, turn, rest) =
+        let one : length order.opening ≡ 1 = opened_once order.opening opened in
+        let all : 1 ≡ length (order.opening ++ order.later) = same_length shipped_nothing.entries (order.opening ++ order.later) order.entries_are in
+        let sum : length (order.opening ++ order.later) ≡ length order.opening + length order.later = length-append order.opening order.later in
+        let nothing : order.later ≡ [] = no_length order.later (omega (arith, one, all, sum)) in
+        last mine (order.opening ++ added) others later (no_entries added later (sym nothing ∙ entries)).1 (lines_are ∙ parts ∙ ap (λ (ls : List Line). ls ++ others) turn.0) rest
+    go (x ∷ xs) none lines_are opened turns = absurd (let no_such : x ∷ xs ≡ [] = none in cc)
+
+abbrev is_broken : Option KeyName → Bool
+is_broken None = false
+is_broken (Some key) = true
+
+-- a commit that breaks a key is not appended, so its arm does not fire
+never_enters : (before' before : List Line) (now : ℕ) → now ≡ 2 → Enters (saying over_a_row (view_of over_a_row []) (take 1 armed_again.body) before' (codes "a") (codes "insert into t values(1, 2)")) now before → ⊥
+never_enters before' before now two e =
+    true≢false (ap is_broken (subst (λ (k : ℕ). first_broken over_a_row.origin.tables (apply_all ((view_of over_a_row []).rows k) inserted).tables ≡ None) two
+    (subst (λ (ops : List RowOp). first_broken over_a_row.origin.tables (apply_all ((view_of over_a_row []).rows now) ops).tables ≡ None) ops_are e.unbroken)))
+  where
+    inserted : List RowOp
+    inserted = op.Insert 0 (Int (pos 1) ∷ Int (pos 2) ∷ []) ∷ []
+
+    its : transaction 1 (codes "insert into t values(1, 2)" ∷ []) Snapshot WithItsLine ≡ e.transaction
+    its = some_transaction _ _ e.is_its
+
+    ops_are : e.ran.ops ≡ inserted
+    ops_are = ap (λ (a : Answered). a.ops) e.is_ran ∙ ap (λ (t : Transaction). (alone_at over_a_row (view_of over_a_row []) t e.begin).ops) (sym its)
+
+pub stopped_at_a_duplicate_is_not_in_order : InNodesOrder over_a_row stopped_at_a_duplicate → ⊥
+stopped_at_a_duplicate_is_not_in_order order = go order.first (no_first armed_again order.first order.rest _ (codes "a") 1 (reply.Begin 2) order.lines_are order.go_down) order.lines_are order.order
+  where
+    none : (order.opening ≡ []) × (order.later ≡ [])
+    none = no_entries order.opening order.later order.entries_are
+
+    last : (before : List Line) (history : List EntryLine) (rest : List Line) (later : List EntryLine) → history ≡ [] → stopped_at_a_duplicate.lines ≡ rest →
+        InTurns over_a_row (view_of over_a_row []) (take 1 armed_again.body) before history (drop 1 armed_again.body) rest later → ⊥
+    last before history rest later empty is (mine, others, added, more, parts, entries, turn, ends) =
+        never_enters before _ (view_of over_a_row history).last (ap (λ (es : List EntryLine). (view_of over_a_row es).last) empty)
+        (turn.moment (omega arith) (take 2 stopped_at_a_duplicate.lines) (drop 3 stopped_at_a_duplicate.lines) 1 1 (sym (is ∙ parts ∙ ap (λ (ls : List Line). mine ++ ls) ends.0 ∙ append-nil mine)) refl).enters
+
+    go : (first : List Line) → first ≡ [] → stopped_at_a_duplicate.lines ≡ first ++ order.rest →
+        InTurns over_a_row (view_of over_a_row stopped_at_a_duplicate.entries) [] first order.opening armed_again.body order.rest order.later → ⊥
+    go [] nothing lines_are (mine, others, added, later, parts, entries, turn, rest) =
+        last mine (order.opening ++ added) others later (ap (λ (es : List EntryLine). es ++ added) none.0 ∙ turn.1) (lines_are ∙ parts ∙ ap (λ (ls : List Line). ls ++ others) turn.0) rest
+    go (x ∷ xs) nothing lines_are turns = absurd (let no_such : x ∷ xs ≡ [] = nothing in cc)

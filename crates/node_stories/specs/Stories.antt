@@ -14,6 +14,9 @@ use Rattle.report_text.specs.declared.reports.Report.{Report}
 use Rattle.report_text.specs.declared.reports.EntryLine.TheVariants.{Setup}
 use Rattle.report_text.specs.declared.reports.Line.TheVariants as line
 use Rattle.cdb_values.specs.declared.replies.Reply.TheVariants as reply
+use Rattle.cdb_values.specs.Rows.{no_rows}
+use Rattle.report_laws.specs.History.{Basis}
+use Rattle.report_worked.specs.Small.{small_language}
 use Rattle.report_worked.specs.Worked.{worked_table, body_from, report_with, row, of_a, of_b}
 
 -- a script of n nodes, the sessions a and b at these
@@ -125,6 +128,15 @@ few_but_read = script_of 3 1 1 (act.Say (codes "a") (codes "begin") ∷ act.Stop
 abbrev pub few_but_read_report : Report
 few_but_read_report = report_with
     (line.Session (codes "a") 1 (reply.Begin 1) ∷ line.Down 1 2 false ∷ line.Down 2 3 false ∷ line.Session (codes "a") 1 (reply.Committed 1) ∷ [])
+    (Setup 1 ∷ [])
+
+-- The same of a session with hasql, whose own node stays up: it does not move.
+abbrev pub read_while_few : Script
+read_while_few = script_of 3 1 3 (act.Say (codes "b") (codes "begin") ∷ act.Stop 1 ∷ act.Stop 2 ∷ act.Say (codes "b") (codes "commit") ∷ [])
+
+abbrev pub read_while_few_report : Report
+read_while_few_report = report_with
+    (line.Session (codes "b") 1 (reply.Begin 1) ∷ line.Down 1 1 false ∷ line.Down 2 2 false ∷ line.Session (codes "b") 1 (reply.Committed 1) ∷ [])
     (Setup 1 ∷ [])
 
 -- A feed while few are up repeats the position before.
@@ -268,3 +280,31 @@ abbrev pub ends_undurable_report : Report
 ends_undurable_report = report_with
     (line.Session (codes "a") 1 (reply.Begin 1) ∷ line.Session (codes "a") 1 (reply.Changed 1) ∷ line.Down 1 2 true ∷ line.Down 2 3 true ∷ line.Session (codes "a") 1 (reply.NoMajority 1 3) ∷ [])
     (Setup 1 ∷ of_a 2 1 1 ∷ [])
+
+-- The master falls behind the append of a commit, while one other node is up, and comes back first: the lost transaction stands.
+abbrev pub tail_stands : Script
+tail_stands = script_of 3 2 3 (act.Stop 3 ∷ act.Say (codes "a") (codes "insert into t values(1, 10)") ∷ act.Start 1 ∷ act.Say (codes "a") (codes "select * from t") ∷ [])
+
+abbrev pub tail_stands_report : Report
+tail_stands_report = report_with
+    (line.Down 1 3 false ∷ line.Session (codes "a") 1 (reply.Begin 1) ∷ line.Session (codes "a") 1 (reply.Changed 1) ∷ line.Down 2 1 true ∷ line.Session (codes "a") 1 (reply.Lost 1 2) ∷ line.Up 1 ∷ line.Session (codes "a") 2 (reply.Begin 2) ∷ line.Session (codes "a") 2 (row 1 10) ∷ line.Session (codes "a") 2 (reply.Done 1) ∷ line.Session (codes "a") 2 (reply.Committed 2) ∷ [])
+    (Setup 1 ∷ of_a 2 1 1 ∷ [])
+
+-- A run goes on over a log whose table is another one than the script's: what is told names the log's.
+abbrev pub other_tables : Script
+other_tables = script_of 3 1 3 (act.Say (codes "a") (codes "insert into t values(1, 10)") ∷ act.Say (codes "a") (codes "insert into t values(1, 2)") ∷ [])
+
+abbrev pub other_script : Script
+other_script = record other_tables { tables = record { line = 4; table = record worked_table { name = codes "u" } } ∷ [] }
+
+abbrev pub other_basis : Basis
+other_basis = record { language = small_language; script = other_script; origin = record { position = 1; tables = worked_table ∷ []; rows = no_rows (worked_table ∷ []) } }
+
+abbrev pub other_tables_report : Report
+other_tables_report = record {
+  lines = line.Down 1 2 true ∷ line.Session (codes "a") 1 (reply.Begin 1) ∷ line.Session (codes "a") 1 (reply.Changed 1) ∷ line.Session (codes "a") 1 (reply.Committed 2) ∷ line.Session (codes "a") 2 (reply.Begin 2) ∷ line.Session (codes "a") 2 (reply.Changed 1) ∷ line.Session (codes "a") 2 (reply.Duplicate 2 (codes "t") (codes "pk")) ∷ [];
+  base = Some 1;
+  entries = of_a 2 1 1 ∷ [];
+  feeds = [];
+  end = 2;
+}

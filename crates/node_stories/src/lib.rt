@@ -11,7 +11,7 @@
 mod facts;
 
 pub use facts::{
-    bases_are_in_order, nothing_is_told_again, one_node_examples_stay, openings_are_in_order,
-    stories_are_in_order, stories_are_lawful, unlawful_stories_are_refused,
-    wrong_stories_are_refused,
+    bases_are_in_order, changed_stories_are_refused, nothing_is_told_again, one_node_examples_stay,
+    only_the_one_report_stands, openings_are_in_order, stories_are_in_order, stories_are_lawful,
+    unlawful_stories_are_refused, what_no_report_tells, wrong_stories_are_refused,
 };

@@ -1,0 +1,2 @@
+-- The notions of the laws of reports of several nodes.
+pub mod Unhurt
