@@ -266,6 +266,13 @@ barriers_more : (x : ℕ × Event) (h : List (ℕ × Event)) → barriers h ≤ 
 barriers_more (i, Barrier) h = omega arith
 barriers_more (i, _) h = omega arith
 
+-- the barriers before a session's line stay told
+waited_on : (G : Setting) (h : List (ℕ × Event)) (i : ℕ) (x : ℕ × Event) → part G i (x ∷ h) ≡ part G i h → HasWaited G h i → HasWaited G (x ∷ h) i
+waited_on G h i x p w =
+    let b = barriers_more x h in
+    let w' : G.phase i (part G i h).told ≤ barriers h = w in
+    subst (λ (z : Part). G.phase i z.told ≤ barriers (x ∷ h)) (sym p) (omega arith)
+
 barriers_kept : (G : Setting) (h : List (ℕ × Event)) (j : ℕ) (e : Event) → (0 == j) ≡ false → MayDo G h j e → barriers ((j, e) ∷ h) ≡ barriers h
 barriers_kept G h j Barrier ne may = absurd (let z : j ≡ 0 = may.0 in let y = (Decides-eqb 0 j).1 (sym z) in cc)
 barriers_kept G h j _ ne may = refl
@@ -334,8 +341,8 @@ few_on G h i x p k = record {
 beyond_on : (G : Setting) → Steady G → (h : List (ℕ × Event)) (j : ℕ) (x : Event) → IsLegal G h → MayDo G h j x → (0 == j) ≡ false → AllBeyond G h → AllBeyond G ((j, x) ∷ h)
 beyond_on G steady h j x legal may ne k = λ s ns left. (
     let b : barriers ((j, x) ∷ h) ≡ barriers h = barriers_kept G h j x ne may in
-    let old : barriers h < G.phase s (part G s h).over (part G s h).mine = k s ns (λ q. left (part_left G s (j, x) h q)) in
-    let up : G.phase s (part G s h).over (part G s h).mine ≤ G.phase s (part G s ((j, x) ∷ h)).over (part G s ((j, x) ∷ h)).mine = steady s (j, x) h (may, legal) in
+    let old : barriers h < G.phase s (part G s h).told = k s ns (λ q. left (part_left G s (j, x) h q)) in
+    let up : G.phase s (part G s h).told ≤ G.phase s (part G s ((j, x) ∷ h)).told = steady s (j, x) h (may, legal) in
     omega arith)
 
 -- what an actor may do it may do after an event of another, but for the number of an ask
@@ -353,7 +360,7 @@ stays G far steady h i j x e legal may ne other k = go e other k
     node = idle_node h i j x ne
 
     waited : HasWaited G h i → HasWaited G ((j, x) ∷ h) i
-    waited w = let b = barriers_more (j, x) h in let w' : G.phase i (part G i h).over (part G i h).mine ≤ barriers h = w in subst (λ (z : Part). G.phase i z.over z.mine ≤ barriers ((j, x) ∷ h)) (sym p) (omega arith)
+    waited w = waited_on G h i (j, x) p w
 
     go : (e : Event) → ((t : ℕ) → e ≡ Ask t → ⊥) → MayDo G h i e → MayDo G ((j, x) ∷ h) i e
     go (Node c) other k = ((subst (λ (o : Own KeptEntry). Enabled G.nodes (field ((j, x) ∷ h)).core i o c) (sym node) (enabled_on G.nodes (field h) (field ((j, x) ∷ h)) i ((field h).core.nodes i) c on (λ z. idle_admits G h j x (zero_ne i j z ne) may) k.2 k.0.0), enter_on (field h) (field ((j, x) ∷ h)) i c on node (idle_settled h i j x ne) k.0.1), step_on G (field h) (field ((j, x) ∷ h)) i c on node k.1, k.2)
@@ -384,9 +391,9 @@ pub asks_again : (G : Setting) (h : List (ℕ × Event)) (i j : ℕ) (x : Event)
 asks_again G h i j x t ne k =
     let r = above (field ((j, x) ∷ h)).core.asks in
     let p : part G i ((j, x) ∷ h) ≡ part G i h = idle_part G i (j, x) h ne in
-    let w : G.phase i (part G i h).over (part G i h).mine ≤ barriers h = k.1 in
+    let w : G.phase i (part G i h).told ≤ barriers h = k.1 in
     let b = barriers_more (j, x) h in
-    (r.0, ((each_more (λ s l e. let l' : s < r.0 = l in omega arith) r.1, tt), subst (λ (z : Part). G.phase i z.over z.mine ≤ barriers ((j, x) ∷ h)) (sym p) (omega arith), elim k.2 [ inl n ↦ inl (λ q. n (ap (λ (z : Part). z.left) (sym p) ∙ q)) | inr z ↦ inr z ]))
+    (r.0, ((each_more (λ s l e. let l' : s < r.0 = l in omega arith) r.1, tt), subst (λ (z : Part). G.phase i z.told ≤ barriers ((j, x) ∷ h)) (sym p) (omega arith), elim k.2 [ inl n ↦ inl (λ q. n (ap (λ (z : Part). z.left) (sym p) ∙ q)) | inr z ↦ inr z ]))
 
 pub stays_long : (G : Setting) (h more : List (ℕ × Event)) (i : ℕ) (e : Event) → AreApart G → Steady G → IsLegal G (more ++ h) → Each (λ x. (i == x.0) ≡ false) more → ((t : ℕ) → e ≡ Ask t → ⊥) → MayDo G h i e → MayDo G (more ++ h) i e
 stays_long G h [] i e far steady legal idle other k = k
@@ -460,6 +467,7 @@ fire_on G body h i j x l node ne on k = record {
   when = k.when;
   stands = k.stands;
   armed = subst (λ (z : Part). G.armed i z.told l ≡ true) (sym (idle_part G i (j, x) h ne)) k.armed;
+  waited = waited_on G h i (j, x) (idle_part G i (j, x) h ne) k.waited;
   once = each_join (new_fires h j x) (fires h) (new_other h i j l x ne) k.once;
   due = due_on G h i j x node k.when ne on k.due;
 }

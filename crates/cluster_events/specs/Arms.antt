@@ -1,9 +1,10 @@
 -- Arms: a session lets a node be stopped during one of its lines.
 --
--- It lets an arm fire once its moment has come: a row was just given at its own node, its commit was appended by the master, or
--- is durable. By that the node may be stopped while it is up since. The session does nothing more before the node was down.
+-- It lets an arm fire once the barriers before its line are told and its moment has come: a row was just given at its own node,
+-- its commit was appended by the master, or is durable. By that the node may be stopped while it is up since. The session does
+-- nothing more before the node was down.
 use Rattle.std.specs.Prelude.{ℕ, ◌≡◌, ◌≢◌, ◌==◌, cond, true, false, List, [], ◌∷◌, ◌++◌, Option, Some, None}
-use Rattle.cluster_events.specs.Guards.{Commits, IsKept, commit_id_of}
+use Rattle.cluster_events.specs.Guards.{Commits, HasWaited, IsKept, commit_id_of}
 use Rattle.cluster_events.specs.Operator.{act_at, count_of}
 use Rattle.cluster_events.specs.Parts.{Event, part, field, lines}
 use Rattle.cluster_events.specs.Parts.Event.{Fire}
@@ -72,6 +73,7 @@ pub record MayFire (G : Setting) (body : List BodyLine) (h : List (ℕ × Event)
   pub when : Moment
   pub stands : act_at body line ≡ Some (act.Arm (G.names s) when)
   pub armed : G.armed s (part G s h).told line ≡ true
+  pub waited : HasWaited G h s
   pub once : Each (λ f. f.by ≡ s → f.line ≢ line) (fires h)
   pub due : IsDue G h s node when
 

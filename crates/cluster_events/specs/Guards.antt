@@ -157,7 +157,7 @@ MayFinish G h s _ = ⊥
 
 -- the barriers before a session's line are told
 abbrev pub HasWaited : Setting → List (ℕ × Event) → ℕ → Type 0
-HasWaited G h s = G.phase s (part G s h).over (part G s h).mine ≤ barriers h
+HasWaited G h s = G.phase s (part G s h).told ≤ barriers h
 
 -- a commit is sent with what its transaction was answered
 pub record Sends (G : Setting) (h : List (ℕ × Event)) (i : ℕ) (x : Sent) : Type 0 where
@@ -202,7 +202,7 @@ pub record WereFew (G : Setting) (h : List (ℕ × Event)) (i : ℕ) : Type 0 wh
 
 -- each session that is not done has the barriers so far, and the next one, behind it
 abbrev pub AllBeyond : Setting → List (ℕ × Event) → Type 0
-AllBeyond G h = (s : ℕ) → (s == 0) ≡ false → (part G s h).left ≢ [] → barriers h < G.phase s (part G s h).over (part G s h).mine
+AllBeyond G h = (s : ℕ) → (s == 0) ≡ false → (part G s h).left ≢ [] → barriers h < G.phase s (part G s h).told
 
 abbrev pub MayDo : Setting → List (ℕ × Event) → ℕ → Event → Type 0
 MayDo G h i (Node e) = May G.nodes (field h) i (Core e) × MayStep G (field h) i e × IsActedBy G.nodes i e

@@ -6,4 +6,4 @@ use Rattle.cluster_events.specs.Settings.{Setting}
 
 -- how far a session is in the barriers never falls
 abbrev pub Steady : Setting → Type 0
-Steady G = (s : ℕ) (x : ℕ × Event) (h : List (ℕ × Event)) → IsLegal G (x ∷ h) → G.phase s (part G s h).over (part G s h).mine ≤ G.phase s (part G s (x ∷ h)).over (part G s (x ∷ h)).mine
+Steady G = (s : ℕ) (x : ℕ × Event) (h : List (ℕ × Event)) → IsLegal G (x ∷ h) → G.phase s (part G s h).told ≤ G.phase s (part G s (x ∷ h)).told

@@ -1,6 +1,7 @@
 -- What a history is judged by, and what the laws of reports see of a log.
 --
--- How the lines of a script follow one another in a session is not said here: `phase` and `armed` are any functions.
+-- How the lines of a script follow one another in a session is not said here: `phase` and `armed` are any functions of what the
+-- session was told.
 use Rattle.cluster_requests.specs.KeptEntries.{state_of}
 use Rattle.std.specs.Prelude.{ℕ, ◌-◌, Bool, List, [], ◌∷◌, ◌++◌, Option, Some, None, length, take, slice_get, option_map}
 use Rattle.cdb_values.specs.Rows.{Rows, no_rows}
@@ -14,7 +15,6 @@ use Rattle.report_laws.specs.View.{View}
 use Rattle.report_laws.specs.Work.{Item, Transaction, work}
 use Rattle.report_text.specs.declared.reports.EntryLine.{EntryLine}
 use Rattle.report_text.specs.declared.reports.EntryLine.TheVariants.{Setup, Commit}
-use Rattle.cdb_values.specs.declared.replies.Reply.{Reply}
 use Rattle.script_form.specs.declared.scripts.Act.TheVariants as act
 use Rattle.script_form.specs.declared.scripts.BodyLine.{BodyLine}
 use Rattle.script_form.specs.declared.scripts.Script.{Script}
@@ -28,8 +28,9 @@ pub record Setting : Type 0 where
   pub tables : List TableDef
   -- what a session is called, by the number of its actor
   pub names : ℕ → List ℕ
-  -- how many barriers stand before the line at which a session is, where the end of the script counts as one more, when these items are over and it was told this of the next
-  pub phase : ℕ → List Item → List Reply → ℕ
+  -- how many barriers stand before the line at which a session is where it was told these lines; the end of the script counts as one
+  -- more
+  pub phase : ℕ → List Numbered → ℕ
   -- whether the arm at that line of the script waits for the line at which a session is where it was told these lines, and of
   -- the moment of a row, whether this row is the last of them
   pub armed : ℕ → List Numbered → ℕ → Bool

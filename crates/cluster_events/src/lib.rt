@@ -19,7 +19,7 @@
 //! | session | `Say`, `Note` | these are the replies on the rows at its begin position of a durable log; a line outside a transaction |
 //! | session | `Send`, `Finish` | all replies of a transaction that is to be committed are told; what its outcome says is so |
 //! | session | `Move` | its node went down, and this is the next node that is up |
-//! | session | `Fire` | its line is armed, and the moment has come |
+//! | session | `Fire` | its line is armed, the barriers before it are told, and the moment has come |
 //! | operator | `Order`, `Obeyed` | its next line is a stop or a start; at some place since, the node was so |
 //! | operator | `Barrier` | each session has done its lines before it |
 //! | operator | `Fed`, `FedAgain` | its ask was answered; or few nodes were up since it asked |

@@ -1,0 +1,6 @@
+pub mod TellsLaws
+pub mod FoundLaws
+pub mod StepLaws
+pub mod NameLaws
+pub mod StaysLaws
+pub mod OwnLaws
