@@ -22,7 +22,7 @@ use Rattle.report_laws.specs.Outcome.{IsEntered, IsCommitted as IsCommittedAt, I
 use Rattle.report_laws.specs.Places.{survives}
 use Rattle.report_text.specs.declared.reports.EntryLine.{EntryLine}
 use Rattle.session_language.specs.Touched.{first_used}
-use Rattle.cluster_answers.specs.Told.{IsToldAlong, IsCutShort, MayBeCut}
+use Rattle.node_reports.specs.Told.{IsToldAlong, IsCutShort, MayBeCut}
 use Rattle.report_laws.specs.Told.{MayCut}
 use Rattle.cluster_answers.proofs.EntryLaws.{same_rows}
 

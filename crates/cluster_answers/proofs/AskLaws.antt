@@ -54,7 +54,7 @@ pub record AskedAt (G : Setting) (s t : ℕ) (h : List (ℕ × Event)) (p : Part
   pub lines' : ls ≡ lines G before ++ rest
   pub unheard : Each (λ l. hears G s l ≡ false) rest
   pub busy : (s == 0) ≡ false → p.left ≢ []
-  pub waited : G.phase s p.over p.mine ≤ bs
+  pub waited : G.phase s p.told ≤ bs
 
 abbrev pub Asked : Setting → ℕ → ℕ → List (ℕ × Event) → Type 0
 Asked G s t h = AskedAt G s t h (part G s h) (lines G h) (barriers h)
@@ -99,7 +99,7 @@ node_unheard G s i before p (BackAppend e) = up_unheard G s i
 node_unheard G s i before p _ = each_none
 
 no_barrier : {A : Type 0} (G : Setting) (s t : ℕ) (h : List (ℕ × Event)) (i : ℕ) → (s == 0) ≡ false → MayDo G h i Barrier → Asked G s t h → A
-no_barrier G s t h i ns may a = absurd (let u : barriers h < G.phase s (part G s h).over (part G s h).mine = may.1 s ns (a.busy ns) in let v = a.waited in omega arith)
+no_barrier G s t h i ns may a = absurd (let u : barriers h < G.phase s (part G s h).told = may.1 s ns (a.busy ns) in let v = a.waited in omega arith)
 
 -- another actor than the operator
 not_op : (i s : ℕ) → (i == s) ≡ false → i ≡ 0 → (s == 0) ≡ false

@@ -29,7 +29,7 @@ use Rattle.cluster_consensus.proofs.Commits.{committed}
 use Rattle.cluster_masters.proofs.MasterLaws.{longer, committed_by}
 use Rattle.report_laws.specs.Outcome.{IsEntered, IsConflict, IsDuplicate, IsRight, Ends}
 use Rattle.report_text.specs.declared.reports.EntryLine.TheVariants as entries
-use Rattle.cluster_answers.specs.Told.{IsToldAlong}
+use Rattle.node_reports.specs.Told.{IsToldAlong}
 use Rattle.cluster_events.proofs.HistoryLaws.{good_of, begins_of}
 use Rattle.cluster_answers.proofs.AskLaws.{opened_ok}
 use Rattle.cluster_answers.proofs.EntryLaws.{same_rows, open_in, in_whole, rules, SettledOk, settles_ok}

@@ -26,7 +26,7 @@ use Rattle.report_laws.specs.Cut.{cuts}
 use Rattle.report_laws.specs.Outcome.{IsEntered, IsCommitted as IsCommittedAt, IsDecided, Ends}
 use Rattle.report_laws.specs.Places.{survives}
 use Rattle.cluster_masters.proofs.MasterLaws.{reported_has}
-use Rattle.cluster_answers.specs.Told.{IsToldAlong, MayBeCut}
+use Rattle.node_reports.specs.Told.{IsToldAlong, MayBeCut}
 use Rattle.cluster_events.proofs.LineLists.{append_assoc, append_nil, along_more}
 use Rattle.cluster_events.proofs.OwnLines.{knows}
 use Rattle.cluster_events.proofs.HistoryLaws.{good_of, Later, later_event, durable_later, pinged_by, begins_of}

@@ -17,7 +17,7 @@
 ghost use Rattle.std.specs.Prelude.{ℕ, ◌∷◌, ◌++◌, [], List, length};
 ghost use Rattle.cdb_values.specs.Rows.{Rows};
 ghost use Rattle.cluster_answers.specs.Entries.{Rule};
-ghost use Rattle.cluster_answers.specs.Told.{IsToldAlong};
+ghost use Rattle.node_reports.specs.Told.{IsToldAlong};
 ghost use Rattle.cluster_consensus.specs.Facts.{Claim};
 ghost use Rattle.cluster_events.specs.Guards.{AreApart, IsLegal, IsDone, Rising};
 ghost use Rattle.cluster_events.specs.Parts.{Event, field, lines};

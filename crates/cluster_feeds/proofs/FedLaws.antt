@@ -13,14 +13,14 @@ use Rattle.cluster_consensus.specs.Facts.{Claim}
 use Rattle.cluster_consensus.specs.Histories.{Legal, after}
 use Rattle.cluster_events.proofs.HistoryLaws.{steps, core_is, steps_legal, steps_append, legal_rest, good_of, Later, later_refl, later_event, Pinged, pinged_later, pinged_by, begins_of}
 use Rattle.cluster_events.proofs.LineLists.{append_nil, each_after_more}
-use Rattle.cluster_events.specs.Guards.{AreApart, MayDo, IsLegal}
+use Rattle.cluster_events.specs.Guards.{AreApart, MayDo, IsLegal, fed_from}
 use Rattle.cluster_events.specs.Parts.{Event, part, field, up_line, lines_by, lines}
 use Rattle.cluster_events.specs.Parts.Event.{Node, Stop, Ask, Begun, Say, Note, Finish, Barrier, Fed, FedAgain}
-use Rattle.cluster_events.specs.Settings.{Setting}
+use Rattle.cluster_events.specs.Settings.{Setting, basis_from}
 use Rattle.cluster_feeds.proofs.UnreadLaws.{AreUnread, unread_since}
-use Rattle.cluster_feeds.specs.Fed.{is_read, IsFedAt, IsFedAgain, IsFedRight}
-use Rattle.cluster_masters.proofs.MasterLaws.{reported_has}
-use Rattle.cluster_masters.specs.FirstMaster.{IsFirstMaster}
+use Rattle.cluster_feeds.specs.Fed.{IsFedLine}
+use Rattle.cluster_masters.proofs.MasterLaws.{reported_has, first_of}
+use Rattle.cluster_masters.specs.FirstMaster.{IsFirstMaster, HasNoMaster}
 use Rattle.cluster_masters.specs.Reported.{IsReported}
 use Rattle.cluster_requests.specs.KeptEntries.{KeptEntry}
 use Rattle.cluster_requests.specs.Requests.{Field}
@@ -28,12 +28,17 @@ use Rattle.core_lists.proofs.Fronts.{front_length}
 use Rattle.core_lists.specs.Lists.{In}
 use Rattle.core_lists.specs.Lists.In.{here, there}
 use Rattle.report_laws.specs.Lawful.{NameUpTo, positions, is_heard}
-use Rattle.report_laws.specs.Nodes.{is_up}
+use Rattle.node_reports.specs.Fed.{is_read, IsFedAt, Repeats}
+use Rattle.node_reports.specs.Order.{last_fed}
+use Rattle.cluster_consensus.specs.Durable.{DurableIn}
+use Rattle.cdb_values.specs.Rows.{Rows}
+use Rattle.report_laws.specs.View.{View}
+use Rattle.report_laws.specs.Nodes.{is_up, are_few}
 use Rattle.report_text.specs.declared.reports.Line.{Line}
 use Rattle.report_text.specs.declared.reports.Line.TheVariants as line
 use Rattle.session_language.specs.Each.{EachAfter}
 
-later_trans : {f g k : Field} → Later f g → Later g k → Later f k
+pub later_trans : {f g k : Field} → Later f g → Later g k → Later f k
 later_trans a b = record {
   grows = record { votes = λ j x m. b.grows.votes j x (a.grows.votes j x m); grants = λ j x m. b.grows.grants j x (a.grows.grants j x m); leads = λ j x m. b.grows.leads j x (a.grows.leads j x m); accepts = λ j x m. b.grows.accepts j x (a.grows.accepts j x m); admits = λ x m. b.grows.admits x (a.grows.admits x m) };
   told = λ j. told_trans (a.told j) (b.told j);
@@ -49,7 +54,7 @@ read_is (line.Up n) = refl
 read_is line.Barrier = refl
 read_is (line.Fed d) = refl
 
-all_in : {A : Type 0} (P : A → Type 0) (xs : List A) → ((x : A) → In x xs → P x) → AllByRecursion P xs
+pub all_in : {A : Type 0} (P : A → Type 0) (xs : List A) → ((x : A) → In x xs → P x) → AllByRecursion P xs
 all_in P [] f = tt
 all_in P (x ∷ xs) f = (f x here, all_in P xs (λ y m. f y (there m)))
 
@@ -85,31 +90,33 @@ fed_heard G far h i d g legal may front mark back e m = all_in _ front (λ x k. 
         let k' = front_of G i (lines G a.before) a.rest front mark back (sym a.lines' ∙ e) a.unheard m' x k in
         at_most p ((named_lines G a.before (legal_rest G a.mid ((i, Ask may.1) ∷ a.before) legal').1).at x k' p q)
 
-unread_all : (ls : List Line) → AreUnread ls → AllByRecursion (λ l. is_read l ≡ false) ls
+pub unread_all : (ls : List Line) → AreUnread ls → AllByRecursion (λ l. is_read l ≡ false) ls
 unread_all [] k = tt
 unread_all (l ∷ ls) k = (k.at l here, unread_all ls (record { at = λ x m. k.at x (there m) }))
 
+-- the position of the last feed, in both words
+fed_same : (position : ℕ) (ls : List Line) → last_fed position ls ≡ fed_from position ls
+fed_same position [] = refl
+fed_same position (line.Session name t r ∷ ls) = fed_same position ls
+fed_same position (line.Down c n f ∷ ls) = fed_same position ls
+fed_same position (line.Up n ∷ ls) = fed_same position ls
+fed_same position (line.Barrier ∷ ls) = fed_same position ls
+fed_same position (line.Fed at ∷ ls) = fed_same at ls
+
 -- a feed that repeats
-fed_again : (G : Setting) (h : List (ℕ × Event)) (i d : ℕ) → IsLegal G h → MayDo G h i (FedAgain d) → IsFedAgain G.nodes (lines G h) d
-fed_again G h i d legal may =
+pub fed_again : (G : Setting) (base : ℕ) (rows : Rows) → G.nodes ≡ G.script.nodes → (h : List (ℕ × Event)) (i d : ℕ) → IsLegal G h → MayDo G h i (FedAgain d) → Repeats (basis_from G base rows) (lines G h) d
+fed_again G base rows nodes h i d legal may =
     let w = may.2 in
     let legal' : IsLegal G (w.later ++ w.before) = subst (λ z. IsLegal G z) w.split legal in
     let since = subst (λ j. (part G j w.before).asked ≡ Some w.ask) may.0 w.since in
     let now = subst (λ z. (part G 0 z).asked ≡ Some w.ask) w.split (subst (λ j. (part G j h).asked ≡ Some w.ask) may.0 w.asked) in
     let r = unread_since G w.later w.before w.ask legal' since now in
-    record { same = may.1; front = lines G w.before; back = r.0; stands = ap (λ z. lines G z) w.split ∙ r.1; since = unread_all r.0 r.2; few = w.few }
+    record { same = may.1 ∙ sym (fed_same 0 (lines G h)); front = lines G w.before; back = r.0; stands = ap (λ z. lines G z) w.split ∙ r.1; since = unread_all r.0 r.2; few = subst (λ n. are_few n (lines G w.before) ≡ true) nodes w.few }
 
-module _ (G : Setting) (far : AreApart G) (H : List (ℕ × Event)) (whole : IsLegal G H) (r m : ℕ) (a : Claim KeptEntry) (top : IsReported G.nodes (field H).core r) (first : IsFirstMaster G.nodes (field H).core m a) where
+-- what is right of the lines of feeds is right of all lines
+module _ (G : Setting) (base : ℕ) (rows : Rows) (view : View) (nodes : G.nodes ≡ G.script.nodes) (H : List (ℕ × Event)) (answered : (h : List (ℕ × Event)) (i d g : ℕ) → IsLegal G h → Later (field h) (field H) → MayDo G h i (Fed d g) → IsFedAt (basis_from G base rows) view (lines G h) d) where
   abbrev Right : List Line → Line → Type 0
-  Right = IsFedRight G.nodes (length a.log) (length ((field H).core.nodes r).log)
-
-  fed_at : (h : List (ℕ × Event)) (i d g : ℕ) → IsLegal G h → Later (field h) (field H) → MayDo G h i (Fed d g) → IsFedAt (length a.log) (length ((field H).core.nodes r).log) (lines G h) d
-  fed_at h i d g legal on may =
-      let p : Pinged (field H) d g = pinged_later on (pinged_by G.nodes (field h) may.1 d g may.3) in
-      let k = begins_of G H whole d g p in
-      let w : d ≤ length k.log = k.within in
-      let l = front_length (reported_has (good_of G H whole).inv r top k.gen k.log k.durable) in
-      record { first = k.first; from = base_below G H whole m a first d g p; within = omega arith; heard = fed_heard G far h i d g legal may }
+  Right = IsFedLine (basis_from G base rows) view
 
   boot_right : (ls : List Line) (i : ℕ) (b : Bool) → EachAfter Right [] ls → EachAfter Right [] (ls ++ up_line b i)
   boot_right ls i false k = each_after_more Right [] ls (line.Up i) k tt
@@ -121,8 +128,8 @@ module _ (G : Setting) (far : AreApart G) (H : List (ℕ × Event)) (whole : IsL
   step_right h i Note legal on may k = each_after_more Right [] (lines G h) _ k tt
   step_right h i (Finish o) legal on may k = each_after_more Right [] (lines G h) _ k tt
   step_right h i Barrier legal on may k = each_after_more Right [] (lines G h) _ k tt
-  step_right h i (Fed d g) legal on may k = each_after_more Right [] (lines G h) _ k (inl (fed_at h i d g legal on may))
-  step_right h i (FedAgain d) legal on may k = each_after_more Right [] (lines G h) _ k (inr (fed_again G h i d legal may))
+  step_right h i (Fed d g) legal on may k = each_after_more Right [] (lines G h) _ k (inl (answered h i d g legal on may))
+  step_right h i (FedAgain d) legal on may k = each_after_more Right [] (lines G h) _ k (inr (fed_again G base rows nodes h i d legal may))
   step_right h i Stop legal on may k = each_after_more Right [] (lines G h) _ k tt
   step_right h i (Node Down) legal on may k = each_after_more Right [] (lines G h) _ k tt
   step_right h i (Node (Boot q b l)) legal on may k = boot_right (lines G h) i (is_up i (lines G h)) k
@@ -140,5 +147,25 @@ module _ (G : Setting) (far : AreApart G) (H : List (ℕ × Event)) (whole : IsL
       let on' = later_trans (later_event G h x.0 x.1 (good_of G h legal.1).inv legal.0) on in
       step_right h x.0 x.1 legal.1 on' legal.0 (all_right h legal.1 on')
 
-  pub feeds_right : EachAfter Right [] (lines G H)
-  feeds_right = all_right H whole (later_refl (field H))
+module _ (G : Setting) (far : AreApart G) (nodes : G.nodes ≡ G.script.nodes) (H : List (ℕ × Event)) (whole : IsLegal G H) (r m : ℕ) (a : Claim KeptEntry) (top : IsReported G.nodes (field H).core r) (first : IsFirstMaster G.nodes (field H).core m a) (rows : Rows) (view : View) (last : view.last ≡ length ((field H).core.nodes r).log) where
+  pub fed_at : (h : List (ℕ × Event)) (i d g : ℕ) → IsLegal G h → Later (field h) (field H) → MayDo G h i (Fed d g) → IsFedAt (basis_from G (length a.log) rows) view (lines G h) d
+  fed_at h i d g legal on may =
+      let p : Pinged (field H) d g = pinged_later on (pinged_by G.nodes (field h) may.1 d g may.3) in
+      let k = begins_of G H whole d g p in
+      let w : d ≤ length k.log = k.within in
+      let l = front_length (reported_has (good_of G H whole).inv r top k.gen k.log k.durable) in
+      let v : view.last ≡ length ((field H).core.nodes r).log = last in
+      record { first = k.first; base = base_below G H whole m a first d g p; within = omega arith; heard = fed_heard G far h i d g legal may }
+
+  pub feeds_right : EachAfter (IsFedLine (basis_from G (length a.log) rows) view) [] (lines G H)
+  feeds_right = all_right G (length a.log) rows view nodes H fed_at H whole (later_refl (field H))
+
+-- without a first master no feed is answered
+pub none_answered : (G : Setting) (h : List (ℕ × Event)) → IsLegal G h → HasNoMaster G.nodes (field h).core → (d g : ℕ) → Pinged (field h) d g → ⊥
+none_answered G h legal none d g p =
+    let k = begins_of G h legal d g p in
+    let f = first_of (good_of G h legal).inv k.gen k.log k.durable in
+    none f.0 f.1.it f.1.mem (subst (λ z. DurableIn G.nodes (field h).core z f.1.it.log) (sym f.1.is.0) f.1.is.1)
+
+pub feeds_repeat : (G : Setting) (base : ℕ) (rows : Rows) (view : View) → G.nodes ≡ G.script.nodes → (H : List (ℕ × Event)) → IsLegal G H → HasNoMaster G.nodes (field H).core → EachAfter (IsFedLine (basis_from G base rows) view) [] (lines G H)
+feeds_repeat G base rows view nodes H whole none = all_right G base rows view nodes H (λ h i d g legal on may. absurd (none_answered G H whole none d g (pinged_later on (pinged_by G.nodes (field h) may.1 d g may.3)))) H whole (later_refl (field H))

@@ -11,7 +11,7 @@ use Rattle.cluster_events.specs.Guards.{MayDo, IsLegal}
 use Rattle.cluster_events.specs.Parts.{Event, Part, part, moves, field, up_line, lines_by, lines}
 use Rattle.cluster_events.specs.Parts.Event.{Node, Stop, Settle, Repeat, Ask, Begun, Say, Note, Send, Finish, Move, Order, Obeyed, Fire, Barrier, Fed, FedAgain}
 use Rattle.cluster_events.specs.Settings.{Setting}
-use Rattle.cluster_feeds.specs.Fed.{is_read}
+use Rattle.node_reports.specs.Fed.{is_read}
 use Rattle.cluster_requests.specs.KeptEntries.{KeptEntry}
 use Rattle.core_lists.proofs.Lists.{each_add, each_none}
 use Rattle.core_lists.specs.Lists.{Each, Has}
@@ -49,7 +49,7 @@ own_asked G h i p Order t old q = asks_more h i Order t (old q)
 own_asked G h i p Obeyed t old q = asks_more h i Obeyed t (old q)
 own_asked G h i p (Fire l k) t old q = asks_more h i (Fire l k) t (old q)
 
-asked_in : (G : Setting) (h : List (ℕ × Event)) (s t : ℕ) → (part G s h).asked ≡ Some t → Has (λ u. u ≡ t) (field h).core.asks
+pub asked_in : (G : Setting) (h : List (ℕ × Event)) (s t : ℕ) → (part G s h).asked ≡ Some t → Has (λ u. u ≡ t) (field h).core.asks
 asked_in G [] s t q = none_some q
 asked_in G (x ∷ h) s t q = go (asked_in G h s t) (s == x.0) q
   where
@@ -118,7 +118,7 @@ one_back G h i Obeyed t may k false s q = (q, each_none)
 one_back G h i (Fire l n) t may k true s q = (q, each_none)
 one_back G h i (Fire l n) t may k false s q = (q, each_none)
 
-asks_long : (later before : List (ℕ × Event)) (t : ℕ) → Has (λ u. u ≡ t) (field before).core.asks → Has (λ u. u ≡ t) (field (later ++ before)).core.asks
+pub asks_long : (later before : List (ℕ × Event)) (t : ℕ) → Has (λ u. u ≡ t) (field before).core.asks → Has (λ u. u ≡ t) (field (later ++ before)).core.asks
 asks_long [] before t k = k
 asks_long (x ∷ later) before t k = asks_more (later ++ before) x.0 x.1 t (asks_long later before t k)
 

@@ -13,17 +13,19 @@
 #![tactic(auto)]
 
 ghost use Rattle.std.specs.Prelude.{ℕ, ◌≡◌, ◌++◌, [], List, length};
+ghost use Rattle.cdb_values.specs.Rows.{Rows};
 ghost use Rattle.cluster_consensus.specs.Facts.{Claim};
 ghost use Rattle.cluster_events.specs.ByScript.{AllHeed};
 ghost use Rattle.cluster_events.specs.Guards.{AreApart, IsLegal};
 ghost use Rattle.cluster_events.specs.Operator.{duty, operators_from};
 ghost use Rattle.cluster_events.specs.Parts.{Event, lines, field};
-ghost use Rattle.cluster_events.specs.Settings.{Setting, lines_to_do};
-ghost use Rattle.cluster_feeds.specs.Fed.{IsFedRight};
+ghost use Rattle.cluster_events.specs.Settings.{Setting, basis_from, lines_to_do};
+ghost use Rattle.cluster_feeds.specs.Fed.{IsFedLine};
 ghost use Rattle.cluster_feeds.specs.Printed.{printed, to_print};
-ghost use Rattle.cluster_masters.specs.FirstMaster.{IsFirstMaster};
+ghost use Rattle.cluster_masters.specs.FirstMaster.{IsFirstMaster, HasNoMaster};
 ghost use Rattle.cluster_masters.specs.Reported.{IsReported};
 ghost use Rattle.cluster_requests.specs.KeptEntries.{KeptEntry};
+ghost use Rattle.report_laws.specs.View.{View};
 ghost use Rattle.session_language.specs.Each.{EachAfter};
 
 /// Barriers and feeds are printed in their order, each once: those that a report has, and those that are left to the
@@ -33,11 +35,15 @@ pub fn barriers_and_feeds_are_printed()
         → printed (lines G h) ++ to_print (duty (lines_to_do G) h).left ≡ to_print (operators_from 0 (lines_to_do G)) }
 {}
 
-/// Each line that tells of a feed is right behind the lines before it: it is answered at a position from the base on and
-/// within the reported log, and fresh; or it repeats the last position, where few nodes are up at a place since the
-/// operator's line before.
+/// Each line that tells of a feed is right behind the lines before it. With a first master, whose log is the base: it is
+/// answered at a position from the base on and within the reported log, and fresh; or it repeats the last position, where
+/// few nodes are up at a place since the operator's line before. Without one, it repeats.
 pub fn feed_lines_are_right()
-    ensures { (G : Setting) (h : List (ℕ × Event)) (r m : ℕ) (a : Claim KeptEntry) → AreApart G → IsLegal G h
-        → IsReported G.nodes (field h).core r → IsFirstMaster G.nodes (field h).core m a
-        → EachAfter (IsFedRight G.nodes (length a.log) (length ((field h).core.nodes r).log)) [] (lines G h) }
+    ensures answered { (G : Setting) (h : List (ℕ × Event)) (r m : ℕ) (a : Claim KeptEntry) (rows : Rows) (view : View)
+        → AreApart G → G.nodes ≡ G.script.nodes → IsLegal G h → IsReported G.nodes (field h).core r
+        → IsFirstMaster G.nodes (field h).core m a → view.last ≡ length ((field h).core.nodes r).log
+        → EachAfter (IsFedLine (basis_from G (length a.log) rows) view) [] (lines G h) }
+    ensures repeats { (G : Setting) (h : List (ℕ × Event)) (base : ℕ) (rows : Rows) (view : View)
+        → G.nodes ≡ G.script.nodes → IsLegal G h → HasNoMaster G.nodes (field h).core
+        → EachAfter (IsFedLine (basis_from G base rows) view) [] (lines G h) }
 {}

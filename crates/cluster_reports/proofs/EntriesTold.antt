@@ -25,7 +25,7 @@ use Rattle.cluster_events.specs.Parts.{Event, part, acts, field, lines}
 use Rattle.cluster_events.specs.Guards.{IsRefused, IsLegal, AreApart, Rising, IsDone}
 use Rattle.cluster_consensus.proofs.FactSteps.{holds}
 use Rattle.cluster_masters.proofs.MasterLaws.{reported_has}
-use Rattle.cluster_answers.specs.Told.{MayEnd}
+use Rattle.node_reports.specs.Told.{MayEnd}
 use Rattle.cluster_events.proofs.OwnLines.{knows}
 use Rattle.cluster_events.proofs.HistoryLaws.{good_of, all_may}
 use Rattle.cluster_answers.proofs.EntryLaws.{same_rows, part_whole, sends_ok}

@@ -42,7 +42,7 @@ use Rattle.report_text.specs.declared.reports.EntryLine.{EntryLine}
 use Rattle.report_text.specs.declared.reports.EntryLine.TheVariants as entries
 use Rattle.report_text.specs.declared.reports.Report.{Report}
 use Rattle.cluster_reports.specs.Runs.{FitsScript}
-use Rattle.cluster_answers.specs.Told.{IsToldAlong, IsHeard}
+use Rattle.node_reports.specs.Told.{IsToldAlong, IsHeard}
 use Rattle.cluster_reports.specs.Lawful.{IsLawfulBesideOperator}
 use Rattle.cluster_events.proofs.LineLists.{append_assoc, append_nil, told_append}
 use Rattle.cluster_events.proofs.OwnLines.{other_told}

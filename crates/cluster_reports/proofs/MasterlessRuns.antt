@@ -26,7 +26,7 @@ use Rattle.report_laws.specs.History.{Origin, Basis, view_of}
 use Rattle.report_laws.specs.Lawful.{base_line}
 use Rattle.report_laws.specs.Work.{work}
 use Rattle.report_text.specs.declared.reports.Report.{Report}
-use Rattle.cluster_answers.specs.Told.{IsToldAlong}
+use Rattle.node_reports.specs.Told.{IsToldAlong}
 use Rattle.cluster_reports.specs.Lawful.{IsLawfulBesideOperator}
 use Rattle.cluster_reports.specs.Runs.{FitsScript}
 use Rattle.cluster_masters.specs.FirstMaster.{HasNoMaster}

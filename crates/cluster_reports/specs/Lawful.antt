@@ -4,7 +4,7 @@
 -- have places, are laws of `cluster_events`.
 use Rattle.std.specs.Prelude.{◌≡◌, ℕ, [], List}
 use Rattle.std.specs.List.{AllByRecursion}
-use Rattle.cluster_answers.specs.Told.{IsToldAlong, IsHeard}
+use Rattle.node_reports.specs.Told.{IsToldAlong, IsHeard}
 use Rattle.cluster_events.specs.LinePlaces.{HasItsPlace}
 use Rattle.report_laws.specs.History.{Basis, view_of, IsEntryAfter}
 use Rattle.report_laws.specs.Lawful.{IsFreshLine, base_line}

@@ -14,38 +14,70 @@
 //!
 //! Where there is no first master nothing was begun, and the report has no entries.
 //!
+//! The operator's lines have their places in the lines of the history. An order brings about one line at most, of its own
+//! node, and none behind the place at which it is obeyed: there the node is down, or up, or fell, and before it can be stopped or
+//! come up by that order again it must have come up, or gone down. At a barrier each session has done its lines before
+//! it, and was told none behind it, since it waits for the barrier. A session that let an arm fire waits until the node is down, so
+//! that line stands among those of its next line.
+//!
 //! The functions here run nothing: each is a law, and its clauses are what is proved.
 #![tactic(auto)]
 
-ghost use Rattle.std.specs.Prelude.{ℕ, ◌≡◌, List, [], length};
+ghost use Rattle.std.specs.Prelude.{ℕ, ◌≡◌, ◌<◌, List, [], length, false};
+ghost use Rattle.std.specs.List.{AllByRecursion};
 ghost use Rattle.cluster_consensus.specs.Facts.{Claim};
-ghost use Rattle.cluster_events.specs.Guards.{IsLegal, IsDone};
+ghost use Rattle.cluster_events.specs.Guards.{IsLegal};
 ghost use Rattle.cluster_events.specs.Parts.{Event, lines, field};
+ghost use Rattle.cluster_events.specs.Premises.{Steady};
 ghost use Rattle.cluster_events.specs.Settings.{Setting, basis_from, rows_at};
 ghost use Rattle.cluster_masters.specs.FirstMaster.{IsFirstMaster, HasNoMaster};
 ghost use Rattle.cluster_masters.specs.Reported.{IsReported};
-ghost use Rattle.cluster_reports.specs.Lawful.{IsLawfulBesideOperator};
-ghost use Rattle.cluster_reports.specs.Runs.{FitsScript};
+ghost use Rattle.cluster_reports.specs.Runs.{FitsScript, FollowsScript, IsFinished, IsLawfulWithFeeds};
 ghost use Rattle.cluster_requests.specs.KeptEntries.{KeptEntry};
+ghost use Rattle.node_reports.specs.Fed.{AreFeeds};
+ghost use Rattle.report_laws.specs.History.{Basis};
+ghost use Rattle.report_laws.specs.View.{View};
+ghost use Rattle.report_text.specs.declared.reports.FeedLine.{FeedLine};
 ghost use Rattle.report_text.specs.declared.reports.Report.{Report};
 
-/// The report of a finished history with a first master is lawful, but for the operator's lines and the feeds: its
-/// lines are those of the history, its entries those of the reported node's log behind what the first master adopted.
+/// The report of a finished history with a first master is lawful: its lines are those of the history, its entries those
+/// of the reported node's log behind what the first master adopted; and its feeds may have any numbers that fit.
 pub fn finished_runs_are_lawful()
-    ensures { (G : Setting) (h : List (ℕ × Event)) (r m : ℕ) (a : Claim KeptEntry) → FitsScript G → IsLegal G h
-        → ((s : ℕ) → IsDone G h s) → IsReported G.nodes (field h).core r → IsFirstMaster G.nodes (field h).core m a
+    ensures { (G : Setting) (h : List (ℕ × Event)) (r m : ℕ) (a : Claim KeptEntry) → FitsScript G → FollowsScript G
+        → IsLegal G h → IsFinished G h → IsReported G.nodes (field h).core r → IsFirstMaster G.nodes (field h).core m a
         → (report : Report) × (report.lines ≡ lines G h) × (report.end ≡ length ((field h).core.nodes r).log)
-        × IsLawfulBesideOperator
+        × IsLawfulWithFeeds
         (basis_from G (length a.log) (rows_at G ((field h).core.nodes r).log (length a.log))) report }
 {}
 
 /// And so is that of one without a first master, which has no entries.
 pub fn runs_without_a_master_are_lawful()
-    ensures { (G : Setting) (h : List (ℕ × Event)) (r : ℕ) → FitsScript G → IsLegal G h
-        → ((s : ℕ) → IsDone G h s) → IsReported G.nodes (field h).core r → HasNoMaster G.nodes (field h).core
+    ensures { (G : Setting) (h : List (ℕ × Event)) (r : ℕ) → FitsScript G → FollowsScript G → IsLegal G h
+        → IsFinished G h → IsReported G.nodes (field h).core r → HasNoMaster G.nodes (field h).core
         → (report : Report) × (report.lines ≡ lines G h) × (report.entries ≡ [])
         × (report.end ≡ length ((field h).core.nodes r).log)
-        × IsLawfulBesideOperator
+        × IsLawfulWithFeeds
         (basis_from G (length ((field h).core.nodes r).log)
         (rows_at G ((field h).core.nodes r).log (length ((field h).core.nodes r).log))) report }
+{}
+
+/// And so is that of one in which no node came up: its history is empty.
+pub fn runs_without_nodes_are_lawful()
+    ensures { (G : Setting) (h : List (ℕ × Event)) → FitsScript G → FollowsScript G → IsLegal G h → IsFinished G h
+        → ((k : ℕ) → ((field h).core.nodes k).was_up ≡ false) → (report : Report) × (report.lines ≡ lines G h)
+        × (report.entries ≡ []) × (report.end ≡ 0)
+        × IsLawfulWithFeeds (basis_from G 0 (rows_at G [] 0)) report }
+{}
+
+/// A setting that follows its script is steady, as the laws of what stays enabled ask: how far a session is in the
+/// barriers never falls.
+pub fn sessions_pass_barriers_steadily()
+    ensures { (G : Setting) → FitsScript G → FollowsScript G → Steady G }
+{}
+
+/// Where a script watches tables of its own there are feeds that fit: of each table all its changes, and none dropped.
+pub fn watched_tables_have_feeds()
+    ensures { (basis : Basis) (view : View) (position : ℕ)
+        → AllByRecursion (λ w. w < length basis.script.tables) basis.script.watches
+        → (feeds : List FeedLine) × AreFeeds basis view position 1 basis.script.watches feeds }
 {}
