@@ -4,7 +4,7 @@ use Rattle.std.specs.Prelude.{true, Option, Some, None, slice_get, option_map, i
 use Rattle.std.proofs.lemmas.List.{length-map}
 use Rattle.core_lists.specs.Lists.{In, Each}
 use Rattle.core_lists.specs.Fronts.{Front}
-use Rattle.core_lists.proofs.Fronts.{front_append}
+use Rattle.core_lists.proofs.Fronts.{front_take, length_take, take_length}
 use Rattle.blkseq_table.specs.OfLogs.{id_of}
 use Rattle.cdb_values.specs.Changes.{changes_of}
 use Rattle.cdb_values.specs.Good.{AllFit, first_broken, KeyName}
@@ -41,12 +41,12 @@ use Rattle.cluster_requests.specs.Requests.{Sent, Field, MayAppend}
 use Rattle.cluster_events.specs.Settings.{Setting, basis, changes_in, log_view}
 use Rattle.cluster_events.specs.Guards.{Decides, IsRightRefusal}
 use Rattle.cluster_answers.proofs.AgreeLaws.{get_of, get_last}
-use Rattle.cluster_events.proofs.LineLists.{append_assoc}
+use Rattle.cluster_core.proofs.BaseLaws.{over_ground, state_last}
 use Rattle.cluster_decisions.specs.Requested.{stored_entries, IsRequestOf, AreMadeBehind, ground_at}
 
 -- ---- look-ups
 
-get_map : {A B : Type 0} (f : A → B) (xs : List A) (i : ℕ) → slice_get (map f xs) i ≡ option_map f (slice_get xs i)
+pub get_map : {A B : Type 0} (f : A → B) (xs : List A) (i : ℕ) → slice_get (map f xs) i ≡ option_map f (slice_get xs i)
 get_map f [] i = refl
 get_map f (x ∷ xs) zero = refl
 get_map f (x ∷ xs) (suc i) = get_map f xs i
@@ -61,13 +61,9 @@ counted : (l : List KeptEntry) → length (changed_in (stored_entries l)) ≡ le
 counted [] = refl
 counted (e ∷ l) = ap (λ n. suc n) (counted l)
 
-same_id : (e : KeptEntry) → id_of (plain e) ≡ identity_of e
+pub same_id : (e : KeptEntry) → id_of (plain e) ≡ identity_of e
 same_id (SetupKept generation schema records reached) = refl
 same_id (CommitKept generation id begin level changes records reached) = refl
-
-state_last : (r : Rows) (l : List KeptEntry) (e : KeptEntry) → state_from r (l ++ e ∷ []) ≡ rows_behind e
-state_last r [] e = refl
-state_last r (x ∷ l) e = state_last (rows_behind x) l e
 
 take_all : {A : Type 0} (xs : List A) → take (length xs) xs ≡ xs
 take_all [] = refl
@@ -134,12 +130,13 @@ module _ (G : Setting) (log : List KeptEntry) (footing : Ground) (sent : Sent) (
       ∙ (ap (λ z. plain_entry.Commit g i' b' l' (changes_of z r.next) records) t
       ∙ ap (λ (z : Rows). plain_entry.Commit g i' b' l' (changes_of o' z.next) records) u)))
 
-  pub appends : (f : Field) (i generation : ℕ) (next : PlainEntry) → (f.core.nodes i).log ≡ log → generation ≡ (f.core.nodes i).accepted → In sent f.sends → sent.to ≡ i → sent.gen ≡ (f.core.nodes i).accepted
+  pub appends_kept : (f : Field) (i generation : ℕ) (next : PlainEntry) → (f.core.nodes i).log ≡ log → generation ≡ (f.core.nodes i).accepted → In sent f.sends → sent.to ≡ i → sent.gen ≡ (f.core.nodes i).accepted
       → Each (λ t. sent.id ≢ t) (f.settled i) → AllFit G.tables (apply_all (state_of log) sent.ops).tables → IsDecided footing request (stored_entries log) generation (decision.Commit next)
-      → (e : KeptEntry) × (plain e ≡ next) × MayAppend f i e × Decides G f i log e
-  appends f i generation next own made mem to gen unsettled fit d = (
+      → (e : KeptEntry) × (plain e ≡ next) × (rows_behind e ≡ apply_all (state_of log) sent.ops) × MayAppend f i e × Decides G f i log e
+  appends_kept f i generation next own made mem to gen unsettled fit d = (
     e,
     is,
+    refl,
     record {
       made = made;
       asked = record { it = sent; mem = mem; is = (refl, to, gen) };
@@ -165,6 +162,13 @@ module _ (G : Setting) (log : List KeptEntry) (footing : Ground) (sent : Sent) (
 
       is : plain e ≡ next
       is = sym (d.made ∙ same_entry generation request.id sent.id request.begin sent.begin request.level sent.level request.ops sent.ops (rows_over footing (stored_entries log)) (state_of log) d.records k.its_id k.its_begin k.its_level k.its_ops k.rows)
+
+  pub appends : (f : Field) (i generation : ℕ) (next : PlainEntry) → (f.core.nodes i).log ≡ log → generation ≡ (f.core.nodes i).accepted → In sent f.sends → sent.to ≡ i → sent.gen ≡ (f.core.nodes i).accepted
+      → Each (λ t. sent.id ≢ t) (f.settled i) → AllFit G.tables (apply_all (state_of log) sent.ops).tables → IsDecided footing request (stored_entries log) generation (decision.Commit next)
+      → (e : KeptEntry) × (plain e ≡ next) × MayAppend f i e × Decides G f i log e
+  appends f i generation next own made mem to gen unsettled fit d =
+      let r = appends_kept f i generation next own made mem to gen unsettled fit d in
+      (r.0, r.1, r.3, r.4)
 
   -- ---- refusals
 
@@ -219,43 +223,13 @@ module _ (G : Setting) (log : List KeptEntry) (footing : Ground) (sent : Sent) (
 
 -- ---- the rows over the ground at a request's begin
 
-replayed : (front back : List KeptEntry) → AreMadeBehind (length front) (front ++ back) → rows_from (state_of front) (stored_entries back) ≡ state_of (front ++ back)
-replayed front [] all = ap (λ z. state_of z) (sym (append_none front))
-  where
-    append_none : {A : Type 0} (xs : List A) → xs ++ [] ≡ xs
-    append_none [] = refl
-    append_none (x ∷ xs) = ap (λ z. x ∷ z) (append_none xs)
-replayed front (e ∷ back) all =
-    ap (λ r. rows_from r (stored_entries back)) (sym (all front e here (omega arith)) ∙ sym (state_last (no_rows []) front e))
-    ∙ (replayed (front ++ e ∷ []) back (λ xs x p b. all xs x (subst (λ z. Front (xs ++ x ∷ []) z) together p) (let n : length (front ++ e ∷ []) ≡ length front + 1 = length-append front (e ∷ []) in omega (arith, b, n)))
-    ∙ ap (λ z. state_of z) together)
-  where
-    together : (front ++ e ∷ []) ++ back ≡ front ++ e ∷ back
-    together = append_assoc front (e ∷ []) back
-
-    here : Front (front ++ e ∷ []) (front ++ e ∷ back)
-    here = subst (λ z. Front (front ++ e ∷ []) z) together (front_append (front ++ e ∷ []) back)
-
-split : {A : Type 0} (n : ℕ) (xs : List A) → take n xs ++ drop n xs ≡ xs
-split zero xs = refl
-split (suc n) [] = refl
-split (suc n) (x ∷ xs) = ap (λ z. x ∷ z) (split n xs)
-
-long : {A : Type 0} (n : ℕ) (xs : List A) → n ≤ length xs → length (take n xs) ≡ n
-long zero xs h = refl
-long (suc n) [] h = absurd (omega (arith, h))
-long (suc n) (x ∷ xs) h = ap (λ z. suc z) (long n xs (omega (arith, h)))
-
-behind : (n : ℕ) (l : List KeptEntry) → drop n (stored_entries l) ≡ stored_entries (drop n l)
-behind zero l = refl
-behind (suc n) [] = refl
-behind (suc n) (e ∷ l) = behind n l
-
 pub over_begin : (log : List KeptEntry) (begin : ℕ) → begin ≤ length log → AreMadeBehind begin log → rows_over (ground_at (state_of (take begin log)) begin) (stored_entries log) ≡ state_of log
 over_begin log begin within all =
-    ap (λ z. rows_from (state_of (take begin log)) z) (behind begin log)
-    ∙ (replayed (take begin log) (drop begin log) (λ xs e p b. all xs e (subst (λ z. Front (xs ++ e ∷ []) z) (split begin log) p) (let n = long begin log within in omega (arith, b, n)))
-    ∙ ap (λ z. state_of z) (split begin log))
+    let less = length_take begin log in
+    let more = take_length begin log within in
+    let size : length (take begin log) ≡ begin = omega arith in
+    subst (λ (n : ℕ). rows_over (ground_at (state_of (take begin log)) n) (stored_entries log) ≡ state_of log) size
+    (over_ground (take begin log) log (front_take begin log) (λ xs e p far. (let far' : length (take begin log) ≤ length xs = far in all xs e p (omega arith))))
 
 -- a decided entry is made of the state_of before it
 dropped : {A : Type 0} (n : ℕ) (xs : List A) (x : A) → n ≤ length xs → drop n (xs ++ x ∷ []) ≡ drop n xs ++ x ∷ []

@@ -1,2 +1,6 @@
 pub mod BrokenKeys
 pub mod DecisionLaws
+pub mod AskedLaws
+pub mod NamedLaws
+pub mod LedLaws
+pub mod RefusalLaws

@@ -2,8 +2,16 @@
 --
 -- The block processor decides over a ground: the rows at a position of the log.
 use Rattle.std.specs.Prelude.{ℕ, ◌≡◌, ◌≤◌, List, [], ◌∷◌, ◌++◌, map, length}
-use Rattle.cdb_values.specs.Rows.{Rows}
+use Rattle.std.specs.List.{AllByRecursion}
+use Rattle.cdb_values.specs.Changes.{taken_by}
+use Rattle.cdb_values.specs.Rows.{Rows, versions_of}
 use Rattle.cdb_values.specs.declared.rows.Change.{Change}
+use Rattle.cdb_values.specs.declared.tables.TableDef.{TableDef}
+use Rattle.key_code.specs.Codes.{IsText}
+use Rattle.table_edits.specs.Fits.{WritesFitting}
+use Rattle.table_store.specs.Listings.{IsAmong}
+use Rattle.table_store.specs.Operations.{gone, NoTwice}
+use Rattle.block_processor.specs.Asked.{Writes}
 use Rattle.phys_log.specs.declared.entries.Entry.{Entry as PlainEntry}
 use Rattle.phys_log.specs.declared.requests.CommitRequest.{CommitRequest}
 use Rattle.log_rows.specs.History.{Ground, rows_over, rows_after, tables_of}
@@ -39,3 +47,21 @@ AreMadeBehind b l = (xs : List KeptEntry) (e : KeptEntry) → Front (xs ++ e ∷
 -- the ground of a log at a position
 abbrev pub ground_at : Rows → ℕ → Ground
 ground_at rows position = record { position = position; rows = rows }
+
+-- what a session computed over the rows at its begin: what it takes away is there, each version once, and is named among what
+-- it used; what it writes fits the cells of trees, and its texts are UTF-8
+pub record FitsRows (tables : List TableDef) (rows : Rows) (request : CommitRequest) : Type 0 where
+  pub there : (table : ℕ) → AllByRecursion (λ v. IsAmong v (versions_of rows table)) (gone table request.ops)
+  pub once : (table : ℕ) → NoTwice (gone table request.ops)
+  pub named : AllByRecursion (λ i. IsAmong i request.genids) (taken_by request.ops)
+  pub fits : AllByRecursion (WritesFitting tables) request.ops
+  pub texts : AllByRecursion (Writes IsText) request.ops
+
+-- a request of the block processor says what its session sent
+pub record IsOfSent (G : Setting) (sent : Sent) (request : CommitRequest) : Type 0 where
+  pub its_id : request.id ≡ sent.id
+  pub its_begin : request.begin ≡ sent.begin
+  pub its_level : request.level ≡ sent.level
+  pub its_ops : request.ops ≡ sent.ops
+  -- a request is without repeats
+  pub its_used : (changes : List Change) → first_used G.tables changes (map TheVersion request.genids ++ map TheRange (ranges_of request)) ≡ first_used G.tables changes sent.used

@@ -49,7 +49,7 @@ too_early legal = let d : 1 ≤ 0 = legal.0.0.0.3 in omega arith
 differ : {xs : List Reply} → Front (reply.Begin 1 ∷ reply.Changed 2 ∷ []) xs → (b : ℕ) → xs ≡ reply.Begin b ∷ reply.Changed 1 ∷ [] → ⊥
 differ p b q = absurd (let o = front_parts _ _ _ _ (subst (λ z. Front (reply.Begin 1 ∷ reply.Changed 2 ∷ []) z) q p) in let i = front_parts _ _ _ _ o.1 in let e : reply.Changed 2 ≡ reply.Changed 1 = i.0 in cc)
 
-only : (rows : Rows) (t : Transaction) (others : List Item) → Does its_txn ∷ [] ≡ Does t ∷ others → (run_alone given rows t).replies ≡ reply.Changed 1 ∷ []
+pub only : (rows : Rows) (t : Transaction) (others : List Item) → Does its_txn ∷ [] ≡ Does t ∷ others → (run_alone given rows t).replies ≡ reply.Changed 1 ∷ []
 only rows t others e = let q : t ≡ its_txn = cc in ap (λ u. (run_alone given rows u).replies) q
 
 pub untrue : IsLegal given ((4, Say (reply.Changed 2)) ∷ begun) → ⊥

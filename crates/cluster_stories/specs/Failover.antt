@@ -1,6 +1,6 @@
 -- The story goes on from the commit that was sent. The newest event comes first.
 --
--- It is sent again and repeated; or its leader falls and the next one repeats it; or the arm fires, the leader is stopped with
+-- It is sent again and repeated; or its leader falls and the next one repeats it; or its transaction is lost and its entry comes back; or the arm fires, the leader is stopped with
 -- the entry that nobody took, and the next one appends it anew.
 use Rattle.std.specs.Prelude.{ℕ, List, [], ◌∷◌}
 use Rattle.cdb_values.specs.Changes.{changes_of}
@@ -41,6 +41,13 @@ moved = (4, Move 2) ∷ (2, Node (LearnLead 2)) ∷ (3, Node (Take 2 (setup ∷ 
 
 abbrev pub repeated_on : List (ℕ × Event)
 repeated_on = (4, Finish (reply.Committed 2)) ∷ (2, Repeat its_id 2) ∷ (4, Send sent_on) ∷ moved
+
+-- a follower has it, its leader falls, and with it the session's transaction is lost; the next leader has its entry
+abbrev pub lost : List (ℕ × Event)
+lost = (4, Finish (reply.Lost 1 1)) ∷ fallen
+
+abbrev pub come_back : List (ℕ × Event)
+come_back = (2, Node (LearnLead 2)) ∷ (3, Node (Take 2 (setup ∷ commit ∷ []))) ∷ (2, Node Lead) ∷ (3, Node (Grants 2 2)) ∷ (2, Node (Stand 2)) ∷ lost
 
 -- the arm fires, and the leader is stopped with an entry that nobody took
 abbrev pub fired : List (ℕ × Event)

@@ -1,6 +1,6 @@
 -- Three nodes over empty stores, and one session with one line, which is armed: the first master adopts nothing and sets up the schema, the
 -- line begins, is answered, sent, appended, and committed. The newest event comes first.
-use Rattle.std.specs.Prelude.{ℕ, ◌==◌, cond, List, [], ◌∷◌, true, false}
+use Rattle.std.specs.Prelude.{ℕ, ◌==◌, Bool, cond, List, [], ◌∷◌, true, false}
 use Rattle.cdb_values.specs.Rows.{no_rows, apply_all}
 use Rattle.cdb_values.specs.Changes.{changes_of}
 use Rattle.cdb_values.specs.declared.rows.Level.TheVariants.{Snapshot}
@@ -27,11 +27,22 @@ its_ops = Insert 0 [] ∷ []
 abbrev pub inserting : Language
 inserting = record { kind = λ text. OtherText; answer = λ tables versions done text. record { replies = reply.Changed 1 ∷ []; ops = Insert 0 [] ∷ []; uses = []; ranges = []; failed = false } }
 
+-- with a session that survives the fall of its node, or one that does not
+abbrev pub script_as : Bool → Script
+script_as hasql = record { nodes = 3; cluster = []; workers = 1; sessions = record { line = 2; name = 115 ∷ []; node = 1; hasql = hasql } ∷ []; tables = []; watches = []; body = record { line = 3; act = act.Arm (115 ∷ []) moment.Append } ∷ record { line = 4; act = act.Say (115 ∷ []) (120 ∷ []) } ∷ record { line = 5; act = act.Start 1 } ∷ [] }
+
+abbrev pub given_as : Bool → Setting
+given_as hasql = record { nodes = 3; language = inserting; script = script_as hasql; tables = []; names = λ i. cond (i == 4) (115 ∷ []) (i ∷ i ∷ []); phase = λ s told. 0; armed = λ s told line. true }
+
 abbrev pub script : Script
-script = record { nodes = 3; cluster = []; workers = 1; sessions = record { line = 2; name = 115 ∷ []; node = 1; hasql = true } ∷ []; tables = []; watches = []; body = record { line = 3; act = act.Arm (115 ∷ []) moment.Append } ∷ record { line = 4; act = act.Say (115 ∷ []) (120 ∷ []) } ∷ record { line = 5; act = act.Start 1 } ∷ [] }
+script = script_as true
 
 abbrev pub given : Setting
-given = record { nodes = 3; language = inserting; script = script; tables = []; names = λ i. cond (i == 4) (115 ∷ []) (i ∷ i ∷ []); phase = λ s items mine. 0; armed = λ s told line. true }
+given = given_as true
+
+-- the same, where a barrier stands before its line
+abbrev pub barred : Setting
+barred = record given { phase = λ s told. 1 }
 
 abbrev pub setup : KeptEntry
 setup = Setup 1 [] [] (no_rows [])

@@ -7,6 +7,7 @@
 //! begin 1, changed 1, sent ----- appended, durable ----------------------- committed 2
 //!                          \---- appended, sent again: Repeat at 2 -------- committed 2
 //!                          \---- a follower has it, node 1 falls, node 2 leads, Move 2, Repeat at 2 --- committed 2
+//!                          \---- a follower has it, node 1 falls, lost 1 1, node 2 leads with the entry
 //!                          \---- nobody has it, the arm fires, node 1 is stopped, node 2 leads, Move 2,
 //!                                appended by node 2 ----------------------- committed 2, node 1 drops its own
 //! ```
@@ -17,12 +18,13 @@
 ghost use Rattle.std.specs.Prelude.{ℕ, ◌≡◌, [], ◌∷◌, true, false, List};
 ghost use Rattle.cdb_values.specs.declared.replies.Reply.TheVariants as reply;
 ghost use Rattle.cluster_consensus.specs.Events.Event.{Append, Down};
+ghost use Rattle.cluster_consensus.specs.Durable.{DurableIn};
 ghost use Rattle.cluster_events.specs.ByScript.{AllHeed};
 ghost use Rattle.cluster_events.specs.Guards.{IsLegal};
 ghost use Rattle.cluster_events.specs.Parts.{lines, field};
-ghost use Rattle.cluster_events.specs.Parts.Event.{Node, Say, Finish, Stop, Repeat, Order, Obeyed, Fire, FedAgain};
-ghost use Rattle.cluster_stories.specs.Failover.{repeated, repeated_on, fired, appended_on, tail_dropped, commit_on};
-ghost use Rattle.cluster_stories.specs.Story.{given, committed, setup, commit, script, led, set_up, begun, sent};
+ghost use Rattle.cluster_events.specs.Parts.Event.{Node, Settle, Ask, Begun, Note, Barrier, Fed, Say, Send, Finish, Move, Stop, Repeat, Order, Obeyed, Fire, FedAgain};
+ghost use Rattle.cluster_stories.specs.Failover.{repeated, repeated_on, fallen, come_back, fired, appended_on, tail_dropped, commit_on};
+ghost use Rattle.cluster_stories.specs.Story.{given, given_as, barred, committed, setup, commit, script, led, set_up, begun, its_sent, sent};
 ghost use Rattle.cluster_stories.specs.Story.{its_id};
 ghost use Rattle.report_text.specs.declared.reports.Line.TheVariants as line;
 
@@ -49,6 +51,16 @@ pub fn a_session_moves()
         ∷ line.Session (115 ∷ []) 1 (reply.Committed 2) ∷ [] }
 {}
 
+/// The session does not survive the fall of its node: it is told that its transaction is lost. But a follower has the
+/// entry and leads next, so it is durable.
+pub fn a_lost_commit_comes_back()
+    ensures legal { IsLegal (given_as false) come_back }
+    ensures lines { lines (given_as false) come_back
+        ≡ line.Session (115 ∷ []) 1 (reply.Begin 1) ∷ line.Session (115 ∷ []) 1 (reply.Changed 1) ∷ line.Down 1 1 true
+        ∷ line.Session (115 ∷ []) 1 (reply.Lost 1 1) ∷ [] }
+    ensures durable { DurableIn 3 (field come_back).core 2 (setup ∷ commit ∷ []) }
+{}
+
 /// The arm fires when the leader has appended, and the leader is stopped with an entry that nobody took. The next
 /// leader appends it anew; the first one is started again, and drops its own.
 pub fn an_arm_fires()
@@ -60,9 +72,17 @@ pub fn an_arm_fires()
     ensures dropped { ((field tail_dropped).core.nodes 1).log ≡ setup ∷ commit_on ∷ [] }
 {}
 
-/// Histories that are not legal: an entry that nobody asked for, a second setup, a reply that the rows do not give, a
-/// commit that is appended twice, a loss without a line that a node went down, an entry that is repeated and is not
-/// there, a feed that repeats and was not asked for.
+/// Histories that are not legal.
+///
+/// Of nodes: an entry that nobody asked for, a second setup, a commit that is appended twice, one that was settled before, a
+/// conflict with an entry that is not there, an entry that is repeated and is not there, a node that is stopped and is down.
+///
+/// Of sessions: a begin that was not asked for, a reply that the rows do not give, a line outside a transaction that is
+/// answered inside one, a commit that is sent before its replies are told, a loss without a line that a node went down, a
+/// session that moves and whose node did not go down, one that passes over a node that is up, one that asks for a begin
+/// before the barrier before its line is told.
+///
+/// Of the operator: a barrier before a session's line that stands before it, a feed that repeats and was not asked for.
 pub fn wrong_histories_are_not_legal()
     ensures unasked { IsLegal given ((1, Node (Append commit)) ∷ set_up) → ⊥ }
     ensures set_up_twice { IsLegal given ((1, Node (Append setup)) ∷ set_up) → ⊥ }
@@ -70,14 +90,28 @@ pub fn wrong_histories_are_not_legal()
     ensures appended_twice { IsLegal given ((1, Node (Append commit)) ∷ (1, Node (Append commit)) ∷ sent) → ⊥ }
     ensures lost_for_nothing { IsLegal given ((4, Finish (reply.Lost 1 1)) ∷ sent) → ⊥ }
     ensures not_there { IsLegal given ((1, Repeat its_id 2) ∷ sent) → ⊥ }
+    ensures appended_settled { IsLegal given ((1, Node (Append commit)) ∷ (1, Settle its_id (reply.ConflictGenid 2 [] 1)) ∷ sent) → ⊥ }
+    ensures refused_wrongly { IsLegal given ((1, Settle its_id (reply.ConflictGenid 2 [] 1)) ∷ sent) → ⊥ }
+    ensures stopped_down { IsLegal given ((1, Stop) ∷ (1, Stop) ∷ led) → ⊥ }
+    ensures begun_unasked { IsLegal given ((4, Begun 1 1) ∷ set_up) → ⊥ }
+    ensures noted_inside { IsLegal given ((4, Note) ∷ begun) → ⊥ }
+    ensures sent_early { IsLegal given ((4, Send its_sent) ∷ begun) → ⊥ }
+    ensures barred_early { IsLegal given ((0, Barrier) ∷ set_up) → ⊥ }
     ensures unfed { IsLegal given ((0, FedAgain 0) ∷ sent) → ⊥ }
+    ensures moved_for_nothing { IsLegal given ((4, Move 2) ∷ sent) → ⊥ }
+    ensures moved_too_far { IsLegal given ((4, Move 3) ∷ fallen) → ⊥ }
+    ensures went_on_barred { IsLegal barred ((4, Ask 7) ∷ set_up) → ⊥ }
 {}
 
-/// Histories that are not by the script: a stop without a line of it, an arm that fires twice, a line that is obeyed
-/// before it is ordered, a start that is taken for heeded by a fault before its order.
+/// Histories that are not by the script: a stop without a line of it, an order that is told twice, a feed out of its
+/// turn, a line that is obeyed before it is ordered, a start that is taken for heeded by a fault before its order; an arm
+/// that fires twice, a session that goes on before the node is down that its arm stops.
 pub fn wrong_histories_are_not_by_the_script()
     ensures unordered { AllHeed given script.body ((1, Stop) ∷ led) → ⊥ }
     ensures fired_twice { AllHeed given script.body ((4, Fire 0 1) ∷ fired) → ⊥ }
     ensures obeyed_unordered { AllHeed given script.body ((0, Obeyed) ∷ appended_on) → ⊥ }
+    ensures ordered_twice { AllHeed given script.body ((0, Order) ∷ (0, Order) ∷ led) → ⊥ }
+    ensures fed_out_of_turn { AllHeed given script.body ((0, Fed 1 1) ∷ led) → ⊥ }
+    ensures went_on_armed { AllHeed given script.body ((4, Send its_sent) ∷ fired) → ⊥ }
     ensures fault_before_the_order { AllHeed given script.body ((0, Obeyed) ∷ (0, Order) ∷ (1, Node Down) ∷ led) → ⊥ }
 {}

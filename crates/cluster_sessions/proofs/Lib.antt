@@ -1,0 +1,4 @@
+pub mod FoundLaws
+pub mod KeptLaws
+pub mod PingLaws
+pub mod SendLaws
