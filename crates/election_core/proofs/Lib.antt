@@ -6,3 +6,5 @@ pub mod Keeping
 pub mod Allowing
 pub mod Missing
 pub mod Acted
+pub mod Fitting
+pub mod WorkedFits

@@ -4,6 +4,7 @@
 //! ```text
 //! stand(vote, generation)    -> Action      the node stands for a generation
 //! on_message(vote, message)  -> Action      the node does what the message allows, if anything
+//! lowest_unfit(nodes, stores) -> Option<u8> the lowest node whose store does not fit the others
 //! ```
 //!
 //! The caller does the action under its lock, syncs what is to be kept, and then sends. A node tells its
@@ -40,11 +41,13 @@
 
 pub mod counts;
 pub mod decisions;
+pub mod fits;
 pub mod laws;
 pub mod messages;
 pub mod told_laws;
 pub mod votes;
 
 pub use decisions::{on_message, stand};
+pub use fits::{ReadStore, lowest_unfit};
 pub use messages::{Action, Message};
 pub use votes::NodeVote;

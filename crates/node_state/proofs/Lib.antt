@@ -1,0 +1,10 @@
+pub mod LogLists
+pub mod NodeLaws
+pub mod ShipLaws
+pub mod SentLaws
+pub mod CallLaws
+pub mod ActionLaws
+pub mod NewLaws
+pub mod TakeLaws
+pub mod BehindLaws
+pub mod SetupLaws

@@ -1,0 +1,13 @@
+use Rattle.election_core.specs.Senders.{sender_of}
+use Rattle.node_state.specs.Nodes.{held}
+use Rattle.node_state.proofs.ActionLaws.{lead_follows, lead_acts, lead_sends}
+use Rattle.node_state.proofs.bodies.Body.lead.Goals as goal
+
+pub happens-requires-clause-follows : goal.happens-requires-clause-follows
+happens-requires-clause-follows g c = lead_follows g.J.Plan.setting (held c.args.self.now.vote c.args.self.now.log c.args.self.now.actor) c.args.vote c.args.message.now c.args.entries.now c.args.action c.args.generation c.requires.own c.requires.packet c.requires.is c.requires.decided c.requires.vote
+
+pub returns-clause-acts : goal.returns-clause-acts
+returns-clause-acts g c = lead_acts (held c.args.self.now.vote c.args.self.now.log c.args.self.now.actor) (held c.happens.new.self.vote c.happens.new.self.log c.happens.new.self.actor) c.args.vote c.args.message.now c.args.entries.now c.args.action c.args.generation c.requires.is c.requires.vote c.happens.ensures.did c.happens.ensures.vote c.happens.ensures.entries
+
+pub returns-clause-sends : goal.returns-clause-sends
+returns-clause-sends g c = lead_sends g.J.Plan.setting (held c.args.self.now.vote c.args.self.now.log c.args.self.now.actor) (held c.happens.new.self.vote c.happens.new.self.log c.happens.new.self.actor) c.args.vote c.args.message.now c.args.entries.now c.args.action c.args.generation (sender_of c.args.message.now) c.requires.own c.happens.ensures.own c.requires.packet c.requires.is c.requires.decided c.requires.vote c.happens.ensures.vote c.happens.ensures.entries c.happens.ensures.adds

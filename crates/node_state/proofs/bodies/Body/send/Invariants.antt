@@ -1,0 +1,12 @@
+use Rattle.std.proofs.Common.{◌≡◌, ◌≤◌, ◌+◌, ◌++◌, length, vec_len, vec_capacity}
+use Rattle.node_state.specs.Calls.{IsAsBefore}
+use Rattle.node_state.specs.Nodes.{IsOwn, held}
+use Rattle.node_state.specs.Packets.{AreSent}
+use Rattle.node_state.proofs.bodies.Body.send.Given as goal
+
+abbrev pub invariant-sending : goal.invariant-sending
+invariant-sending g l =
+    IsOwn g.J.Plan.setting (held l.self.vote l.self.log l.self.actor) × AreSent g.J.Plan.setting l.self.actor.seen l.draft-iterator.rest.items
+    × IsAsBefore (held l.fn.self.vote l.fn.self.log l.fn.self.actor) (held l.self.vote l.self.log l.self.actor)
+    × (l.packets.items ++ l.draft-iterator.rest.items ≡ l.fn.packets.items ++ l.fn.drafts.items)
+    × (vec_len l.packets + length l.draft-iterator.rest.items ≤ vec_capacity l.packets)

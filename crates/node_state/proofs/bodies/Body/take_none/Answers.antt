@@ -1,0 +1,14 @@
+use Rattle.std.proofs.Common.{refl}
+use Rattle.election_core.specs.Senders.{sender_of}
+use Rattle.node_state.specs.Nodes.{held}
+use Rattle.node_state.proofs.TakeLaws.{none_follows, none_acts, none_sends}
+use Rattle.node_state.proofs.bodies.Body.take_none.Goals as goal
+
+pub happens-requires-clause-follows : goal.happens-requires-clause-follows
+happens-requires-clause-follows g c = none_follows g.J.Plan.setting (held c.args.self.now.vote c.args.self.now.log c.args.self.now.actor) c.args.vote c.args.message.now c.args.entries.now c.args.generation c.args.taken c.requires.own c.requires.packet c.requires.allowed c.requires.same c.requires.whole c.requires.vote
+
+pub returns-clause-acts : goal.returns-clause-acts
+returns-clause-acts g c = none_acts g.J.Plan.setting (held c.args.self.now.vote c.args.self.now.log c.args.self.now.actor) (held c.happens.new.self.vote c.happens.new.self.log c.happens.new.self.actor) c.args.vote c.args.message.now c.args.entries.now c.args.generation c.args.taken c.requires.packet c.requires.allowed c.requires.same c.requires.whole c.requires.vote c.happens.ensures.did c.happens.ensures.vote c.happens.ensures.entries
+
+pub returns-clause-sends : goal.returns-clause-sends
+returns-clause-sends g c = none_sends g.J.Plan.setting (held c.args.self.now.vote c.args.self.now.log c.args.self.now.actor) (held c.happens.new.self.vote c.happens.new.self.log c.happens.new.self.actor) c.args.vote c.args.message.now c.args.entries.now c.args.generation c.args.taken (sender_of c.args.message.now) c.requires.own c.happens.ensures.own c.requires.packet c.requires.allowed refl c.requires.whole c.requires.vote c.happens.ensures.vote c.happens.ensures.adds
