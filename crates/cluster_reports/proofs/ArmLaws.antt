@@ -345,7 +345,7 @@ module _ (G : Setting) (fits : FitsScript G) (follows : FollowsScript G) (H : Li
 
       few : G.phase s (part G s h).told ≤ barrier_lines front
       few =
-          let p = follows.phase s (part G s h).told ∙ ap (λ z. barriers_passed G.language (G.names s) [] z (part G s h).told) split in
+          let p = follows.phase s ns (part G s h).told ∙ ap (λ z. barriers_passed G.language (G.names s) [] z (part G s h).told) split in
           let f = passed_few G.language (G.names s) [] (front ++ next ∷ []) later (part G s h).told not_past in
           let a : barrier_lines (front ++ next ∷ []) ≡ (0 + (if is_barrier next.act then 1 else 0)) + barrier_lines front = bar_lines_append front (next ∷ []) in
           let b : (0 + (if is_barrier next.act then 1 else 0)) + barrier_lines front ≡ (0 + 0) + barrier_lines front = ap (λ z. (0 + (if is_barrier z then 1 else 0)) + barrier_lines front) say in
@@ -464,7 +464,7 @@ module _ (G : Setting) (fits : FitsScript G) (follows : FollowsScript G) (H : Li
       side =
           let w' = fired_waited G (lines_to_do G) u all_u (fire.0).by (fire.0) waits.0 in
           let n = no_barrier_yet u (w ++ (node, Stop) ∷ []) (is ∙ sym (append_assoc w ((node, Stop) ∷ []) u)) (fire.0).by not_operator (at.done ++ at.arm ∷ at.middle) at.next at.later at.text split at.is_next (ap (λ z. behind G.language [] start (z ++ at.text ∷ []) (part G (fire.0).by u).told) front_said ∙ at.at_it) in
-          let p = follows.phase (fire.0).by (part G (fire.0).by u).told ∙ ap (λ z. barriers_passed G.language (G.names (fire.0).by) [] z (part G (fire.0).by u).told) split in
+          let p = follows.phase (fire.0).by not_operator (part G (fire.0).by u).told ∙ ap (λ z. barriers_passed G.language (G.names (fire.0).by) [] z (part G (fire.0).by u).told) split in
           let o : are_over G.language (G.names (fire.0).by) (at.done ++ at.arm ∷ at.middle) (part G (fire.0).by u).told ≡ true = ap (λ z. is_some (behind G.language [] start z (part G (fire.0).by u).told)) front_said ∙ ap (λ z. is_some z) at.over in
           let a = passed_all G.language (G.names (fire.0).by) [] (at.done ++ at.arm ∷ at.middle) (at.next ∷ at.later) (part G (fire.0).by u).told o in
           let l : barrier_lines (at.done ++ at.arm ∷ at.middle) ≡ (barrier_lines at.middle + (if is_barrier at.arm.act then 1 else 0)) + barrier_lines at.done = bar_lines_append at.done (at.arm ∷ at.middle) in

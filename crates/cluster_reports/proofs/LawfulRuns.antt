@@ -41,7 +41,7 @@ use Rattle.report_laws.proofs.OutcomeLemmas.{entry_within}
 use Rattle.report_text.specs.declared.reports.EntryLine.{EntryLine}
 use Rattle.report_text.specs.declared.reports.EntryLine.TheVariants as entries
 use Rattle.report_text.specs.declared.reports.Report.{Report}
-use Rattle.cluster_reports.specs.Runs.{FitsScript}
+use Rattle.cluster_reports.specs.Runs.{FitsScript, lines_from}
 use Rattle.node_reports.specs.Told.{IsToldAlong, IsHeard}
 use Rattle.cluster_reports.specs.Lawful.{IsLawfulBesideOperator}
 use Rattle.cluster_events.proofs.LineLists.{append_assoc, append_nil, told_append}
@@ -56,7 +56,7 @@ use Rattle.cluster_answers.proofs.AgreeLaws.{get_within, Agree, same_of, untouch
 use Rattle.cluster_answers.proofs.OutcomeLaws.{some_same, take_whole}
 use Rattle.cluster_answers.proofs.ToldLaws.{replies_right}
 use Rattle.cluster_reports.proofs.BeyondLaws.{beyond_base, one_id}
-use Rattle.cluster_reports.proofs.TrackLaws.{lines_from, found, Known, Track, track_more, track_first}
+use Rattle.cluster_reports.proofs.TrackLaws.{found, Known, Track, track_more, track_first}
 use Rattle.cluster_reports.proofs.EntriesTold.{entries_told}
 use Rattle.cluster_events.proofs.LinePlaces.{lines_placed}
 

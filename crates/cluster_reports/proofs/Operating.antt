@@ -225,7 +225,7 @@ module _ (G : Setting) (fits : FitsScript G) (follows : FollowsScript G) (H : Li
           of_rest (behind_front G.language [] start (said (G.names s) front) (said (G.names s) (bar ∷ back)) (part G s h).told f.0 (ap (λ z. behind G.language [] start z (part G s h).told) (sym texts) ∙ f.1))
       by_left (i ∷ ls) q ns =
           let lt : barriers h < G.phase s (part G s h).told = beyond s ns (λ z. absurd (let y = sym q ∙ z in cc)) in
-          let p : G.phase s (part G s h).told ≡ barriers_passed G.language (G.names s) [] (front ++ bar ∷ back) (part G s h).told = follows.phase s (part G s h).told ∙ ap (λ z. barriers_passed G.language (G.names s) [] z (part G s h).told) body in
+          let p : G.phase s (part G s h).told ≡ barriers_passed G.language (G.names s) [] (front ++ bar ∷ back) (part G s h).told = follows.phase s ns (part G s h).told ∙ ap (λ z. barriers_passed G.language (G.names s) [] z (part G s h).told) body in
           let c : barriers h ≡ barrier_lines front = count in
           of_rest (some (behind_lines G.language (G.names s) front (part G s h).told) (barrier_passed G.language (G.names s) front (bar ∷ back) (part G s h).told (omega arith)))
 

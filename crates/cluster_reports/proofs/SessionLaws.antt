@@ -203,6 +203,14 @@ barriers_grow : (x : ℕ × Event) (h : List (ℕ × Event)) → barriers h ≤ 
 barriers_grow (i, Barrier) h = omega arith
 barriers_grow (i, _) h = omega arith
 
+-- the barriers before the line of an actor that has work are those of the script: it is a session
+busy_phase : (G : Setting) → FollowsScript G → (h : List (ℕ × Event)) (s : ℕ) → (part G s h).left ≢ [] → G.phase s (part G s h).told ≡ barriers_passed G.language (G.names s) [] G.script.body (part G s h).told
+busy_phase G follows h s some = go (s == 0) refl
+  where
+    go : (b : Bool) → (s == 0) ≡ b → G.phase s (part G s h).told ≡ barriers_passed G.language (G.names s) [] G.script.body (part G s h).told
+    go true e = absurd (some (subst (λ j. (part G j h).left ≡ []) (sym ((Decides-eqb s 0).0 e)) (none_left G follows h)))
+    go false e = follows.phase s e (part G s h).told
+
 -- nothing was told of lines behind the next barrier
 pub nothing_beyond : (G : Setting) → FitsScript G → FollowsScript G → (h : List (ℕ × Event)) → IsLegal G h → (s : ℕ) (front back : List BodyLine) (bar : BodyLine) → G.script.body ≡ front ++ bar ∷ back → is_barrier bar.act ≡ true → barriers h ≤ barrier_lines front
     → (r : List Numbered) → behind_lines G.language (G.names s) front (part G s h).told ≡ Some r → r ≡ []
@@ -215,7 +223,7 @@ nothing_beyond G fits follows (x ∷ h) legal s front back bar is b le r e =
       | inr k ↦ elim (behind_less G.language [] start (said (G.names s) front) (part G s h).told k.0 r (ap (λ z. behind_lines G.language (G.names s) front z) (sym k.1) ∙ e)) [
         | inl z ↦ z
         | inr m ↦ absurd (
-            let p = follows.phase s (part G s h).told in
+            let p = busy_phase G follows h s k.3 in
             let w : G.phase s (part G s h).told ≤ barriers h = k.2 in
             let body = ap (λ z. barriers_passed G.language (G.names s) [] z (part G s h).told) is in
             let n : G.phase s (part G s h).told ≡ barriers_passed G.language (G.names s) [] (front ++ bar ∷ back) (part G s h).told = p ∙ body in
@@ -317,8 +325,8 @@ hush G fits follows (x ∷ w) u legal bare beyond =
 
     still : (s : ℕ) → (s == 0) ≡ false → IsStill G x (w ++ u) s → barriers (w ++ u) < G.phase s (part G s (w ++ u)).told → barriers (x ∷ (w ++ u)) < G.phase s (part G s (x ∷ (w ++ u))).told
     still s ns k lt =
-        let a = follows.phase s (part G s (w ++ u)).told in
-        let b = follows.phase s (part G s (x ∷ (w ++ u))).told in
+        let a = follows.phase s ns (part G s (w ++ u)).told in
+        let b = follows.phase s ns (part G s (x ∷ (w ++ u))).told in
         let c = ap (λ z. barriers_passed G.language (G.names s) [] G.script.body z) k.0 in
         let d : barriers (x ∷ (w ++ u)) ≡ barriers (w ++ u) = same_count x.0 x.1 (bare.at x here) in
         let e : G.phase s (part G s (x ∷ (w ++ u))).told ≡ G.phase s (part G s (w ++ u)).told = b ∙ (c ∙ sym a) in

@@ -1,8 +1,10 @@
 -- A session never falls back behind a barrier that it passed.
-use Rattle.std.proofs.Common.{◌≡◌, ℕ, ◌≤◌, List, [], ◌∷◌, ◌++◌, arith, refl, ap}
-use Rattle.std.specs.Prelude.{Bool, true, false, is_some, if◌then◌else◌}
+use Rattle.std.proofs.Common.{◌≡◌, ℕ, ◌≤◌, List, [], ◌∷◌, ◌++◌, arith, refl, ap, ◌∙◌}
+use Rattle.std.specs.Prelude.{◌==◌, Bool, true, false, is_some, if◌then◌else◌}
+use Rattle.std.proofs.lemmas.Bool.Decides.{Decides-eqb}
 use mathlib.Core.Logic.{inl, inr}
-use Rattle.cluster_events.specs.Parts.{part}
+use Rattle.cluster_events.specs.Guards.{IsLegal}
+use Rattle.cluster_events.specs.Parts.{Event, part}
 use Rattle.cluster_events.specs.Premises.{Steady}
 use Rattle.cluster_events.specs.Settings.{Setting}
 use Rattle.cluster_reports.proofs.RestLaws.{behind_more}
@@ -37,10 +39,11 @@ passed_more L name done (b ∷ bs) ls more = go (is_barrier b.act) (are_over L n
     go true true true k m n le = omega arith
     go true true false k m n le = absurd (let e = k refl in cc)
 
-pub steady : (G : Setting) → FitsScript G → FollowsScript G → Steady G
-steady G fits follows s x h legal =
-    let a : G.phase s (part G s h).told ≡ barriers_passed G.language (G.names s) [] G.script.body (part G s h).told = follows.phase s (part G s h).told in
-    let b : G.phase s (part G s (x ∷ h)).told ≡ barriers_passed G.language (G.names s) [] G.script.body (part G s (x ∷ h)).told = follows.phase s (part G s (x ∷ h)).told in
+-- a session passes barriers steadily
+session_steady : (G : Setting) → FitsScript G → FollowsScript G → (s : ℕ) → (s == 0) ≡ false → (x : ℕ × Event) (h : List (ℕ × Event)) → IsLegal G (x ∷ h) → G.phase s (part G s h).told ≤ G.phase s (part G s (x ∷ h)).told
+session_steady G fits follows s ns x h legal =
+    let a : G.phase s (part G s h).told ≡ barriers_passed G.language (G.names s) [] G.script.body (part G s h).told = follows.phase s ns (part G s h).told in
+    let b : G.phase s (part G s (x ∷ h)).told ≡ barriers_passed G.language (G.names s) [] G.script.body (part G s (x ∷ h)).told = follows.phase s ns (part G s (x ∷ h)).told in
     elim (step_of G fits x h s legal) [
       | inl k ↦ (
           let c : barriers_passed G.language (G.names s) [] G.script.body (part G s (x ∷ h)).told ≡ barriers_passed G.language (G.names s) [] G.script.body (part G s h).told = ap (λ z. barriers_passed G.language (G.names s) [] G.script.body z) k.0 in
@@ -50,3 +53,14 @@ steady G fits follows s x h legal =
           let m = passed_more G.language (G.names s) [] G.script.body (part G s h).told (k.0 ∷ []) in
           omega arith)
     ]
+
+-- and the operator waits for none
+pub steady : (G : Setting) → FitsScript G → FollowsScript G → Steady G
+steady G fits follows s x h legal = go (s == 0) refl
+  where
+    go : (b : Bool) → (s == 0) ≡ b → G.phase s (part G s h).told ≤ G.phase s (part G s (x ∷ h)).told
+    go false e = session_steady G fits follows s e x h legal
+    go true e =
+        let z : s ≡ 0 = (Decides-eqb s 0).0 e in
+        let a : G.phase s (part G s h).told ≡ 0 = ap (λ j. G.phase j (part G s h).told) z ∙ follows.free (part G s h).told in
+        omega arith

@@ -28,10 +28,6 @@ use Rattle.cluster_answers.specs.Entries.{Appended}
 use Rattle.cluster_answers.proofs.AgreeLaws.{get_of, get_last, Agree, agree_front}
 use Rattle.cluster_answers.proofs.OutcomeLaws.{take_whole, rows_last, entry_last}
 
-abbrev pub lines_from : ℕ → List KeptEntry → List EntryLine
-lines_from k [] = []
-lines_from k (e ∷ es) = line_of k e ∷ lines_from (k + 1) es
-
 rising_above : (k : ℕ) (is : List Item) (t : Transaction) → Rising k is → In (Does t) is → k < t.number
 rising_above k [] t r m = absurd (nothing m)
 rising_above k (Lone a ∷ is) t r (there m) = rising_above k is t r m

@@ -32,7 +32,7 @@ ghost use Rattle.cluster_events.specs.Premises.{Steady};
 ghost use Rattle.cluster_events.specs.Settings.{Setting, basis_from, rows_at};
 ghost use Rattle.cluster_masters.specs.FirstMaster.{IsFirstMaster, HasNoMaster};
 ghost use Rattle.cluster_masters.specs.Reported.{IsReported};
-ghost use Rattle.cluster_reports.specs.Runs.{FitsScript, FollowsScript, IsFinished, IsLawfulWithFeeds};
+ghost use Rattle.cluster_reports.specs.Runs.{AreEntriesBehind, FitsScript, FollowsScript, IsFinished, IsLawfulWithFeeds};
 ghost use Rattle.cluster_requests.specs.KeptEntries.{KeptEntry};
 ghost use Rattle.node_reports.specs.Fed.{AreFeeds};
 ghost use Rattle.report_laws.specs.History.{Basis};
@@ -45,7 +45,9 @@ ghost use Rattle.report_text.specs.declared.reports.Report.{Report};
 pub fn finished_runs_are_lawful()
     ensures { (G : Setting) (h : List (ℕ × Event)) (r m : ℕ) (a : Claim KeptEntry) → FitsScript G → FollowsScript G
         → IsLegal G h → IsFinished G h → IsReported G.nodes (field h).core r → IsFirstMaster G.nodes (field h).core m a
-        → (report : Report) × (report.lines ≡ lines G h) × (report.end ≡ length ((field h).core.nodes r).log)
+        → (report : Report) × (report.lines ≡ lines G h)
+        × AreEntriesBehind a.log ((field h).core.nodes r).log report.entries
+        × (report.end ≡ length ((field h).core.nodes r).log)
         × IsLawfulWithFeeds
         (basis_from G (length a.log) (rows_at G ((field h).core.nodes r).log (length a.log))) report }
 {}

@@ -6,7 +6,7 @@ use Rattle.std.proofs.lemmas.Slice.Eq.{bytes_eq-Decides}
 use Rattle.cluster_events.proofs.LineLists.{append_assoc}
 use Rattle.cluster_events.specs.Settings.{Setting}
 use Rattle.cluster_reports.specs.Runs.{FollowsScript}
-use Rattle.cluster_reports.specs.SessionLines.{behind, behind_lines, IsAtNext}
+use Rattle.cluster_reports.specs.SessionLines.{barriers_passed, behind, behind_lines, IsAtNext}
 use Rattle.cluster_runs.specs.Written.{waits, waits_by, waits_for, waits_at, written}
 use Rattle.report_laws.specs.Told.{Numbered}
 use Rattle.report_laws.specs.Work.{said, said_by, start}
@@ -110,6 +110,7 @@ pub follows : (G : Setting) → Answers G.language → said (G.names 0) G.script
 follows G answers quiet = record {
   answers = answers;
   operator = quiet;
-  phase = λ s told. refl;
+  free = λ told. refl;
+  phase = λ s ns told. ap (λ z. if z then 0 else barriers_passed G.language (G.names s) [] G.script.body told) ns;
   armed = λ s told line e. at_next G.language (G.names s) [] G.script.body line told line (omega arith) e;
 }

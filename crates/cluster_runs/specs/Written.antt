@@ -2,7 +2,7 @@
 --
 -- An arm waits for its session's next line where that line is begun and not over. The arm of a row waits where the last of so many
 -- rows of that line was just told; the arm of a commit waits there at any time.
-use Rattle.std.specs.Prelude.{ℕ, zero, suc, ◌==◌, ◌&&◌, ◌+◌, List, [], ◌∷◌, ◌++◌, Bool, true, false, not, Option, Some, is_some}
+use Rattle.std.specs.Prelude.{ℕ, zero, suc, ◌==◌, ◌&&◌, ◌+◌, List, [], ◌∷◌, ◌++◌, Bool, true, false, not, Option, Some, is_some, if◌then◌else◌}
 use Rattle.cdb_values.specs.declared.replies.Reply.TheVariants as reply
 use Rattle.cluster_events.specs.Settings.{Setting}
 use Rattle.cluster_reports.specs.SessionLines.{barriers_passed, behind, behind_lines}
@@ -48,9 +48,9 @@ waits_at language name done [] place lines = false
 waits_at language name done (b ∷ bs) zero lines = waits_for language name done b.act (said name bs) lines
 waits_at language name done (b ∷ bs) (suc place) lines = waits_at language name (done ++ b ∷ []) bs place lines
 
--- the same setting, where the barriers before lines, and the arms, are those of its script
+-- the same setting, where the barriers before the lines of sessions, and the arms, are those of its script
 abbrev pub written : Setting → Setting
 written G = record G {
-  phase = λ s told. barriers_passed G.language (G.names s) [] G.script.body told;
+  phase = λ s told. if s == 0 then 0 else barriers_passed G.language (G.names s) [] G.script.body told;
   armed = λ s told line. waits_at G.language (G.names s) [] G.script.body line told;
 }

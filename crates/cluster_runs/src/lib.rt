@@ -16,7 +16,7 @@ ghost use Rattle.cluster_events.specs.Parts.{lines};
 ghost use Rattle.cluster_events.specs.Settings.{Setting, basis_from, lines_to_do, rows_at};
 ghost use Rattle.cluster_masters.specs.FirstMaster.{IsFirstMaster, HasNoMaster};
 ghost use Rattle.cluster_masters.specs.Reported.{IsReported};
-ghost use Rattle.cluster_reports.specs.Runs.{FitsScript, FollowsScript, IsLawfulWithFeeds};
+ghost use Rattle.cluster_reports.specs.Runs.{AreEntriesBehind, FitsScript, FollowsScript, IsLawfulWithFeeds};
 ghost use Rattle.cluster_requests.specs.KeptEntries.{KeptEntry};
 ghost use Rattle.cluster_runs.specs.Written.{written};
 ghost use Rattle.cluster_steps.specs.Guards.{IsPlan, MayDo};
@@ -34,6 +34,7 @@ pub fn runs_are_lawful()
         → (duty (lines_to_do G) (steps G h)).left ≡ [] → ((s : ℕ) → IsDone G (steps G h) s)
         → IsReported G.nodes (world G h) r → IsFirstMaster G.nodes (world G h) m a
         → (report : Report) × (report.lines ≡ lines G (steps G h))
+        × AreEntriesBehind a.log ((world G h).nodes r).log report.entries
         × (report.end ≡ length ((world G h).nodes r).log)
         × IsLawfulWithFeeds
         (basis_from G (length a.log) (rows_at G ((world G h).nodes r).log (length a.log))) report }

@@ -1,6 +1,6 @@
 use Rattle.std.proofs.Common.{refl}
 use Rattle.cluster_reports.proofs.NodesRuns.{with_master, without_master}
-use Rattle.cluster_reports.proofs.LawfulRuns.{report}
+use Rattle.cluster_reports.proofs.LawfulRuns.{begins', front_rest, report}
 use Rattle.cluster_reports.proofs.MasterlessRuns as masterless
 use Rattle.cluster_runs.proofs.RunLaws.{finished}
 use Rattle.cluster_runs.proofs.runs_are_lawful.Goals as goal
@@ -11,6 +11,7 @@ pub returns-clause-with_master : goal.returns-clause-with_master
 returns-clause-with_master c = λ G h r m a fits follows legal none done top first. (
   report G fits (steps G h) (legal_steps G h legal) (finished G h legal none done).sessions r top m a first,
   refl,
+  (let own = front_rest (begins' G fits (steps G h) (legal_steps G h legal) (finished G h legal none done).sessions r top m a first) in (own.0, own.1, refl)),
   refl,
   with_master G fits follows (steps G h) (legal_steps G h legal) (finished G h legal none done) r m a top first,
 )
