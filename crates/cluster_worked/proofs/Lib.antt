@@ -1,0 +1,10 @@
+pub mod DuplicateLaws
+pub mod DuplicateReport
+pub mod NamedLaws
+pub mod Nodes
+pub mod SetUpLaws
+pub mod ShortLaws
+pub mod WholeLegal
+pub mod WholeReport
+pub mod WholeScript
+pub mod WordLaws
