@@ -12,7 +12,7 @@ use Rattle.report_worked.proofs.InsertSelectLemmas.{good_insert}
 use Rattle.report_worked.proofs.WorkedLemmas.{along_parts}
 use Rattle.node_reports.specs.Lawful.{LawfulOfNodes}
 use Rattle.node_reports.specs.Told.{IsToldAlong}
-use Rattle.node_stories.specs.Stories.{late_majority, late_majority_report, few_opened, few_opened_report, opened_later, opened_later_report, falls_at_election, falls_at_election_report, led_later, led_later_report, followed_later, followed_later_report, other_tables_report, other_basis, other_script}
+use Rattle.node_stories.specs.Stories.{late_majority, late_majority_report, few_opened, few_opened_report, opened_later, opened_later_report, falls_at_election, falls_at_election_report, led_later, led_later_report, followed_later, followed_later_report, other_tables_report, other_basis, other_script, armed_again, armed_again_report, over_a_row}
 use Rattle.node_stories.proofs.LawfulForm.{entered, heard, next_entry, story, told_cut, told_whole}
 
 pub late_majority_is_lawful : LawfulOfNodes (from_nothing late_majority) late_majority_report
@@ -70,3 +70,8 @@ other_tables_is_lawful = story other_script other_basis.origin other_tables_repo
     (next_entry other_basis ([]) (codes "a") (transaction 1 (codes "insert into t values(1, 10)" ∷ []) Snapshot WithItsLine) (omega arith) refl tt (λ is. cc) good_insert, tt)
     (heard (transaction 1 (codes "insert into t values(1, 10)" ∷ []) Snapshot WithItsLine) (reply.Committed 2) (take 0 (told (codes "a") other_tables_report.lines)) (drop 3 (told (codes "a") other_tables_report.lines)) refl (omega arith) (inl refl) refl, tt)
     refl refl refl refl
+
+pub armed_again_is_lawful : LawfulOfNodes over_a_row armed_again_report
+armed_again_is_lawful = story armed_again over_a_row.origin armed_again_report (0 ∷ 0 ∷ []) refl refl
+    (along_parts (IsToldAlong over_a_row (view_of over_a_row armed_again_report.entries) (codes "a")) (Does (transaction 1 (codes "insert into t values(1, 2)" ∷ []) Snapshot WithItsLine) ∷ []) ((reply.Begin 2 ∷ reply.Changed 1 ∷ reply.Duplicate 2 (codes "t") (codes "pk") ∷ []) ∷ []) (told_whole 2 (reply.Duplicate 2 (codes "t") (codes "pk")) (omega arith) (omega arith) tt (record { has_ops = λ is. cc; begun = omega arith; within = omega arith; untouched = λ j after before. absurd (omega (arith, after, before)); breaks = refl }) refl, tt))
+    refl tt tt refl refl refl refl

@@ -1,5 +1,6 @@
 pub mod AgainWrong
 pub mod ArmTerms
+pub mod FedWrong
 pub mod HeardLemmas
 pub mod HeardTerms
 pub mod HeardWrong

@@ -11,20 +11,20 @@ use Rattle.cdb_values.specs.declared.replies.Reply.{Reply}
 use Rattle.cdb_values.specs.declared.replies.Reply.TheVariants as reply
 use Rattle.cdb_values.specs.declared.rows.Level.TheVariants.{Serializable, Snapshot}
 use Rattle.script_form.specs.declared.scripts.Script.{Script}
-use Rattle.session_language.proofs.UpToLaws.{same_tail}
+use Rattle.session_language.proofs.UpToLaws.{same_head, same_tail}
 use Rattle.session_language.specs.Language.{Answered}
 use Rattle.session_language.specs.Touched.{used_at}
 use Rattle.report_laws.specs.Cut.{cuts}
 use Rattle.report_laws.specs.History.{view_of}
 use Rattle.report_laws.specs.Nodes.{up_count}
-use Rattle.report_laws.specs.Outcome.{IsOneDecision, IsDuplicate, IsRight, key_name}
+use Rattle.report_laws.specs.Outcome.{IsOneDecision, IsDuplicate, IsEntered, IsRight, key_name}
 use Rattle.report_laws.specs.Places.{IsLost, IsShort}
 use Rattle.report_laws.specs.Told.{alone_at, Along, Numbered}
 use Rattle.report_laws.specs.Work.{transaction, ByCommit, Does, Item, Transaction, WithItsLine}
 use Rattle.report_laws.proofs.AlongLaws.{along_its, of_number, of_its}
 use Rattle.report_laws.proofs.GrowLaws.{first_begin, first_rest, same_last}
 use Rattle.report_laws.proofs.PieceLaws.{all_at}
-use Rattle.report_text.specs.declared.reports.EntryLine.TheVariants.{Setup}
+use Rattle.report_text.specs.declared.reports.EntryLine.TheVariants.{Commit, Setup}
 use Rattle.report_text.specs.declared.reports.Line.{Line}
 use Rattle.report_text.specs.declared.reports.Line.TheVariants as line
 use Rattle.report_worked.specs.Small.{from_log, from_nothing}
@@ -32,8 +32,8 @@ use Rattle.report_worked.specs.Worked.{worked_table}
 use Rattle.report_worked.proofs.InsertSelectLemmas.{inserting}
 use Rattle.node_reports.specs.Lawful.{LawfulOfNodes}
 use Rattle.node_reports.specs.Told.{IsToldAlong, MayBeCut}
-use Rattle.node_stories.specs.Stories.{lost_stands, few_but_read, moves_at_rollback, taken_and_fallen, few_opened, opened_later, led_later, falls_while_down, master_falls, tail_stands, falls_at_election, came_back, falls_and_stops, other_basis, ends_undurable, armed_append, followed_later, moves_on_one}
-use Rattle.node_stories.specs.StoriesWrong.{lost_by_another_line, short_without_changes, two_of_three, one_of_one, no_base, two_schemas, lost_unbegun, behind_a_gap, stopped_while_down, up_though_up, begun_at_itself, miscounted, lost_at_another, lost_by_the_stop, named_by_the_script, ends_early, at_another_level, begun_below, lost_with_hasql}
+use Rattle.node_stories.specs.Stories.{lost_stands, few_but_read, moves_at_rollback, taken_and_fallen, few_opened, opened_later, led_later, falls_while_down, master_falls, tail_stands, falls_at_election, came_back, falls_and_stops, other_basis, ends_undurable, armed_append, followed_later, moves_on_one, over_a_row, wanting}
+use Rattle.node_stories.specs.StoriesWrong.{lost_by_another_line, short_without_changes, two_of_three, one_of_one, no_base, two_schemas, lost_unbegun, behind_a_gap, stopped_while_down, up_though_up, begun_at_itself, miscounted, lost_at_another, lost_by_the_stop, named_by_the_script, ends_early, at_another_level, begun_below, lost_with_hasql, committed_over_a_row, wanting_again}
 use Rattle.node_stories.proofs.LawfulForm.{is_fall}
 
 -- no transaction is lost by a line that does not stand before
@@ -185,3 +185,51 @@ not_misnamed (inr c) =
 
 pub named_by_the_script_is_refused : LawfulOfNodes other_basis named_by_the_script → ⊥
 named_by_the_script_is_refused is = not_misnamed (along_its (IsToldAlong other_basis (view_of other_basis named_by_the_script.entries) (codes "a")) (Does first_insert ∷ []) [] (Does second_insert) _ (refl, tt) tt (is.replies (codes "a")))
+
+abbrev kept : List Reply
+kept = reply.Begin 2 ∷ reply.Changed 1 ∷ reply.Committed 3 ∷ []
+
+abbrev again : Transaction
+again = transaction 1 (codes "insert into t values(1, 2)" ∷ []) Snapshot WithItsLine
+
+-- committed, where no entry stands
+not_kept : IsToldAlong over_a_row (view_of over_a_row []) (codes "a") (Does again) kept → ⊥
+not_kept (inl w) = go w.last last w.right
+  where
+    at : 2 ≡ w.begin
+    at = first_begin 2 w.begin _ _ w.says
+
+    ran : w.ran ≡ alone_at over_a_row (view_of over_a_row []) again 2
+    ran = w.is_ran ∙ ap (λ (b : ℕ). alone_at over_a_row (view_of over_a_row []) again b) (sym at)
+
+    last : reply.Committed 3 ∷ [] ≡ w.last
+    last = same_tail (reply.Changed 1) (reply.Changed 1) (reply.Committed 3 ∷ []) w.last (first_rest 2 w.begin _ _ w.says ∙ ap (λ (a : Answered). a.replies ++ w.last) ran)
+
+    go : (rs : List Reply) → reply.Committed 3 ∷ [] ≡ rs → AllByRecursion (IsRight over_a_row (view_of over_a_row []) (codes "a") again w.begin (used_at again.level w.ran) w.ran.ops) rs → ⊥
+    go rs is right =
+        let its : IsEntered over_a_row (view_of over_a_row []) (codes "a") again w.begin 3 (used_at again.level (alone_at over_a_row (view_of over_a_row []) again 2)) =
+        subst (λ (a : Answered). IsRight over_a_row (view_of over_a_row []) (codes "a") again w.begin (used_at again.level a) a.ops (reply.Committed 3)) ran
+        (subst (AllByRecursion (IsRight over_a_row (view_of over_a_row []) (codes "a") again w.begin (used_at again.level w.ran) w.ran.ops)) (sym is) right).0 in
+        let no_such : None ≡ Some (Commit 3 (codes "a") 1 w.begin Snapshot) = its.stands in cc
+not_kept (inr c) =
+    let last : reply.Committed 3 ≡ c.cause = same_last (reply.Begin 2 ∷ reply.Changed 1 ∷ []) c.front (reply.Committed 3) c.cause c.says in
+    both_ways (cuts c.cause) (ap cuts (sym last)) c.is_cause
+
+pub committed_over_a_row_is_refused : LawfulOfNodes over_a_row committed_over_a_row → ⊥
+committed_over_a_row_is_refused is = not_kept (only_item (IsToldAlong over_a_row (view_of over_a_row []) (codes "a")) again _ kept refl (is.replies (codes "a")))
+
+abbrev selected : Transaction
+selected = transaction 1 (codes "select * from t" ∷ []) Snapshot WithItsLine
+
+-- what was cut short is over
+not_twice : IsToldAlong (from_nothing wanting) (view_of (from_nothing wanting) wanting_again.entries) (codes "a") (Does selected) (reply.NoMemory ∷ reply.NoMemory ∷ []) → ⊥
+not_twice (inl w) = let no_such : reply.NoMemory ≡ reply.Begin w.begin = same_head reply.NoMemory (reply.Begin w.begin) _ _ w.says in cc
+not_twice (inr c) = go c.front c.says c.fits
+  where
+    go : (front : List Reply) → reply.NoMemory ∷ reply.NoMemory ∷ [] ≡ front ++ c.cause ∷ [] → front ++ c.rest ≡ reply.Begin c.begin ∷ c.ran.replies → ⊥
+    go [] says fits = let no_such : reply.NoMemory ∷ [] ≡ [] = same_tail reply.NoMemory c.cause (reply.NoMemory ∷ []) [] says in cc
+    go (r ∷ rs) says fits =
+        let no_such : reply.NoMemory ≡ reply.Begin c.begin = same_head reply.NoMemory r (reply.NoMemory ∷ []) (rs ++ c.cause ∷ []) says ∙ same_head r (reply.Begin c.begin) (rs ++ c.rest) c.ran.replies fits in cc
+
+pub wanting_again_is_refused : LawfulOfNodes (from_nothing wanting) wanting_again → ⊥
+wanting_again_is_refused is = not_twice (only_item (IsToldAlong (from_nothing wanting) (view_of (from_nothing wanting) wanting_again.entries) (codes "a")) selected _ (reply.NoMemory ∷ reply.NoMemory ∷ []) refl (is.replies (codes "a")))

@@ -3,13 +3,15 @@ use Rattle.std.proofs.Common.{◌≡◌, [], ◌∷◌, refl, arith, codes, inl,
 use Rattle.cdb_values.specs.Rows.{no_rows}
 use Rattle.cdb_values.specs.declared.replies.Reply.TheVariants as reply
 use Rattle.cdb_values.specs.declared.rows.Level.TheVariants.{Snapshot}
+use Rattle.report_laws.proofs.PieceLaws.{all_at, commit_is_last}
 use Rattle.report_laws.specs.Work.{transaction, WithItsLine}
 use Rattle.report_text.specs.declared.reports.EntryLine.TheVariants.{Setup}
+use Rattle.report_text.specs.declared.reports.Line.{Line}
 use Rattle.report_text.specs.declared.reports.Line.TheVariants as line
 use Rattle.report_worked.specs.Small.{from_log, from_nothing}
 use Rattle.report_worked.specs.Worked.{worked_table, of_a}
 use Rattle.node_reports.specs.Order.{InNodesOrder}
-use Rattle.node_stories.specs.Stories.{late_majority, late_majority_report, few_opened, few_opened_report, based_on_none_report, opened_later, opened_later_report, falls_at_election, falls_at_election_report, led_later, led_later_report, followed_later, followed_later_report, ends_undurable, ends_undurable_report, other_basis, other_tables_report}
+use Rattle.node_stories.specs.Stories.{late_majority, late_majority_report, few_opened, few_opened_report, based_on_none_report, opened_later, opened_later_report, falls_at_election, falls_at_election_report, led_later, led_later_report, followed_later, followed_later_report, ends_undurable, ends_undurable_report, other_basis, other_tables_report, armed_again_report, over_a_row}
 use Rattle.node_stories.proofs.StoryLemmas.{answers, comes_up, never_alone, plain, some_entry}
 
 pub late_majority_is_in_order : InNodesOrder (from_nothing late_majority) late_majority_report
@@ -313,6 +315,52 @@ other_tables_is_in_order = record {
       refl,
       refl,
       plain refl (answers refl (inr refl) refl refl refl refl refl, (answers refl (inr refl) refl refl tt refl refl, (answers refl (inr refl) refl refl refl refl refl, tt))) tt refl,
+      (refl, refl),
+    ),
+  );
+}
+
+-- a line that tells that no node went down
+abbrev IsNoFall : Line → Type 0
+IsNoFall (line.Down count node fault) = ⊥
+IsNoFall (line.Session name txn answer) = Unit {0}
+IsNoFall (line.Up node) = Unit {0}
+IsNoFall line.Barrier = Unit {0}
+IsNoFall (line.Fed position) = Unit {0}
+
+pub armed_again_is_in_order : InNodesOrder over_a_row armed_again_report
+armed_again_is_in_order = record {
+  first = [];
+  go_down = tt;
+  opening = [];
+  opened = λ base empty. let no_such : 2 ≡ 0 = base in absurd (omega (arith, no_such));
+  rest = armed_again_report.lines;
+  lines_are = refl;
+  later = [];
+  entries_are = refl;
+  order = (
+    [],
+    armed_again_report.lines,
+    [],
+    [],
+    refl,
+    refl,
+    (refl, refl),
+    (
+      armed_again_report.lines,
+      [],
+      [],
+      [],
+      refl,
+      refl,
+      record {
+        up_to = inl refl;
+        each = (answers refl (inr refl) refl refl refl refl refl, (answers refl (inr refl) refl refl tt refl refl, (answers refl (inr refl) refl refl refl refl refl, tt)));
+        appended = tt;
+        fires = inl refl;
+        fired = λ told. absurd (let no_such : reply.Duplicate 2 (codes "t") (codes "pk") ≡ reply.Committed 3 = commit_is_last (reply.Begin 2 ∷ reply.Changed 1 ∷ []) (reply.Duplicate 2 (codes "t") (codes "pk")) 3 (refl, (refl, tt)) told in cc);
+        moment = λ armed front back count node is at. absurd (all_at IsNoFall armed_again_report.lines (line.Down count node false) (tt, (tt, (tt, tt))) (front, back, is));
+      },
       (refl, refl),
     ),
   );

@@ -28,7 +28,8 @@ use Rattle.report_worked.specs.Small.{from_nothing}
 use Rattle.node_reports.specs.Order.{InNodesOrder, InTurns, IsFault, IsOpened, saying}
 use Rattle.node_reports.specs.Piece.{Saying, Enters, IsPiece, IsDue, IsGiven, FallsAtCommit, StopsAtRow, Appends, IsUnacknowledged, loss_at, wanes_at, site_at, replies_in}
 use Rattle.node_reports.specs.Arms.{waiting, of_commit, stops, is_row_due, is_last_a_down}
-use Rattle.node_stories.specs.StoriesWrong.{armed_insert, ship_not_fired, shipped_nothing, armed_again, over_a_row, stopped_at_a_duplicate, insert_at, insert_told, other_node, not_lost, few_committed, unarmed_stop, unacknowledged, armed_select, not_fired, started, no_schema}
+use Rattle.node_stories.specs.Stories.{armed_again, over_a_row}
+use Rattle.node_stories.specs.StoriesWrong.{armed_insert, ship_not_fired, shipped_nothing, stopped_at_a_duplicate, insert_at, insert_told, other_node, not_lost, few_committed, unarmed_stop, unacknowledged, armed_select, not_fired, started, no_schema}
 
 -- a line of a session stands behind the opening
 no_first : (script : Script) (first rest ls : List Line) (name : List ℕ) (txn : ℕ) (r : Reply) → line.Session name txn r ∷ ls ≡ first ++ rest → EachAfter (IsFault script) [] first → first ≡ []

@@ -5,7 +5,7 @@
 --     session a 2
 --     session b 3 hasql
 --     create table t(id integer primary key, v integer)
-use Rattle.std.specs.Prelude.{ℕ, ◌∷◌, [], List, Some, true, false, codes}
+use Rattle.std.specs.Prelude.{ℕ, ◌∷◌, [], List, Some, true, false, codes, pos}
 use Rattle.script_form.specs.declared.scripts.Script.{Script}
 use Rattle.script_form.specs.declared.scripts.Act.{Act}
 use Rattle.script_form.specs.declared.scripts.Act.TheVariants as act
@@ -14,9 +14,11 @@ use Rattle.report_text.specs.declared.reports.Report.{Report}
 use Rattle.report_text.specs.declared.reports.EntryLine.TheVariants.{Setup}
 use Rattle.report_text.specs.declared.reports.Line.TheVariants as line
 use Rattle.cdb_values.specs.declared.replies.Reply.TheVariants as reply
-use Rattle.cdb_values.specs.Rows.{no_rows}
+use Rattle.cdb_values.specs.Rows.{apply_all, no_rows}
+use Rattle.cdb_values.specs.declared.rows.RowOp.TheVariants as op
+use Rattle.cdb_values.specs.declared.values.Value.TheVariants.{Int}
 use Rattle.report_laws.specs.History.{Basis}
-use Rattle.report_worked.specs.Small.{small_language}
+use Rattle.report_worked.specs.Small.{from_log, small_language}
 use Rattle.report_worked.specs.Worked.{worked_table, body_from, report_with, row, of_a, of_b}
 
 -- a script of n nodes, the sessions a and b at these
@@ -305,6 +307,22 @@ other_tables_report = record {
   lines = line.Down 1 2 true ∷ line.Session (codes "a") 1 (reply.Begin 1) ∷ line.Session (codes "a") 1 (reply.Changed 1) ∷ line.Session (codes "a") 1 (reply.Committed 2) ∷ line.Session (codes "a") 2 (reply.Begin 2) ∷ line.Session (codes "a") 2 (reply.Changed 1) ∷ line.Session (codes "a") 2 (reply.Duplicate 2 (codes "t") (codes "pk")) ∷ [];
   base = Some 1;
   entries = of_a 2 1 1 ∷ [];
+  feeds = [];
+  end = 2;
+}
+
+-- An arm of an append waits at a commit that breaks a key of the log before the run: nothing is appended, so it does not fire.
+abbrev pub armed_again : Script
+armed_again = script_of 3 1 3 (act.Arm (codes "a") moment.Append ∷ act.Say (codes "a") (codes "insert into t values(1, 2)") ∷ [])
+
+abbrev pub over_a_row : Basis
+over_a_row = from_log armed_again 2 (apply_all (no_rows (worked_table ∷ [])) (op.Insert 0 (Int (pos 1) ∷ Int (pos 10) ∷ []) ∷ []))
+
+abbrev pub armed_again_report : Report
+armed_again_report = record {
+  lines = line.Session (codes "a") 1 (reply.Begin 2) ∷ line.Session (codes "a") 1 (reply.Changed 1) ∷ line.Session (codes "a") 1 (reply.Duplicate 2 (codes "t") (codes "pk")) ∷ [];
+  base = Some 2;
+  entries = [];
   feeds = [];
   end = 2;
 }

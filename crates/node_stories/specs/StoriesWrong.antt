@@ -1,10 +1,6 @@
 -- Reports of several nodes that are wrong in one line.
-use Rattle.std.specs.Prelude.{ℕ, ◌+◌, ◌++◌, ◌∷◌, [], List, take, drop, true, false, None, Some, codes, pos}
+use Rattle.std.specs.Prelude.{ℕ, ◌+◌, ◌++◌, ◌∷◌, [], List, take, drop, true, false, None, Some, codes}
 use Rattle.cdb_values.specs.declared.rows.Level.TheVariants.{Serializable}
-use Rattle.cdb_values.specs.Rows.{apply_all, no_rows}
-use Rattle.cdb_values.specs.declared.rows.RowOp.TheVariants as op
-use Rattle.cdb_values.specs.declared.values.Value.TheVariants.{Int}
-use Rattle.report_laws.specs.History.{Basis}
 use Rattle.script_form.specs.declared.scripts.Script.{Script}
 use Rattle.script_form.specs.declared.scripts.Act.TheVariants as act
 use Rattle.script_form.specs.declared.scripts.Moment.TheVariants as moment
@@ -15,9 +11,8 @@ use Rattle.report_text.specs.declared.reports.Line.{Line}
 use Rattle.report_text.specs.declared.reports.Line.TheVariants as line
 use Rattle.cdb_values.specs.declared.replies.Reply.{Reply}
 use Rattle.cdb_values.specs.declared.replies.Reply.TheVariants as reply
-use Rattle.report_worked.specs.Small.{from_log}
-use Rattle.report_worked.specs.Worked.{report_with, row, of_a, of_b, to_a, to_b, worked_table}
-use Rattle.node_stories.specs.Stories.{script_of, lost_stands_report, few_but_read_report, moves_at_rollback_report, taken_and_fallen_report, based_on_none_report, opened_later_report, few_opened_report, led_later_report, falls_while_down_report, master_falls_report, tail_stands_report, falls_at_election_report, came_back_report, falls_and_stops_report, other_tables_report, ends_undurable_report, armed_append_report, followed_later_report, moves_on_one_report, read_while_few_report}
+use Rattle.report_worked.specs.Worked.{report_with, row, of_a, of_b, to_a, to_b}
+use Rattle.node_stories.specs.Stories.{script_of, lost_stands_report, few_but_read_report, moves_at_rollback_report, taken_and_fallen_report, based_on_none_report, opened_later_report, few_opened_report, led_later_report, falls_while_down_report, master_falls_report, tail_stands_report, falls_at_election_report, came_back_report, falls_and_stops_report, other_tables_report, ends_undurable_report, armed_append_report, followed_later_report, moves_on_one_report, read_while_few_report, armed_again_report, fed_twice_report, wanting_report}
 
 -- one insert of the session a, at that node of so many
 abbrev pub insert_at : ℕ → ℕ → Script
@@ -222,12 +217,6 @@ abbrev pub short_at_a_read : Report
 short_at_a_read = with_line 3 (to_b 1 (reply.NoMajority 1 3)) read_while_few_report
 
 -- the arm of an append fires, at a commit that breaks a key of the log before the run
-abbrev pub armed_again : Script
-armed_again = script_of 3 1 3 (act.Arm (codes "a") moment.Append ∷ act.Say (codes "a") (codes "insert into t values(1, 2)") ∷ [])
-
-abbrev pub over_a_row : Basis
-over_a_row = from_log armed_again 2 (apply_all (no_rows (worked_table ∷ [])) (op.Insert 0 (Int (pos 1) ∷ Int (pos 10) ∷ []) ∷ []))
-
 abbrev pub stopped_at_a_duplicate : Report
 stopped_at_a_duplicate = record {
   lines = to_a 1 (reply.Begin 2) ∷ to_a 1 (reply.Changed 1) ∷ line.Down 1 1 false ∷ to_a 1 (reply.Lost 1 1) ∷ [];
@@ -236,6 +225,18 @@ stopped_at_a_duplicate = record {
   feeds = [];
   end = 2;
 }
+
+-- there it is told committed
+abbrev pub committed_over_a_row : Report
+committed_over_a_row = with_line 2 (to_a 1 (reply.Committed 3)) armed_again_report
+
+-- want of memory is told twice of one transaction
+abbrev pub wanting_again : Report
+wanting_again = with_line 1 (to_a 1 reply.NoMemory) wanting_report
+
+-- a feed behind the one before it
+abbrev pub fed_behind : Report
+fed_behind = with_line 7 (line.Fed 1) fed_twice_report
 
 -- What these laws let through, since no report tells it: which node led, and what its log was. A history decides these two.
 

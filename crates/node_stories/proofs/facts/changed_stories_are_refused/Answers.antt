@@ -1,4 +1,5 @@
-use Rattle.node_stories.proofs.LineWrong.{at_another_level_is_refused, begun_at_itself_is_refused, begun_below_is_refused, behind_a_gap_is_refused, ends_early_is_refused, lost_at_another_is_refused, lost_by_another_line_is_refused, lost_by_the_stop_is_refused, lost_unbegun_is_refused, lost_with_hasql_is_refused, miscounted_is_refused, named_by_the_script_is_refused, no_base_is_refused, one_of_one_is_refused, short_without_changes_is_refused, stopped_while_down_is_refused, two_of_three_is_refused, two_schemas_is_refused, up_though_up_is_refused}
+use Rattle.node_stories.proofs.FedWrong.{fed_behind_is_refused}
+use Rattle.node_stories.proofs.LineWrong.{at_another_level_is_refused, begun_at_itself_is_refused, begun_below_is_refused, behind_a_gap_is_refused, committed_over_a_row_is_refused, ends_early_is_refused, lost_at_another_is_refused, lost_by_another_line_is_refused, lost_by_the_stop_is_refused, lost_unbegun_is_refused, lost_with_hasql_is_refused, miscounted_is_refused, named_by_the_script_is_refused, no_base_is_refused, one_of_one_is_refused, short_without_changes_is_refused, stopped_while_down_is_refused, two_of_three_is_refused, two_schemas_is_refused, up_though_up_is_refused, wanting_again_is_refused}
 use Rattle.node_stories.proofs.facts.changed_stories_are_refused.Goals as goal
 
 pub returns-clause-lost_by_another_line : goal.returns-clause-lost_by_another_line
@@ -57,3 +58,12 @@ returns-clause-begun_below c = begun_below_is_refused
 
 pub returns-clause-lost_with_hasql : goal.returns-clause-lost_with_hasql
 returns-clause-lost_with_hasql c = lost_with_hasql_is_refused
+
+pub returns-clause-committed_over_a_row : goal.returns-clause-committed_over_a_row
+returns-clause-committed_over_a_row c = committed_over_a_row_is_refused
+
+pub returns-clause-wanting_again : goal.returns-clause-wanting_again
+returns-clause-wanting_again c = wanting_again_is_refused
+
+pub returns-clause-fed_behind : goal.returns-clause-fed_behind
+returns-clause-fed_behind c = fed_behind_is_refused

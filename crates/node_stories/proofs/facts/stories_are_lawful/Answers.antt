@@ -1,6 +1,6 @@
 use Rattle.node_stories.proofs.LawfulTerms.{came_back_is_lawful, ends_undurable_is_lawful, falls_while_down_is_lawful, few_at_commit_is_lawful, few_but_read_is_lawful, kept_by_start_is_lawful, master_falls_is_lawful, moves_on_one_is_lawful, read_while_few_is_lawful, tail_stands_is_lawful, taken_and_fallen_is_lawful, wanting_is_lawful}
 use Rattle.node_stories.proofs.LawfulArms.{armed_append_is_lawful, armed_row_survives_is_lawful, falls_and_stops_is_lawful, lost_stands_is_lawful, sent_again_is_lawful, shipped_is_lawful}
-use Rattle.node_stories.proofs.LawfulOpenings.{falls_at_election_is_lawful, few_opened_is_lawful, followed_later_is_lawful, late_majority_is_lawful, led_later_is_lawful, opened_later_is_lawful, other_tables_is_lawful}
+use Rattle.node_stories.proofs.LawfulOpenings.{falls_at_election_is_lawful, few_opened_is_lawful, followed_later_is_lawful, late_majority_is_lawful, led_later_is_lawful, opened_later_is_lawful, other_tables_is_lawful, armed_again_is_lawful}
 use Rattle.node_stories.proofs.HeardTerms.{armed_row_is_lawful, fed_twice_is_lawful, replica_falls_is_lawful}
 use Rattle.node_stories.proofs.ShortTerms.{based_on_none_is_lawful, moves_at_rollback_is_lawful}
 use Rattle.node_stories.proofs.facts.stories_are_lawful.Goals as goal
@@ -94,3 +94,6 @@ returns-clause-ends_undurable c = ends_undurable_is_lawful
 
 pub returns-clause-other_tables : goal.returns-clause-other_tables
 returns-clause-other_tables c = other_tables_is_lawful
+
+pub returns-clause-armed_again : goal.returns-clause-armed_again
+returns-clause-armed_again c = armed_again_is_lawful
