@@ -1,3 +1,4 @@
 pub mod Grants
 pub mod Kept
 pub mod Snapshots
+pub mod Positions

@@ -33,6 +33,7 @@
 //! | a grant, undone | `Granter::page` | `Undone` of `phys_log` |
 //! | records that can be undone, one after the other | | `Chains` of `log_replay` |
 //! | the kept pages, and one of them used | `KeptPages` | `specs/Kept.antt` |
+//! | the kept pages of several positions | `KeptPositions` | `specs/Positions.antt` |
 //! | a source of undone pages | `SnapshotPages` | `specs/Snapshots.antt` |
 #![tactic(auto)]
 
@@ -40,6 +41,7 @@ mod fronts;
 mod granters;
 mod kept;
 mod laws;
+mod positions;
 mod snapshots;
 mod undoing;
 
@@ -47,4 +49,5 @@ pub use fronts::{Front, FrontGranter};
 pub use granters::{Granter, LogGranter};
 pub use kept::KeptPages;
 pub use laws::undoing_gives_the_first_entries;
+pub use positions::KeptPositions;
 pub use snapshots::SnapshotPages;
