@@ -48,7 +48,7 @@ if_front : {A : Type 0} (b : Bool) (x : A) (xs : List A) → (if b then x ∷ xs
 if_front true x xs = refl
 if_front false x xs = refl
 
-gone_more : (table : ℕ) (op : RowOp) (ops : List RowOp) → gone table (op ∷ ops) ≡ gone table (op ∷ []) ++ gone table ops
+pub gone_more : (table : ℕ) (op : RowOp) (ops : List RowOp) → gone table (op ∷ ops) ≡ gone table (op ∷ []) ++ gone table ops
 gone_more table (Insert place row) ops = refl
 gone_more table (Update place (Base genid) old row) ops = if_front (place == table) (version genid old) (gone table ops)
 gone_more table (Update place (Own write) old row) ops = refl

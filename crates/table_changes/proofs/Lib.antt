@@ -1,1 +1,2 @@
 mod ChangedLemmas
+mod FreedLemmas

@@ -8,6 +8,7 @@ ghost use Rattle.cdb_values.specs.Rows.{version};
 ghost use Rattle.table_store.specs.Forests.{Pair};
 ghost use Rattle.table_store.specs.Operations.{gone, removed};
 ghost use Rattle.table_changes.specs.Changed.{born_if, gone_by};
+ghost use Rattle.table_changes.specs.Freed.{TakesPairs};
 
 use btree_index::remove_and_free;
 use cdb_values::{KeyDef, Row, RowOp, RowRef};
@@ -28,6 +29,8 @@ pub(crate) fn take_all<P: PageSource>(
     ensures taken { (own free : Many ℕ) (list : Many Pair) → Stands (meant P.pages space.old) root own free list →
         OnOk result (Becomes (meant P.pages space.old) (meant P.pages space.new) root own free
         (removed (option_copied key.entry) (gone table ops.now) list)) }
+    ensures freed { OnOk result (TakesPairs (meant P.pages space.old) (meant P.pages space.new) root
+        (option_copied key.entry) (gone table ops.now)) }
     ensures base { P.pages space.new.base ≡ P.pages space.old.base }
     ensures excused { IsExcused result (P.losses space.old.base) (P.losses space.new.base) }
 {
@@ -52,6 +55,8 @@ fn take_one<P: PageSource>(
     ensures taken { (own free : Many ℕ) (list : Many Pair) → Stands (meant P.pages space.old) root own free list →
         OnOk result (Becomes (meant P.pages space.old) (meant P.pages space.new) root own free
         (removed (option_copied key.entry) (gone table (op.now ∷ [])) list)) }
+    ensures freed { OnOk result (TakesPairs (meant P.pages space.old) (meant P.pages space.new) root
+        (option_copied key.entry) (gone table (op.now ∷ []))) }
     ensures base { P.pages space.new.base ≡ P.pages space.old.base }
     ensures excused { IsExcused result (P.losses space.old.base) (P.losses space.new.base) }
 {
@@ -84,6 +89,8 @@ fn take_old<P: PageSource>(
     ensures taken { (own free : Many ℕ) (list : Many Pair) → Stands (meant P.pages space.old) root own free list →
         OnOk result (Becomes (meant P.pages space.old) (meant P.pages space.new) root own free
         (removed (option_copied key.entry) (gone_by is_here target.now old.now) list)) }
+    ensures freed { OnOk result (TakesPairs (meant P.pages space.old) (meant P.pages space.new) root
+        (option_copied key.entry) (gone_by is_here target.now old.now)) }
     ensures base { P.pages space.new.base ≡ P.pages space.old.base }
     ensures excused { IsExcused result (P.losses space.old.base) (P.losses space.new.base) }
 {
@@ -106,6 +113,8 @@ fn take_here<P: PageSource>(
     ensures taken { (own free : Many ℕ) (list : Many Pair) → Stands (meant P.pages space.old) root own free list →
         OnOk result (Becomes (meant P.pages space.old) (meant P.pages space.new) root own free
         (removed (option_copied key.entry) (born_if is_here genid row.now) list)) }
+    ensures freed { OnOk result (TakesPairs (meant P.pages space.old) (meant P.pages space.new) root
+        (option_copied key.entry) (born_if is_here genid row.now)) }
     ensures base { P.pages space.new.base ≡ P.pages space.old.base }
     ensures excused { IsExcused result (P.losses space.old.base) (P.losses space.new.base) }
 {
@@ -128,6 +137,8 @@ fn take_version<P: PageSource>(
     ensures taken { (own free : Many ℕ) (list : Many Pair) → Stands (meant P.pages space.old) root own free list →
         OnOk result (Becomes (meant P.pages space.old) (meant P.pages space.new) root own free
         (removed (option_copied key.entry) (version genid row.now ∷ []) list)) }
+    ensures freed { OnOk result (TakesPairs (meant P.pages space.old) (meant P.pages space.new) root
+        (option_copied key.entry) (version genid row.now ∷ [])) }
     ensures base { P.pages space.new.base ≡ P.pages space.old.base }
     ensures excused { IsExcused result (P.losses space.old.base) (P.losses space.new.base) }
 {

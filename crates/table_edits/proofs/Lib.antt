@@ -8,3 +8,4 @@ mod StepLemmas
 mod BrokenLemmas
 mod PassLemmas
 mod EndLemmas
+mod FreedLemmas

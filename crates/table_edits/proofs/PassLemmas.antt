@@ -1,11 +1,11 @@
 -- Tree after tree: how it begins, one table or key more, where it stops, and how it ends.
-use Rattle.std.proofs.Common.{◌≡◌, ℕ, suc, ◌+◌, ◌≤◌, ◌<◌, ◌^◌, Bool, true, false, if◌then◌else◌, List, [], ◌∷◌, ◌++◌, length, drop, Option, Some, None, refl, sym, ap, ◌∙◌, subst, arith}
+use Rattle.std.proofs.Common.{◌≡◌, ◌⊎◌, inl, inr, ℕ, suc, ◌+◌, ◌≤◌, ◌<◌, ◌^◌, Bool, true, false, if◌then◌else◌, List, [], ◌∷◌, ◌++◌, length, drop, Option, Some, None, refl, sym, ap, ◌∙◌, subst, arith}
 use Rattle.std.proofs.lemmas.Option.{none-some}
 use Rattle.std.proofs.Math.ListN.{drop_of_length-le}
 use Rattle.std.specs.Prelude.{Ok, Err}
 use Rattle.std.specs.List.{slice_get, list_any}
 use Rattle.page_store.specs.Image.{Image}
-use Rattle.page_workspace.specs.Spare.{IsIn, next_genid}
+use Rattle.page_workspace.specs.Spare.{IsIn, count_of, next_genid}
 use Rattle.btree_index.proofs.StandLemmas.{changes_none, loses_none}
 use Rattle.cdb_values.specs.Good.{breaks}
 use Rattle.cdb_values.specs.Rows.{Rows, versions_of, apply_all}
@@ -25,7 +25,7 @@ use Rattle.table_edits.specs.Broken.{KeyPlace, broken_from, broken_place, or_lat
 use Rattle.table_edits.specs.Fits.{names, AreAllDoable}
 use Rattle.table_edits.specs.Genids.{next_after, SetsGenid}
 use Rattle.table_edits.specs.Halfway.{planned, IsHalfway}
-use Rattle.table_edits.specs.Kept.{Store, store_of, Leaves}
+use Rattle.table_edits.specs.Kept.{Store, store_of, IsNoneLost, Leaves}
 use Rattle.table_edits.proofs.ForestLemmas.{forest_kept}
 use Rattle.table_edits.proofs.GenidLemmas.{next_is}
 use Rattle.table_edits.proofs.KeptLemmas.{unnamed_none}
@@ -53,10 +53,14 @@ begins pages tables rows ops next s able e = record {
   genid = s.genid;
   changes = changes_none pages (joined s.owns) s.free;
   lost = loses_none pages (joined s.owns) s.free;
+  freed = refl;
   unnamed = unnamed_none (store_of pages tables rows s) (plan_from 0 tables) ops;
 }
 
 -- and how it ends
+below_or_not : (a b : ℕ) → (a < b) ⊎ (b ≤ a)
+below_or_not a b = grind arith
+
 no_more : (rows : Rows) (before behind : List (List Pair)) → AreLists rows [] behind → before ++ behind ≡ before
 no_more rows before [] h = append_none before
 no_more rows before (l ∷ ls) h = absurd h
@@ -87,6 +91,7 @@ ends start pages new tables rows ops next root genid stands h s e small =
         tree = h.lost.tree;
         unused = h.lost.unused;
         taken = λ n from to. h.lost.taken n from (subst (λ (c : ℕ). n < c) s.count to);
+        whole = λ all n to. whole all n (subst (λ (c : ℕ). n < c) s.count to);
         others = λ n below some off_own off_free. s.others n some ∙ h.changes.others n below some off_own off_free;
         unnamed = λ at p own here untold there. unnamed at p own here untold there;
       };
@@ -97,6 +102,18 @@ ends start pages new tables rows ops next root genid stands h s e small =
     unnamed at p own here untold there =
         let left = h.unnamed at p own here untold there in
         (left.0, λ n i. s.others n (λ z. h.forest.off_meta (joined_own 0 at h.owns own left.0 (subst (λ (k : ℕ). IsIn k own) z i))) ∙ left.1 n i)
+
+    whole : IsNoneLost (store_of start tables rows stands) → (n : ℕ) → n < count_of pages → (n ≡ 0) ⊎ IsIn n (joined h.owns) ⊎ IsIn n h.free
+    whole all n to = among (below_or_not n (count_of start))
+      where
+        before : (n ≡ 0) ⊎ IsIn n (joined stands.owns) ⊎ IsIn n stands.free → (n ≡ 0) ⊎ IsIn n (joined h.owns) ⊎ IsIn n h.free
+        before (inl meta) = inl meta
+        before (inr (inl own)) = inr (h.lost.tree n own)
+        before (inr (inr free)) = inr (h.lost.unused n free)
+
+        among : (n < count_of start) ⊎ (count_of start ≤ n) → (n ≡ 0) ⊎ IsIn n (joined h.owns) ⊎ IsIn n h.free
+        among (inl below) = before (all n below)
+        among (inr from) = inr (h.lost.taken n from to)
 
 -- the trees of a table that no operation names
 skipped_keys : Laws → (start : Store) (pages : ℕ → Image) (rows : Rows) (ops : List RowOp) (plan : List Planned) (next root later place at : ℕ) (keys : List KeyDef) (left : List Planned)

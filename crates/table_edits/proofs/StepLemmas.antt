@@ -1,6 +1,6 @@
 -- One tree more: it was changed, or no operation names its table.
 use Rattle.std.proofs.Common.{◌≡◌, ℕ, suc, ◌+◌, ◌<◌, ◌==◌, Bool, true, false, if◌then◌else◌, List, [], ◌∷◌, ◌++◌, length, Option, Some, None, refl, sym, ap, ◌∙◌, subst, arith, append_assoc, length-append}
-use Rattle.std.specs.Prelude.{Result, Ok, Err}
+use Rattle.std.specs.Prelude.{Result, Ok, Err, OnOk}
 use Rattle.std.specs.List.{slice_get, slice_set, list_any}
 use Rattle.page_store.specs.Image.{Image}
 use Rattle.btree_index.specs.Changes.{Stands as StandsAlone, Changes, LosesNone, Becomes}
@@ -19,10 +19,12 @@ use Rattle.table_store.specs.Plans.{Planned}
 use Rattle.table_store.specs.States.{AreVersions}
 use Rattle.table_store.specs.Operations.{gone, born, removed, put_all, breaks_in, AreDoable}
 use Rattle.table_changes.specs.Changed.{IsPut}
+use Rattle.table_changes.specs.Freed.{TakesThenPuts}
 use Rattle.table_edits.specs.Answers.{TellsOne}
 use Rattle.table_edits.specs.Fits.{names}
 use Rattle.table_edits.specs.Halfway.{IsHalfway}
 use Rattle.table_edits.specs.Kept.{Store, LeavesUnnamed}
+use Rattle.table_edits.proofs.FreedLemmas.{left_alone, trees_more}
 use Rattle.table_edits.proofs.KeptLemmas.{forest_changes, forest_loses, unnamed_beside, unnamed_after, unnamed_none}
 use Rattle.table_edits.proofs.ListLemmas.{get_middle, set_middle, set_none, get_some, or_false}
 use Rattle.table_edits.proofs.StateLemmas.{versions_at}
@@ -130,8 +132,8 @@ record IsAfter (old new : ℕ → Image) (first : List (List ℕ)) (unused : Lis
 advanced : (start : Store) (old new : ℕ → Image) (rows : Rows) (ops : List RowOp) (plan : List Planned) (next root later : ℕ) (p : Planned) (left : List Planned)
     → later ≡ root + 1 → (h : IsHalfway start old rows ops plan next root (p ∷ left)) → (rest : List (List Pair)) → AreLists rows left rest
     → (after : List Pair) → Lists p.key (versions_of (apply_all rows ops) p.table) after → IsAfter old new h.owns h.free plan ops h.before rest after
-    → IsHalfway start new rows ops plan next later left
-advanced start old new rows ops plan next root later p left e h rest same after listed a =
+    → TakesThenPuts old new root p.key (gone p.table ops) (born p.table next ops) → IsHalfway start new rows ops plan next later left
+advanced start old new rows ops plan next root later p left e h rest same after listed a freed =
     let is : root ≡ 1 + length h.done = h.root_is in
     let both = length-append h.done (p ∷ []) in
     record {
@@ -151,6 +153,7 @@ advanced start old new rows ops plan next root later p left e h rest same after 
       genid = a.changes.genid ∙ h.genid;
       changes = changes_after start.pages old new (joined start.owns) (joined h.owns) (joined a.owns) start.free h.free a.free h.changes a.changes;
       lost = loses_after start.pages old new (joined start.owns) (joined h.owns) (joined a.owns) start.free h.free a.free h.lost a.lost;
+      freed = trees_more start.pages old new next ops 1 root h.done p h.root_is h.freed freed;
       unnamed = unnamed_after start (record { pages = old; owns = h.owns; free = h.free }) (record { pages = new; owns = a.owns; free = a.free }) plan ops h.unnamed a.unnamed;
     }
 
@@ -178,9 +181,10 @@ pub stepped : Laws → (start : Store) (old new : ℕ → Image) (rows : Rows) (
     → later ≡ root + 1 → p.table < length rows.tables → list_any (names p.table) ops ≡ true → IsHalfway start old rows ops plan next root (p ∷ left) → (result : Result (Unit {0}) InsertFault)
     → ((own free : List ℕ) (list : List Pair) → StandsAlone old root own free list
     → IsPut old new root own free (put_all p.key (born p.table next ops) (removed p.key (gone p.table ops) list)) result)
+    → OnOk result (TakesThenPuts old new root p.key (gone p.table ops) (born p.table next ops))
     → TellsOne result (IsHalfway start new rows ops plan next later left) (breaks_in p.key (versions_of (apply_all rows ops) p.table))
-stepped laws start old new rows ops plan next root later p left e known named h result put =
-    go (put_all p.key (born p.table next ops) (removed p.key (gone p.table ops) n.list)) refl result (put n.own h.free n.list n.alone)
+stepped laws start old new rows ops plan next root later p left e known named h result put freed =
+    go (put_all p.key (born p.table next ops) (removed p.key (gone p.table ops) n.list)) refl result (put n.own h.free n.list n.alone) freed
   where
     n : IsNext old rows p left h.owns h.free h.before h.behind root
     n = next_tree laws start old rows ops plan next root p left h
@@ -209,19 +213,19 @@ stepped laws start old new rows ops plan next root later p left e known named h 
         )
 
     go : (o : Option (List Pair)) → put_all p.key (born p.table next ops) (removed p.key (gone p.table ops) n.list) ≡ o → (r : Result (Unit {0}) InsertFault)
-        → IsPut old new root n.own h.free o r
+        → IsPut old new root n.own h.free o r → OnOk r (TakesThenPuts old new root p.key (gone p.table ops) (born p.table next ops))
         → TellsOne r (IsHalfway start new rows ops plan next later left) (breaks_in p.key (versions_of (apply_all rows ops) p.table))
-    go (Some after) same (Ok x) b = (
+    go (Some after) same (Ok x) b f = (
       advanced start old new rows ops plan next root later p left e h n.rest n.same after
           (laws.listed old root p.table n.own n.list after p.key rows ops tree n.lists are known (h.able p.table known) (whole (Some after) same))
-          (became laws old new root h.owns h.free n.own h.before h.behind n.rest n.list after plan ops p root_is n.is n.own_at n.list_at h.forest here named b),
+          (became laws old new root h.owns h.free n.own h.before h.behind n.rest n.list after plan ops p root_is n.is n.own_at n.list_at h.forest here named b) f,
       laws.kept old root p.table n.own n.list after p.key rows ops tree n.lists are known (h.able p.table known) (whole (Some after) same),
     )
-    go None same (Ok x) b = absurd b
-    go (Some after) same (Err Duplicate) b = absurd b
-    go None same (Err Duplicate) b = laws.broken old root p.table n.own n.list p.key rows ops tree n.lists are known (h.able p.table known) (whole None same)
-    go o same (Err Gone) b = tt
-    go o same (Err NoMemory) b = tt
+    go None same (Ok x) b f = absurd b
+    go (Some after) same (Err Duplicate) b f = absurd b
+    go None same (Err Duplicate) b f = laws.broken old root p.table n.own n.list p.key rows ops tree n.lists are known (h.able p.table known) (whole None same)
+    go o same (Err Gone) b f = tt
+    go o same (Err NoMemory) b f = tt
 
 -- operations that do not name a table take nothing from it, and write nothing to it
 pub record IsUntouched (table next : ℕ) (ops : List RowOp) : Type 0 where
@@ -279,6 +283,7 @@ skipped laws start pages rows ops plan next root later p left e known u h =
             changes = changes_none pages (joined h.owns) h.free;
             lost = loses_none pages (joined h.owns) h.free;
             unnamed = unnamed_none (record { pages = pages; owns = h.owns; free = h.free }) plan ops;
-          }),
+          })
+          (left_alone pages root p.key (gone p.table ops) (born p.table next ops) u.gone_none u.born_none),
       laws.kept pages root p.table n.own n.list n.list p.key rows ops tree n.lists are known (h.able p.table known) put,
     )

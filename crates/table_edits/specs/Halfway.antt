@@ -20,6 +20,7 @@ use Rattle.table_store.specs.Listings.{AreLists}
 use Rattle.table_store.specs.Plans.{Planned}
 use Rattle.table_store.specs.States.{AreVersions}
 use Rattle.table_edits.specs.Fits.{AreAllDoable}
+use Rattle.table_edits.specs.Freed.{DoesTrees}
 use Rattle.table_edits.specs.Kept.{Store, LeavesUnnamed}
 
 -- the tree of a table's rows, or of one of its keys
@@ -45,4 +46,5 @@ pub record IsHalfway (start : Store) (pages : ℕ → Image) (rows : Rows) (ops 
   pub genid : next_genid pages ≡ rows.next
   pub changes : Changes start.pages pages (joined start.owns) (joined owns) start.free free
   pub lost : LosesNone start.pages pages (joined start.owns) (joined owns) start.free free
+  pub freed : DoesTrees start.pages pages next ops 1 done
   pub unnamed : LeavesUnnamed start (record { pages = pages; owns = owns; free = free }) plan ops

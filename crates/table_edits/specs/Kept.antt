@@ -30,11 +30,16 @@ LeavesUnnamed old new plan ops =
     (at : ℕ) (p : Planned) (own : List ℕ) → slice_get plan at ≡ Some p → list_any (names p.table) ops ≡ false → slice_get old.owns at ≡ Some own
     → (slice_get new.owns at ≡ Some own) × ((n : ℕ) → IsIn n own → new.pages n ≡ old.pages n)
 
+-- each page below the number of pages is of a tree, or free, or the meta page
+abbrev pub IsNoneLost : Store → Type 0
+IsNoneLost store = (n : ℕ) → n < count_of store.pages → (n ≡ 0) ⊎ IsIn n (joined store.owns) ⊎ IsIn n store.free
+
 -- what operations leave of the pages
 pub record KeepsPages (old new : Store) (plan : List Planned) (ops : List RowOp) : Type 0 where
   pub tree : (n : ℕ) → IsIn n (joined old.owns) → IsIn n (joined new.owns) ⊎ IsIn n new.free
   pub unused : (n : ℕ) → IsIn n old.free → IsIn n (joined new.owns) ⊎ IsIn n new.free
   pub taken : (n : ℕ) → count_of old.pages ≤ n → n < count_of new.pages → IsIn n (joined new.owns) ⊎ IsIn n new.free
+  pub whole : IsNoneLost old → IsNoneLost new
   pub others : (n : ℕ) → n < count_of old.pages → (n ≡ 0 → ⊥) → (IsIn n (joined old.owns) → ⊥) → (IsIn n old.free → ⊥) → new.pages n ≡ old.pages n
   pub unnamed : LeavesUnnamed old new plan ops
 

@@ -4,3 +4,4 @@ pub mod Broken
 pub mod Halfway
 pub mod Answers
 pub mod Kept
+pub mod Freed

@@ -8,6 +8,7 @@ ghost use Rattle.table_store.specs.Stored.{Stands};
 ghost use Rattle.table_edits.specs.Answers.{Tells, TellsBroken, IsExcused, AreWithin};
 ghost use Rattle.table_edits.specs.Broken.{broken_place};
 ghost use Rattle.table_edits.specs.Fits.{WritesFitting, AreAllDoable};
+ghost use Rattle.table_edits.specs.Freed.{FreesLeaves};
 ghost use Rattle.table_edits.specs.Genids.{SetsGenid};
 ghost use Rattle.table_edits.specs.Kept.{Leaves};
 
@@ -44,6 +45,8 @@ pub fn ops_to_edits<P: PageSource + Drop>(
     ensures kept { (rows : Rows) → (stands : Stands (P.pages pages) schema.now rows) → AreAllDoable rows ops.now →
         IfOk result (λ edits. Leaves (P.pages pages) (edited_by edits.items (P.pages pages))
         schema.now rows ops.now stands) }
+    ensures freed { (rows : Rows) → Stands (P.pages pages) schema.now rows → AreAllDoable rows ops.now →
+        IfOk result (λ edits. FreesLeaves (P.pages pages) (edited_by edits.items (P.pages pages)) schema.now ops.now) }
     ensures excused { (later : P) × (P.pages later ≡ P.pages pages) × IsExcused result (P.losses pages) (P.losses later) }
 {
     let mut space = Workspace::new(alloc, pages);
@@ -71,6 +74,8 @@ pub fn change_rows<P: PageSource>(
     ensures kept { (rows : Rows) → (stands : Stands (meant P.pages space.old) schema.now rows) →
         AreAllDoable rows ops.now →
         OnOk result (Leaves (meant P.pages space.old) (meant P.pages space.new) schema.now rows ops.now stands) }
+    ensures freed { (rows : Rows) → Stands (meant P.pages space.old) schema.now rows → AreAllDoable rows ops.now →
+        OnOk result (FreesLeaves (meant P.pages space.old) (meant P.pages space.new) schema.now ops.now) }
     ensures base { P.pages space.new.base ≡ P.pages space.old.base }
     ensures excused { IsExcused result (P.losses space.old.base) (P.losses space.new.base) }
 {
@@ -93,7 +98,8 @@ fn change_from<P: PageSource>(
     requires next { next ≡ next_genid (meant P.pages space.old) }
     ensures done { (rows : Rows) → (stands : Stands (meant P.pages space.old) schema.now rows) →
         AreAllDoable rows ops.now →
-        Tells result (λ _. Leaves (meant P.pages space.old) (meant P.pages space.new) schema.now rows ops.now stands)
+        Tells result (λ _. Leaves (meant P.pages space.old) (meant P.pages space.new) schema.now rows ops.now stands
+        × FreesLeaves (meant P.pages space.old) (meant P.pages space.new) schema.now ops.now)
         (broken_place (apply_all rows ops.now) 0 schema.now) }
     ensures base { P.pages space.new.base ≡ P.pages space.old.base }
     ensures excused { IsExcused result (P.losses space.old.base) (P.losses space.new.base) }

@@ -4,6 +4,7 @@ use Rattle.page_workspace.specs.Drafts.{meant}
 use Rattle.btree_index.specs.Changes.{Becomes}
 use Rattle.table_store.specs.Operations as ops
 use Rattle.table_changes.proofs.ChangedLemmas.{put_behind_taken}
+use Rattle.table_changes.proofs.FreedLemmas.{then_put}
 use Rattle.table_changes.proofs.changes.change_tree.Goals as goal
 
 pub returns-in-Ok-clause-changed : goal.returns-in-Ok-clause-changed
@@ -12,3 +13,9 @@ returns-in-Ok-clause-changed g c = λ own free list stands.
     (ops.removed (option_copied c.args.key) (ops.gone c.args.table c.args.ops.now) list) = c.in-Ok.ensures.taken own free list stands in
     put_behind_taken (meant g.P.PageSource.pages c.args.space.now) (meant g.P.PageSource.pages c.take_all.new.space) (meant g.P.PageSource.pages c.put_all.new.space)
     c.args.root own free _ _ c.put_all.result taken (c.put_all.ensures.put taken.more taken.spare _ taken.stands)
+
+pub returns-in-Ok-clause-freed : goal.returns-in-Ok-clause-freed
+returns-in-Ok-clause-freed g c =
+    then_put (meant g.P.PageSource.pages c.args.space.now) (meant g.P.PageSource.pages c.take_all.new.space) (meant g.P.PageSource.pages c.put_all.new.space)
+    c.args.root (option_copied c.args.key) (ops.gone c.args.table c.args.ops.now) (ops.born c.args.table c.args.next c.args.ops.now) c.put_all.result
+    c.in-Ok.ensures.freed c.put_all.ensures.put

@@ -5,6 +5,7 @@ use Rattle.std.specs.Option.{option_copied}
 use Rattle.page_workspace.specs.Drafts.{meant}
 use Rattle.table_store.specs.Operations.{gone, removed}
 use Rattle.table_changes.proofs.ChangedLemmas.{begins, taken_more, taken_all}
+use Rattle.table_changes.proofs.FreedLemmas.{pairs_more, pairs_none}
 use Rattle.table_changes.proofs.takes.take_all.Goals as goal
 
 pub ops-init : goal.ops-init
@@ -12,6 +13,7 @@ ops-init g c = record {
   becomes = λ own free list stands.
       begins (meant g.P.PageSource.pages c.args.space.now) c.args.root own free list
       (λ left. removed (option_copied c.args.key) (gone c.args.table c.args.ops.now) left ≡ removed (option_copied c.args.key) (gone c.args.table c.args.ops.now) list) stands refl;
+  freed = λ new left. left;
   base = refl;
   losses = omega arith;
 }
@@ -25,6 +27,10 @@ ops-preserved g c =
           taken_more (meant g.P.PageSource.pages c.args.space.now) (meant g.P.PageSource.pages c.ops.space) (meant g.P.PageSource.pages c.take_one.new.space)
           c.args.root c.args.table own free (option_copied c.args.key) c.in-Some.op.now c.in-Some.others.now c.ops.rest.now _ c.in-Some.ensures.cases.0
           (c.ops.invariant.becomes own free list stands) c.in_ok-take_one.ensures.taken;
+      freed = λ new left.
+          c.ops.invariant.freed new (pairs_more (meant g.P.PageSource.pages c.ops.space) (meant g.P.PageSource.pages c.take_one.new.space) new
+          c.args.root c.args.table (option_copied c.args.key) c.in-Some.op.now c.in-Some.others.now c.ops.rest.now c.in-Some.ensures.cases.0
+          c.in_ok-take_one.ensures.freed left);
       base = c.in_ok-take_one.ensures.base ∙ c.ops.invariant.base;
       losses = omega arith;
     }
@@ -33,3 +39,8 @@ pub returns-clause-taken : goal.returns-clause-taken
 returns-clause-taken g c = λ own free list stands.
     taken_all (meant g.P.PageSource.pages c.args.space.now) (meant g.P.PageSource.pages c.ops.space) c.args.root c.args.table own free (option_copied c.args.key)
     c.ops.rest.now _ (nil_from_length c.ops.rest.now c.in_default.ensures.cases) (c.ops.invariant.becomes own free list stands)
+
+pub returns-clause-freed : goal.returns-clause-freed
+returns-clause-freed g c =
+    c.ops.invariant.freed (meant g.P.PageSource.pages c.ops.space) (pairs_none (meant g.P.PageSource.pages c.ops.space) c.args.root c.args.table (option_copied c.args.key)
+    c.ops.rest.now (nil_from_length c.ops.rest.now c.in_default.ensures.cases))
