@@ -17,6 +17,7 @@
 //! | whether a row lies in an interval | `lying` | `query_laws`, `Intervals` |
 //! | the walk by a plan | `walks` | `specs/PlanWalks` |
 //! | the last place of a query's walk | `folds` | `sql_eval`, `Shaped` |
+//! | its rows, kept while the interval is the same | `keeping`, `sameness` | `specs/Keeping` |
 //! | the answer | `executes` | `sql_answer`, `Answers` |
 //!
 //! For example, over t(id, v) with the keys pk(id) and by_v(v), `where v = 3 and id > 5` asks the source for the versions
@@ -29,9 +30,11 @@
 
 mod executes;
 mod folds;
+mod keeping;
 mod lying;
 mod outers;
 mod reaches;
+mod sameness;
 mod sources;
 mod walks;
 
