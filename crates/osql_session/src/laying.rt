@@ -1,13 +1,15 @@
 //! Writes laid over the operations so far. Where something is wanting, all is left as it was.
-ghost use Rattle.std.specs.Prelude.{◌≡◌, ◌++◌, ◌∷◌, [], ◌+◌, ◌≤◌, true, false, length, if◌then◌else◌, is_ok, IfOk, OnOk, OnErr};
+ghost use Rattle.std.specs.Prelude.{◌≡◌, ◌++◌, ◌∷◌, [], ◌+◌, ◌≤◌, true, false, length, if◌then◌else◌, is_ok, Some, IfOk, OnOk, OnErr};
 ghost use Rattle.std.specs.List.{list_all};
 ghost use Rattle.net_writes.specs.Net.{held_after, net_of};
 ghost use Rattle.query_laws.specs.Alone.{replies_of};
 ghost use Rattle.cdb_values.specs.declared.replies.Reply.TheVariants as reply;
 ghost use Rattle.sql_answer.specs.Answers.{net_given, ops_after};
 ghost use Rattle.sql_answer_plain.specs.Laid.{is_base as is_base_of, is_on_base as is_on_base_of};
+ghost use Rattle.osql_session.specs.Own.{place_alone as place_alone_of};
 ghost use Rattle.osql_session.specs.Used.{used_of};
 
+use crate::own::{exchange, over, place_alone};
 use crate::requests::copied_op;
 use cdb_values::limits::MOST_NET_OPERATIONS;
 use cdb_values::{Interval, List, Reply, RowOp, RowRef, StatementError};
@@ -59,9 +61,11 @@ pub(crate) fn written(
     ensures based { list_all is_on_base_of ops.new.items ≡ true }
 {
     if add_up(ops.len(), writes.as_slice()) {
-        added(alloc, ops, writes, ranges, read)
-    } else {
-        laid(alloc, ops, writes, ranges, read)
+        return added(alloc, ops, writes, ranges, read);
+    }
+    match place_alone(ops.len(), writes.as_slice()) {
+        Some(at) => laid_over(alloc, ops, at, writes, ranges, read),
+        None => laid(alloc, ops, writes, ranges, read),
     }
 }
 
@@ -129,6 +133,31 @@ fn added(
 {
     let lines = alone(alloc, Reply::Changed(writes.len() as u64))?;
     append_both(ops, writes, ranges, read)?;
+    Ok(lines)
+}
+
+/// The answer of a write that names an operation, which is taken out where it stands. No other one is copied.
+#[tactic(auto, using(crate::proofs::OwnLemmas::over_is_net, crate::proofs::OwnLemmas::one_fits, crate::proofs::OwnLemmas::over_is_based))]
+fn laid_over(
+    alloc: Global,
+    ops: &mut Vec<RowOp>,
+    at: usize,
+    writes: List<RowOp>,
+    ranges: &mut Vec<Interval>,
+    read: List<Interval>,
+) -> Result<List<Reply>, AllocError>
+    requires based { list_all is_on_base_of ops.old.items ≡ true }
+    requires place { place_alone_of (length ops.old.items) writes ≡ Some at }
+    ensures replies { IfOk result (λ lines. lines ≡ replies_of (net_given ops.old.items writes)) }
+    ensures ops { OnOk result (ops.new.items ≡ ops_after ops.old.items (net_given ops.old.items writes)) }
+    ensures ranges { OnOk result (ranges.new.items ≡ ranges.old.items ++ used_of (net_given ops.old.items writes) read) }
+    ensures ops_stay { OnErr result (ops.new.items ≡ ops.old.items) }
+    ensures ranges_stay { OnErr result (ranges.new.items ≡ ranges.old.items) }
+    ensures based { list_all is_on_base_of ops.new.items ≡ true }
+{
+    let lines = alone(alloc, Reply::Changed(writes.len() as u64))?;
+    let now = over(alloc, ops.as_slice(), at, writes)?;
+    exchange(ops, at, now, ranges, read)?;
     Ok(lines)
 }
 

@@ -14,6 +14,7 @@
 //! |---|---|---|
 //! | what a session has so far | `sessions` | `specs/Sessions` |
 //! | writes laid over the operations so far | `laying` | `net_writes`, `Net`, and `sql_answer`, `Answers` |
+//! | one write laid over the operation that it names, in place | `own` | `specs/Own` |
 //! | what is asked at the commit | `requests` | `specs/Requests` |
 //! | used versions without repeats | `items` | `specs/Items` |
 //! | a session stands where a transaction run alone does | `laws` | `specs/Courses` |
@@ -27,6 +28,7 @@
 mod items;
 mod laws;
 mod laying;
+mod own;
 mod requests;
 mod sessions;
 
