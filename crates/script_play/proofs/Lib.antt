@@ -31,6 +31,7 @@ pub mod KnownLemmas
 pub mod OverLemmas
 pub mod SiteLemmas
 pub mod SqlLaws
+pub mod NodesLaws
 pub mod PlayLaws
 pub mod TakeLemmas
 pub mod TurnedLemmas

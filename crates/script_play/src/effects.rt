@@ -8,6 +8,7 @@ ghost use Rattle.session_turns.specs.Asked.{settled_by};
 ghost use Rattle.session_turns.specs.Views.{coming_in, state_in, IsOwn, IsOwnCommit};
 ghost use Rattle.sql_run.specs.Texts.{plan_by};
 ghost use Rattle.sql_run.specs.Views.{text_in};
+ghost use Rattle.undo_snapshot.specs.Positions.{AreOfLog};
 
 use super::reader::{Footing, LogReader};
 use super::verdicts::decided;
@@ -18,6 +19,8 @@ use phys_log::Entry;
 use session_turns::{LineEffect as LineAsked, SessionState, Turn, take_turn};
 use sql_run::Prepared;
 use std::alloc::{AllocError, Global};
+use std::mem;
+use undo_snapshot::KeptPositions;
 
 /// What a line is to do.
 #[derive(Drop)]
@@ -31,7 +34,8 @@ pub(crate) struct LineEffect {
     pub added: Option<Entry>,
 }
 
-/// What a line is to do, by its prepared text.
+/// What a line is to do, by its prepared text. Where memory is wanting the pages that were undone are let go.
+#[tactic(auto, using(undo_snapshot::proofs::PositionLemmas::none_of_log))]
 pub(crate) fn effect_of<J: Footing>(
     alloc: Global,
     schema: &Schema,
@@ -41,6 +45,7 @@ pub(crate) fn effect_of<J: Footing>(
     name: &Name,
     state: SessionState,
     prepared: &Prepared,
+    undone: &mut KeptPositions,
 ) -> Result<LineEffect, AllocError>
     requires ready { IsReadyFor J.start schema.now log.now }
     requires known { known.now ≡ identities_of log.now }
@@ -49,12 +54,18 @@ pub(crate) fn effect_of<J: Footing>(
     requires own { IsOwn generation name.now state }
     requires plan { (text_in prepared.now).plan ≡ plan_by schema.now (text_in prepared.now).meaning }
     requires of_text { IsOfText schema.now (text_in prepared.now).meaning }
-    ensures { IfOk result (λ p. IsEffect J.start generation schema.now log.now name.now p
+    requires undone { AreOfLog log.now undone.old }
+    ensures effect { IfOk result (λ p. IsEffect J.start generation schema.now log.now name.now p
         (turn_in J.start schema.now log.now state (text_in prepared.now).meaning (text_in prepared.now).kind)) }
+    ensures undone { AreOfLog log.now undone.new }
 {
-    let mut reader: LogReader<'_, J> = LogReader::new(schema, log, generation);
+    let pages = mem::replace(undone, KeptPositions::none());
+    let mut reader: LogReader<'_, J> = LogReader::new(schema, log, generation, pages);
     match take_turn(alloc, &mut reader, name, state, prepared)? {
-        Turn::Done(asked) => with_outcome(alloc, schema, generation, log, known, asked),
+        Turn::Done(asked) => {
+            *undone = reader.into_undone();
+            with_outcome(alloc, schema, generation, log, known, asked)
+        }
         // This node can always tell.
         Turn::Begun(_) => unreachable!(),
         Turn::NotYet(_) => unreachable!(),

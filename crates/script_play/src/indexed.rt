@@ -11,6 +11,7 @@ ghost use Rattle.phys_log.specs.Logs.{Fits};
 ghost use Rattle.phys_log.specs.declared.entries.CommitId.{CommitId};
 ghost use Rattle.script_play.specs.Effects.{IsFreshIn};
 ghost use Rattle.store_log.specs.Held.{generation_of};
+ghost use Rattle.undo_snapshot.specs.Positions.{AreOfLog};
 
 use super::holding::beside;
 use blkseq_table::BlkSeq;
@@ -20,25 +21,29 @@ use node_log::{KeepFault, NodeLog};
 use phys_log::Entry;
 use std::alloc::{AllocError, Global};
 use std::marker::Model;
+use std::mem;
+use undo_snapshot::KeptPositions;
 
-/// The log of a node, with the identities of its entries. As long as no call of the store failed, these are those of all its
-/// entries. Contracts see the log.
+/// The log of a node, with the identities of its entries, and pages of it that were undone for open transactions. As long as
+/// no call of the store failed, the identities are those of all its entries. Contracts see the log.
 #[derive(Drop)]
 pub(crate) struct IndexedLog<D: LogStore> {
     log: NodeLog<D>,
     known: BlkSeq,
+    undone: KeptPositions,
 }
 
 impl<D: LogStore> Model for IndexedLog<D> {
     ghost use Rattle.std.specs.Prelude.{◌≡◌, false};
     ghost use Rattle.blkseq_table.specs.OfLogs.{identities_of};
     ghost use Rattle.node_log.specs.Logged.{Logged};
+    ghost use Rattle.undo_snapshot.specs.Positions.{AreOfLog};
 
     ghost Value = { Logged };
 
     ghost view = { λ i. i.log };
 
-    ghost invariant = { λ i. i.log.failed ≡ false → i.known ≡ identities_of i.log.entries };
+    ghost invariant = { λ i. (i.log.failed ≡ false → i.known ≡ identities_of i.log.entries) × AreOfLog i.log.entries i.undone };
 }
 
 impl<D: LogStore> IndexedLog<D> {
@@ -47,7 +52,11 @@ impl<D: LogStore> IndexedLog<D> {
         requires { known ≡ identities_of log.entries }
         ensures { result ≡ log }
     {
-        IndexedLog { log, known }
+        IndexedLog {
+            log,
+            known,
+            undone: KeptPositions::none(),
+        }
     }
 
     /// The log, with its pages. Takes no memory.
@@ -77,6 +86,22 @@ impl<D: LogStore> IndexedLog<D> {
         ensures { result ≡ self.now.failed }
     {
         self.log.has_failed()
+    }
+
+    /// Takes out the pages that were undone. Takes no memory.
+    pub(crate) fn take_undone(&mut self) -> KeptPositions
+        ensures pages { AreOfLog self.old.entries result }
+        ensures same { self.new ≡ self.old }
+    {
+        mem::replace(&mut self.undone, KeptPositions::none())
+    }
+
+    /// Puts pages back that were undone. Takes no memory.
+    pub(crate) fn put_undone(&mut self, undone: KeptPositions)
+        requires { AreOfLog self.old.entries undone }
+        ensures { self.new ≡ self.old }
+    {
+        self.undone = undone;
     }
 
     /// Appends the next entry of the log, whose identity no entry has, as `NodeLog` does. The identity is put in before the

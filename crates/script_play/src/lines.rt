@@ -12,12 +12,13 @@ ghost use Rattle.script_play.specs.RunViews.{IsDoneFrom, IsOfText, IsReadyFor};
 ghost use Rattle.session_turns.specs.Views.{IsOwn};
 ghost use Rattle.script_play.specs.RunViews.{IsSameHistory, IsTakenFrom};
 ghost use Rattle.script_play.specs.Down.{history_of, owner_of, IsHeldBy};
-ghost use Rattle.script_play.specs.Effects.{Grown};
+ghost use Rattle.script_play.specs.Effects.{Grown, IsEffect};
 ghost use Rattle.script_play.specs.Start.{Start};
 
 use super::downs::run_down;
-use super::effects::effect_of;
+use super::effects::{LineEffect, effect_of};
 use super::holding::beside;
+use super::indexed::IndexedLog;
 use super::run::{RunSoFar, add_reply, apply_effect};
 use cdb_outside::LogStore;
 use cdb_values::{Name, Reply, Schema};
@@ -115,17 +116,54 @@ fn run_whole<D: LogStore>(
     ensures err_same { OnErr result (IsSameHistory (run_in run.old) (run_in run.new)) }
     ensures owner { owner_of run.new.log ≡ owner_of run.old.log }
 {
+    let effect = planned(
+        alloc,
+        schema,
+        generation,
+        name,
+        state,
+        prepared,
+        &mut run.log,
+    )?;
+    apply_effect(alloc, name, effect, run)
+}
+
+/// What a line is to do on a node that is up. The pages that were undone for it stay with the log.
+fn planned<D: LogStore>(
+    alloc: Global,
+    schema: &Schema,
+    generation: u64,
+    name: &Name,
+    state: SessionState,
+    prepared: &Prepared,
+    log: &mut IndexedLog<D>,
+) -> Result<LineEffect, AllocError>
+    ghost start: { Start }
+    requires running { log.old.failed ≡ false }
+    requires ready { IsReadyFor start schema.now log.old.entries }
+    requires going { CanGoOn start schema.now log.old.entries state.doing }
+    requires over { AreOver generation name.now state log.old.entries }
+    requires own { IsOwn generation name.now state }
+    requires plan { (text_in prepared.now).plan ≡ plan_by schema.now (text_in prepared.now).meaning }
+    requires of_text { IsOfText schema.now (text_in prepared.now).meaning }
+    ensures effect { IfOk result (λ p. IsEffect start generation schema.now log.old.entries name.now p
+        (turn_in start schema.now log.old.entries state (text_in prepared.now).meaning (text_in prepared.now).kind)) }
+    ensures same { log.new ≡ log.old }
+{
+    let mut undone = log.take_undone();
     let effect = effect_of::<Brand>(
         alloc,
         schema,
         generation,
-        run.log.log(),
-        run.log.known(),
+        log.log(),
+        log.known(),
         name,
         state,
         prepared,
-    )?;
-    apply_effect(alloc, name, effect, run)
+        &mut undone,
+    );
+    log.put_undone(undone);
+    effect
 }
 
 /// Tells that want of memory cut a line short, in place of the lines that were added since.

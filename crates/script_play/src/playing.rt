@@ -7,6 +7,8 @@ ghost use Rattle.log_replay.specs.Answers.{schema_of as schema_told};
 ghost use Rattle.log_rows.specs.History.{rows_over_at, IsFrom, StandsOver};
 ghost use Rattle.log_rows.specs.Sizes.{IsSmall};
 ghost use Rattle.node_log.specs.Logged.{Leaves};
+ghost use Rattle.node_reports.specs.Lawful.{LawfulOfNodes};
+ghost use Rattle.node_reports.specs.Order.{InNodesOrder};
 ghost use Rattle.report_laws.specs.History.{rows_at, changes_at};
 ghost use Rattle.report_laws.specs.Lawful.{Lawful, base_line};
 ghost use Rattle.report_laws.specs.Nodes.{downs, BeginsDown};
@@ -57,7 +59,8 @@ pub struct Played<D: LogStore> {
 /// setup of the script's tables since. Any other log begins with that setup, and goes on with transactions, each once, that
 /// began in generations before the one in which the node stands; what its entries say that they change is not looked at.
 ///
-/// The report is lawful and in the order of play, over the history from there. Each of its entries at level serializable is
+/// The report is lawful and in the order of play, over the history from there, in the words for one node and in those for
+/// several. Each of its entries at level serializable is
 /// serial: its transaction, run alone on the rows right before it and without the texts that failed, has the same operations,
 /// and the replies that the other texts had. The node may go down in it, once, where its store fails: then it stays down. The
 /// log's entries are those before the run and exactly those of the history, each with the session, number, begin and level that
@@ -85,6 +88,8 @@ pub fn play<D: LogStore + Drop>(
     requires behind { CanBegin (tables_of script.now) start.before start.rows }
     ensures lawful { IfOk result (λ p. Lawful (from_start script.now start) p.report) }
     ensures in_order { IfOk result (λ p. InPlayOrder (from_start script.now start) p.report) }
+    ensures lawful_of_nodes { IfOk result (λ p. LawfulOfNodes (from_start script.now start) p.report) }
+    ensures in_nodes_order { IfOk result (λ p. InNodesOrder (from_start script.now start) p.report) }
     ensures serial { IfOk result (λ p. AreSerial (from_start script.now start) p.report.entries) }
     ensures entries { IfOk result (λ p. AreTold start.before log.accepted p.report.entries (history_of p.log)) }
     ensures schema { IfOk result (λ p. schema_told (history_of p.log) ≡ Some (tables_of script.now)) }
@@ -378,6 +383,8 @@ pub fn play_down(alloc: Global, script: &Script, base: u64) -> Result<Report, Al
     requires can_run { CanRun script.now }
     ensures lawful { IfOk result (λ r. (rows : Rows) → Lawful (from_base script.now base rows) r) }
     ensures in_order { IfOk result (λ r. (rows : Rows) → InPlayOrder (from_base script.now base rows) r) }
+    ensures lawful_of_nodes { IfOk result (λ r. (rows : Rows) → LawfulOfNodes (from_base script.now base rows) r) }
+    ensures in_nodes_order { IfOk result (λ r. (rows : Rows) → InNodesOrder (from_base script.now base rows) r) }
     ensures first { IfOk result (λ r. BeginsDown r.lines) }
     ensures down { IfOk result (λ r. downs r.lines ≡ 1) }
     ensures none { IfOk result (λ r. r.entries ≡ []) }

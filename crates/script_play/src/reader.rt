@@ -1,6 +1,7 @@
 //! The node of a run, as its sessions read it: where transactions begin, and what texts are answered.
 ghost use Rattle.std.specs.Prelude.{◌≡◌};
 ghost use Rattle.script_play.specs.Start.{Start};
+ghost use Rattle.undo_snapshot.specs.Positions.{AreOfLog};
 
 use super::reads::answer_text;
 use cdb_values::{List, Reply, Schema};
@@ -10,6 +11,7 @@ use session_turns::{Begun, SessionReader, Told};
 use sql_run::Prepared;
 use std::alloc::{AllocError, Global};
 use std::marker::{Brand, Model, PhantomData};
+use undo_snapshot::KeptPositions;
 
 /// Where a run began, which no code holds: a type stands for it. A proof picks it where a call passes `Brand`.
 pub(crate) trait Footing {
@@ -29,28 +31,48 @@ pub(crate) struct LogReader<'a, J: Footing> {
     schema: &'a Schema,
     log: &'a PagedLog,
     generation: u64,
+    /// The pages that were undone for transactions that are open.
+    undone: KeptPositions,
     of: PhantomData<J>,
 }
 
 impl<'a, J: Footing> Model for LogReader<'a, J> {
     ghost use Rattle.script_play.specs.Reading.{Reader};
+    ghost use Rattle.undo_snapshot.specs.Positions.{AreOfLog};
 
     ghost Value = { Reader };
 
     ghost view = { λ n. record { tables = n.schema.now; log = n.log.now; generation = n.generation } };
+
+    ghost invariant = { λ n. AreOfLog n.log.now n.undone };
 }
 
 impl<'a, J: Footing> LogReader<'a, J> {
-    /// The node with this log, whose transactions begin in that generation. Takes no memory.
-    pub(crate) fn new(schema: &'a Schema, log: &'a PagedLog, generation: u64) -> LogReader<'a, J>
+    /// The node with this log, whose transactions begin in that generation, and with pages that were undone. Takes no memory.
+    pub(crate) fn new(
+        schema: &'a Schema,
+        log: &'a PagedLog,
+        generation: u64,
+        undone: KeptPositions,
+    ) -> LogReader<'a, J>
+        requires { AreOfLog log.now undone }
         ensures { result ≡ record { tables = schema.now; log = log.now; generation = generation } }
     {
         LogReader {
             schema,
             log,
             generation,
+            undone,
             of: PhantomData,
         }
+    }
+
+    /// The pages that are undone then. Takes no memory.
+    pub(crate) fn into_undone(self) -> KeptPositions
+        ensures { AreOfLog self.entry.log result }
+    {
+        let LogReader { undone, .. } = self;
+        undone
     }
 }
 
@@ -85,7 +107,14 @@ impl<J: Footing> SessionReader for LogReader<'_, J> {
         session: &mut OsqlSession,
         prepared: &Prepared,
     ) -> Result<Told<List<Reply>>, AllocError> {
-        let replies = answer_text(alloc, self.schema, self.log, session, prepared)?;
+        let replies = answer_text(
+            alloc,
+            self.schema,
+            self.log,
+            &mut self.undone,
+            session,
+            prepared,
+        )?;
         Ok(Told::Now(replies))
     }
 

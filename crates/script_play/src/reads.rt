@@ -1,73 +1,166 @@
 //! What a text is answered in a transaction: its rows are read from the pages of the log at its begin position.
-ghost use Rattle.std.specs.Prelude.{◌≡◌, ◌≤◌, length, IfOk, OnErr};
+ghost use Rattle.std.specs.Prelude.{◌≡◌, ◌≤◌, List as Many, length, take, IfOk, OnErr};
 ghost use Rattle.cdb_values.specs.Rows.{Rows};
-ghost use Rattle.phys_log.specs.Logs.{page_at};
+ghost use Rattle.phys_log.specs.Logs.{page_at, pages_of};
+ghost use Rattle.phys_log.specs.declared.entries.Entry.{Entry};
 ghost use Rattle.session_turns.specs.Answers.{IsAnswered};
 ghost use Rattle.session_turns.specs.Step.{World};
 ghost use Rattle.sql_run.specs.Texts.{plan_by};
 ghost use Rattle.sql_run.specs.Views.{text_in};
 ghost use Rattle.table_store.specs.Stored.{Stands};
+ghost use Rattle.undo_snapshot.specs.Kept.{AreOf};
+ghost use Rattle.undo_snapshot.specs.Positions.{AreOfLog};
 
 use cdb_values::{List, Reply, Schema};
 use log_replay::{LogPages, PagedLog};
 use osql_session::OsqlSession;
 use page_rows::PageRows;
-use page_store::PageSource;
+use plan_run::RowFault;
 use session_turns::answer_over;
 use sql_run::Prepared;
 use std::alloc::{AllocError, Global};
-use undo_snapshot::{LogGranter, SnapshotPages};
+use std::marker::Brand;
+use undo_snapshot::{Front, FrontGranter, KeptPages, KeptPositions, LogGranter, SnapshotPages};
 
 /// What a prepared text is answered in a session's transaction, over each history that has at its begin position the rows that
-/// the pages of the log stand for there. Where that is the log's
-/// last position, its pages are read as they stand, and none is copied. Else pages are taken from the log as it is now, and
-/// what came after that position is undone on the copies. The error is want of memory, after which the session is as before.
+/// the pages of the log stand for there. Where that is the log's last position, its pages are read as they stand, and none is
+/// copied. Else pages are taken from the log as it is now, and what came after that position is undone on the copies, which
+/// are kept for the transaction's next texts. The error is want of memory, after which the session is as before.
 pub(crate) fn answer_text(
     alloc: Global,
     schema: &Schema,
     log: &PagedLog,
+    undone: &mut KeptPositions,
     session: &mut OsqlSession,
     prepared: &Prepared,
 ) -> Result<List<Reply>, AllocError>
     requires within { session.old.begin ≤ length log.now }
     requires stands { (rows : Rows) × Stands (page_at log.now session.old.begin) schema.now rows }
     requires plan { (text_in prepared.now).plan ≡ plan_by schema.now (text_in prepared.now).meaning }
+    requires undone { AreOfLog log.now undone.old }
     ensures answered { (w : World) → w.tables ≡ schema.now
         → Stands (page_at log.now session.old.begin) schema.now (w.seen.at session.old.begin)
         → IfOk result (λ lines. IsAnswered w session.old (text_in prepared.now).meaning lines session.new) }
     ensures unchanged { OnErr result (session.new ≡ session.old) }
     ensures begin { session.new.begin ≡ session.old.begin }
+    ensures undone { AreOfLog log.now undone.new }
 {
     let begin = session.begin();
     if begin == log.entries().len() as u64 {
-        let pages = LogPages::new(alloc, log)?;
-        answer_pages(alloc, schema, pages, session, prepared)
+        answer_now(alloc, schema, log, session, prepared)
     } else {
-        let pages = SnapshotPages::new(alloc, LogGranter::new(log, begin), begin)?;
-        answer_pages(alloc, schema, pages, session, prepared)
+        answer_earlier(alloc, schema, log, undone, session, prepared)
     }
 }
 
-/// The same over pages that stand for the rows at its begin position.
-fn answer_pages<P: PageSource + Drop>(
+/// The same where the transaction began at the log's last position.
+fn answer_now(
     alloc: Global,
     schema: &Schema,
-    pages: P,
+    log: &PagedLog,
     session: &mut OsqlSession,
     prepared: &Prepared,
 ) -> Result<List<Reply>, AllocError>
-    requires stands { (rows : Rows) × Stands (P.pages pages) schema.now rows }
+    requires stands { (rows : Rows) × Stands (pages_of log.now) schema.now rows }
     requires plan { (text_in prepared.now).plan ≡ plan_by schema.now (text_in prepared.now).meaning }
     ensures answered { (w : World) → w.tables ≡ schema.now
-        → Stands (P.pages pages) schema.now (w.seen.at session.old.begin)
+        → Stands (pages_of log.now) schema.now (w.seen.at session.old.begin)
         → IfOk result (λ lines. IsAnswered w session.old (text_in prepared.now).meaning lines session.new) }
     ensures unchanged { OnErr result (session.new ≡ session.old) }
     ensures begin { session.new.begin ≡ session.old.begin }
 {
+    let pages = LogPages::new(alloc, log)?;
     let mut source = PageRows::new(pages, schema);
     match answer_over(alloc, schema, session, prepared, &mut source) {
         Ok(replies) => Ok(replies),
         // The pages of the log are in memory, and none of them can be gone: this is want of memory.
         Err(_) => Err(AllocError),
     }
+}
+
+/// The same where others have committed since, by the pages that are kept of its begin position.
+fn answer_earlier(
+    alloc: Global,
+    schema: &Schema,
+    log: &PagedLog,
+    undone: &mut KeptPositions,
+    session: &mut OsqlSession,
+    prepared: &Prepared,
+) -> Result<List<Reply>, AllocError>
+    requires within { session.old.begin ≤ length log.now }
+    requires stands { (rows : Rows) × Stands (page_at log.now session.old.begin) schema.now rows }
+    requires plan { (text_in prepared.now).plan ≡ plan_by schema.now (text_in prepared.now).meaning }
+    requires undone { AreOfLog log.now undone.old }
+    ensures answered { (w : World) → w.tables ≡ schema.now
+        → Stands (page_at log.now session.old.begin) schema.now (w.seen.at session.old.begin)
+        → IfOk result (λ lines. IsAnswered w session.old (text_in prepared.now).meaning lines session.new) }
+    ensures unchanged { OnErr result (session.new ≡ session.old) }
+    ensures begin { session.new.begin ≡ session.old.begin }
+    ensures undone { AreOfLog log.now undone.new }
+{
+    let begin = session.begin();
+    let kept = kept_pages(alloc, undone, begin)?;
+    let granter = LogGranter::new(log, begin);
+    let Undone { answer, kept } = answer_undone::<Brand>(
+        alloc, schema, granter, begin, kept, session, prepared,
+    );
+    undone.put(alloc, begin, kept);
+    match answer {
+        Ok(replies) => Ok(replies),
+        // The log is in memory, and none of its pages can be gone: this is want of memory.
+        Err(_) => Err(AllocError),
+    }
+}
+
+/// The pages that are kept of a position; none where there are none yet.
+#[tactic(auto, using(undo_snapshot::proofs::KeptLemmas::none_kept))]
+fn kept_pages(
+    alloc: Global,
+    undone: &mut KeptPositions,
+    position: u64,
+) -> Result<KeptPages, AllocError>
+    ensures pages { (log : Many Entry) → AreOfLog log undone.old → IfOk result (AreOf (pages_of (take position log))) }
+    ensures others { (log : Many Entry) → AreOfLog log undone.old → AreOfLog log undone.new }
+{
+    match undone.take(position) {
+        Some(kept) => Ok(kept),
+        None => KeptPages::new(alloc),
+    }
+}
+
+/// What was answered, and the pages that are kept then.
+#[derive(Drop)]
+struct Undone {
+    answer: Result<List<Reply>, RowFault>,
+    kept: KeptPages,
+}
+
+/// The same over pages that are granted and undone, some of which are kept.
+fn answer_undone<F: Front>(
+    alloc: Global,
+    schema: &Schema,
+    granter: LogGranter<'_>,
+    position: u64,
+    kept: KeptPages,
+    session: &mut OsqlSession,
+    prepared: &Prepared,
+) -> Undone
+    requires front { granter ≡ F.front }
+    requires position { position ≡ length F.front }
+    requires kept { AreOf (pages_of F.front) kept }
+    requires stands { (rows : Rows) × Stands (pages_of F.front) schema.now rows }
+    requires plan { (text_in prepared.now).plan ≡ plan_by schema.now (text_in prepared.now).meaning }
+    ensures answered { (w : World) → w.tables ≡ schema.now
+        → Stands (pages_of F.front) schema.now (w.seen.at session.old.begin)
+        → IfOk result.answer (λ lines. IsAnswered w session.old (text_in prepared.now).meaning lines session.new) }
+    ensures unchanged { OnErr result.answer (session.new ≡ session.old) }
+    ensures begin { session.new.begin ≡ session.old.begin }
+    ensures kept { AreOf (pages_of F.front) result.kept }
+{
+    let granter: FrontGranter<F, LogGranter<'_>> = FrontGranter::new(granter);
+    let pages = SnapshotPages::with_kept(alloc, granter, position, kept);
+    let mut source = PageRows::new(pages, schema);
+    let answer = answer_over(alloc, schema, session, prepared, &mut source);
+    let kept = source.pages.into_kept();
+    Undone { answer, kept }
 }

@@ -33,8 +33,8 @@ with_outcome-requires g c = (
   ),
 )
 
-pub returns : goal.returns
-returns g c =
+pub returns-clause-effect : goal.returns-clause-effect
+returns-clause-effect g c =
     of_ok c.with_outcome.result (λ p its. turned_effect g.J.Footing.start c.args.generation c.args.schema.now c.args.log.now c.args.name.now c.args.state.number c.args.state.level (doing_in c.args.state.doing)
     (text_in c.args.prepared.now).meaning (text_in c.args.prepared.now).kind c.in-Done.asked p done its) (c.with_outcome.ensures c.args.name.now done.effect.own done.effect.own_commit)
   where

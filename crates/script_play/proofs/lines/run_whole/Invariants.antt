@@ -1,5 +1,5 @@
 -- the same start
 use Rattle.script_play.proofs.lines.run_whole.Given as goal
 
-abbrev pub ghosts-effect_of : goal.ghosts-effect_of
-ghosts-effect_of g a = record { start = g.start }
+abbrev pub ghost-planned : goal.ghost-planned
+ghost-planned g a = g.start

@@ -1,6 +1,8 @@
 use Rattle.std.proofs.Common.{arith}
+use Rattle.script_play.proofs.NodesLaws.{in_nodes_order, lawful_of_nodes}
 use Rattle.script_play.proofs.PlayLaws.{held_left, held_made, if_ok}
 use Rattle.script_play.proofs.SerialLemmas.{run_serial}
+use Rattle.script_play.specs.Start.{base}
 use Rattle.script_play.proofs.playing.play.Goals as goal
 
 pub returns-clause-lawful : goal.returns-clause-lawful
@@ -8,6 +10,14 @@ returns-clause-lawful g c = if_ok c.play_behind.result (λ p played. played.told
 
 pub returns-clause-in_order : goal.returns-clause-in_order
 returns-clause-in_order g c = if_ok c.play_behind.result (λ p played. played.told.in_order) c.play_behind.ensures.played
+
+pub returns-clause-lawful_of_nodes : goal.returns-clause-lawful_of_nodes
+returns-clause-lawful_of_nodes g c =
+    if_ok c.play_behind.result (λ p played. lawful_of_nodes c.args.script.now (base g.start) g.start.rows p.report c.requires.1.0 played.told.lawful) c.play_behind.ensures.played
+
+pub returns-clause-in_nodes_order : goal.returns-clause-in_nodes_order
+returns-clause-in_nodes_order g c =
+    if_ok c.play_behind.result (λ p played. in_nodes_order c.args.script.now (base g.start) g.start.rows p.report c.requires.1.0 played.told.lawful played.told.in_order) c.play_behind.ensures.played
 
 pub returns-clause-serial : goal.returns-clause-serial
 returns-clause-serial g c =

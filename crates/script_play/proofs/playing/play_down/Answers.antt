@@ -7,6 +7,7 @@ use Rattle.session_turns.specs.Views.{state_in}
 use Rattle.script_play.specs.SoFar.{at_start}
 use Rattle.script_play.specs.SoFarDown.{IsBeforeDown}
 use Rattle.script_play.proofs.DownRunLemmas.{first_down_is, reports_out, IsOutReport}
+use Rattle.script_play.proofs.NodesLaws.{in_nodes_order, lawful_of_nodes}
 use Rattle.script_play.proofs.playing.play_down.Goals as goal
 
 pub lines-init : goal.lines-init
@@ -30,4 +31,12 @@ returns c =
     reports_out c.args.script.now (record { position = c.args.base; tables = tables_of c.args.script.now; rows = rows }) c.lines.rest.now c.lines.lines.items (map state_in c.lines.states) c.new.result.items c.report_with.result
     c.lines.invariant.0 c.in_default.ensures.cases c.new.ensures.items c.report_with.ensures in
     let any = out (record { tables = []; next = 0 }) in
-    record { lawful = λ rows. (out rows).lawful; in_order = λ rows. (out rows).in_order; first = any.first; down = any.once; none = any.none }
+    record {
+      lawful = λ rows. (out rows).lawful;
+      in_order = λ rows. (out rows).in_order;
+      lawful_of_nodes = λ rows. lawful_of_nodes c.args.script.now c.args.base rows c.report_with.result c.requires.can_run (out rows).lawful;
+      in_nodes_order = λ rows. in_nodes_order c.args.script.now c.args.base rows c.report_with.result c.requires.can_run (out rows).lawful (out rows).in_order;
+      first = any.first;
+      down = any.once;
+      none = any.none;
+    }
