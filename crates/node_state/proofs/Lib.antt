@@ -8,3 +8,7 @@ pub mod NewLaws
 pub mod TakeLaws
 pub mod BehindLaws
 pub mod SetupLaws
+pub mod FallLaws
+pub mod WakeLaws
+pub mod LeftLaws
+pub mod FirstLaws

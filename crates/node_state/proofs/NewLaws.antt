@@ -27,10 +27,10 @@ no_bit k e =
     absurd (omega arith)
 
 -- who did nothing
-nothing_done : (i : ℕ) (seen : List (ℕ × Event)) → entries_of i seen ≡ [] → entries_of i (seen ++ []) ≡ entries_of i []
+pub nothing_done : (i : ℕ) (seen : List (ℕ × Event)) → entries_of i seen ≡ [] → entries_of i (seen ++ []) ≡ entries_of i []
 nothing_done i seen e = ap (entries_of i) (none_behind seen) ∙ e
 
-blank_part : (G : Setting) (i : ℕ) (seen : List (ℕ × Event)) → entries_of i seen ≡ [] → (world G seen).nodes i ≡ blank
+pub blank_part : (G : Setting) (i : ℕ) (seen : List (ℕ × Event)) → entries_of i seen ≡ [] → (world G seen).nodes i ≡ blank
 blank_part G i seen e = ap (λ t. (world G t).nodes i) (sym (none_behind seen)) ∙ idle G i seen [] (nothing_done i seen e)
 
 pub new_own : (G : Setting) (node nodes : ℕ) (a : Knows Event) → IsPlan G → nodes ≡ G.nodes → nodes ≤ 7 → 1 ≤ node → node ≤ nodes → a.number ≡ node → a.made ≡ [] → a.made ≡ entries_of a.number a.seen → Lawful G a.seen

@@ -1,3 +1,4 @@
 pub mod Calls
 pub mod Nodes
 pub mod Packets
+pub mod Restarts

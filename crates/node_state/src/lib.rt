@@ -13,6 +13,8 @@
 //! | of an `Adopt`, `Ship` | `Take`, of the whole log, or one an entry | one `Ack` of the last length to its sender |
 //! | of an `Ack`, a `Durable` | `Learn` | by a leader a `Durable` to each other node |
 //! | of a `Ping` | `Confirm` | a `Pong` to its sender |
+//! | `stop`, `fall` | `Down` | nothing |
+//! | `start` | `Up` | nothing |
 //!
 //! Of a message that allows nothing by the numbers nothing comes, but that a vote or a length is counted. Here node 1 has two
 //! entries that it accepted in generation 3, and takes in what node 2 leads:
@@ -23,16 +25,25 @@
 //! Ship 4, length 5, with entry 5            dropped: not the whole log of a generation that it did not accept
 //! Adopt 4, length 1, with entry 1           Take 4 1              Ack 4, length 1: three entries are dropped
 //! ```
+//!
+//! A node goes down with its numbers and its log as they are, and comes up with what its store holds. A store is asked before each
+//! event, so where it fails the event is not done, and the store holds what it held, or what the event would have left. The laws
+//! say that a node may come up with either: `specs/Restarts.antt` has an example.
 #![tactic(auto)]
 
 mod appends;
 mod bodies;
 mod drafts;
+mod laws;
 mod nodes;
 mod packets;
+mod restarts;
 mod steps;
 mod takes;
 
+pub use laws::{
+    what_a_store_may_hold_may_come_up, what_may_come_up_stays, what_was_read_may_come_up,
+};
 pub use nodes::Node;
 pub use packets::Packet;
 pub use steps::{BeginStep, Step};

@@ -1,17 +1,21 @@
 //! A node, and its calls.
-ghost use Rattle.std.specs.Prelude.{ℕ, ◌≡◌, ◌+◌, ◌<◌, ◌≤◌, [], true, length, IfOk, OnErr};
+ghost use Rattle.std.specs.Prelude.{ℕ, ◌≡◌, ◌+◌, ◌<◌, ◌≤◌, ◌++◌, ◌∷◌, [], true, false, length, IfOk, OnOk, OnErr};
 ghost use Rattle.actor_trace.specs.Lists.{Begins};
+ghost use Rattle.cluster_events.specs.Parts.{field};
 ghost use Rattle.cluster_steps.specs.Guards.{IsPlan};
-ghost use Rattle.cluster_steps.specs.Named.{world};
+ghost use Rattle.cluster_steps.specs.Named.{steps, world};
+ghost use Rattle.cluster_steps.specs.declared.events.Event.TheVariants as event;
 ghost use Rattle.core_lists.specs.Lists.{In};
 ghost use Rattle.node_state.specs.Nodes.{blank_vote};
+ghost use Rattle.node_state.specs.Restarts.{Falls, IsStartTold, IsStopTold, MayWake, Wakes, kept};
 
 use crate::bodies::Body;
 use crate::packets::Packet;
 use crate::steps::{BeginStep, Step};
 use actor_trace::{Actor, Naming, Note, Trace};
-use cdb_values::Schema;
+use cdb_values::{List, Schema};
 use cluster_core::{Cluster, Plan};
+use cluster_steps::Woken;
 use election_core::NodeVote;
 use log_replay::PagedLog;
 use phys_log::Entry;
@@ -195,6 +199,48 @@ impl<J: Plan, N: Naming> Node<J, N> {
             return Ok(Step::Down);
         }
         Ok(Step::Sent(self.body.set_up(alloc, trace, schema)?))
+    }
+
+    /// Goes down by a stop that it knows of, and answers the ticket of that. Takes no memory.
+    pub fn stop(&mut self, trace: &Trace<Cluster<J>, N>) -> u64
+        requires room { 0 < self.old.actor.room }
+        requires up { self.old.vote.up ≡ true }
+        requires told { IsStopTold J.setting self.old.actor.seen self.old.vote.node }
+        ensures falls { Falls false self.old self.new }
+        ensures ticket { self.new.actor.made ≡ self.old.actor.made ++ (result, event.Down false) ∷ [] }
+    {
+        self.body.stop(trace)
+    }
+
+    /// Goes down by a fault of its store. Takes no memory.
+    pub fn fall(&mut self, trace: &Trace<Cluster<J>, N>)
+        requires room { 0 < self.old.actor.room }
+        ensures falls { Falls true self.old self.new }
+    {
+        self.body.fall(trace);
+    }
+
+    /// Comes up with what its store holds: it may come up so with it, and knows that its start is ordered. It takes room for a
+    /// stop.
+    pub fn start(
+        &mut self,
+        alloc: Global,
+        trace: &Trace<Cluster<J>, N>,
+        how: Woken,
+        promised: u64,
+        accepted: u64,
+        entries: List<Entry>,
+    ) -> Result<(), AllocError>
+        requires down { self.old.vote.up ≡ false }
+        requires may { MayWake J.setting (field (steps J.setting self.old.actor.seen)) self.old.vote.node how
+            (kept promised accepted entries) }
+        requires told { IsStartTold J.setting self.old.actor.seen self.old.vote.node how }
+        ensures wakes { OnOk result (Wakes how (kept promised accepted entries) self.old self.new) }
+        ensures room { OnOk result (1 ≤ self.new.actor.room) }
+        ensures unchanged { OnErr result (IsAsBefore self.old self.new) }
+    {
+        self.body
+            .wake(alloc, trace, how, promised, accepted, entries)
     }
 
     /// Its actor.

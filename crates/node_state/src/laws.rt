@@ -1,0 +1,62 @@
+//! The laws of a node that is down: what its store may hold is what it may come up with.
+ghost use Rattle.std.specs.Prelude.{ℕ, ◌≡◌, ◌≤◌, List, [], Bool, true, false};
+ghost use Rattle.std.specs.declared.snapshot.Snapshot.{Snapshot};
+ghost use Rattle.actor_trace.specs.History.{entries_of};
+ghost use Rattle.actor_trace.specs.Steps.{Adds, Rests};
+ghost use Rattle.cdb_values.specs.Rows.{Rows};
+ghost use Rattle.cluster_events.specs.Parts.{field, lines};
+ghost use Rattle.cluster_events.specs.Settings.{Setting};
+ghost use Rattle.cluster_requests.specs.Requests.{Field};
+ghost use Rattle.cluster_steps.specs.Guards.{IsPlan, MayDo};
+ghost use Rattle.cluster_steps.specs.Named.{steps, world};
+ghost use Rattle.cluster_steps.specs.declared.events.Event.{Event};
+ghost use Rattle.cluster_steps.specs.declared.events.Event.TheVariants as event;
+ghost use Rattle.cluster_steps.specs.declared.events.Woken.{Woken};
+ghost use Rattle.cluster_steps.specs.declared.events.Woken.TheVariants as woken;
+ghost use Rattle.core_lists.specs.Lists.{In};
+ghost use Rattle.election_core.specs.declared.votes.NodeVote.{NodeVote};
+ghost use Rattle.node_state.specs.Nodes.{Follows, IsNode, Lawful};
+ghost use Rattle.node_state.specs.Restarts.{IsRead, Kept, MayWake, kept};
+ghost use Rattle.phys_log.specs.declared.entries.Entry.{Entry};
+ghost use Rattle.report_laws.specs.Nodes.{is_up};
+
+/// A node that goes down may come up as it was, with any promise that is not less. Where it was to lead, it may come up with its
+/// promise accepted; and where it was to take a log, or to append an entry, with what that would have left.
+pub fn what_a_store_may_hold_may_come_up()
+    ensures as_left { (G : Setting) (v : NodeVote) (log : List Entry) (p : ℕ) (fault : Bool) (seen now : List (ℕ × Event))
+        → IsNode G v log seen → v.up ≡ true → v.promised ≤ p → Adds v.node (event.Down fault) seen now
+        → MayWake G (field (steps G now)) v.node woken.AsLeft (kept p v.accepted log) }
+    ensures while_down { (G : Setting) (v : NodeVote) (log : List Entry) (p : ℕ) (seen : List (ℕ × Event)) → IsNode G v log seen
+        → v.up ≡ false → ((world G seen).nodes v.node).was_up ≡ true → v.promised ≤ p
+        → MayWake G (field (steps G seen)) v.node woken.AsLeft (kept p v.accepted log) }
+    ensures leading { (G : Setting) (v : NodeVote) (log : List Entry) (g : ℕ) (fault : Bool) (seen now : List (ℕ × Event))
+        → IsNode G v log seen → v.up ≡ true → MayDo G seen v.node (event.Lead g) → Adds v.node (event.Down fault) seen now
+        → Lawful G now → MayWake G (field (steps G now)) v.node woken.Led (kept v.promised v.promised log) }
+    ensures taking { (G : Setting) (v u : NodeVote) (log taken : List Entry) (g n : ℕ) (fault : Bool) (seen now : List (ℕ × Event))
+        → IsNode G v log seen → v.up ≡ true → Follows G v.node (event.Take g n) u taken seen
+        → Adds v.node (event.Down fault) seen now → Lawful G now
+        → MayWake G (field (steps G now)) v.node woken.Took (kept u.promised u.accepted taken) }
+    ensures appending { (G : Setting) (v u : NodeVote) (log longer : List Entry) (next : Snapshot Entry) (fault : Bool)
+        (seen now : List (ℕ × Event)) → IsNode G v log seen → v.up ≡ true → Follows G v.node (event.Append next) u longer seen
+        → Adds v.node (event.Down fault) seen now → Lawful G now
+        → MayWake G (field (steps G now)) v.node woken.Appended (kept u.promised u.accepted longer) }
+{}
+
+/// What a node may come up with it may come up with, whatever others do.
+pub fn what_may_come_up_stays()
+    ensures { (G : Setting) (i : ℕ) (old new : List (ℕ × Event)) (how : Woken) (k : Kept) → IsPlan G → Rests i old new → Lawful G new
+        → MayWake G (field (steps G old)) i how k → MayWake G (field (steps G new)) i how k }
+{}
+
+/// A node that was never up may come up with what its store stood for when it was read, once the operator admitted that. Who
+/// did nothing was never up, and no line tells that it is down.
+pub fn what_was_read_may_come_up()
+    ensures wakes { (G : Setting) (f : Field) (i : ℕ) (rows : Snapshot Rows) (k : Kept) → 1 ≤ i → i ≤ G.nodes
+        → (f.core.nodes i).up ≡ false → (f.core.nodes i).was_up ≡ false
+        → In (record { node = i; promised = k.promised; accepted = k.accepted }) f.core.admits
+        → IsRead rows.value k → MayWake G f i (woken.First rows) k }
+    ensures never_up { (G : Setting) (i : ℕ) (seen : List (ℕ × Event)) → entries_of i seen ≡ []
+        → (((world G seen).nodes i).up ≡ false) × (((world G seen).nodes i).was_up ≡ false) }
+    ensures untold { (G : Setting) (i : ℕ) (seen : List (ℕ × Event)) → entries_of i seen ≡ []
+        → is_up i (lines G (steps G seen)) ≡ true }
+{}
