@@ -9,7 +9,7 @@ mod remarks;
 
 use cdb_outside::{LogStore, MemStore, ReadSource, WriteSink};
 use file_store::FileStore;
-use remarks::{remark_cuts, remark_status, remark_unread};
+use remarks::{remark_status, remark_stores};
 use script_main::{Outside, Status, exit_status, run, store_folder};
 use std::alloc::AllocError;
 use std::process::ExitCode;
@@ -42,12 +42,11 @@ fn run_over_memory(rt: &HostRuntime, words: &[String]) -> Result<Status, AllocEr
     Ok(ran.status)
 }
 
-/// Runs the command over the files of a folder, and says which could not be read, and what was cut off them.
+/// Runs the command over the files of a folder, and says of those that it used which failed, and what was cut off them.
 fn run_over_files(rt: &HostRuntime, words: &[String], folder: &str) -> Result<Status, AllocError> {
     let stores = file_stores(rt, folder)?;
-    remark_unread(rt, folder, stores.as_slice());
     let ran = run_over(rt, words, stores);
-    remark_cuts(rt, folder, ran.stores.as_slice());
+    remark_stores(rt, folder, ran.stores.as_slice());
     Ok(ran.status)
 }
 

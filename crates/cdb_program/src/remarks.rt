@@ -26,31 +26,9 @@ fn say(rt: &HostRuntime, text: &[u8]) {
     let _ = rt.stderr().write_all(text);
 }
 
-/// Says which of the stores of a folder could not be read.
-pub(crate) fn remark_unread(rt: &HostRuntime, folder: &str, stores: &[FileStore<'_, HostRuntime>]) {
-    for node in 1..=NODES {
-        if let Some(store) = stores.get(node - 1) {
-            remark_if_unread(rt, folder, node, store);
-        }
-    }
-}
-
-/// Says that the store of a node could not be read, where that is so.
-fn remark_if_unread(
-    rt: &HostRuntime,
-    folder: &str,
-    node: usize,
-    store: &FileStore<'_, HostRuntime>,
-) {
-    if store.is_unread() {
-        let _ = eprintln!(rt;
-            "cdb: the file {folder}/node{node}.log could not be read; docs/keeping_a_store.md#a-store-that-fails"
-        );
-    }
-}
-
-/// Says of the stores of a folder, once the run is over, which failed and what was cut off them.
-pub(crate) fn remark_cuts(rt: &HostRuntime, folder: &str, stores: &[FileStore<'_, HostRuntime>]) {
+/// Says of the stores of a folder, once the run is over, which failed and what was cut off them. Of a store that it did
+/// not use no call failed, so nothing is said of it, also where its file cannot be read.
+pub(crate) fn remark_stores(rt: &HostRuntime, folder: &str, stores: &[FileStore<'_, HostRuntime>]) {
     for node in 1..=NODES {
         if let Some(store) = stores.get(node - 1) {
             remark_failure(rt, folder, node, store);
@@ -59,13 +37,20 @@ pub(crate) fn remark_cuts(rt: &HostRuntime, folder: &str, stores: &[FileStore<'_
     }
 }
 
-/// Says that calls of the store of a node failed, where that is so and was not said before.
+/// Says that calls of the store of a node failed, where that is so: since its file could not be read, or by the disk.
 fn remark_failure(rt: &HostRuntime, folder: &str, node: usize, store: &FileStore<'_, HostRuntime>) {
-    if store.failures() > 0 && !store.is_unread() {
-        let _ = eprintln!(rt;
-            "cdb: a call of the store {folder}/node{node}.log failed; docs/keeping_a_store.md#a-store-that-fails"
-        );
+    if store.failures() == 0 {
+        return;
     }
+    if store.is_unread() {
+        let _ = eprintln!(rt;
+            "cdb: the file {folder}/node{node}.log could not be read; docs/keeping_a_store.md#a-store-that-fails"
+        );
+        return;
+    }
+    let _ = eprintln!(rt;
+        "cdb: a call of the store {folder}/node{node}.log failed; docs/keeping_a_store.md#a-store-that-fails"
+    );
 }
 
 /// Says what was cut off the store of a node, where something was.

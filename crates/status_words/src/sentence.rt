@@ -138,15 +138,19 @@ fn reason_words(why: u8) -> &'static str {
         1 => "this is not UTF-8",
         2 => "this has more than 65,535 bytes",
         3 =>
-            "this is no line of a script, or not at this place: `nodes 1`, sessions, tables, lines as `a: begin`",
+            "a script begins with `nodes 1`; then come sessions, tables, and lines as `a: begin`; a comment begins \
+            with `#`; this is none of them where it stands",
         4 => "a script begins with a line `nodes 1`",
         5 =>
             "a session is declared once, by a line as `session a 1`, in small letters, digits and `_`",
-        6 => "there is no node with this number",
+        6 => "there is no node with this number, and a session's is 1, as in `session a 1`",
         7 => "this is no table that may be",
-        8 => "this passes a limit",
+        8 =>
+            "this passes a limit: 64 sessions, 64 tables, 64 columns and 8 keys of a table, 8 columns of a key, \
+            67,108,864 bytes of a script, 1 to 64 workers, and no `watch` yet",
         9 => "the store has other tables; a script without `create` lines takes those of the store",
-        10 => "this is a line that does not run yet",
+        10 =>
+            "this does not run yet: leave it out, and write `nodes 1`, and a session without `hasql`",
         _ => "this cannot be accepted",
     }
 }
