@@ -21,6 +21,10 @@ pub front_append : {A : Type 0} (xs ys : List A) → Front xs (xs ++ ys)
 front_append [] ys = front_nil
 front_append (x ∷ xs) ys = front_cons (front_append xs ys)
 
+pub front_rest : {A : Type 0} {xs ys : List A} → Front xs ys → (zs : List A) × (xs ++ zs ≡ ys)
+front_rest {A} {xs} {ys} front_nil = (ys, refl)
+front_rest (front_cons {x = x} p) = let r = front_rest p in (r.0, ap (λ t. x ∷ t) r.1)
+
 -- of two beginnings of one list one begins the other
 pub front_either : {A : Type 0} {xs ys zs : List A} → Front xs zs → Front ys zs → Front xs ys ⊎ Front ys xs
 front_either front_nil q = inl front_nil

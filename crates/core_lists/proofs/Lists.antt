@@ -1,5 +1,5 @@
--- Facts on each element.
-use Rattle.std.proofs.Common.{List, [], ◌∷◌}
+-- Facts on each element, and on lists of one.
+use Rattle.std.proofs.Common.{◌≢◌, List, [], ◌∷◌}
 use Rattle.core_lists.specs.Lists.{In, Each}
 use Rattle.core_lists.specs.Lists.In.{here, there}
 
@@ -21,3 +21,6 @@ nothing h = elim h [ ]
 
 pub each_more : {A : Type 0} {P Q : A → Type 0} {xs : List A} → ((x : A) → P x → Q x) → Each P xs → Each Q xs
 each_more f e = record { at = λ x h. f x (e.at x h) }
+
+pub has_one : {A : Type 0} (x : A) → x ∷ [] ≢ []
+has_one x e = absurd (cc)

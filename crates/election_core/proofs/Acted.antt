@@ -23,7 +23,7 @@ use Rattle.election_core.specs.declared.votes.NodeVote.{NodeVote}
 use Rattle.election_core.specs.declared.messages.Action.{Action}
 use Rattle.election_core.specs.declared.messages.Action.TheVariants.{Nothing, Promise, Lead, Take, Know, Answer}
 
-no_bit : (k : ℕ) → has_bit 0 k ≡ true → ⊥
+pub no_bit : (k : ℕ) → has_bit 0 k ≡ true → ⊥
 no_bit k e =
     let a : bit_at 0 k ≡ 1 = (Decides-eqb (bit_at 0 k) 1).0 e in
     let z : bit_at 0 k ≡ 0 = bit_at-zero k in

@@ -67,7 +67,7 @@ levels_tell Serializable Serializable e = refl
 levels_tell Snapshot Serializable e = absurd (omega arith)
 levels_tell Serializable Snapshot e = absurd (omega arith)
 
-no_level : (l : Level) → level_code l ≡ 0 → ⊥
+pub no_level : (l : Level) → level_code l ≡ 0 → ⊥
 no_level Snapshot e = omega arith
 no_level Serializable e = omega arith
 

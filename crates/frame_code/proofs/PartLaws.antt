@@ -7,7 +7,7 @@ use Rattle.cdb_values.specs.declared.rows.Change.TheVariants as change
 use Rattle.cdb_values.specs.declared.tables.ColumnType.TheVariants as types
 use Rattle.cdb_values.specs.declared.values.Value.{Value}
 use Rattle.key_code.specs.Codes.{row_code, IsRowValue}
-use Rattle.key_code.proofs.ValueLaws.{digits_tell}
+use Rattle.key_code.proofs.ValueLaws.{digits_tell, first}
 use Rattle.key_code.proofs.JoinedLaws.{row_value_tells, row_begins}
 use Rattle.page_store.specs.declared.edits.Edit.{Edit}
 use Rattle.page_store.specs.declared.edits.Edit.TheVariants.{PutCell, TakeCell, SwapCell, SetHead}
@@ -45,11 +45,6 @@ pub rows_tell : Tells stored_row IsStoredRow
 rows_tell v w ps qs hv hw e =
     let one = counted_tell (big_bytes 4) IsFourBytes four_bytes_tell (row_code v) (row_code w) ps qs hv.size hw.size e in
     (row_codes_are_one v w hv.values hw.values one.0, one.1)
-
--- the first of these bytes
-pub first : List ℕ → ℕ
-first [] = 0
-first (b ∷ _) = b
 
 -- tables
 pub types_tell : Tells type_code Any

@@ -3,3 +3,4 @@ pub mod EscapeLemmas
 pub mod ValueLaws
 pub mod JoinedLaws
 pub mod SizeLemmas
+pub mod LimitLaws

@@ -72,7 +72,7 @@ complement_tells (negsuc m) (pos n) h k e = absurd (omega arith)
 complement_tells (negsuc m) (negsuc n) h k e = ap negsuc (omega arith)
 
 -- the first byte of a code
-pub first : List ℕ → ℕ
+unfoldable pub first : List ℕ → ℕ
 first [] = 0
 first (b ∷ _) = b
 

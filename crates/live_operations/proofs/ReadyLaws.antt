@@ -19,10 +19,10 @@ use Rattle.query_laws.specs.Alone.{sql_language}
 use Rattle.session_language.proofs.EachLaws.{all_append, all_map}
 use Rattle.session_language.proofs.AllLaws.{all_got, all_exchanged, all_filtered}
 use Rattle.session_language.specs.Language.{alone_from}
-use Rattle.session_language.specs.Spelled.{IsToldRow, WritesRow, HaveRows}
+use Rattle.session_language.specs.Spelled.{IsToldRow, WritesRow, HaveRows, AreTexts}
 use Rattle.sql_run.specs.Sound.{AreSound, IsSoundOp, IsSoundVersion}
 use Rattle.table_store.specs.States.{Rise, AreVersions}
-use Rattle.live_operations.specs.Coded.{WritesCoded, HaveCodes, AreTexts}
+use Rattle.live_operations.specs.Coded.{WritesCoded, HaveCodes}
 use Rattle.live_operations.specs.Live.{AreLive, rows_behind}
 use Rattle.live_operations.specs.Ranged.{IsRanged, HaveRanged}
 use Rattle.live_operations.specs.Ready.{AreTables, IsReady, ops_alone, ReadyFit, FitAreReady, AloneFit, AloneAreDoable, LaterAreDoable, NoRowsAreReady, StayReady, AloneAreFew, AloneDrawFew}

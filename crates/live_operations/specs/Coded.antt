@@ -15,7 +15,7 @@ use Rattle.cdb_values.specs.declared.tables.TableDef.{TableDef}
 use Rattle.key_code.specs.Codes.{IsRowValue}
 use Rattle.query_laws.specs.Alone.{sql_language}
 use Rattle.session_language.specs.Language.{alone_from}
-use Rattle.session_language.specs.Spelled.{WritesRow, HaveRows}
+use Rattle.session_language.specs.Spelled.{AreTexts, WritesRow, HaveRows}
 use Rattle.sql_run.specs.Sound.{AreSound, HasDistinctColumns, IsSoundOp}
 use Rattle.table_edits.specs.Fits.{WritesFitting, AreAllDoable}
 use Rattle.table_store.specs.Operations.{born}
@@ -57,10 +57,6 @@ abbrev pub TextsLeaveSound : Type 0
 TextsLeaveSound = (tables : List TableDef) (versions : List (List Version)) (done : List RowOp) (texts : List (List ℕ)) (next : ℕ)
     → AllByRecursion HasDistinctColumns tables → AreSound tables next versions → AllByRecursion (IsSoundOp tables next) done
     → AllByRecursion (IsSoundOp tables next) (alone_from sql_language tables versions done texts).ops
-
--- texts of UTF-8
-abbrev pub AreTexts : List (List ℕ) → Type 0
-AreTexts texts = AllByRecursion (λ text. is_utf8 text ≡ true) texts
 
 -- over rows of values that can be told, and behind operations that write such rows, texts one after the other leave
 -- operations that write such rows

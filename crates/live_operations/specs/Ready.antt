@@ -13,11 +13,10 @@ use Rattle.cdb_values.specs.declared.rows.RowOp.{RowOp}
 use Rattle.cdb_values.specs.declared.tables.TableDef.{TableDef}
 use Rattle.query_laws.specs.Alone.{sql_language}
 use Rattle.session_language.specs.Language.{alone}
-use Rattle.session_language.specs.Spelled.{HaveRows}
+use Rattle.session_language.specs.Spelled.{HaveRows, AreTexts}
 use Rattle.sql_run.specs.Sound.{AreSound, HasDistinctColumns}
 use Rattle.table_edits.specs.Fits.{WritesFitting, AreAllDoable}
 use Rattle.table_store.specs.States.{IsState}
-use Rattle.live_operations.specs.Coded.{AreTexts}
 use Rattle.live_operations.specs.Live.{TakeOthers, rows_behind}
 
 -- tables that texts can be answered over: none has two columns of one name

@@ -10,7 +10,7 @@ use Rattle.frame_code.specs.Codes.{byte, number, level_code, entry_code}
 use Rattle.frame_code.specs.Spelled.{IsByte, IsNumber, IsEntry}
 use Rattle.frame_code.specs.Tells.{Lacks}
 use Rattle.frame_code.proofs.FormLaws.{Both, both, numbers_tell}
-use Rattle.frame_code.proofs.EntryLaws.{setup_parts, AreSetupParts, CommitParts, commit_parts, AreCommitParts}
+use Rattle.frame_code.proofs.EntryLaws.{setup_parts, AreSetupParts, CommitParts, commit_parts, AreCommitParts, no_level}
 
 -- the parts of a commit behind its tag
 abbrev pub parts_of : CommitId → ℕ → List Change → List LogRecord → CommitParts
@@ -38,10 +38,6 @@ behind_tag g h s t x more rest hg hh e =
     let tags : s ≡ t = cc in
     let left : x ++ more ≡ rest = cc in
     (one.0, tags, left)
-
-no_level : (l : Level) → level_code l ≡ 0 → ⊥
-no_level Snapshot e = omega arith
-no_level Serializable e = omega arith
 
 pub no_setup : (g : ℕ) (rest : List ℕ) → IsNumber g → Lacks setup_parts AreSetupParts rest → Lacks entry_code IsEntry (number g ++ (0 ∷ rest))
 no_setup g rest hg none (Setup h s r) more k e =

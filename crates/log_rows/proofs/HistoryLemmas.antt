@@ -133,7 +133,7 @@ pub takes_more : (entries : List Entry) (entry : Entry) → takes_in (entries ++
 takes_more [] entry = refl
 takes_more (e ∷ es) entry = ap (λ (l : List (List GenidItem)). takes_of e ∷ l) (takes_more es entry)
 
-takes_behind : (begin : ℕ) (entries : List Entry) → drop begin (takes_in entries) ≡ takes_in (drop begin entries)
+pub takes_behind : (begin : ℕ) (entries : List Entry) → drop begin (takes_in entries) ≡ takes_in (drop begin entries)
 takes_behind zero entries = refl
 takes_behind (suc begin) [] = refl
 takes_behind (suc begin) (e ∷ es) = takes_behind begin es

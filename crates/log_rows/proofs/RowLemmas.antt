@@ -12,6 +12,7 @@ use Rattle.cdb_values.specs.declared.rows.RowRef.TheVariants.{Base, Own}
 use Rattle.cdb_values.specs.declared.rows.Version.{Version}
 use Rattle.cdb_values.specs.declared.values.Value.{Value}
 use Rattle.table_store.specs.Listings.{IsAmong}
+use Rattle.table_store.proofs.AmongLaws.{among_left}
 use Rattle.log_rows.specs.Applied.{placed, apply_changes}
 use Rattle.log_rows.specs.History.{IsUntaken}
 
@@ -22,12 +23,6 @@ changes_make rows (Update table (Base genid) old row ∷ ops) = changes_make (ad
 changes_make rows (Update table (Own write) old row ∷ ops) = changes_make rows ops
 changes_make rows (Delete table (Base genid) old ∷ ops) = changes_make (taken rows table genid) ops
 changes_make rows (Delete table (Own write) old ∷ ops) = changes_make rows ops
-
--- what is among the items of a list stays there
-among_left : {A : Type 0} (x : A) (xs ys : List A) → IsAmong x xs → IsAmong x (xs ++ ys)
-among_left x [] ys h = absurd h
-among_left x (y ∷ xs) ys (inl e) = inl e
-among_left x (y ∷ xs) ys (inr h) = inr (among_left x xs ys h)
 
 among_filter : {A : Type 0} (test : A → Bool) (x : A) (xs : List A) → IsAmong x xs → test x ≡ true → IsAmong x (filter test xs)
 among_filter test x [] h e = absurd h

@@ -28,7 +28,7 @@ held_is held (Delete table (Base genid) old) = refl
 held_is held (Delete table (Own write) old) = refl
 
 -- the place of a write of a number
-not_zero : (i : ℕ) → (suc i == 0) ≡ false
+pub not_zero : (i : ℕ) → (suc i == 0) ≡ false
 not_zero i = grind (arith, nat_tests)
 
 less_one : (i : ℕ) → suc i - 1 ≡ i

@@ -1,6 +1,6 @@
 -- On one node a piece of a session's line is one of four: it is answered, or lost, or no majority is up, or the node goes
 -- down at its commit.
-use Rattle.std.proofs.Common.{◌≡◌, ℕ, zero, suc, ◌+◌, ◌*◌, ◌≤◌, ◌==◌, ◌&&◌, ◌||◌, List, [], ◌∷◌, ◌++◌, refl, sym, subst, ap, arith, ◌∙◌, Option, Some, None, append_assoc, Bool, true, false, not, if◌then◌else◌, ◌⊎◌, inl, inr, leb, map, length}
+use Rattle.std.proofs.Common.{◌≡◌, ℕ, ◌+◌, ◌≤◌, ◌==◌, ◌&&◌, List, [], ◌∷◌, ◌++◌, refl, sym, subst, ap, arith, ◌∙◌, Option, Some, None, append_assoc, Bool, true, false, if◌then◌else◌, ◌⊎◌, inl, inr, map, length}
 use Rattle.std.proofs.lemmas.Bool.{eq-eqb, both_ways, false≢true, true≢false, false_from_ne_true, and_from, and_left, and_right}
 use Rattle.std.proofs.lemmas.List.{append-nil}
 use Rattle.std.proofs.lemmas.Slice.Eq.{bytes_eq-Decides}
@@ -23,10 +23,11 @@ use Rattle.cdb_values.specs.declared.replies.Reply.TheVariants as reply
 use Rattle.report_laws.proofs.NodesLaws.{IsNoUp, downs_append, downs_of, is_down_behind}
 use Rattle.report_laws.proofs.PieceLaws.{commit_is_last, all_at}
 use Rattle.report_laws.proofs.ToldLaws.{told_append, lines_append}
+use Rattle.report_laws.proofs.BeginLaws.{same_up, same_few}
 use Rattle.node_reports.specs.Arms.{of_commit, stops, is_last_a_down, is_row_due}
 use Rattle.node_reports.specs.Piece.{Saying, replies_in, site_at, since_by, since_at, loss_at, few_at, moves_at, are_ready, commits_at, lacks_at, wanes_at, IsLostAt, IsGiven, FallsAtCommit, StopsAtRow, IsDue, IsUnacknowledged, Appends, IsSkipped, IsPiece}
 use Rattle.node_reports.proofs.OneNode.{IsFirstIfBegin, IsOnes, site_one, first_none, first_append, first_quiet, none_of_ones, ones_of, ones_since, told_lines}
-use Rattle.node_reports.proofs.PieceLines.{none_some, same_some, and_one, no_down, not_last_down, none_due, last_one, outcome_is_last, not_true, outcome_not_ready, line_same, lacks_same, not_later, ready_first, ready_not_up, same_up, same_few, told_some, ready_quiet, count_none, map_two, each_front, begins_none, first_ready, open_front, front_timely, enough, no_stops, or_outcome, or_row, or_not_committed, FallAtChanges, quiet_falls, fall_falls}
+use Rattle.node_reports.proofs.PieceLines.{none_some, same_some, and_one, no_down, not_last_down, none_due, last_one, outcome_is_last, not_true, outcome_not_ready, line_same, lacks_same, not_later, ready_first, ready_not_up, told_some, ready_quiet, count_none, map_two, each_front, begins_none, first_ready, open_front, front_timely, enough, no_stops, or_outcome, or_row, or_not_committed, FallAtChanges, quiet_falls, fall_falls}
 
 module _ (s : Saying) (one : s.basis.script.nodes ≡ 1) (home : node_of s.basis.script s.session ≡ 1) (stays : survives s.basis.script s.session ≡ false) (bare : s.arms ≡ []) (ones : AllByRecursion IsOnes s.before) where
   -- lines of the session in its piece
@@ -376,7 +377,7 @@ module _ (s : Saying) (one : s.basis.script.nodes ≡ 1) (home : node_of s.basis
       where
         go : StandsIn (replies_in s.session mine) (reply.Committed (now + 1)) ⊎ IsUnacknowledged s mine others → StandsIn rs (reply.Committed (now + 1))
         go (inl stands) = subst (λ (x : List Reply). StandsIn x (reply.Committed (now + 1))) (ap (replies_in s.session) says ∙ told_lines s.session s.number rs) stands
-        go (inr un) = absurd (let none : downs mine ≡ 0 = ap downs says ∙ downs_of s.session s.number rs in let fell : 1 ≤ downs mine = un.fell in omega (arith, none, fell))
+        go (inr un) = absurd (no_down s.session s.number rs un.fell.0 un.fell.1 un.fell.2 un.fell.3 un.fell.4 (sym says ∙ un.fell.5))
 
     added_none : (o : Reply) → mine ≡ mine_of (o ∷ []) → ((position : ℕ) → o ≡ reply.Committed position → ⊥) → (es : List EntryLine) → Appends s now mine others es → es ≡ []
     added_none o says never [] is = refl

@@ -1,5 +1,5 @@
 -- What the forms of a piece on one node use: lines of a session, and what is told in them.
-use Rattle.std.proofs.Common.{◌≡◌, ℕ, zero, suc, ◌+◌, ◌*◌, ◌≤◌, ◌==◌, ◌&&◌, ◌||◌, List, [], ◌∷◌, ◌++◌, refl, sym, subst, ap, arith, ◌∙◌, Option, Some, None, append_assoc, Bool, true, false, not, if◌then◌else◌, ◌⊎◌, inl, inr, leb, map, length}
+use Rattle.std.proofs.Common.{◌≡◌, ℕ, ◌+◌, ◌*◌, ◌≤◌, ◌==◌, ◌&&◌, ◌||◌, List, [], ◌∷◌, ◌++◌, refl, sym, subst, ap, arith, ◌∙◌, Option, Some, None, append_assoc, Bool, true, false, not, if◌then◌else◌, ◌⊎◌, inl, inr, leb, map, length}
 use Rattle.std.proofs.lemmas.Bool.{eq-eqb, both_ways, false≢true, true≢false, false_from_ne_true, and_from, and_right, or_left, or_right}
 use Rattle.std.proofs.lemmas.List.{append-nil}
 use Rattle.std.proofs.lemmas.Slice.Eq.{bytes_eq-Decides}
@@ -11,7 +11,7 @@ use Rattle.session_language.specs.Each.{EachAfter}
 use Rattle.session_language.specs.Language.{Kind, BeginText, CommitText, RollbackText, LevelText, OtherText}
 use Rattle.session_language.specs.Replies.{are_up_to, are_none, is_last_of, is_outcome, is_row}
 use Rattle.session_language.proofs.UpToLaws.{none_only}
-use Rattle.report_laws.specs.Nodes.{downs, is_up, up_from, up_count, are_few}
+use Rattle.report_laws.specs.Nodes.{downs, is_up, up_count, are_few}
 use Rattle.report_laws.specs.Play.{GoDownAtChanges, HasChanges, IsOrMemory, IsToldFirst, IsTimely, is_begin, loss_of, begins}
 use Rattle.report_laws.specs.History.{Basis}
 use Rattle.report_laws.specs.Told.{Numbered, told, lines_of}
@@ -20,7 +20,7 @@ use Rattle.report_text.specs.declared.reports.Line.{Line}
 use Rattle.report_text.specs.declared.reports.Line.TheVariants as line
 use Rattle.cdb_values.specs.declared.replies.Reply.{Reply}
 use Rattle.cdb_values.specs.declared.replies.Reply.TheVariants as reply
-use Rattle.report_laws.proofs.NodesLaws.{downs_append, downs_of, up_append}
+use Rattle.report_laws.proofs.NodesLaws.{downs_append, downs_of}
 use Rattle.node_reports.specs.Arms.{stops, is_last_a_row, is_last_a_down, is_row_due, is_of_row, rows_of}
 use Rattle.node_reports.specs.Site.{is_line_of}
 use Rattle.node_reports.specs.Piece.{replies_in, are_ready}
@@ -156,23 +156,6 @@ ready_not_up true (r ∷ rs) is up = both_ways (are_up_to is_outcome (r ∷ rs))
   where
     quiet : list_any is_outcome (r ∷ rs) ≡ false
     quiet = ap (λ (b : Bool). b || list_any is_outcome rs) (begin_no_outcome r (and_one (is_begin r) _ is).0) ∙ not_true (list_any is_outcome rs) (and_one (are_up_to (is_last_of false) rs) _ (and_one (is_begin r) _ is).1).1
-
--- the lines of a session leave which nodes are up
-pub stays_so : (node : ℕ) (was : Bool) (name : List ℕ) (m : ℕ) (rs : List Reply) → up_from node was (lines_of name m rs) ≡ was
-stays_so node was name m [] = refl
-stays_so node was name m (r ∷ rs) = stays_so node was name m rs
-
-pub same_up : (node : ℕ) (before : List Line) (name : List ℕ) (m : ℕ) (rs : List Reply) → is_up node (before ++ lines_of name m rs) ≡ is_up node before
-same_up node before name m rs = up_append node true before (lines_of name m rs) ∙ stays_so node (is_up node before) name m rs
-
-pub same_count : (n : ℕ) (before : List Line) (name : List ℕ) (m : ℕ) (rs : List Reply) → up_count n (before ++ lines_of name m rs) ≡ up_count n before
-same_count zero before name m rs = refl
-same_count (suc n) before name m rs =
-    ap (λ (count : ℕ). count + (if is_up (suc n) (before ++ lines_of name m rs) then 1 else 0)) (same_count n before name m rs)
-    ∙ ap (λ (b : Bool). up_count n before + (if b then 1 else 0)) (same_up (suc n) before name m rs)
-
-pub same_few : (n : ℕ) (before : List Line) (name : List ℕ) (m : ℕ) (rs : List Reply) → are_few n (before ++ lines_of name m rs) ≡ are_few n before
-same_few n before name m rs = ap (λ (count : ℕ). leb 1 n && leb (2 * count) n) (same_count n before name m rs)
 
 -- a line of a session tells it something
 pub told_some : (session name : List ℕ) (txn : ℕ) (r : Reply) (ls : List Line) → name ≡ session → replies_in session (line.Session name txn r ∷ ls) ≡ [] → ⊥

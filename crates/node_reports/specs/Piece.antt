@@ -185,11 +185,16 @@ IsDue s now after front (line.Up node) = ⊥
 IsDue s now after front line.Barrier = ⊥
 IsDue s now after front (line.Fed position) = ⊥
 
+-- a line of the piece tells that a node went down at the commit
+abbrev pub FellAtCommit : Saying → List Line → Type 0
+FellAtCommit s mine =
+    (front : List Line) × (back : List Line) × (count : ℕ) × (node : ℕ) × (fault : Bool) × (mine ≡ front ++ line.Down count node fault ∷ back) × (commits_at s front ≡ true)
+
 -- an entry that was appended and not acknowledged: a node went down at the commit, and the outcome cuts the transaction
 -- short. Where it went down by a fault and none is up behind it, it comes up again
 pub record IsUnacknowledged (s : Saying) (mine others : List Line) : Type 0 where
   pub at_commit : commits s.kind s.pending ≡ true
-  pub fell : 1 ≤ downs mine
+  pub fell : FellAtCommit s mine
   pub cut : list_any cuts (replies_in s.session mine) ≡ true
   pub comes_up : (front back : List Line) (count node : ℕ) → mine ≡ front ++ line.Down count node true ∷ back →
       up_count s.basis.script.nodes (s.before ++ (front ++ line.Down count node true ∷ [])) ≡ 0 → StandsIn others (line.Up node)

@@ -5,6 +5,7 @@ use Rattle.std.specs.List.{AllByRecursion, slice_get}
 use Rattle.std.specs.declared.cmp.Ordering.{Ordering}
 use Rattle.std.specs.declared.cmp.Ordering.TheVariants.{Less, Equal, Greater}
 use Rattle.std.specs.Ordering.{is_eq, is_lt}
+use Rattle.session_language.specs.Intervals.{cell, is_null}
 use Rattle.btree_index.specs.Keys.{Key, before}
 use Rattle.cdb_values.specs.Order.{value_order}
 use Rattle.cdb_values.specs.declared.tables.KeyDef.{KeyDef}
@@ -15,8 +16,7 @@ use Rattle.byteorder.specs.Endian.{big_bytes}
 use Rattle.cdb_values.specs.declared.values.Value.TheVariants.{Null, Int, Text, Blob}
 use Rattle.key_code.specs.Codes.{lifted, key_value, key_code, IsInRange}
 use Rattle.key_code.proofs.NumberLaws.{byte_order}
-use Rattle.sql_answer.specs.Truth.{Unknown, is_yes, truth_of, is_null, stands, compared}
-use Rattle.sql_answer.specs.Conditions.{cell}
+use Rattle.sql_answer.specs.Truth.{Unknown, is_yes, truth_of, stands, compared}
 use Rattle.query_laws.specs.Intervals.{Interval, Edge, Free, AtLeast, Above, AtMost, Below, is_within, are_equal, is_between}
 use Rattle.page_rows.specs.Bounds.{IsTail, AreEnds, beyond, after_null, low_end, high_end, counted_edge, low_key, high_key, IsLowInRange, IsHighInRange}
 use Rattle.page_rows.proofs.OrderLemmas.{under_beyond, none_under, from_value, above_value, to_value, below_value, same_first}

@@ -1,5 +1,5 @@
 -- The genids that pairs of a key's tree name.
-use Rattle.std.proofs.Common.{◌≡◌, ◌⊎◌, inl, inr, ℕ, zero, suc, ◌<◌, List, [], ◌∷◌, ◌++◌, length, refl, sym, ap, subst, arith, length-append}
+use Rattle.std.proofs.Common.{◌≡◌, ◌⊎◌, inl, inr, ℕ, zero, suc, ◌<◌, List, [], ◌∷◌, ◌++◌, length, sym, ap, subst, arith, length-append}
 use Rattle.std.specs.List.{AllByRecursion, AllPairs, Contains, slice_index_or}
 use Rattle.std.specs.List.Sorted.{IsStrictlyIncreasing}
 use Rattle.std.proofs.lemmas.List.Kept.{AllPairs-from_increasing}
@@ -39,16 +39,6 @@ contains_in x ns c = go ns c.0 c.1 c.2
         none k l = omega arith
     go (n ∷ ns) zero l e = inl (sym e)
     go (n ∷ ns) (suc k) l e = inr (go ns k (omega arith) e)
-
--- one number more
-pub in_more : (x n : ℕ) (ns : List ℕ) → IsIn x ns → IsIn x (ns ++ n ∷ [])
-in_more x n [] i = absurd i
-in_more x n (m ∷ ms) (inl e) = inl e
-in_more x n (m ∷ ms) (inr i) = inr (in_more x n ms i)
-
-pub in_end : (n : ℕ) (ns : List ℕ) → IsIn n (ns ++ n ∷ [])
-in_end n [] = inl refl
-in_end n (m ∷ ms) = inr (in_end n ms)
 
 pub genid_long : (genid : ℕ) → length (big_bytes 8 genid) ≡ 8
 genid_long genid = length-bytes_high_first 8 genid

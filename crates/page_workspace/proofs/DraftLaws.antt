@@ -2,13 +2,12 @@
 use Rattle.std.proofs.Common.{◌≡◌, ℕ, List, [], ◌∷◌, ◌++◌, Bool, ◌==◌, if◌then◌else◌, refl, ap, ◌∙◌, ◌≤◌, inl, inr, Result, Ok, Err, arith}
 use Rattle.std.proofs.lemmas.Bool.{eq-eqb, ne_eqb, false≢true}
 use Rattle.std.proofs.Math.Logic.{∥∥₁_elim}
-use Rattle.std.specs.Coded.{×_prop, Unit-prop, le_prop}
-use Rattle.std.proofs.Props.{props}
+use Rattle.std.specs.Coded.{×_prop, Unit-prop}
 use Rattle.page_store.specs.Image.{Image}
-use Rattle.page_store.specs.Edits.{IsFit, IsFound, after_edit}
+use Rattle.page_store.proofs.EditLaws.{fit_prop}
+use Rattle.page_store.specs.Edits.{IsFit, after_edit}
 use Rattle.page_store.specs.Sources.{Rose}
 use Rattle.page_store.specs.declared.edits.Edit.{Edit}
-use Rattle.page_store.specs.declared.edits.Edit.TheVariants.{PutCell, TakeCell, SwapCell, SetHead}
 use Rattle.std.specs.Result.{IsErr}
 use Rattle.page_workspace.specs.declared.workspaces.EditFault.{EditFault}
 use Rattle.page_workspace.specs.declared.workspaces.EditFault.TheVariants.{Unfit, Gone, NoMemory}
@@ -37,15 +36,6 @@ pub edited_same : (a b : ℕ → Image) (id : ℕ) (e : Edit) (n : ℕ) → a id
 edited_same a b id e n here there =
     ap (λ (i : Image). if n == id then after_edit i e i.lsn else a n) here
     ∙ ap (λ (i : Image). if n == id then after_edit (b id) e (b id).lsn else i) there
-
-found_prop : (image : Image) (edit : Edit) → IsProp (IsFound image edit)
-found_prop image (PutCell place cell) = hlevel (le_prop, props)
-found_prop image (TakeCell place cell) = hlevel (le_prop, props)
-found_prop image (SwapCell place before after) = hlevel (le_prop, props)
-found_prop image (SetHead before after) = hlevel (le_prop, props)
-
-fit_prop : (image : Image) (edit : Edit) → IsProp (IsFit image edit)
-fit_prop image edit = hlevel (found_prop, le_prop, props)
 
 pub all_fit_prop : (es : List (ℕ × Edit)) (pages : ℕ → Image) → IsProp (AreFit es pages)
 all_fit_prop [] pages = Unit-prop

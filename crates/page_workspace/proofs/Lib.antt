@@ -1,4 +1,5 @@
 pub mod ChainLaws
 pub mod DraftLaws
+pub mod InLaws
 pub mod MetaLaws
 pub mod OwnLaws

@@ -16,9 +16,8 @@ use Rattle.session_language.specs.Serial.{answers_on, lasting, lasting_from, wit
 use Rattle.sql_bind.specs.declared.types.Cmp.{Cmp}
 use Rattle.sql_bind.specs.declared.types.Cmp.TheVariants as cmp
 use Rattle.sql_answer.specs.Answers.{Outcome, Fails, Gives, answer, ops_after}
-use Rattle.sql_answer.specs.Conditions.{cell}
 use Rattle.sql_answer.specs.Language.{Binder, meaning, answered, language_of}
-use Rattle.sql_answer.specs.Truth.{Unknown, is_yes, truth_of, is_null, stands, compared}
+use Rattle.sql_answer.specs.Truth.{Unknown, is_yes, truth_of, stands, compared}
 use Rattle.sql_answer.specs.Writes.{keys_of}
 use Rattle.query_laws.specs.Alone.{edge_out, interval_out, reads_of}
 use Rattle.query_laws.specs.Intervals.{Edge, Free, AtLeast, Above, AtMost, Below, Interval, is_within, are_equal, is_between, lies_by, lies_at, lies}
@@ -27,6 +26,7 @@ use Rattle.query_laws.specs.Stable.{inside, HoldsTheSame}
 use Rattle.query_laws.proofs.AloneLemmas.{after_is, alone_is_run}
 use Rattle.query_laws.proofs.ListLaws.{all_map, all_weaker, all_back}
 use Rattle.session_language.proofs.EachLaws.{all_front}
+use Rattle.session_language.specs.Intervals.{cell, is_null}
 use Rattle.query_laws.proofs.RunLaws.{answer_same, reads_same}
 
 null_same : (v : Value) → is_null v ≡ told.is_null v

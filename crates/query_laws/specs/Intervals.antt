@@ -8,7 +8,7 @@ use Rattle.cdb_values.specs.declared.tables.KeyDef.{KeyDef}
 use Rattle.cdb_values.specs.declared.tables.TableDef.{TableDef}
 use Rattle.cdb_values.specs.declared.values.Value.{Value}
 use Rattle.sql_bind.specs.declared.types.Cmp.TheVariants as cmp
-use Rattle.sql_answer.specs.Conditions.{cell}
+use Rattle.session_language.specs.Intervals.{cell}
 use Rattle.sql_answer.specs.Truth.{is_yes, compared}
 use Rattle.sql_answer.specs.Writes.{keys_of}
 

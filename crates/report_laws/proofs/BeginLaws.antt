@@ -375,7 +375,7 @@ stays_so : (node : ℕ) (was : Bool) (name : List ℕ) (m : ℕ) (rs : List Repl
 stays_so node was name m [] = refl
 stays_so node was name m (r ∷ rs) = stays_so node was name m rs
 
-same_up : (node : ℕ) (before : List Line) (name : List ℕ) (m : ℕ) (rs : List Reply) → is_up node (before ++ lines_of name m rs) ≡ is_up node before
+pub same_up : (node : ℕ) (before : List Line) (name : List ℕ) (m : ℕ) (rs : List Reply) → is_up node (before ++ lines_of name m rs) ≡ is_up node before
 same_up node before name m rs = up_append node true before (lines_of name m rs) ∙ stays_so node (is_up node before) name m rs
 
 same_count : (n : ℕ) (before : List Line) (name : List ℕ) (m : ℕ) (rs : List Reply) → up_count n (before ++ lines_of name m rs) ≡ up_count n before
@@ -384,7 +384,7 @@ same_count (suc n) before name m rs =
     ap (λ (count : ℕ). count + (if is_up (suc n) (before ++ lines_of name m rs) then 1 else 0)) (same_count n before name m rs)
     ∙ ap (λ (b : Bool). up_count n before + (if b then 1 else 0)) (same_up (suc n) before name m rs)
 
-same_few : (n : ℕ) (before : List Line) (name : List ℕ) (m : ℕ) (rs : List Reply) → are_few n (before ++ lines_of name m rs) ≡ are_few n before
+pub same_few : (n : ℕ) (before : List Line) (name : List ℕ) (m : ℕ) (rs : List Reply) → are_few n (before ++ lines_of name m rs) ≡ are_few n before
 same_few n before name m rs = ap (λ (count : ℕ). leb 1 n && leb (2 * count) n) (same_count n before name m rs)
 
 begun_by : (k : Kind) (pending : Option (List (List ℕ))) (number : ℕ) (few : Bool) (session : List ℕ) (before : List Line) → HasOpened pending (under session number before) →

@@ -37,7 +37,7 @@ parts_at (x ∷ xs) (suc k) within =
     (x ∷ rest.0, rest.1, rest.2, ap (λ ys. x ∷ ys) rest.3, ap suc rest.4)
 
 -- a front of a list whose members are right is such a list
-each_front : {A : Type 0} (P : List A → A → Type 0) (before xs ys : List A) → EachAfter P before (xs ++ ys) → EachAfter P before xs
+pub each_front : {A : Type 0} (P : List A → A → Type 0) (before xs ys : List A) → EachAfter P before (xs ++ ys) → EachAfter P before xs
 each_front P before [] ys each = tt
 each_front P before (x ∷ xs) ys each = (each.0, each_front P (before ++ x ∷ []) xs ys each.1)
 

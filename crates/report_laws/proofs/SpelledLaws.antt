@@ -19,6 +19,7 @@ use Rattle.cdb_values.specs.declared.values.Value.TheVariants.{Null, Int, Text, 
 use Rattle.script_form.specs.declared.scripts.Act.{Act}
 use Rattle.script_form.specs.declared.scripts.Act.TheVariants as act
 use Rattle.script_form.specs.declared.scripts.BodyLine.{BodyLine}
+use Rattle.script_form.specs.Named.{IsNamedTable}
 use Rattle.report_laws.specs.Cut.{cuts}
 use Rattle.session_language.specs.Each.{StandsIn}
 use Rattle.report_laws.specs.History.{Basis, ops_alone, ops_of, rows_after, rows_among, states_from, states_of, rows_at, view_of}
@@ -26,8 +27,8 @@ use Rattle.session_language.specs.Language.{Language, Answered, Kind, BeginText,
 use Rattle.report_laws.specs.Lawful.{Lawful}
 use Rattle.report_laws.specs.Outcome.{IsRight, Ends, IsOneDecision, IsDecided, line_by, range_line, conflict_line, name_or_none, name_of_table, name_of_key, key_name}
 use Rattle.report_laws.specs.Play.{InPlayOrder, InTurns, IsTurnOf, IsDownLine, opened_behind}
-use Rattle.report_laws.specs.Spelled.{IsNamedTable, SaysAsNamed, IsSpelled}
-use Rattle.session_language.specs.Spelled.{IsToldValue, IsToldRow, SpellsReply, SpellsRow, WritesRow, HaveRows, KeepsRows}
+use Rattle.report_laws.specs.Spelled.{SaysAsNamed, IsSpelled}
+use Rattle.session_language.specs.Spelled.{AreTexts, IsToldValue, IsToldRow, SpellsReply, SpellsRow, WritesRow, HaveRows, KeepsRows}
 use Rattle.report_laws.specs.Told.{Along, Numbered, numbered, told, told_by, lines_of, IsTold, IsWhole, IsCut, IsEntryTold, alone_at}
 use Rattle.report_laws.specs.View.{View}
 use Rattle.report_laws.specs.Work.{Transaction, End, ByCommit, ByRollback, WithItsLine, Nowhere, Item, Does, Lone, Place, start, next_by, next_place, place_from, place_after, said, said_by, open_item, work, number_of, numbered_among, transaction_of}
@@ -68,18 +69,13 @@ apply_rows rows (Update table (Own write) old row) have is = have
 apply_rows rows (Delete table (Base genid) old) have is = taken_rows rows table genid have
 apply_rows rows (Delete table (Own write) old) have is = have
 
-apply_all_rows : (rows : Rows) (ops : List RowOp) → HaveRows rows.tables → AllByRecursion WritesRow ops → HaveRows (apply_all rows ops).tables
+pub apply_all_rows : (rows : Rows) (ops : List RowOp) → HaveRows rows.tables → AllByRecursion WritesRow ops → HaveRows (apply_all rows ops).tables
 apply_all_rows rows [] have all = have
 apply_all_rows rows (o ∷ ops) have all = apply_all_rows (apply rows o) ops (apply_rows rows o have all.0) all.1
 
 no_rows_rows : (tables : List TableDef) → HaveRows (map (λ _. []) tables)
 no_rows_rows [] = tt
 no_rows_rows (table ∷ tables) = (tt, no_rows_rows tables)
-
--- texts of UTF-8
-
-abbrev AreTexts : List (List ℕ) → Type 0
-AreTexts texts = AllByRecursion (λ text. is_utf8 text ≡ true) texts
 
 said_pick : (b : Bool) (text : List ℕ) (later : List (List ℕ)) → is_utf8 text ≡ true → AreTexts later → AreTexts (if b then text ∷ later else later)
 said_pick true text later is are = (is, are)
@@ -181,7 +177,7 @@ first_named (t ∷ tables) (vs ∷ rest) table key all is =
 
 -- a session's work: a line outside a transaction is told nothing that has a name, and transactions have texts of UTF-8
 
-abbrev SpellsItem : Item → Type 0
+abbrev pub SpellsItem : Item → Type 0
 SpellsItem (Does t) = AreTexts t.texts
 SpellsItem (Lone answer) = SpellsReply answer
 
@@ -215,7 +211,7 @@ open_spelled : (p : Place) (pending : Option (List (List ℕ))) → ArePending p
 open_spelled p None are = tt
 open_spelled p (Some texts) are = (are, tt)
 
-work_spelled : (language : Language) (name : List ℕ) (body : List BodyLine) → AllByRecursion (λ (b : BodyLine). SaysAsNamed b.act) body → AllByRecursion SpellsItem (work language name body)
+pub work_spelled : (language : Language) (name : List ℕ) (body : List BodyLine) → AllByRecursion (λ (b : BodyLine). SaysAsNamed b.act) body → AllByRecursion SpellsItem (work language name body)
 work_spelled language name body all =
     let p : Place = place_after language name body in
     let there : SpellsPlace p = places_spelled language start (said name body) (said_texts name body all) (tt, tt) in
@@ -235,7 +231,7 @@ among_texts number (Does t ∷ items) all = pick (t.number == number) (among_tex
     pick false later = later
 among_texts number (Lone answer ∷ items) all = among_texts number items all.1
 
-cut_spelled : (cause : Reply) → cuts cause ≡ true → SpellsReply cause
+pub cut_spelled : (cause : Reply) → cuts cause ≡ true → SpellsReply cause
 cut_spelled (reply.Begin position) e = cc
 cut_spelled (reply.Row row) e = cc
 cut_spelled (reply.Done rows) e = cc
@@ -311,12 +307,12 @@ module _ (basis : Basis) (spelled : IsSpelled basis) where
   end_spelled es name t begin used ops WithItsLine last ends right = decision_spelled es name t begin used ops last ends right
   end_spelled es name t begin used ops Nowhere last ends right = subst (AllByRecursion SpellsReply) (sym ends) tt
 
-  ran_spelled : (es : List EntryLine) (t : Transaction) (begin : ℕ) (ran : Answered) → AreTexts t.texts → ran ≡ alone_at basis (view_of basis es) t begin → AllByRecursion SpellsReply ran.replies
+  pub ran_spelled : (es : List EntryLine) (t : Transaction) (begin : ℕ) (ran : Answered) → AreTexts t.texts → ran ≡ alone_at basis (view_of basis es) t begin → AllByRecursion SpellsReply ran.replies
   ran_spelled es t begin ran are is =
       subst (λ (a : Answered). AllByRecursion SpellsReply a.replies) (sym is)
       (alone_replies basis.language basis.origin.tables spelled.language (rows_at basis es begin).tables [] t.texts are (rows_spelled es begin) tt)
 
-  whole_spelled : (es : List EntryLine) (name : List ℕ) (t : Transaction) (mine : List Reply) → AreTexts t.texts → IsWhole basis (view_of basis es) name t mine → AllByRecursion SpellsReply mine
+  pub whole_spelled : (es : List EntryLine) (name : List ℕ) (t : Transaction) (mine : List Reply) → AreTexts t.texts → IsWhole basis (view_of basis es) name t mine → AllByRecursion SpellsReply mine
   whole_spelled es name t mine are w =
       subst (AllByRecursion SpellsReply) (sym w.says)
       (tt, all_append SpellsReply w.ran.replies w.last (ran_spelled es t w.begin w.ran are w.is_ran) (end_spelled es name t w.begin (used_at t.level w.ran) w.ran.ops t.end w.last w.ends w.right))
@@ -331,10 +327,10 @@ module _ (basis : Basis) (spelled : IsSpelled basis) where
   told_spelled es name (Does t) mine is (inr cut) = cut_short_spelled es t mine is cut
   told_spelled es name (Lone answer) mine is told = subst (AllByRecursion SpellsReply) (sym told) (is, tt)
 
-  abbrev SpellsTold : Numbered → Type 0
+  abbrev pub SpellsTold : Numbered → Type 0
   SpellsTold n = SpellsReply n.1
 
-  numbered_spelled : (n : ℕ) (replies : List Reply) → AllByRecursion SpellsReply replies → AllByRecursion SpellsTold (numbered n replies)
+  pub numbered_spelled : (n : ℕ) (replies : List Reply) → AllByRecursion SpellsReply replies → AllByRecursion SpellsTold (numbered n replies)
   numbered_spelled n [] all = tt
   numbered_spelled n (r ∷ rs) all = (all.0, numbered_spelled n rs all.1)
 
@@ -346,14 +342,14 @@ module _ (basis : Basis) (spelled : IsSpelled basis) where
 
 -- lines
 
-abbrev SpellsLine : Line → Type 0
+abbrev pub SpellsLine : Line → Type 0
 SpellsLine (line.Session name txn answer) = IsName name × SpellsReply answer
 SpellsLine (line.Down count node fault) = Unit {0}
 SpellsLine (line.Up node) = Unit {0}
 SpellsLine line.Barrier = Unit {0}
 SpellsLine (line.Fed position) = Unit {0}
 
-abbrev IsNamedLine : Line → Type 0
+abbrev pub IsNamedLine : Line → Type 0
 IsNamedLine (line.Session name txn answer) = IsName name
 IsNamedLine (line.Down count node fault) = Unit {0}
 IsNamedLine (line.Up node) = Unit {0}
@@ -365,7 +361,7 @@ own_told name true l e all = all.0
 own_told name false l e all = cc
 
 -- what each session was told is spelled, and so each line is
-lines_spelled : (lines : List Line) → ((name : List ℕ) → AllByRecursion (λ (n : Numbered). SpellsReply n.1) (told name lines)) → AllByRecursion IsNamedLine lines → AllByRecursion SpellsLine lines
+pub lines_spelled : (lines : List Line) → ((name : List ℕ) → AllByRecursion (λ (n : Numbered). SpellsReply n.1) (told name lines)) → AllByRecursion IsNamedLine lines → AllByRecursion SpellsLine lines
 lines_spelled [] each named = tt
 lines_spelled (line.Session name txn answer ∷ ls) each named = (
   (named.0, own_told name (bytes_eq name name) (txn, answer) (same_name name) (all_front (λ (n : Numbered). SpellsReply n.1) (told_by name (line.Session name txn answer)) (told name ls) (each name))),
@@ -448,7 +444,7 @@ reply_is (reply.Lost node down) fits spells = fits
 reply_is (reply.NoMajority up nodes) fits spells = fits
 reply_is reply.NoMemory fits spells = tt
 
-lines_are : (lines : List Line) → AllByRecursion FitsLine lines → AllByRecursion SpellsLine lines → AllByRecursion IsLine lines
+pub lines_are : (lines : List Line) → AllByRecursion FitsLine lines → AllByRecursion SpellsLine lines → AllByRecursion IsLine lines
 lines_are [] fits spells = tt
 lines_are (line.Session name txn answer ∷ ls) fits spells = ((spells.0.0, fits.0.0, reply_is answer fits.0.1 spells.0.1), lines_are ls fits.1 spells.1)
 lines_are (line.Down count node fault ∷ ls) fits spells = (fits.0, lines_are ls fits.1 spells.1)

@@ -3,16 +3,12 @@
 use Rattle.std.specs.Prelude.{◌≡◌, true}
 use Rattle.std.specs.List.{AllByRecursion}
 use Rattle.std.specs.Str.{is_utf8}
-use Rattle.cdb_values.specs.declared.tables.TableDef.{TableDef}
 use Rattle.script_form.specs.declared.scripts.Act.{Act}
 use Rattle.script_form.specs.declared.scripts.Act.TheVariants as act
+use Rattle.script_form.specs.Named.{IsNamedTable}
 use Rattle.report_laws.specs.History.{Basis}
-use Rattle.byte_words.specs.Names.{IsName, IsKey}
+use Rattle.byte_words.specs.Names.{IsName}
 use Rattle.session_language.specs.Spelled.{HaveRows, KeepsRows}
-
--- a table is called by a name, and its keys by names that may be told of a broken key
-abbrev pub IsNamedTable : TableDef → Type 0
-IsNamedTable table = IsName table.name × AllByRecursion (λ key. IsKey key.name) table.keys
 
 -- the session of a line is called by a name, and its text is UTF-8
 abbrev pub SaysAsNamed : Act → Type 0

@@ -1,7 +1,7 @@
 -- No key is called `all`.
 use Rattle.std.proofs.Common.{◌≡◌, [], ◌∷◌, true, false}
 use Rattle.std.specs.List.{AllByRecursion}
-use Rattle.report_laws.specs.Spelled.{IsNamedTable}
+use Rattle.script_form.specs.Named.{IsNamedTable}
 use Rattle.report_worked.specs.WorkedWrong.{all_table}
 
 pub all_is_no_key : AllByRecursion IsNamedTable (all_table ∷ []) → ⊥

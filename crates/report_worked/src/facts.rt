@@ -10,7 +10,7 @@ ghost use Rattle.report_laws.specs.History.{IsEntryAfter};
 ghost use Rattle.report_laws.specs.Nodes.{downs, BeginsDown};
 ghost use Rattle.report_laws.specs.Outcome.{conflict_line};
 ghost use Rattle.report_laws.specs.Play.{InPlayOrder};
-ghost use Rattle.report_laws.specs.Spelled.{IsNamedTable};
+ghost use Rattle.script_form.specs.Named.{IsNamedTable};
 ghost use Rattle.session_language.specs.Touched.{TheRange};
 ghost use Rattle.report_worked.specs.Worked.{empty_report, report_with, insert_select, insert_select_report, insert_select_text, two_updates, two_updates_report, key_again, key_again_report, own_writes, own_writes_report, two_selects, lost_insert_report, lost_insert_text, open_insert, open_insert_report, nothing_said, down_at_first_report, nothing_then_insert, down_late_report, two_inserts, two_inserts_with, two_keys, rolled_insert, nothing_done, wanting_report, resumed_report, resumed_with, skew, skew_report, strict_skew, strict_skew_report};
 ghost use Rattle.report_worked.specs.WorkedWrong.{IsRefusedBy, RepliesAreRight, BeginsAreFresh, HistoryIsRight, EntriesAreTold, LinesHavePlaces, wrong_value, missing_row, out_of_order, early_row, late, wrong_position, entry_twice, node_line, lost_line, begin_too_old, untouched_row, refused_entry, serial, lost_twice, lost_late, short_while_up, down_misnumbered, down_twice, begun_behind, opened_while_down, strict_committed, committed_ahead, conflict_ahead, duplicate_ahead, conflict_at_begin, select_behind, begun_elsewhere, split_insert, rolled_entry, down_at_nothing, all_table, by_all, of_all};

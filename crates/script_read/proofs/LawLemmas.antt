@@ -2,6 +2,7 @@
 -- of those before it.
 use Rattle.std.proofs.Common.{◌≡◌, ◌≢◌, ℕ, zero, suc, ◌+◌, ◌<◌, ◌≤◌, List, [], ◌∷◌, ◌++◌, length, map, Bool, true, false, not, ◌&&◌, ◌||◌, ◌==◌, Option, Some, None, Result, Ok, Err, refl, sym, ◌∙◌, ap, subst, arith, if◌then◌else◌, nat_lt, nat_le, ◌⊎◌, inl, inr, append_assoc, length-append}
 use Rattle.std.proofs.lemmas.Bool.{ltb-false}
+use Rattle.std.proofs.lemmas.List.{append-nil}
 use Rattle.std.specs.List.{AllByRecursion}
 use Rattle.std.specs.Str.{is_utf8}
 use Rattle.cdb_values.specs.Tables.{add_fault, place_of}
@@ -157,16 +158,12 @@ body_numbers [] [] (l ∷ body) said = ap (λ ns. l.line ∷ ns) (body_numbers [
 body_numbers [] (t ∷ tables) body said = ap (λ ns. t.line ∷ ns) (body_numbers [] tables body said)
 body_numbers (s ∷ sessions) tables body said = ap (λ ns. s.line ∷ ns) (body_numbers sessions tables body said)
 
-append_nil : {A : Type 0} (xs : List A) → xs ++ [] ≡ xs
-append_nil [] = refl
-append_nil (x ∷ xs) = ap (λ ys. x ∷ ys) (append_nil xs)
-
 new_more : (before sessions : List SessionLine) (session : SessionLine) → AreNew before sessions → is_declared session.name (before ++ sessions) ≡ false → AreNew before (sessions ++ session ∷ [])
-new_more before [] session new h = (subst (λ xs. is_declared session.name xs ≡ false) (append_nil before) h, tt)
+new_more before [] session new h = (subst (λ xs. is_declared session.name xs ≡ false) (append-nil before) h, tt)
 new_more before (s ∷ sessions) session new h = (new.0, new_more (before ++ s ∷ []) sessions session new.1 (subst (λ xs. is_declared session.name xs ≡ false) (sym (append_assoc before (s ∷ []) sessions)) h))
 
 taken_more : (before tables : List TableDef) (table : TableDef) → AreTaken before tables → add_fault (before ++ tables) table ≡ None → AreTaken before (tables ++ table ∷ [])
-taken_more before [] table taken h = (subst (λ xs. add_fault xs table ≡ None) (append_nil before) h, tt)
+taken_more before [] table taken h = (subst (λ xs. add_fault xs table ≡ None) (append-nil before) h, tt)
 taken_more before (t ∷ tables) table taken h = (taken.0, taken_more (before ++ t ∷ []) tables table taken.1 (subst (λ xs. add_fault xs table ≡ None) (sym (append_assoc before (t ∷ []) tables)) h))
 
 tables_more : (tables : List TableLine) (table : TableLine) → map (λ t. t.table) (tables ++ table ∷ []) ≡ map (λ t. t.table) tables ++ table.table ∷ []

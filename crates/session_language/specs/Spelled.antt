@@ -14,6 +14,10 @@ use Rattle.byte_words.specs.Names.{IsName, IsKey}
 use Rattle.cdb_values.specs.declared.replies.Reply.{Reply}
 use Rattle.cdb_values.specs.declared.replies.Reply.TheVariants as reply
 
+-- texts of UTF-8
+abbrev pub AreTexts : List (List ℕ) → Type 0
+AreTexts texts = AllByRecursion (λ text. is_utf8 text ≡ true) texts
+
 -- a value of the grammar, but for the sizes of integers: those that are told stand in 64 bits anyway
 abbrev pub IsToldValue : Value → Type 0
 IsToldValue Null = Unit {0}

@@ -3,7 +3,7 @@
 -- It uses versions, which changes touch that take them away, and at level serializable the intervals that it
 -- read, which changes touch that take away or add a row in them. The versions come first, and then the
 -- intervals, each in their order.
-use Rattle.std.specs.Prelude.{◌++◌, ◌∷◌, ◌==◌, ◌&&◌, [], List, Bool, Option, Some, None, if◌then◌else◌, map}
+use Rattle.std.specs.Prelude.{ℕ, ◌+◌, ◌++◌, ◌∷◌, ◌==◌, ◌&&◌, [], List, Bool, Option, Some, None, if◌then◌else◌, map}
 use Rattle.std.specs.List.{list_any}
 use Rattle.cdb_values.specs.Changes.{genids_taken, taken_by}
 use Rattle.cdb_values.specs.declared.items.GenidItem.{GenidItem}
@@ -55,3 +55,23 @@ ranges_used Serializable ran = ran.ranges
 -- what a transaction uses at a level
 abbrev pub used_at : Level → Answered → List Used
 used_at level ran = map TheVersion (versions_used ran) ++ map TheRange (ranges_used level ran)
+
+-- the intervals that count at a level: all that were read, or none
+abbrev pub ranges_at : Level → List Interval → List Interval
+ranges_at Snapshot ranges = []
+ranges_at Serializable ranges = ranges
+
+-- a position whose entry touches something that was used, and the first such thing
+pub record FirstUse : Type 0 where
+  pub position : ℕ
+  pub item : Used
+
+abbrev pub or_use : ℕ → Option Used → Option FirstUse → Option FirstUse
+or_use position (Some item) later = Some (record { position = position; item = item })
+or_use position None later = later
+
+-- the first of these changes, each of the entry at the next position, that touch something that was used, and the first
+-- that they touch
+abbrev pub first_use : List TableDef → ℕ → List (List Change) → List Used → Option FirstUse
+first_use tables position [] used = None
+first_use tables position (changes ∷ later) used = or_use (position + 1) (first_used tables changes used) (first_use tables (position + 1) later used)

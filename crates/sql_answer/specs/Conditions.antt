@@ -1,16 +1,13 @@
 -- The truth of a condition on a combination: one row for each table of FROM, in order.
-use Rattle.std.specs.Prelude.{ℕ, List, Bool, true, not, if◌then◌else◌, unwrap_or, slice_get, Option, Some, None}
+use Rattle.std.specs.Prelude.{ℕ, List, Bool, true, not, if◌then◌else◌, slice_get, Option, Some, None}
 use Rattle.cdb_values.specs.declared.values.Value.{Value}
 use Rattle.cdb_values.specs.declared.values.Value.TheVariants.{Null}
 use Rattle.sql_bind.specs.Bound.{Cond, AnyOf, AllOf, NotOf, Grouped, Compares, TestsNull, Conds, no_cond, more_conds}
 use Rattle.sql_bind.specs.declared.types.BoundColumn.{BoundColumn}
 use Rattle.sql_bind.specs.declared.types.BoundOperand.{BoundOperand}
 use Rattle.sql_bind.specs.declared.types.BoundOperand.TheVariants as operand
-use Rattle.sql_answer.specs.Truth.{Truth, No, Yes, not3, and3, or3, is_yes, truth_of, is_null, compared}
-
--- the value in a column of a row, NULL where there is none
-abbrev pub cell : List Value → ℕ → Value
-cell row column = unwrap_or (slice_get row column) Null
+use Rattle.session_language.specs.Intervals.{cell, is_null}
+use Rattle.sql_answer.specs.Truth.{Truth, No, Yes, not3, and3, or3, is_yes, truth_of, compared}
 
 abbrev pub cell_of : Option (List Value) → ℕ → Value
 cell_of None column = Null

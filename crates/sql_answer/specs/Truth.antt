@@ -7,9 +7,9 @@ use Rattle.std.specs.declared.cmp.Ordering.{Ordering}
 use Rattle.std.specs.Ordering.{is_eq, is_ne, is_lt, is_le, is_gt, is_ge}
 use Rattle.cdb_values.specs.Order.{value_order}
 use Rattle.cdb_values.specs.declared.values.Value.{Value}
-use Rattle.cdb_values.specs.declared.values.Value.TheVariants.{Null, Int, Text, Blob}
 use Rattle.sql_bind.specs.declared.types.Cmp.{Cmp}
 use Rattle.sql_bind.specs.declared.types.Cmp.TheVariants as cmp
+use Rattle.session_language.specs.Intervals.{is_null}
 
 pub data Truth : Type 0 where
   No : Truth
@@ -44,12 +44,6 @@ is_yes Yes = true
 abbrev pub truth_of : Bool → Truth
 truth_of false = No
 truth_of true = Yes
-
-abbrev pub is_null : Value → Bool
-is_null Null = true
-is_null (Int _) = false
-is_null (Text _) = false
-is_null (Blob _) = false
 
 -- whether values that stand so in the order compare so
 abbrev pub stands : Cmp → Ordering → Bool

@@ -16,9 +16,9 @@ use Rattle.cdb_values.specs.declared.values.Value.{Value}
 use Rattle.cdb_values.specs.declared.values.Value.TheVariants.{Null, Int}
 use Rattle.sql_bind.specs.declared.types.BoundAssign.{BoundAssign}
 use Rattle.sql_bind.specs.declared.types.BoundStep.{BoundStep}
+use Rattle.session_language.specs.Intervals.{is_null}
 use Rattle.sql_answer.specs.Aggregates.{int_value}
 use Rattle.sql_answer.specs.Conditions.{operand_value}
-use Rattle.sql_answer.specs.Truth.{is_null}
 
 -- a value with another added to it or taken away: nothing where that leaves 64 bits
 abbrev pub changed : Bool → Value → Value → Option Value

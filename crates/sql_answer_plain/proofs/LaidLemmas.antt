@@ -20,7 +20,7 @@ pub held_both : (a b : List RowOp) → standing (held_after (held_after [] a) b)
 held_both a b = ap standing (held_on [] a b)
 
 -- an operation that names no own write is held as itself, and nothing is taken out
-held_alone : (held : List (Option RowOp)) (op : RowOp) → is_on_base op ≡ true → held_with held op ≡ held ++ Some op ∷ []
+pub held_alone : (held : List (Option RowOp)) (op : RowOp) → is_on_base op ≡ true → held_with held op ≡ held ++ Some op ∷ []
 held_alone held (Insert table row) is = refl
 held_alone held (Update table (Base genid) old row) is = refl
 held_alone held (Update table (Own write) old row) is = cc
@@ -48,7 +48,7 @@ held_all held (op ∷ ops) is =
     ∙ held_all (held ++ Some op ∷ []) ops (rest_of is_on_base op ops is)
     ∙ append_assoc held (Some op ∷ []) (map (λ op. Some op) ops)
 
-standing_all : (ops : List RowOp) → standing (map (λ op. Some op) ops) ≡ ops
+pub standing_all : (ops : List RowOp) → standing (map (λ op. Some op) ops) ≡ ops
 standing_all [] = refl
 standing_all (op ∷ ops) = ap (λ l. op ∷ l) (standing_all ops)
 

@@ -4,7 +4,7 @@ ghost use Rattle.std.specs.List.{list_any};
 ghost use Rattle.std.specs.Option.{option_copied};
 ghost use Rattle.cdb_values.specs.Good.{bytes_of_key, bytes_of_row, key_of as key_of_def};
 ghost use Rattle.cdb_values.specs.declared.limits.TheConstants.{MOST_ROW_BYTES, MOST_KEY_BYTES};
-ghost use Rattle.sql_answer.specs.Truth.{is_null};
+ghost use Rattle.session_language.specs.Intervals.{is_null};
 ghost use Rattle.sql_answer.specs.Writes.{has_null as has_null_of, is_too_long as is_too_long_of, row_error as row_error_of, rows_error as rows_error_of, columns_of as columns_of_def, keys_of as keys_of_def};
 
 use crate::steps::cell;

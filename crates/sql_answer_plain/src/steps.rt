@@ -1,6 +1,7 @@
 //! SET: the value that a column gets, on the old row.
 ghost use Rattle.std.specs.Prelude.{◌≡◌, ◌+ℤ◌, ◌-ℤ◌, if◌then◌else◌, [], ◌∷◌, slice_set, IfOk, Some};
-ghost use Rattle.sql_answer.specs.Conditions.{operand_value as operand_value_of, cell as cell_of};
+ghost use Rattle.sql_answer.specs.Conditions.{operand_value as operand_value_of};
+ghost use Rattle.session_language.specs.Intervals.{cell as cell_of};
 ghost use Rattle.sql_answer.specs.Writes.{changed as changed_of, stepped as stepped_of, assigned as assigned_of, set_row as set_row_of};
 
 use crate::copies::{copied_row, copied_value};

@@ -13,8 +13,9 @@ use Rattle.cdb_values.specs.declared.values.Value.TheVariants.{Null, Int}
 use Rattle.session_language.proofs.EachLaws.{all_append}
 use Rattle.session_language.proofs.AllLaws.{all_filtered}
 use Rattle.session_language.specs.Spelled.{IsToldValue, IsToldRow, SpellsRow}
+use Rattle.session_language.specs.Intervals.{cell}
 use Rattle.sql_answer.specs.Aggregates.{is_64_bits, int_value, integers, total, sum_of, known, least_from, least, greatest_from, greatest, values_in, first_of, item_value, all_there, item_values}
-use Rattle.sql_answer.specs.Conditions.{cell, cell_of, column_value}
+use Rattle.sql_answer.specs.Conditions.{cell_of, column_value}
 use Rattle.sql_answer.specs.Shapes.{Group, group, Keyed, keyed, is_below, is_grouped, key_items, grouped_with, values_at, grouped_from, grouped, groups_by, groups_of, projected, placed, sorted, ordered, limited, projections, arranged, shape}
 use Rattle.sql_bind.specs.Bound.{BoundQuery}
 use Rattle.sql_bind.specs.declared.types.BoundColumn.{BoundColumn}

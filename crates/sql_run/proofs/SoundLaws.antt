@@ -25,6 +25,7 @@ use Rattle.net_writes.proofs.CountLemmas.{at_suc}
 use Rattle.net_writes.specs.Net.{held_of, net_of}
 use Rattle.session_language.proofs.EachLaws.{all_append, all_found as found_in_all}
 use Rattle.session_language.proofs.AllLaws.{all_filtered}
+use Rattle.session_language.specs.Intervals.{is_null}
 use Rattle.cdb_values.specs.declared.replies.Reply.TheVariants as reply
 use Rattle.sql_answer.specs.Answers.{Meaning, Outcome, Fails, Gives, told_only, net_given, given_unless, rows_met, updating, deleting, items_used, rows_given, finished, finish, found, tables_read, answer}
 use Rattle.sql_answer.specs.Combinations.{Seen, seen_version, own_or, own_from, is_left, of_table, seen, rows_of}
@@ -33,7 +34,6 @@ use Rattle.query_laws.specs.Alone.{reads_of}
 use Rattle.cdb_values.specs.declared.items.Interval.{Interval}
 use Rattle.sql_answer.specs.Reading.{reading}
 use Rattle.sql_answer.specs.Shapes.{shape}
-use Rattle.sql_answer.specs.Truth.{is_null}
 use Rattle.sql_answer.specs.Writes.{set_row, has_null, is_too_long, row_error, or_later, rows_error}
 use Rattle.sql_bind.specs.Binding.{binding}
 use Rattle.sql_bind.specs.Bound.{BoundStatement, BeginIt, CommitIt, RollbackIt, SetIt, InsertInto, UpdateOf, DeleteFrom, SelectOf}

@@ -14,8 +14,9 @@ use Rattle.cdb_values.specs.declared.tables.ColumnType.{ColumnType}
 use Rattle.cdb_values.specs.declared.tables.ColumnType.TheVariants as kinds
 use Rattle.cdb_values.specs.declared.values.Value.{Value}
 use Rattle.cdb_values.specs.declared.values.Value.TheVariants.{Null, Int, Text, Blob}
+use Rattle.session_language.specs.Intervals.{cell}
 use Rattle.sql_answer.specs.Aggregates.{is_64_bits, int_value}
-use Rattle.sql_answer.specs.Conditions.{cell, column_value, operand_value}
+use Rattle.sql_answer.specs.Conditions.{column_value, operand_value}
 use Rattle.sql_answer.specs.Writes.{changed, stepped, assigned, set_from}
 use Rattle.sql_bind.specs.Faults.{own_column, own_columns, side_columns, setting_columns, literal_kind, side_kind, is_same_type, differ, is_no_number, value_differs, setting_differs, tuple_kinds, tuple_differs, width}
 use Rattle.sql_bind.specs.Meaning.{value_of, bound_side, listed_value, bound_row, bound_change, bound_setting}

@@ -26,7 +26,7 @@ use Rattle.table_edits.specs.Fits.{FitsTrees, FitsAt, WritesFitting}
 use Rattle.table_edits.proofs.ListLemmas.{get_some}
 use Rattle.table_store.proofs.AmongLaws.{all_among, among_all}
 
-short_value : (v : Value) → row_bytes v ≤ 1600 → IsShort v
+pub short_value : (v : Value) → row_bytes v ≤ 1600 → IsShort v
 short_value Null h = tt
 short_value (Int x) h = tt
 short_value (Text text) h = (let k : 5 + length text ≤ 1600 = h in omega (arith, k))
@@ -64,7 +64,7 @@ key_puttable key genid row size fits =
     record { key_fits = room.key_fits; cell_fits = room.cell_fits; short = short_row row size }
 
 -- the row of an operation on a table
-fits_there : (tables : List TableDef) (place other : ℕ) (table : TableDef) (row : List Value) → slice_get tables place ≡ Some table → other ≡ place
+pub fits_there : (tables : List TableDef) (place other : ℕ) (table : TableDef) (row : List Value) → slice_get tables place ≡ Some table → other ≡ place
     → FitsAt tables other row → FitsTrees table.keys row
 fits_there tables place other table row at same fits =
     subst (λ (o : Option TableDef). IfSome o (λ t. FitsTrees t.keys row)) (ap (λ (n : ℕ). slice_get tables n) same ∙ at) fits

@@ -1,5 +1,5 @@
 -- The next genid behind operations, and the meta page with another one.
-use Rattle.std.proofs.Common.{◌≡◌, ℕ, ◌+◌, ◌≤◌, List, [], ◌∷◌, refl, ◌∙◌, arith}
+use Rattle.std.proofs.Common.{◌≡◌, ℕ, List, [], ◌∷◌, refl, ◌∙◌}
 use Rattle.std.specs.Prelude.{Result, Ok, Err, OnOk}
 use Rattle.page_store.specs.Image.{Image}
 use Rattle.page_workspace.specs.declared.metas.Meta.{Meta}
@@ -8,7 +8,6 @@ use Rattle.cdb_values.specs.Rows.{Rows, apply, apply_all}
 use Rattle.cdb_values.specs.declared.rows.RowOp.{RowOp}
 use Rattle.cdb_values.specs.declared.rows.RowOp.TheVariants.{Insert, Update, Delete}
 use Rattle.cdb_values.specs.declared.rows.RowRef.TheVariants.{Base, Own}
-use Rattle.table_changes.specs.Changed.{next_of}
 use Rattle.table_edits.specs.Genids.{next_after, SetsGenid}
 
 -- operations
@@ -19,12 +18,6 @@ next_is (Update place (Base genid) old row ∷ ops) rows = next_is ops (apply ro
 next_is (Update place (Own write) old row ∷ ops) rows = next_is ops rows
 next_is (Delete place (Base genid) old ∷ ops) rows = next_is ops (apply rows (Delete place (Base genid) old))
 next_is (Delete place (Own write) old ∷ ops) rows = next_is ops rows
-
-pub next_few : (n : ℕ) (op : RowOp) → next_of n op ≤ n + 1
-next_few n (Insert table row) = omega arith
-next_few n (Update table (Base genid) old row) = omega arith
-next_few n (Update table (Own write) old row) = omega arith
-next_few n (Delete table target old) = omega arith
 
 -- the meta page with another next genid
 pub sets : (old new : ℕ → Image) (m : Meta) (genid : ℕ) → TellsMeta old m → SetsMeta old new (record { next = genid; count = m.count; free = m.free })

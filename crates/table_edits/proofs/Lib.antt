@@ -1,11 +1,11 @@
-mod ListLemmas
+pub mod ListLemmas
 mod GenidLemmas
 mod StateLemmas
-mod FitLemmas
+pub mod FitLemmas
 mod ForestLemmas
 mod KeptLemmas
 mod StepLemmas
-mod BrokenLemmas
+pub mod BrokenLemmas
 mod PassLemmas
 mod EndLemmas
 mod FreedLemmas

@@ -1,8 +1,8 @@
 -- A state stays one when operations are done on it: genids rise below the next one, and rows have codes.
-use Rattle.std.proofs.Common.{◌≡◌, ℕ, ◌+◌, ◌≤◌, ◌<◌, ◌^◌, ◌==◌, Bool, true, false, not, if◌then◌else◌, List, [], ◌∷◌, ◌++◌, length, refl, ◌∙◌, subst, arith}
+use Rattle.std.proofs.Common.{◌≡◌, ℕ, ◌+◌, ◌≤◌, ◌<◌, ◌^◌, ◌==◌, not, List, [], ◌∷◌, ◌++◌, length, refl, ◌∙◌, subst, arith}
 use Rattle.std.proofs.lemmas.List.{length-set}
 use Rattle.std.proofs.lemmas.Bool.{eq-eqb}
-use Rattle.std.specs.List.{AllByRecursion, filter}
+use Rattle.std.specs.List.{AllByRecursion}
 use Rattle.cdb_values.specs.Rows.{Rows, version, without, versions_of, taken, added, apply_all}
 use Rattle.cdb_values.specs.declared.rows.RowOp.{RowOp}
 use Rattle.cdb_values.specs.declared.rows.RowOp.TheVariants.{Insert, Update, Delete}
@@ -13,6 +13,7 @@ use Rattle.cdb_values.specs.declared.values.Value.{Value}
 use Rattle.key_code.specs.Codes.{IsRowValue}
 use Rattle.table_store.specs.States.{Rise, AreVersions, IsState}
 use Rattle.table_store.specs.Operations.{born}
+use Rattle.table_store.proofs.OperationLemmas.{rise_without, all_filter}
 use Rattle.table_edits.specs.Fits.{AreAllDoable}
 use Rattle.table_edits.specs.Genids.{next_after}
 use Rattle.table_edits.proofs.GenidLemmas.{next_is}
@@ -30,22 +31,6 @@ rise_end [] next row r = (omega arith, tt, tt)
 rise_end (v ∷ vs) next row r =
     let below : v.genid < next = r.0 in
     (omega (arith, below), all_end (λ w. v.genid < w.genid) vs (version next row) r.1 below, rise_end vs next row r.2)
-
-all_filter : (P : Version → Type 0) (test : Version → Bool) (vs : List Version) → AllByRecursion P vs → AllByRecursion P (filter test vs)
-all_filter P test [] h = tt
-all_filter P test (v ∷ vs) h = go (test v) (all_filter P test vs h.1)
-  where
-    go : (t : Bool) → AllByRecursion P (filter test vs) → AllByRecursion P (if t then v ∷ filter test vs else filter test vs)
-    go true r = (h.0, r)
-    go false r = r
-
-rise_without : (genid next : ℕ) (vs : List Version) → Rise vs next → Rise (without genid vs) next
-rise_without genid next [] h = tt
-rise_without genid next (v ∷ vs) h = go (not (v.genid == genid)) (rise_without genid next vs h.2)
-  where
-    go : (t : Bool) → Rise (without genid vs) next → Rise (if t then v ∷ without genid vs else without genid vs) next
-    go true r = (h.0, all_filter (λ w. v.genid < w.genid) (λ w. not (w.genid == genid)) vs h.1, r)
-    go false r = r
 
 no_versions : (next : ℕ) → AreVersions next []
 no_versions next = record { rise = tt; coded = tt }

@@ -1,8 +1,8 @@
 -- A row fits its table exactly where it is found to.
-use Rattle.std.proofs.Common.{◌≡◌, ℕ, ◌-◌, ◌^◌, ◌≤◌, ◌<◌, ◌&&◌, ◌||◌, not, Bool, true, false, List, [], ◌∷◌, min, nat_lt, refl, sym, subst, arith, lit<}
+use Rattle.std.proofs.Common.{◌≡◌, ℕ, ◌-◌, ◌≤◌, ◌<◌, ◌&&◌, ◌||◌, not, Bool, true, false, List, [], ◌∷◌, nat_lt, refl, arith}
 use Rattle.std.specs.Bool.{Decides}
 use Rattle.std.proofs.lemmas.Bool.{false≢true, ltb-true}
-use Rattle.std.proofs.lemmas.Bool.Decides.{same_from_decides, Decides-like, Decides-and, Decides-ltb}
+use Rattle.std.proofs.lemmas.Bool.Decides.{Decides-like, Decides-and}
 use Rattle.std.specs.List.{AllByRecursion}
 use Rattle.cdb_values.specs.Good.{FitsColumn, FitsColumns, FitsTable, bytes_of_row, bytes_of_key, key_of}
 use Rattle.cdb_values.specs.declared.limits.TheConstants.{MOST_ROW_BYTES, MOST_KEY_BYTES}
@@ -14,21 +14,6 @@ use Rattle.cdb_values.specs.declared.tables.ColumnType.TheVariants as kinds
 use Rattle.cdb_values.specs.declared.values.Value.{Value}
 use Rattle.cdb_values.specs.declared.values.Value.TheVariants.{Null, Int, Text, Blob}
 use Rattle.table_state.specs.Fits.{is_integer, is_text, is_blob, fits_column, fits_columns, is_long_row, is_long_key, has_long_key, fits_table}
-
--- a size that is told as 2^64 - 1 from there on, against a limit
-past_cap : (size cap limit : ℕ) → limit < cap → nat_lt limit (min size cap) ≡ nat_lt limit size
-past_cap size cap limit below =
-    let told : limit < min size cap → limit < size = λ p. omega arith in
-    let is : limit < size → limit < min size cap = λ p. omega arith in
-    same_from_decides {P = limit < size} (nat_lt limit (min size cap)) (nat_lt limit size)
-    (Decides-like {P = limit < min size cap} {Q = limit < size} (nat_lt limit (min size cap)) told is (Decides-ltb limit (min size cap)))
-    (Decides-ltb limit size)
-
-pub past_row : (size told : ℕ) → told ≡ min size (2 ^ 64 - 1) → nat_lt 1600 told ≡ nat_lt 1600 size
-past_row size told is = subst (λ t. nat_lt 1600 t ≡ nat_lt 1600 size) (sym is) (past_cap size (2 ^ 64 - 1) 1600 (lit< tt))
-
-pub past_key : (size told : ℕ) → told ≡ min size (2 ^ 64 - 1) → nat_lt 512 told ≡ nat_lt 512 size
-past_key size told is = subst (λ t. nat_lt 512 t ≡ nat_lt 512 size) (sym is) (past_cap size (2 ^ 64 - 1) 512 (lit< tt))
 
 integer_decides : (kind : ColumnType) → Decides (is_integer kind) (kind ≡ kinds.Integer)
 integer_decides kinds.Integer = (λ e. refl, λ e. refl)

@@ -1,10 +1,10 @@
 -- What is read of the meta page and the free pages is what is there.
-use Rattle.std.proofs.Common.{◌≡◌, ◌⊎◌, inl, inr, ℕ, suc, ◌^◌, ◌≤◌, ◌<◌, ◌==◌, Bool, true, false, List, [], ◌∷◌, length, None, Some, refl, sym, ap, ◌∙◌, subst, arith}
-use Rattle.std.proofs.lemmas.Bool.{eqb-true, false≢true}
+use Rattle.std.proofs.Common.{◌≡◌, ◌⊎◌, inl, inr, ℕ, suc, ◌^◌, ◌≤◌, ◌<◌, true, false, List, [], ◌∷◌, length, None, Some, sym, ap, ◌∙◌, subst, arith}
+use Rattle.std.proofs.lemmas.Bool.{false≢true}
 use Rattle.std.proofs.lemmas.Option.{none-some}
 use Rattle.page_store.specs.Image.{Image, blank_image}
 use Rattle.page_workspace.specs.Spare.{IsIn, AreApart, IsChain, AreFree, first_free, count_of}
-use Rattle.tree_walk.proofs.WrittenLaws.{apart_inside}
+use Rattle.tree_walk.proofs.WrittenLaws.{apart_inside, in_or_out}
 use Rattle.page_workspace.specs.declared.metas.Meta.{Meta}
 use Rattle.table_state.specs.declared.reserves.Reserve.{Reserve}
 use Rattle.table_state.specs.Counts.{told}
@@ -16,22 +16,6 @@ use Rattle.table_state.proofs.ChainLaws.{past_sound, past_full, chain_sound, cha
 -- each page that is not among these is blank
 abbrev pub AreBlankBut : (ℕ → Image) → List ℕ → Type 0
 AreBlankBut pages edited = (n : ℕ) → (IsIn n edited → ⊥) → pages n ≡ blank_image
-
-not_equal : (a b : ℕ) → (a == b) ≡ false → a ≡ b → ⊥
-not_equal a b h e = grind arith
-
-in_or_out : (n : ℕ) (xs : List ℕ) → IsIn n xs ⊎ (IsIn n xs → ⊥)
-in_or_out n [] = inr (λ i. i)
-in_or_out n (x ∷ xs) = go (n == x) refl (in_or_out n xs)
-  where
-    out : (n ≡ x → ⊥) → (IsIn n xs → ⊥) → IsIn n (x ∷ xs) → ⊥
-    out a b (inl e) = a e
-    out a b (inr i) = b i
-
-    go : (t : Bool) → (n == x) ≡ t → IsIn n xs ⊎ (IsIn n xs → ⊥) → IsIn n (x ∷ xs) ⊎ (IsIn n (x ∷ xs) → ⊥)
-    go true e rest = inl (inl (eqb-true n x e))
-    go false e (inl i) = inl (inr i)
-    go false e (inr off) = inr (out (not_equal n x e) off)
 
 -- a page that is not blank is among those that may be written
 written_in : (pages : ℕ → Image) (edited : List ℕ) → AreBlankBut pages edited → (n : ℕ) → (pages n ≡ blank_image → ⊥) → IsIn n edited

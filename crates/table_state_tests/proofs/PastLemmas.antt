@@ -4,15 +4,7 @@ use Rattle.std.proofs.lemmas.Bool.{cases_lt}
 use Rattle.page_store.specs.Image.{Image, blank_image}
 use Rattle.page_store.specs.Sources.{pages_of}
 use Rattle.page_workspace.specs.Spare.{IsIn}
-
-in_more : (x n : ℕ) (ns : List ℕ) → IsIn x ns → IsIn x (ns ++ n ∷ [])
-in_more x n [] i = absurd i
-in_more x n (m ∷ ms) (inl e) = inl e
-in_more x n (m ∷ ms) (inr i) = inr (in_more x n ms i)
-
-in_end : (n : ℕ) (ns : List ℕ) → IsIn n (ns ++ n ∷ [])
-in_end n [] = inl refl
-in_end n (m ∷ ms) = inr (in_end n ms)
+use Rattle.page_workspace.proofs.InLaws.{in_more, in_end}
 
 -- with one number more, all below the next limit are there
 pub one_more : (limit : ℕ) (ns : List ℕ) → ((n : ℕ) → n < limit → IsIn n ns) → (n : ℕ) → n < limit + 1 → IsIn n (ns ++ limit ∷ [])

@@ -6,7 +6,7 @@ pub mod ForestLaws
 mod GoodLemmas
 pub mod KeptLaws
 pub mod ListingLaws
-mod OperationLemmas
+pub mod OperationLemmas
 pub mod ReadLaws
 pub mod RisingLaws
 pub mod StateLaws

@@ -79,10 +79,10 @@ born_from table next (Update place (Base genid) old row ∷ ops) =
 born_from table next (Update place (Own write) old row ∷ ops) = born_from table next ops
 born_from table next (Delete place target old ∷ ops) = born_from table next ops
 
-all_filter : {A : Type 0} (P : A → Type 0) (test : A → Bool) (xs : List A) → AllByRecursion P xs → AllByRecursion P (filter test xs)
+pub all_filter : {A : Type 0} (P : A → Type 0) (test : A → Bool) (xs : List A) → AllByRecursion P xs → AllByRecursion P (filter test xs)
 all_filter P test xs h = all_among P (filter test xs) (λ x i. among_all P x xs h (among_filter test x xs i).0)
 
-rise_without : (genid next : ℕ) (vs : List Version) → Rise vs next → Rise (without genid vs) next
+pub rise_without : (genid next : ℕ) (vs : List Version) → Rise vs next → Rise (without genid vs) next
 rise_without genid next [] h = tt
 rise_without genid next (v ∷ vs) h = go (not (v.genid == genid)) (rise_without genid next vs h.2)
   where

@@ -1,21 +1,10 @@
 -- One page more of a level.
-use Rattle.std.proofs.Common.{◌≡◌, ℕ, Bool, true, false, if◌then◌else◌, List, [], ◌∷◌, ◌++◌, Option, None, Some, refl, sym, ap, ◌∙◌, subst, append_assoc, append-nil, drop, zero, suc, Result, Ok, Err, ◌+◌, ◌-◌, ◌<◌, arith}
+use Rattle.std.proofs.Common.{◌≡◌, ℕ, Bool, true, false, if◌then◌else◌, List, [], ◌∷◌, ◌++◌, Option, None, Some, refl, sym, ap, ◌∙◌, append_assoc, append-nil, drop, zero, suc, ◌+◌, ◌-◌, ◌<◌, arith}
 use Rattle.std.specs.List.{slice_get}
-use Rattle.std.specs.Result.{MatchResult, IsErrAnd}
 use Rattle.page_store.specs.Image.{Image}
 use Rattle.btree_index.specs.Trees.{Entry, below}
+use Rattle.btree_index.proofs.FindLemmas.{drop_here}
 use Rattle.tree_walk.specs.Walks.{is_inner, is_leaf_of, behind, descend, gather, over, walk_from}
-
-pub drop_here : {X : Type 0} (xs : List X) (i : ℕ) (x : X) → slice_get xs i ≡ Some x → drop i xs ≡ x ∷ drop (suc i) xs
-drop_here [] i x h = cc
-drop_here (y ∷ ys) zero x h = let e : y ≡ x = cc in ap (λ z. z ∷ ys) e
-drop_here (y ∷ ys) (suc i) x h = drop_here ys i x h
-
--- a result behind another one's
-pub ok_before : {T E F : Type 0} (r : Result T E) (s : Result T F) (Q : E → F → Type 0) (y : T)
-    → MatchResult r (λ x. s ≡ Ok x) (λ e. IsErrAnd s (Q e)) → s ≡ Ok y → r ≡ Ok y
-ok_before (Ok x) s Q y same h = let e : x ≡ y = cc in ap Ok e
-ok_before {T} {E} {F} (Err e) s Q y wrong h = absurd (subst (λ (t : Result T F). IsErrAnd t (Q e)) h wrong)
 
 pub behind_none : {A : Type 0} (o : Option (List A)) → behind [] o ≡ o
 behind_none None = refl

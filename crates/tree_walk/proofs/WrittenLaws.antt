@@ -15,7 +15,7 @@ use Rattle.tree_walk.specs.Walks.{IsWalked}
 not_equal : (a b : ℕ) → (a == b) ≡ false → a ≡ b → ⊥
 not_equal a b h e = grind arith
 
-in_or_out : (n : ℕ) (xs : List ℕ) → IsIn n xs ⊎ (IsIn n xs → ⊥)
+pub in_or_out : (n : ℕ) (xs : List ℕ) → IsIn n xs ⊎ (IsIn n xs → ⊥)
 in_or_out n [] = inr (λ i. i)
 in_or_out n (x ∷ xs) = go (n == x) refl (in_or_out n xs)
   where

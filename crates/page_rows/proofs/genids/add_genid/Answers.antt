@@ -2,7 +2,7 @@
 use Rattle.std.proofs.Common.{ℕ, List, [], ◌∷◌, ◌++◌, sym, subst}
 use Rattle.std.proofs.lemmas.Option.{same_Some}
 use Rattle.page_workspace.specs.Spare.{IsIn}
-use Rattle.page_rows.proofs.GenidLemmas.{in_more, in_end}
+use Rattle.page_workspace.proofs.InLaws.{in_more, in_end}
 use Rattle.page_rows.proofs.genids.add_genid.Goals as goal
 
 pub returns-in_ok-push-in-Some-clause-kept : goal.returns-in_ok-push-in-Some-clause-kept

@@ -1,5 +1,5 @@
 use Rattle.cdb_values.specs.Good.{bytes_of_key}
-use Rattle.sql_answer_plain.proofs.SizeLemmas.{past_key}
+use Rattle.key_code.proofs.LimitLaws.{past_key}
 use Rattle.sql_answer_plain.proofs.sizes.are_too_long.Goals as goal
 
 pub returns : goal.returns

@@ -1,5 +1,5 @@
 use Rattle.cdb_values.specs.Good.{bytes_of_row}
-use Rattle.sql_answer_plain.proofs.SizeLemmas.{past_row}
+use Rattle.key_code.proofs.LimitLaws.{past_row}
 use Rattle.sql_answer_plain.proofs.sizes.is_row_too_long.Goals as goal
 
 pub returns : goal.returns

@@ -1,6 +1,6 @@
 -- the values so far, before those of the columns that are left, are those of all
 use Rattle.std.proofs.Common.{◌≡◌, ◌++◌, map, length}
-use Rattle.sql_answer.specs.Conditions.{cell}
+use Rattle.session_language.specs.Intervals.{cell}
 use Rattle.sql_answer_plain.proofs.sizes.key_of.Given as goal
 
 abbrev pub invariant-columns : goal.invariant-columns

@@ -1,5 +1,5 @@
 use Rattle.cdb_values.specs.Good.{bytes_of_key}
-use Rattle.table_state.proofs.FitLaws.{past_key}
+use Rattle.key_code.proofs.LimitLaws.{past_key}
 use Rattle.table_state.proofs.fits.are_long.Goals as goal
 
 pub returns : goal.returns

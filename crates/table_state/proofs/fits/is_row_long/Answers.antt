@@ -1,5 +1,5 @@
 use Rattle.cdb_values.specs.Good.{bytes_of_row}
-use Rattle.table_state.proofs.FitLaws.{past_row}
+use Rattle.key_code.proofs.LimitLaws.{past_row}
 use Rattle.table_state.proofs.fits.is_row_long.Goals as goal
 
 pub returns : goal.returns

@@ -2,7 +2,7 @@ use Rattle.std.proofs.Common.{ℕ, suc, ◌≡◌, ◌≤◌, ◌+◌, ◌++◌,
 use Rattle.std.proofs.lemmas.Option.{same_Some}
 use Rattle.page_store.specs.Image.{Image}
 use Rattle.btree_index.specs.Trees.{Entry, below}
-use Rattle.tree_walk.proofs.StepLemmas.{ok_before}
+use Rattle.btree_index.proofs.FindLemmas.{ok_before}
 use Rattle.tree_walk.specs.Walks.{behind, descend, is_inner}
 use Rattle.tree_walk.proofs.StepLemmas.{down_more}
 use Rattle.tree_walk.proofs.levels.inner_level.Goals as goal

@@ -3,7 +3,7 @@ use Rattle.std.proofs.lemmas.List.{length-map}
 use Rattle.std.proofs.lemmas.Bool.{ltb-true}
 use Rattle.page_store.specs.Image.{Image}
 use Rattle.btree_index.specs.Trees.{Entry, page_of, top, pages_of}
-use Rattle.tree_walk.proofs.StepLemmas.{ok_before}
+use Rattle.btree_index.proofs.FindLemmas.{ok_before}
 use Rattle.tree_walk.specs.Walks.{descend, walk_from}
 use Rattle.tree_walk.proofs.StepLemmas.{walk_next, walk_stop}
 use Rattle.tree_walk.proofs.DepthLemmas.{pages_past, pages_next}

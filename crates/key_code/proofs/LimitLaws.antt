@@ -2,7 +2,7 @@
 use Rattle.std.proofs.Common.{◌≡◌, ℕ, ◌-◌, ◌^◌, ◌<◌, min, nat_lt, sym, subst, arith, lit<}
 use Rattle.std.proofs.lemmas.Bool.Decides.{same_from_decides, Decides-like, Decides-ltb}
 
-pub past_cap : (size cap limit : ℕ) → limit < cap → nat_lt limit (min size cap) ≡ nat_lt limit size
+past_cap : (size cap limit : ℕ) → limit < cap → nat_lt limit (min size cap) ≡ nat_lt limit size
 past_cap size cap limit below =
     let told : limit < min size cap → limit < size = λ p. omega arith in
     let is : limit < size → limit < min size cap = λ p. omega arith in
