@@ -7,9 +7,7 @@ use Rattle.std.specs.Coded.{×_prop, Unit-prop, le_prop}
 use Rattle.std.proofs.Props.{props}
 use mathlib.Core.Path.{fun_ext}
 use Rattle.page_store.specs.Image.{Image, blank_image, HasRoom}
-use Rattle.page_store.specs.Edits.{IsFit, IsFound}
-use Rattle.page_store.specs.declared.edits.Edit.{Edit}
-use Rattle.page_store.specs.declared.edits.Edit.TheVariants.{PutCell, TakeCell, SwapCell, SetHead}
+use Rattle.page_store.proofs.EditLaws.{fit_prop}
 use Rattle.phys_log.specs.declared.entries.LogRecord.{LogRecord}
 use Rattle.phys_log.specs.declared.entries.Entry.{Entry}
 use Rattle.phys_log.specs.Logs.{records_of, records_in, written, replayed, blank_pages, pages_of, last_lsn_of, IsNext, AreNext, Fits, IsLog}
@@ -24,15 +22,6 @@ use Rattle.log_replay.specs.Answers.{Rises}
 use Rattle.log_replay.proofs.ChainLemmas.{chain-append, chain_parts, chain_rises}
 use Rattle.log_replay.proofs.GrantLemmas.{granted_is, unedited}
 use Rattle.log_replay.proofs.UndoLemmas.{room_replayed}
-
-found_prop : (image : Image) (edit : Edit) → IsProp (IsFound image edit)
-found_prop image (PutCell place cell) = hlevel (le_prop, props)
-found_prop image (TakeCell place cell) = hlevel (le_prop, props)
-found_prop image (SwapCell place before after) = hlevel (le_prop, props)
-found_prop image (SetHead before after) = hlevel (le_prop, props)
-
-fit_prop : (image : Image) (edit : Edit) → IsProp (IsFit image edit)
-fit_prop image edit = hlevel (found_prop, le_prop, props)
 
 next_prop : (pages : ℕ → Image) (lsn : ℕ) (r : LogRecord) → IsProp (IsNext pages lsn r)
 next_prop pages lsn r = hlevel (fit_prop, le_prop, props)

@@ -18,7 +18,8 @@
 //! The pages are kept by their numbers, which are dense, each with its chain. An entry is replayed on the kept pages
 //! themselves; where one of its records is not the next one, those before it are undone, the last first. Other entries are
 //! put in the place of the last ones in the same way: `replace_tail(1, [e])` undoes records 4, 3 and 2, then replays `e`.
-//! Where `e` is not replayed, 2, 3 and 4 are made again on the same pages.
+//! Where `e` is not replayed, 2, 3 and 4 are made again on the same pages. `exchange_tail(1, [e])` keeps entries 2 and 3 aside,
+//! so that the caller may still take `e` back: their records are made again then too, and their chains have kept room for that.
 //!
 //! A grant of page 0 at position 1 gives the page of now, `y, z` with LSN 4, and its records after position 1, newest
 //! first: 4, then 3. The reader undoes them: record 4 taken back leaves `y` with LSN 3, its `prev`; record 3 taken back
@@ -27,14 +28,16 @@
 //!
 //! | Notion | Code | Definition |
 //! |---|---|---|
-//! | the pages of a log, an entry that fits it | `PagedLog::append`, `page`, `drop_tail`, `replace_tail` | `Logs` of `phys_log` |
+//! | the pages of a log, an entry that fits it | `PagedLog::append`, `page`, `drop_tail`, `replace_tail`, `exchange_tail` | `Logs` of `phys_log` |
 //! | the chain of a page | `PagedLog::chain` | `specs/Chains.antt` |
 //! | the records of a page after a position | `PagedLog::grant` | `Undone` of `phys_log` |
 //! | a page at a position | `PagedLog::page_at` | `Logs` of `phys_log` |
 //! | what is kept beside the entries | | `specs/Kept.antt` |
+//! | last entries that may still be put back | `Exchange` | `specs/Exchanges.antt` |
 #![tactic(auto)]
 
 mod chains;
+mod exchanges;
 mod grants;
 mod kept;
 mod log_pages;
@@ -44,6 +47,7 @@ mod undoes;
 mod writes;
 
 pub use chains::ChainLink;
+pub use exchanges::Exchange;
 pub use grants::Grant;
 pub use log_pages::LogPages;
 pub use logs::{AppendFault, PagedLog};

@@ -38,10 +38,10 @@ pub enum AppendFault {
 /// of entries.
 #[derive(Drop)]
 pub struct PagedLog {
-    entries: Vec<Entry>,
-    pages: KeptPages,
+    pub(crate) entries: Vec<Entry>,
+    pub(crate) pages: KeptPages,
     /// The page that is lent where none is kept, from the first entry on.
-    blank: Option<Page>,
+    pub(crate) blank: Option<Page>,
 }
 
 impl Model for PagedLog {
@@ -256,7 +256,7 @@ fn edited_page(pages: &KeptPages, id: u64) -> Option<&Page>
 }
 
 /// Sees to it that a blank page is kept.
-fn see_to_blank(alloc: Global, blank: &mut Option<Page>) -> Result<(), AllocError>
+pub(crate) fn see_to_blank(alloc: Global, blank: &mut Option<Page>) -> Result<(), AllocError>
     requires { IfSome blank.old (λ p. p ≡ blank_image) }
     ensures { IfSome blank.new (λ p. p ≡ blank_image) }
 {

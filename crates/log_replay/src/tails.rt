@@ -3,7 +3,8 @@ ghost use Rattle.std.specs.Prelude.{ℕ, ◌≡◌, ◌+◌, ◌≤◌, ◌++◌
 ghost use Rattle.page_store.specs.Image.{HasRoom};
 ghost use Rattle.phys_log.specs.declared.entries.Entry.{Entry as OneEntry};
 ghost use Rattle.phys_log.specs.Logs.{AreNext, IsLog, last_lsn_of, records_of, replayed};
-ghost use Rattle.log_replay.specs.Chains.{chain_of, links_on};
+ghost use Rattle.log_replay.specs.Chains.{links_on};
+ghost use Rattle.log_replay.specs.Exchanges.{HasLinkRoom};
 ghost use Rattle.log_replay.specs.Kept.{page_in, chain_in, room_in, AreMade, IsKept, Roomier, TellsWhether};
 
 use crate::kept::{KeptPages, redo_at};
@@ -34,11 +35,11 @@ fn redo_each(pages: &mut KeptPages, records: &[LogRecord], position: u64)
 
 /// Puts the entries behind the first ones, so many, back on pages that have the first ones alone, and room in their
 /// chains for all. Takes no memory.
-fn put_back(pages: &mut KeptPages, entries: &[Entry], kept: u64)
+pub(crate) fn put_back(pages: &mut KeptPages, entries: &[Entry], kept: u64)
     requires logged { ∥ IsLog entries.now ∥₁ }
     requires within { kept ≤ length entries.now }
     requires first { IsKept (take kept entries.now) pages.old None }
-    requires room { (n : ℕ) → length (chain_of entries.now n) ≤ room_in pages.old n }
+    requires room { HasLinkRoom entries.now pages.old }
     ensures { IsKept entries.now pages.new None }
 {
     for i in kept as usize..entries.len() {
@@ -114,6 +115,7 @@ pub(crate) fn rewrite(
     ensures made { OnOk result (IsKept (take kept log.now ++ entries.now) pages.new None) }
     ensures same { OnErr result (IsKept log.now pages.new None) }
     ensures fits { TellsWhether result (∥ IsLog (take kept log.now ++ entries.now) ∥₁) }
+    ensures room { OnOk result (HasLinkRoom log.now pages.new) }
 {
     let (front, tail) = log.split_at(kept as usize);
     undo_entries(pages, tail);

@@ -1,7 +1,6 @@
 -- Frames kept behind those of a log: what the store holds then, and what a stop inside of them leaves.
-use Rattle.std.proofs.Common.{◌≡◌, ℕ, List, [], ◌∷◌, ◌++◌, sym, ap, ◌∙◌, subst}
+use Rattle.std.proofs.Common.{◌≡◌, ℕ, List, ◌++◌, sym, ap, ◌∙◌, subst}
 use Rattle.std.proofs.Math.Logic.{∥∥₁_map}
-use Rattle.std.proofs.lemmas.List.{append-nil}
 use Rattle.std.specs.List.{flat_map, AllByRecursion}
 use Rattle.frame_code.specs.Codes.{frame_code}
 use Rattle.frame_code.specs.Spelled.{IsSpelled}
@@ -14,10 +13,6 @@ use Rattle.store_log.specs.Holds.{Holds, plain}
 use Rattle.store_log.specs.Keeps.{Stored, AreKept, AreLeft}
 use Rattle.store_log.proofs.KeptLaws.{kept_hold, left_stand}
 use Rattle.node_log.specs.Logged.{Logged, IsInStep, Leaves, StandForOne}
-
--- the bytes of one frame
-pub one_code : (f : Frame) → flat_map frame_code (f ∷ []) ≡ frame_code f
-one_code f = append-nil (frame_code f)
 
 -- frames that may stand behind those of a log
 pub record MayStand (p a : ℕ) (es : List Entry) (gs : List Frame) : Type 0 where

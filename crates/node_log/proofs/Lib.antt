@@ -4,5 +4,5 @@ mod PromiseLemmas
 pub mod SameLaws
 mod SpelledLemmas
 mod StandLemmas
-mod StepLemmas
+pub mod StepLemmas
 mod TakeLemmas

@@ -9,8 +9,9 @@ use Rattle.store_log.specs.Held.{after, after_all, IsLogOf}
 use Rattle.store_log.specs.Holds.{plain}
 use Rattle.store_log.specs.Keeps.{Stored, AreKept, AreLeft}
 use Rattle.store_log.specs.Follows.{MayFollow}
+use Rattle.store_log.proofs.StepLemmas.{one_code}
 use Rattle.node_log.specs.Logged.{Logged, IsInStep, Leaves, Stand, StandForOne, with_acceptance, with_promise}
-use Rattle.node_log.proofs.FrameLemmas.{MayStand, one_code, frames_follow, frames_in_step, frames_left}
+use Rattle.node_log.proofs.FrameLemmas.{MayStand, frames_follow, frames_in_step, frames_left}
 
 -- what is held after some of one frame: what was before, or what is after it
 cut_one : (l : Logged) (f : Frame) (k : Logged) (stopped : List ℕ) (some others : List Frame) → some ++ others ≡ f ∷ []

@@ -24,7 +24,7 @@ take_none zero = refl
 take_none (suc n) = refl
 
 -- a stop leaves settled bytes as they are
-none_join : (synced pending joined : List ℕ) → pending ≡ [] → JoinsFront synced pending joined → joined ≡ synced
+pub none_join : (synced pending joined : List ℕ) → pending ≡ [] → JoinsFront synced pending joined → joined ≡ synced
 none_join synced pending joined e j =
     j.1 ∙ ap (λ (bytes : List ℕ). synced ++ take j.0 bytes) e ∙ ap (λ (bytes : List ℕ). synced ++ bytes) (take_none j.0) ∙ append-nil synced
 

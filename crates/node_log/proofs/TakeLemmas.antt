@@ -15,9 +15,10 @@ use Rattle.store_log.specs.Held.{Held, AllMay, after_all, IsLogOf}
 use Rattle.store_log.specs.Holds.{plain}
 use Rattle.store_log.specs.Keeps.{Stored, AreKept, AreLeft}
 use Rattle.store_log.specs.Follows.{AreNext}
+use Rattle.store_log.proofs.StepLemmas.{one_code}
 use Rattle.node_log.specs.Logged.{Logged, IsInStep, Leaves, StandForOne, AreSpelled, with_promise}
 use Rattle.node_log.specs.Taken.{with_taken, promise_frames, adoption_frames, take_frames}
-use Rattle.node_log.proofs.FrameLemmas.{MayStand, one_code, frames_next, frames_in_step, frames_left}
+use Rattle.node_log.proofs.FrameLemmas.{MayStand, frames_next, frames_in_step, frames_left}
 use Rattle.node_log.proofs.PromiseLemmas.{promise_spelled, accept_spelled}
 
 -- an adoption is open

@@ -23,13 +23,14 @@
 //!
 //! An entry is appended in three steps: its frame is written as bytes, the log takes the entry, and the store keeps
 //! the bytes. The first two take memory and the third takes none, so that want of memory leaves the log and the store
-//! as they were.
+//! as they were. Where the store fails, the log has the entry, and may drop it (`drop_tail`). A log that is taken over is put
+//! back then: the entries that it drops are kept aside until the store has answered.
 //!
 //! | Notion | Code | Definition |
 //! |---|---|---|
 //! | a log with its generations and its store | `NodeLog` | `Logged` of `specs/Logged.antt` |
 //! | the store holds exactly the log | the invariant of `NodeLog` | `IsInStep` |
-//! | bytes stand for the log, for one of some logs | `log`, `give_back` | `Stand`, `StandForOne` |
+//! | bytes stand for the log, for one of some logs | `log`, `into_parts` | `Stand`, `StandForOne` |
 //! | what a stop may leave of the store | `stand`, `promise`, `accept`, `append`, `take_over`, where the store fails | `Leaves` |
 //! | a log that is taken over, and its frames | `take_over` | `specs/Taken.antt` |
 //! | the log that is found is the log that was had | `stores_tell_one_log` | `specs/Same.antt` |

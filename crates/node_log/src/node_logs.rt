@@ -1,4 +1,4 @@
-ghost use Rattle.std.specs.Prelude.{◌≡◌, ◌+◌, ◌<◌, ◌^◌, true, false, [], ◌∷◌, ◌++◌, IfOk, IfErr, OnOk, IsErrOf, MatchResult};
+ghost use Rattle.std.specs.Prelude.{◌≡◌, ◌+◌, ◌≤◌, ◌<◌, ◌^◌, true, false, [], ◌∷◌, ◌++◌, length, take, IfOk, IfErr, OnOk, IsErrOf, MatchResult};
 ghost use Rattle.cdb_outside.specs.Faults.{Rose};
 ghost use Rattle.cdb_outside.specs.Stores.{JoinsFront};
 ghost use Rattle.frame_code.specs.Codes.{frame_code};
@@ -151,6 +151,18 @@ impl<D: LogStore> NodeLog<D> {
         }
     }
 
+    /// Drops the entries behind the first ones, so many, of a log whose store failed. Takes no memory.
+    pub fn drop_tail(&mut self, alloc: Global, kept: u64)
+        requires failed { self.old.failed ≡ true }
+        requires within { kept ≤ length self.old.entries }
+        ensures { self.new ≡ record self.old { entries = take kept self.old.entries } }
+    {
+        match self.log.drop_tail(alloc, kept) {
+            Ok(()) => {}
+            Err(_) => unreachable!(),
+        }
+    }
+
     /// The log, with its pages. Takes no memory.
     pub fn log(&self) -> &PagedLog
         ensures entries { result.now ≡ self.now.entries }
@@ -198,6 +210,19 @@ impl<D: LogStore> NodeLog<D> {
         self.failed
     }
 
+    /// Stops the node, and gives its log and its store back. Takes no memory.
+    pub fn into_parts(self) -> (PagedLog, D)
+        ensures log { result.0 ≡ self.entries }
+        ensures joined { JoinsFront self.store.synced self.store.pending (D.synced result.1) }
+        ensures settled { D.pending result.1 ≡ [] }
+        ensures calm { D.faults result.1 ≡ self.store.faults }
+        ensures same { self.failed ≡ false → D.synced result.1 ≡ self.store.synced }
+        ensures stands { self.failed ≡ false → ∥ Stand (D.synced result.1) self ∥₁ }
+    {
+        let store = self.held.give_back();
+        (self.log, store)
+    }
+
     /// Stops the node, and gives its store back. Takes no memory.
     pub fn give_back(self) -> D
         ensures joined { JoinsFront self.store.synced self.store.pending (D.synced result) }
@@ -206,6 +231,7 @@ impl<D: LogStore> NodeLog<D> {
         ensures same { self.failed ≡ false → D.synced result ≡ self.store.synced }
         ensures stands { self.failed ≡ false → ∥ Stand (D.synced result) self ∥₁ }
     {
-        self.held.give_back()
+        let (_, store) = self.into_parts();
+        store
     }
 }

@@ -15,7 +15,7 @@ use std::alloc::Global;
 use store_log::{Held, KeepFault};
 
 /// Keeps one frame in the store.
-#[tactic(auto, using(crate::proofs::FrameLemmas::one_code))]
+#[tactic(auto, using(store_log::proofs::StepLemmas::one_code))]
 fn keep_one<D: LogStore>(alloc: Global, held: &mut Held<D>, frame: Frame) -> Result<(), KeepFault>
     requires settled { held.old.pending ≡ [] }
     requires spelled { IsSpelled frame }

@@ -1,5 +1,5 @@
 //! A node takes over a log in a generation: it keeps the first entries of its own, and gets others behind them.
-ghost use Rattle.std.specs.Prelude.{◌≡◌, ◌≤◌, ◌<◌, ◌^◌, false, true, [], ◌∷◌, ◌++◌, IfOk, OnOk, IsErrOf, length, map, take};
+ghost use Rattle.std.specs.Prelude.{◌≡◌, ◌≤◌, ◌<◌, ◌^◌, false, true, [], ◌∷◌, ◌++◌, IfOk, OnOk, OnErr, IsErrOf, length, map, take};
 ghost use Rattle.std.specs.List.{flat_map, AllByRecursion};
 ghost use Rattle.cdb_outside.specs.Faults.{Rose};
 ghost use Rattle.frame_code.specs.Codes.{frame_code};
@@ -86,7 +86,8 @@ fn taken_bytes(
 }
 
 /// Puts entries in the place of those behind the first ones of the log, so many, and keeps the frames that take them over
-/// in the store. All memory is taken before the store is called, so that want of it leaves both as they were.
+/// in the store. All memory is taken before the store is called, so that want of it leaves both as they were. Where the store
+/// fails the other entries are put back, without memory.
 fn keep_taken<D: LogStore>(
     alloc: Global,
     log: &mut PagedLog,
@@ -106,18 +107,23 @@ fn keep_taken<D: LogStore>(
     ensures kept { IsKept result held.old held.new
         (flat_map frame_code (take_frames promised generation kept entries.items)) }
     ensures taken { OnOk result (log.new ≡ take kept log.old ++ entries.items) }
-    ensures under_way { IsErrOf result KeepFault.StoreFault → log.new ≡ take kept log.old ++ entries.items }
-    ensures unchanged { IsErrOf result KeepFault.NoMemory → log.new ≡ log.old }
+    ensures unchanged { OnErr result (log.new ≡ log.old) }
 {
     let Ok(bytes) = taken_bytes(alloc, promised, generation, kept, entries.as_slice()) else {
         return Err(KeepFault::NoMemory);
     };
-    if log.replace_tail(alloc, kept, entries).is_err() {
+    let Ok(exchange) = log.exchange_tail(alloc, kept, entries) else {
         return Err(KeepFault::NoMemory);
-    }
+    };
     match held.keep_bytes(bytes.as_slice()) {
-        Ok(()) => Ok(()),
-        Err(_) => Err(KeepFault::StoreFault),
+        Ok(()) => {
+            *log = exchange.settle();
+            Ok(())
+        }
+        Err(_) => {
+            *log = exchange.take_back();
+            Err(KeepFault::StoreFault)
+        }
     }
 }
 
@@ -125,7 +131,7 @@ impl<D: LogStore> NodeLog<D> {
     /// Takes a log over in a generation, which is promised and accepted then: the first entries of the node's log, so
     /// many, and these behind them. The node's other entries are dropped, in memory and in the store. All is kept in the
     /// store, synced, before this is answered. `NoMemory` comes also where so many is not below 2^62. After `StoreFault`
-    /// the log can only be given back: it has the entries, and its store may stand for them or not.
+    /// the log can only be given back: it is as it was, and its store may stand for the one with the entries or not.
     pub fn take_over(
         &mut self,
         alloc: Global,
@@ -145,11 +151,8 @@ impl<D: LogStore> NodeLog<D> {
         ensures kept { OnOk result (self.new.store.synced ≡ self.old.store.synced
             ++ flat_map frame_code (take_frames self.old.promised generation kept entries.items)) }
         ensures unchanged { IsErrOf result KeepFault.NoMemory → self.new ≡ self.old }
-        ensures failed { IsErrOf result KeepFault.StoreFault → self.new ≡ record self.old {
-          entries = take kept self.old.entries ++ entries.items;
-          store = self.new.store;
-          failed = true;
-        } }
+        ensures failed { IsErrOf result KeepFault.StoreFault →
+            self.new ≡ record self.old { store = self.new.store; failed = true } }
         ensures rose { IsErrOf result KeepFault.StoreFault → Rose self.old.store.faults self.new.store.faults }
         ensures left { IsErrOf result KeepFault.StoreFault → Leaves self.new.store
             (self.old ∷ with_promise self.old generation

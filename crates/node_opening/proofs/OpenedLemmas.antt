@@ -1,44 +1,12 @@
 -- A store that was opened stands for what it stood for.
-use Rattle.std.proofs.Common.{◌≡◌, inl, inr, ℕ, ◌<◌, ◌^◌, true, is_some, List, [], ◌∷◌, ◌++◌, Option, Some, None, refl, sym, ap, ◌∙◌, subst}
+use Rattle.std.proofs.Common.{◌≡◌, inl, inr, ℕ, ◌<◌, ◌^◌, List, [], ◌++◌, refl, sym, ap, ◌∙◌}
 use Rattle.std.proofs.lemmas.List.{append-nil}
 use Rattle.frame_code.specs.Codes.{frame_code}
-use Rattle.frame_code.specs.declared.frames.Frame.{Frame}
-use Rattle.frame_code.specs.declared.frames.Frame.TheVariants as frame
-use Rattle.phys_log.specs.declared.entries.Entry.{Entry}
-use Rattle.store_log.specs.declared.standings.Standing.{Standing}
 use Rattle.store_log.specs.declared.standings.Standing.TheVariants.{Log}
-use Rattle.store_log.specs.Cuts.{IsSameLog}
-use Rattle.store_log.specs.Held.{Held, at_first, May, AllMay, after, after_all, with_entry, header, IsUnbegun, StandsFor}
-use Rattle.store_log.specs.Opens.{AllOpen, IsTrimmed, IsOpened, StandsAlike}
+use Rattle.store_log.specs.Held.{Held, at_first, after_all, header, IsUnbegun}
+use Rattle.store_log.specs.Opens.{IsTrimmed, IsOpened, StandsAlike}
 use Rattle.store_log.proofs.CutLaws.{after_join, may_back}
-use Rattle.store_log.proofs.HeldLaws.{one_standing}
-
--- while an adoption is open the log is as before
-same_entry : (p a : ℕ) (es : List Entry) (e : Entry) (o : Option (List Entry)) → is_some (with_entry p a es e o).adopting ≡ true
-    → IsSameLog (record { promised = p; accepted = a; entries = es; adopting = o }) (with_entry p a es e o)
-same_entry p a es e None open_is = absurd (cc)
-same_entry p a es e (Some adopted) open_is = record { promised = refl; accepted = refl; entries = refl }
-
-still_same : (h : Held) (f : Frame) → May h f → is_some (after h f).adopting ≡ true → IsSameLog h (after h f)
-still_same h (frame.Header v n c) m o = absurd m
-still_same h (frame.Promise g) m o = absurd (cc)
-still_same h (frame.Accept g) m o = absurd (cc)
-still_same h (frame.Entry e) m o = same_entry h.promised h.accepted h.entries e h.adopting o
-still_same h (frame.Cut n) m o = record { promised = refl; accepted = refl; entries = refl }
-
-same_on : (h k l : Held) → IsSameLog h k → IsSameLog k l → IsSameLog h l
-same_on h k l s t = record { promised = s.promised ∙ t.promised; accepted = s.accepted ∙ t.accepted; entries = s.entries ∙ t.entries }
-
-open_same : (h : Held) (gs : List Frame) → AllMay h gs → AllOpen h gs → IsSameLog h (after_all h gs)
-open_same h [] m o = record { promised = refl; accepted = refl; entries = refl }
-open_same h (f ∷ fs) m o =
-    same_on h (after h f) (after_all (after h f) fs) (still_same h f m.0 o.0) (open_same (after h f) fs m.1 o.1)
-
--- bytes that both stand for one thing
-alike_by : (node cluster : ℕ) (old new : List ℕ) (s : Standing) → node < 256 → cluster < 2 ^ 128 → StandsFor node cluster old s
-    → StandsFor node cluster new s → StandsAlike node cluster old new
-alike_by node cluster old new s n c x y =
-    λ (r : Standing) (h : StandsFor node cluster old r). subst (λ (t : Standing). StandsFor node cluster new t) (one_standing node cluster old s r n c x h) y
+use Rattle.store_log.proofs.MendLemmas.{open_same, alike_by}
 
 begun_alike : (node cluster : ℕ) (old new : List ℕ) → node < 256 → cluster < 2 ^ 128 → IsUnbegun old → new ≡ frame_code (header node cluster)
     → StandsAlike node cluster old new

@@ -1,8 +1,7 @@
 -- A node stands, and begins its log: what its log and its store have then.
-use Rattle.std.proofs.Common.{◌≡◌, inl, inr, ℕ, zero, suc, ◌+◌, ◌==◌, Bool, true, length, List, [], ◌∷◌, ◌++◌, take, refl, sym, ◌∙◌, ap, subst, arith}
+use Rattle.std.proofs.Common.{◌≡◌, inl, inr, ℕ, ◌+◌, ◌==◌, Bool, true, length, List, [], ◌∷◌, ◌++◌, sym, ◌∙◌, ap, subst, arith}
 use Rattle.std.proofs.Math.Logic.{∥∥₁_map}
 use Rattle.std.proofs.lemmas.Bool.{eqb-true}
-use Rattle.std.proofs.lemmas.List.{append-nil}
 use Rattle.cdb_outside.specs.Stores.{JoinsFront}
 use Rattle.cdb_values.specs.declared.tables.TableDef.{TableDef}
 use Rattle.phys_log.specs.declared.entries.Entry.{Entry}
@@ -10,18 +9,10 @@ use Rattle.store_log.specs.declared.standings.Standing.TheVariants.{Log}
 use Rattle.store_log.specs.Held.{StandsFor}
 use Rattle.store_log.specs.Keeps.{Stored}
 use Rattle.node_log.specs.Logged.{Logged, Stand, StandForOne, Leaves, with_entry, with_promise, with_stand}
+use Rattle.node_log.proofs.StepLemmas.{none_join}
 use Rattle.node_opening.specs.Left.{StandsPartway}
 use Rattle.node_opening.specs.Stands.{LeavesBegun, LeavesPartway}
 use Rattle.node_opening.specs.Up.{IsBegin}
-
--- a stop leaves settled bytes as they are
-take_none : (n : ℕ) → take {A = ℕ} n [] ≡ []
-take_none zero = refl
-take_none (suc n) = refl
-
-none_join : (synced pending joined : List ℕ) → pending ≡ [] → JoinsFront synced pending joined → joined ≡ synced
-none_join synced pending joined e j =
-    j.1 ∙ ap (λ (bytes : List ℕ). synced ++ take j.0 bytes) e ∙ ap (λ (bytes : List ℕ). synced ++ bytes) (take_none j.0) ∙ append-nil synced
 
 -- a log that stands in the next generation
 pub record HasStood (l k : Logged) : Type 0 where

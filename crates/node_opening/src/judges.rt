@@ -8,7 +8,7 @@ use crate::tables::difference;
 use crate::up::WhyNotUp;
 use cdb_values::Schema;
 use log_replay::PagedLog;
-use sound_log::is_sound;
+use sound_log::sound_state;
 use std::alloc::Global;
 
 /// Whether a log is sound, where this generation is the accepted one, and then whether it has the given tables.
@@ -21,9 +21,9 @@ pub(crate) fn judge(
     ensures good { OnOk result (IsGood accepted log.now schema.now) }
     ensures why { IfErr result (λ w. IsJudged w accepted log.now schema.now) }
 {
-    match is_sound(alloc, accepted, log) {
-        Ok(true) => {}
-        Ok(false) => return Err(WhyNotUp::Unsound),
+    match sound_state(alloc, accepted, log) {
+        Ok(Some(_)) => {}
+        Ok(None) => return Err(WhyNotUp::Unsound),
         Err(_) => return Err(WhyNotUp::NoMemory),
     }
     let Some(logged) = log.schema() else {

@@ -10,11 +10,11 @@ use Rattle.phys_log.specs.declared.entries.Entry.{Entry}
 use Rattle.log_replay.specs.Answers.{schema_of}
 use Rattle.log_rows.specs.History.{tables_of, IsCommit}
 use Rattle.table_store.specs.Listings.{IsAmong}
+use Rattle.table_store.proofs.AmongLaws.{among_either}
 use Rattle.table_state.specs.States.{HasState}
 use Rattle.sound_log.specs.Identities.{ids_of, ids_in, AreApart}
 use Rattle.sound_log.specs.Sound.{IsBegunBy, IsBegunIn, IsSound}
 use Rattle.sound_log.proofs.GrowthLemmas.{all_later, all_more}
-use Rattle.sound_log.proofs.IdentityLemmas.{among_either}
 use Rattle.sound_log.proofs.SoundLemmas.{tables_are}
 
 -- the identities of entries behind others

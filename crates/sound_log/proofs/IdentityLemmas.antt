@@ -11,6 +11,7 @@ use Rattle.phys_log.specs.declared.entries.CommitId.{CommitId}
 use Rattle.phys_log.specs.declared.entries.Entry.{Entry}
 use Rattle.phys_log.specs.declared.entries.Entry.TheVariants.{Setup, Commit}
 use Rattle.table_store.specs.Listings.{IsAmong}
+use Rattle.table_store.proofs.AmongLaws.{among_either}
 use Rattle.sound_log.specs.declared.identities.IdKey.{IdKey}
 use Rattle.sound_log.specs.Identities.{ids_of, ids_in, AreApart, id_by, ids_by, IsPut}
 
@@ -52,16 +53,6 @@ put old new key id added is keys was = go (list_any (is_same key) old) refl
           ap ids_by (keys ∙ ap (λ (b : Bool). if b then old else old ++ key ∷ []) e) ∙ map-append id_by old (key ∷ [])
               ∙ ap (λ (i : CommitId). ids_by old ++ i ∷ []) is,
         )
-
--- what is among two lists, one behind the other
-pub among_either : {A : Type 0} (x : A) (xs ys : List A) → IsAmong x (xs ++ ys) → IsAmong x xs ⊎ IsAmong x ys
-among_either x [] ys h = inr h
-among_either x (y ∷ xs) ys (inl e) = inl (inl e)
-among_either x (y ∷ xs) ys (inr h) = go (among_either x xs ys h)
-  where
-    go : IsAmong x xs ⊎ IsAmong x ys → IsAmong x (y ∷ xs) ⊎ IsAmong x ys
-    go (inl i) = inl (inr i)
-    go (inr i) = inr i
 
 among_front : {A : Type 0} (x : A) (xs ys : List A) → IsAmong x xs → IsAmong x (xs ++ ys)
 among_front x [] ys h = absurd h

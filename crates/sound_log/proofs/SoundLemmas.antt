@@ -1,5 +1,5 @@
 -- Sound logs: what the tests of the parts tell.
-use Rattle.std.proofs.Common.{◌≡◌, ◌≤◌, ◌&&◌, ◌||◌, ℕ, Bool, true, false, inl, inr, List, [], ◌∷◌, ◌++◌, nat_eq, nat_le, Option, Some, None, unwrap_or, drop, refl, sym, ap, ◌∙◌, subst, arith}
+use Rattle.std.proofs.Common.{◌≡◌, ◌≤◌, ◌&&◌, ◌||◌, ℕ, Bool, true, false, inl, inr, List, [], ◌∷◌, ◌++◌, nat_eq, nat_le, Option, Some, None, unwrap_or, drop, IfSome, refl, sym, ap, ◌∙◌, subst, arith}
 use Rattle.std.specs.Bool.{Decides}
 use Rattle.std.specs.List.{AllByRecursion, list_all, list_any}
 use Rattle.std.proofs.lemmas.Bool.{false≢true}
@@ -15,7 +15,7 @@ use Rattle.log_replay.specs.Answers.{schema_of}
 use Rattle.log_rows.specs.History.{tables_of, IsCommit}
 use Rattle.table_state.specs.States.{HasState}
 use Rattle.sound_log.specs.Identities.{ids_of, ids_in, AreApart}
-use Rattle.sound_log.specs.Sound.{IsBegunBy, IsSoundHistory, IsSound}
+use Rattle.sound_log.specs.Sound.{IsBegunBy, IsSoundHistory, IsSound, IsStateOf}
 use Rattle.sound_log.specs.Begun.{is_begun_by}
 
 -- a number that is not in a list
@@ -113,3 +113,10 @@ state_decides accepted entries others first tables has cut schema begun apart st
 
     told : IsSoundHistory accepted entries → (rows : Rows) × HasState (pages_of entries) tables rows
     told sound = (sound.rows, subst (λ (t : List TableDef). HasState (pages_of entries) t sound.rows) are sound.state)
+
+-- the state of its tables
+pub state_found : (entries : List Entry) (tables : List TableDef) (found : Option Rows) → schema_of entries ≡ Some tables
+    → IfSome found (λ rows. HasState (pages_of entries) tables rows) → IfSome found (IsStateOf entries)
+state_found entries tables None schema told = tt
+state_found entries tables (Some rows) schema told =
+    inr (subst (λ (t : List TableDef). HasState (pages_of entries) t rows) (sym (tables_are entries tables schema)) told)

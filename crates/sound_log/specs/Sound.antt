@@ -37,3 +37,7 @@ pub record IsSoundHistory (accepted : ℕ) (entries : List Entry) : Type 0 where
 -- a log is sound
 abbrev pub IsSound : ℕ → List Entry → Type 0
 IsSound accepted entries = (entries ≡ []) ⊎ IsSoundHistory accepted entries
+
+-- the rows for which the pages of a log stand; one without entries has no tables
+abbrev pub IsStateOf : List Entry → Rows → Type 0
+IsStateOf entries rows = (entries ≡ []) ⊎ HasState (pages_of entries) (tables_of entries) rows

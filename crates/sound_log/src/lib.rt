@@ -1,7 +1,7 @@
 //! Whether a log is sound: one that a node may take up and go on with.
 //!
 //! A store that is opened has a log that anybody may have written. Its records fit the pages that those before them
-//! left, and nothing else is known of it: `is_sound` tells whether it may be kept. A log of three entries over the
+//! left, and nothing else is known of it: `sound_state` tells whether it may be kept, and what its rows are. A log of three entries over the
 //! table `t`, which has a unique key; its transactions are named as (generation, session, number):
 //!
 //! ```text
@@ -25,7 +25,7 @@
 //! into a set, and at last the trees are walked. What the entries say that they change is not looked at: a log is sound by
 //! its pages.
 //!
-//! The rows that are read then are of bytes, as their types say. No definition of pages says it, so `is_sound` tells it.
+//! The rows that are read then are of bytes, as their types say. No definition of pages says it, so `sound_state` tells it.
 //!
 //! | Notion | Code | Definition |
 //! |---|---|---|
@@ -33,7 +33,7 @@
 //! | the entries behind the first | `sound` | `is_begun_by` of `specs/Begun.antt` |
 //! | pages that stand for a good state | `state_of` of `table_state` | `HasState` there |
 //! | rows of bytes | `bytes` | `AreOfBytes` of `specs/Bytes.antt` |
-//! | a sound log | `is_sound` | `IsSound` of `specs/Sound.antt` |
+//! | a sound log, and its rows | `sound_state` | `IsSound`, `IsStateOf` of `specs/Sound.antt` |
 #![tactic(auto)]
 
 mod bytes;
@@ -44,4 +44,4 @@ mod sound;
 pub use laws::{
     sound_logs_go_on, sound_logs_grow, sound_logs_stay_sound, standing_logs_have_their_state,
 };
-pub use sound::is_sound;
+pub use sound::sound_state;

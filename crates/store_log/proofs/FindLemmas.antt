@@ -1,5 +1,5 @@
 -- What is found in a store.
-use Rattle.std.proofs.Common.{◌≡◌, inl, inr, ℕ, ◌<◌, ◌≤◌, List, [], ◌++◌, length, drop, Option, Some, None, Result, Ok, Err, IfOk, IfErr, OnOk, OnErr, refl, sym, ap, ◌∙◌, subst, arith}
+use Rattle.std.proofs.Common.{◌≡◌, inl, inr, ℕ, ◌<◌, ◌≤◌, List, [], ◌++◌, length, drop, Option, Some, None, Result, Ok, Err, IfOk, IfErr, OnOk, refl, sym, ap, ◌∙◌, subst, arith}
 use Rattle.std.specs.Io.{StartsWith}
 use Rattle.frame_code.specs.Codes.{frame_code}
 use Rattle.frame_code.specs.declared.frames.Frame.{Frame}
@@ -129,11 +129,6 @@ told_over w node cluster old mid a b c e n x =
 
 pub unchanged_over : (w : OpenFault) (old mid new : List ℕ) → mid ≡ old → IsUnchanged w mid new → IsUnchanged w old new
 unchanged_over w old mid new e x = subst (λ (l : List ℕ). IsUnchanged w l new) e x
-
--- what is told of a result
-pub on_err : {T E : Type 0} {P : Type 0} (r : Result T E) → P → OnErr r P
-on_err (Ok x) p = tt
-on_err (Err e) p = p
 
 pub on_ok : {T E : Type 0} {P : Type 0} (r : Result T E) → P → OnOk r P
 on_ok (Ok x) p = p

@@ -324,7 +324,7 @@ pub found_stands : (f : Found) (node cluster : ℕ) (bytes : List ℕ) → IsFou
 found_stands f node cluster bytes x = stands_to f.closed node cluster bytes f.promised f.accepted f.entries x.to
 
 -- what is left stands for the same
-alike_by : (node cluster : ℕ) (old new : List ℕ) (s : Standing) → node < 256 → cluster < 2 ^ 128 → StandsFor node cluster old s
+pub alike_by : (node cluster : ℕ) (old new : List ℕ) (s : Standing) → node < 256 → cluster < 2 ^ 128 → StandsFor node cluster old s
     → StandsFor node cluster new s → StandsAlike node cluster old new
 alike_by node cluster old new s n c x y =
     λ (r : Standing) (h : StandsFor node cluster old r). subst (λ (t : Standing). StandsFor node cluster new t) (one_standing node cluster old s r n c x h) y

@@ -52,7 +52,7 @@ some_bytes before now n bytes m =
     length-append (frame_code m.frame) m.behind in
     (omega arith, omega arith)
 
-one_code : (f : Frame) → flat_map frame_code (f ∷ []) ≡ frame_code f
+pub one_code : (f : Frame) → flat_map frame_code (f ∷ []) ≡ frame_code f
 one_code f = append-nil (frame_code f)
 
 -- the bytes of one frame more

@@ -18,16 +18,13 @@ use Rattle.store_log.specs.Walks.{IsWalked, IsWalk, ahead, further, IsEnded, IsT
 use Rattle.store_log.proofs.CutLaws.{after_join, may_join, spelled_join, codes_join}
 use Rattle.store_log.proofs.GrowLemmas.{starts_all, starts_within}
 use Rattle.store_log.proofs.OpenLemmas.{more_in, wrong_in}
-use Rattle.store_log.proofs.StepLemmas.{drop_front, some_bytes}
+use Rattle.store_log.proofs.StepLemmas.{drop_front, some_bytes, one_code}
 
 -- what is behind a frame
 behind_is : (before now : Held) (n : ℕ) (bytes : List ℕ) → (m : IsMore before now n bytes) → m.behind ≡ drop n bytes
 behind_is before now n bytes m =
     sym (drop_front (frame_code m.frame) m.behind) ∙ ap (λ (l : List ℕ). drop (length (frame_code m.frame)) l) m.begins
     ∙ ap (λ (k : ℕ). drop k bytes) m.size
-
-one_code : (f : Frame) → flat_map frame_code (f ∷ []) ≡ frame_code f
-one_code f = append-nil (frame_code f)
 
 -- frames of which an adoption is open after each
 pub open_join : (h : Held) (gs : List Frame) (f : Frame) → AllOpen h gs → is_some (after_all h (gs ++ f ∷ [])).adopting ≡ true

@@ -1,7 +1,7 @@
 use Rattle.std.proofs.Common.{◌≡◌, ℕ, List, sym, subst}
+use Rattle.cdb_outside.proofs.StopLemmas.{on_err}
 use Rattle.store_log.specs.Opens.{IsOpened, StandsAlike}
 use Rattle.store_log.specs.Walks.{IsFound}
-use Rattle.store_log.proofs.FindLemmas.{on_err}
 use Rattle.store_log.proofs.MendLemmas.{same_alike}
 use Rattle.store_log.proofs.opens.make_ready.Goals as goal
 

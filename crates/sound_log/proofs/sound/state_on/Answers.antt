@@ -8,7 +8,7 @@ use Rattle.table_state.specs.States.{HasState}
 use Rattle.sound_log.specs.Bytes.{RowsAreOfBytes}
 use Rattle.sound_log.proofs.BytesLemmas.{read_of_bytes}
 use Rattle.sound_log.proofs.SoundLemmas.{not_in}
-use Rattle.sound_log.proofs.sound.has_state.Goals as goal
+use Rattle.sound_log.proofs.sound.state_on.Goals as goal
 
 pub state_of-requires : goal.state_of-requires
 state_of-requires c = λ n off.
