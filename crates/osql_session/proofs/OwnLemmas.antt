@@ -1,5 +1,5 @@
 -- A write that names an operation of its own transaction: what takes the place of that one.
-use Rattle.std.proofs.Common.{◌≡◌, ℕ, zero, suc, ◌-◌, ◌<◌, ◌≤◌, ◌==◌, ◌||◌, ◌&&◌, nat_lt, List, [], ◌∷◌, ◌++◌, map, take, drop, length, Bool, true, false, refl, sym, subst, ◌∙◌, ap, Option, Some, None, append_assoc, length-append, length-drop, length-take, add-one, arith}
+use Rattle.std.proofs.Common.{◌≡◌, ℕ, zero, suc, ◌-◌, ◌<◌, ◌≤◌, ◌||◌, ◌&&◌, nat_lt, List, [], ◌∷◌, ◌++◌, map, take, drop, length, Bool, true, false, refl, sym, subst, ◌∙◌, ap, Option, Some, None, append_assoc, length-append, length-drop, length-take, add-one, arith}
 use Rattle.std.specs.Prelude.{slice_get, slice_set, if◌then◌else◌}
 use Rattle.std.specs.List.{list_all}
 use Rattle.std.proofs.lemmas.Bool.Decides.{nat_tests}
@@ -9,9 +9,9 @@ use Rattle.cdb_values.specs.declared.rows.RowOp.TheVariants.{Insert, Update, Del
 use Rattle.cdb_values.specs.declared.rows.RowRef.TheVariants.{Base, Own}
 use Rattle.cdb_values.specs.declared.values.Value.{Value}
 use Rattle.net_writes.specs.Net.{held_at, held_of, taken_out, rewritten, undone, held_with, held_after, standing, net_of}
-use Rattle.net_writes.proofs.CountLemmas.{at_suc, out_suc, standing_append, standing_short}
+use Rattle.net_writes.proofs.CountLemmas.{at_suc, out_suc, standing_append, standing_short, not_zero}
 use Rattle.sql_answer_plain.specs.Laid.{is_on_base, are_too_many}
-use Rattle.sql_answer_plain.proofs.LaidLemmas.{held_both}
+use Rattle.sql_answer_plain.proofs.LaidLemmas.{held_both, held_alone, standing_all}
 use Rattle.osql_session.specs.Own.{exchanged, named, on_first, place_alone, place_of_own}
 use Rattle.osql_session.proofs.BaseLemmas.{net_is_based}
 
@@ -23,14 +23,6 @@ second_of : (a b : Bool) → (a && b) ≡ true → b ≡ true
 second_of true b is = is
 second_of false b is = cc
 
--- an operation that names no own write is held as itself
-held_alone : (held : List (Option RowOp)) (op : RowOp) → is_on_base op ≡ true → held_with held op ≡ held ++ Some op ∷ []
-held_alone held (Insert table row) is = refl
-held_alone held (Update table (Base genid) old row) is = refl
-held_alone held (Update table (Own write) old row) is = cc
-held_alone held (Delete table (Base genid) old) is = refl
-held_alone held (Delete table (Own write) old) is = cc
-
 held_all : (held : List (Option RowOp)) (ops : List RowOp) → list_all is_on_base ops ≡ true → held_after held ops ≡ held ++ map (λ op. Some op) ops
 held_all held [] is = sym (nothing held)
   where
@@ -41,10 +33,6 @@ held_all held (op ∷ ops) is =
     ap (λ h. held_after h ops) (held_alone held op (first_of (is_on_base op) (list_all is_on_base ops) is))
     ∙ held_all (held ++ Some op ∷ []) ops (second_of (is_on_base op) (list_all is_on_base ops) is)
     ∙ append_assoc held (Some op ∷ []) (map (λ op. Some op) ops)
-
-standing_all : (ops : List RowOp) → standing (map (λ op. Some op) ops) ≡ ops
-standing_all [] = refl
-standing_all (op ∷ ops) = ap (λ l. op ∷ l) (standing_all ops)
 
 -- those that stand without the one of a place
 standing_without : (ops : List RowOp) (at : ℕ) → at < length ops → standing (slice_set (map (λ op. Some op) ops) at None) ≡ take at ops ++ drop (suc at) ops
@@ -113,9 +101,6 @@ some_same a b is = cc
 
 none_some : (a : ℕ) → None ≡ Some a → ⊥
 none_some a is = cc
-
-not_zero : (i : ℕ) → (suc i == 0) ≡ false
-not_zero i = grind (arith, nat_tests)
 
 record IsPlace (n number at : ℕ) : Type 0 where
   is : number ≡ suc at

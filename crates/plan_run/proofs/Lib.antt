@@ -4,3 +4,4 @@ pub mod FoldLemmas
 pub mod LyingLemmas
 pub mod SameLemmas
 pub mod TriedLemmas
+pub mod OwnLemmas

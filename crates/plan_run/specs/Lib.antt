@@ -1,3 +1,4 @@
 pub mod Keeping
+pub mod Passed
 pub mod PlanWalks
 pub mod Sources

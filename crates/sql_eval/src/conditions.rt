@@ -1,7 +1,8 @@
 ghost use Rattle.std.specs.Prelude.{◌≡◌};
 ghost use Rattle.std.specs.Option.{option_copied};
 ghost use Rattle.sql_bind.specs.Views.{cond_in};
-ghost use Rattle.sql_answer.specs.Truth.{is_null as is_null_of, compared};
+ghost use Rattle.session_language.specs.Intervals.{is_null as is_null_of};
+ghost use Rattle.sql_answer.specs.Truth.{compared};
 ghost use Rattle.sql_answer.specs.Conditions.{truth, tests_null as tests_null_of};
 ghost use Rattle.sql_eval.specs.Views.{truth_in, rows_in, value_or_null};
 

@@ -1,5 +1,6 @@
 ghost use Rattle.std.specs.Prelude.{◌≡◌};
-ghost use Rattle.sql_answer.specs.Truth.{not3 as not_of, and3 as and_of, or3 as or_of, is_null as is_null_of, truth_of, stands as stands_of, compared};
+ghost use Rattle.session_language.specs.Intervals.{is_null as is_null_of};
+ghost use Rattle.sql_answer.specs.Truth.{not3 as not_of, and3 as and_of, or3 as or_of, truth_of, stands as stands_of, compared};
 ghost use Rattle.sql_eval.specs.Views.{truth_in};
 
 use cdb_values::{Value, order};
