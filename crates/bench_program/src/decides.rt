@@ -158,28 +158,44 @@ fn commit_row(
     ensures known { OnOk result (known.new ≡ identities_of log.new) }
 {
     let request = asked_of(alloc, log, 0, number, 1)?;
-    commit(alloc, schema, log, known, &request)
+    commit(alloc, schema, log, known, request)
 }
 
-/// Decides a request so often; how often it is the next entry.
+/// Asks and decides so often what began 1,000 entries before the end of a log; how often it is the next entry.
 fn decide_often(
     alloc: Global,
     schema: &Schema,
     log: &PagedLog,
     known: &BlkSeq,
-    request: &CommitRequest,
 ) -> Result<u64, AllocError>
     requires begun { IsBegun schema.now log.now }
     requires known { known.now ≡ identities_of log.now }
-    requires asks { AsksInserts log.now request.now }
 {
     let mut committed = 0u64;
     'times: for _ in 0..TIMES {
-        if let Decision::Commit(_) = decided(alloc, schema, log, known, request)? {
+        if decide_once(alloc, schema, log, known)? {
             committed = committed.saturating_add(1);
         }
     }
     Ok(committed)
+}
+
+/// Asks and decides it once: whether it is the next entry.
+#[tactic(auto, using(crate::proofs::DecideLemmas::begun_some))]
+fn decide_once(
+    alloc: Global,
+    schema: &Schema,
+    log: &PagedLog,
+    known: &BlkSeq,
+) -> Result<bool, AllocError>
+    requires begun { IsBegun schema.now log.now }
+    requires known { known.now ≡ identities_of log.now }
+{
+    let request = asked_of(alloc, log, SINCE, FAR, MANY)?;
+    Ok(matches!(
+        decided(alloc, schema, log, known, request)?,
+        Decision::Commit(_)
+    ))
 }
 
 /// The log of a schema and so many rows, each of which a transaction of its own committed.
@@ -192,7 +208,7 @@ fn log_of(alloc: Global, schema: &Schema, rows: u32) -> Result<PagedLog, AllocEr
     Ok(log)
 }
 
-/// Prints how long a request takes to be decided that began 1,000 entries before the end of a log of so many.
+/// Prints how long a request takes to be made and decided that began 1,000 entries before the end of a log of so many.
 pub(crate) fn measure_decides(rt: &HostRuntime, count: u64) -> io::Result<u64> {
     let schema = schema(rt.alloc())?;
     let log = log_of(rt.alloc(), &schema, u32::try_from(count).unwrap_or(0))?;
@@ -206,7 +222,7 @@ fn measure_request(rt: &HostRuntime, schema: &Schema, log: &PagedLog) -> io::Res
     let started = Instant::now(rt)?;
     let committed = decide_over(rt.alloc(), schema, log)?;
     let each = started.elapsed(rt)?.as_micros() / u128::from(TIMES);
-    println!(rt; "decided in {each} us each")?;
+    println!(rt; "asked and decided in {each} us each")?;
     Ok(committed)
 }
 
@@ -215,6 +231,5 @@ fn decide_over(alloc: Global, schema: &Schema, log: &PagedLog) -> Result<u64, Al
     requires { IsBegun schema.now log.now }
 {
     let known = BlkSeq::of_entries(alloc, log.entries())?;
-    let request = asked_of(alloc, log, SINCE, FAR, MANY)?;
-    decide_often(alloc, schema, log, &known, &request)
+    decide_often(alloc, schema, log, &known)
 }

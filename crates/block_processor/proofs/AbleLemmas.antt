@@ -1,7 +1,6 @@
 -- Operations of a request that no entry touches can be done at the end of the log.
-use Rattle.std.proofs.Common.{◌≡◌, ℕ, zero, suc, ◌+◌, ◌≤◌, ◌<◌, ◌^◌, ◌==◌, Bool, true, false, if◌then◌else◌, List, [], ◌∷◌, length, drop, Option, Some, None, refl, ap, ◌∙◌, subst, arith}
+use Rattle.std.proofs.Common.{◌≡◌, ℕ, ◌+◌, ◌≤◌, ◌<◌, ◌^◌, ◌==◌, Bool, true, false, if◌then◌else◌, List, [], ◌∷◌, length, drop, Some, None, refl, subst, arith}
 use Rattle.std.proofs.lemmas.Bool.{eqb-true, false≢true}
-use Rattle.std.specs.Prelude.{IfSome}
 use Rattle.std.specs.List.{AllByRecursion, slice_get, list_all}
 use Rattle.cdb_values.specs.Changes.{genid_item, taken_by}
 use Rattle.cdb_values.specs.Good.{bytes_of_row, row_bytes}
@@ -13,14 +12,15 @@ use Rattle.cdb_values.specs.declared.rows.RowRef.TheVariants.{Base, Own}
 use Rattle.cdb_values.specs.declared.rows.Version.{Version}
 use Rattle.cdb_values.specs.declared.tables.TableDef.{TableDef}
 use Rattle.cdb_values.specs.declared.values.Value.{Value}
-use Rattle.cdb_values.specs.declared.values.Value.TheVariants.{Null, Int, Text, Blob}
-use Rattle.key_code.specs.Codes.{IsInRange, IsShort, IsText, IsRowValue}
+use Rattle.key_code.specs.Codes.{IsInRange, IsText, IsRowValue}
 use Rattle.phys_log.specs.declared.entries.Entry.{Entry}
 use Rattle.phys_log.specs.declared.entries.Entry.TheVariants.{Setup, Commit}
 use Rattle.phys_log.specs.declared.requests.CommitRequest.{CommitRequest}
 use Rattle.table_store.specs.Listings.{IsAmong}
 use Rattle.table_store.specs.Operations.{gone, born}
-use Rattle.table_edits.specs.Fits.{FitsTrees, FitsAt, WritesFitting, AreAllDoable}
+use Rattle.table_edits.specs.Fits.{FitsAt, WritesFitting, AreAllDoable}
+use Rattle.table_edits.proofs.FitLemmas.{short_value, fits_there}
+use Rattle.table_edits.proofs.ListLemmas.{get_some}
 use Rattle.log_rows.specs.History.{Ground, rows_over, rows_over_at, takes_in, tables_of, IsCommit}
 use Rattle.log_rows.proofs.HistoryLemmas.{stays}
 use Rattle.block_processor.specs.Able.{IsAble, is_commit}
@@ -51,13 +51,6 @@ all_both : {A : Type 0} (P Q R : A → Type 0) (xs : List A) → ((x : A) → P 
 all_both P Q R [] f p q = tt
 all_both P Q R (x ∷ xs) f p q = (f x p.0 q.0, all_both P Q R xs f p.1 q.1)
 
--- what they write can be read from its code
-short_value : (v : Value) → row_bytes v ≤ 1600 → IsShort v
-short_value Null h = tt
-short_value (Int x) h = tt
-short_value (Text text) h = (let k : 5 + length text ≤ 1600 = h in omega (arith, k))
-short_value (Blob blob) h = (let k : 5 + length blob ≤ 1600 = h in omega (arith, k))
-
 coded_row : (row : List Value) → bytes_of_row row ≤ 1600 → AllByRecursion IsInRange row → AllByRecursion IsText row → AllByRecursion IsRowValue row
 coded_row [] size ranges texts = tt
 coded_row (v ∷ vs) size ranges texts =
@@ -65,11 +58,6 @@ coded_row (v ∷ vs) size ranges texts =
       record { written = record { range = ranges.0; short = short_value v (omega (arith, k)) }; text = texts.0 },
       coded_row vs (omega (arith, k)) ranges.1 texts.1,
     )
-
-fits_there : (tables : List TableDef) (place other : ℕ) (table : TableDef) (row : List Value) → slice_get tables place ≡ Some table → other ≡ place
-    → FitsAt tables other row → FitsTrees table.keys row
-fits_there tables place other table row at same fits =
-    subst (λ (o : Option TableDef). IfSome o (λ t. FitsTrees t.keys row)) (ap (λ (n : ℕ). slice_get tables n) same ∙ at) fits
 
 coded_there : (tables : List TableDef) (place other : ℕ) (table : TableDef) (row : List Value) → slice_get tables place ≡ Some table → (other == place) ≡ true
     → FitsAt tables other row → AllByRecursion IsInRange row → AllByRecursion IsText row → AllByRecursion IsRowValue row
@@ -90,14 +78,6 @@ born_coded tables place table at (Update other (Own write) old row ∷ ops) next
     born_coded tables place table at ops next fits.1 ranges.1 texts.1
 born_coded tables place table at (Delete other target old ∷ ops) next fits ranges texts =
     born_coded tables place table at ops next fits.1 ranges.1 texts.1
-
-get_some : {A : Type 0} (xs : List A) (i : ℕ) → i < length xs → (x : A) × (slice_get xs i ≡ Some x)
-get_some [] i h = absurd (none i h)
-  where
-    none : (i : ℕ) → i < 0 → ⊥
-    none i h = omega arith
-get_some (x ∷ xs) zero h = (x, refl)
-get_some (x ∷ xs) (suc i) h = get_some xs i (omega arith)
 
 pub commits_all : (entries : List Entry) → list_all is_commit entries ≡ true → AllByRecursion IsCommit entries
 commits_all [] h = tt

@@ -5,8 +5,8 @@ use Rattle.std.proofs.lemmas.List.{length-drop}
 use Rattle.std.proofs.lemmas.Option.{none-some}
 use Rattle.cdb_values.specs.declared.rows.Change.{Change}
 use Rattle.cdb_values.specs.declared.tables.TableDef.{TableDef}
-use Rattle.session_language.specs.Touched.{Used, first_used}
-use Rattle.block_processor.specs.Changed.{FirstUse, first_use, or_use, AreUnused, IsFirstUse}
+use Rattle.session_language.specs.Touched.{Used, first_used, FirstUse, first_use, or_use}
+use Rattle.block_processor.specs.Changed.{AreUnused, IsFirstUse}
 
 or_none : (position : ℕ) (here : Option Used) (later : Option FirstUse) → or_use position here later ≡ None → (here ≡ None) × (later ≡ None)
 or_none position None later is = (refl, is)

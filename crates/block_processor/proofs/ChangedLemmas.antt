@@ -14,9 +14,9 @@ use Rattle.range_validate.specs.Touches.{changes_in, first_touch_from, or_later 
 use Rattle.range_validate.specs.Used.{item_of}
 use Rattle.range_validate.specs.declared.touches.Touch.{Touch}
 use Rattle.session_language.specs.Language.{Answered}
-use Rattle.session_language.specs.Touched.{Used, TheVersion, TheRange, first_used, ranges_used}
-use Rattle.block_processor.specs.Changed.{changed_in, FirstUse, or_use, first_use, found_of}
-use Rattle.block_processor.specs.Conflicts.{conflict_since, found_behind, ranges_at}
+use Rattle.session_language.specs.Touched.{Used, TheVersion, TheRange, first_used, ranges_used, FirstUse, or_use, first_use, ranges_at}
+use Rattle.block_processor.specs.Changed.{changed_in, found_of}
+use Rattle.block_processor.specs.Conflicts.{conflict_since, found_behind}
 
 changed_behind : (begin : ℕ) (entries : List Entry) → drop begin (changed_in entries) ≡ changed_in (drop begin entries)
 changed_behind zero entries = refl

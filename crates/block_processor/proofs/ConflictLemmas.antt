@@ -1,5 +1,5 @@
 -- The first conflict, entry by entry, and what is not touched where there is none.
-use Rattle.std.proofs.Common.{◌≡◌, ℕ, zero, suc, ◌+◌, ◌-◌, ◌<◌, ◌≤◌, ◌==◌, ◌&&◌, ◌||◌, inl, inr, Bool, true, false, if◌then◌else◌, List, [], ◌∷◌, refl, sym, ◌∙◌, ap, arith, length, drop}
+use Rattle.std.proofs.Common.{◌≡◌, ℕ, ◌+◌, ◌-◌, ◌<◌, ◌≤◌, ◌==◌, ◌&&◌, ◌||◌, inl, inr, Bool, true, false, if◌then◌else◌, List, [], ◌∷◌, refl, sym, ◌∙◌, ap, arith, length, drop}
 use Rattle.std.proofs.Math.ListN.{length-drop}
 use Rattle.std.proofs.lemmas.Bool.{eq-eqb, false≢true}
 use Rattle.std.proofs.lemmas.Option.{none-some}
@@ -19,16 +19,12 @@ use Rattle.phys_log.specs.declared.entries.Entry.TheVariants.{Setup, Commit}
 use Rattle.phys_log.specs.declared.requests.CommitRequest.{CommitRequest}
 use Rattle.range_validate.specs.Touches.{changes_in, first_item, first_range, first_touch_from, first_touch_of, or_range, or_later as touch_or}
 use Rattle.range_validate.specs.declared.touches.Touch.{Touch}
-use Rattle.session_language.specs.Touched.{first_touched, is_same_item, is_touched}
+use Rattle.session_language.specs.Touched.{first_touched, is_same_item, is_touched, ranges_at}
 use Rattle.table_store.specs.Listings.{IsAmong}
 use Rattle.log_rows.specs.History.{takes_of, takes_in, tables_of, IsUntaken}
-use Rattle.block_processor.specs.Conflicts.{conflict_of, conflict_since, found_behind, ranges_at, ranges_of}
+use Rattle.log_rows.proofs.HistoryLemmas.{takes_behind}
+use Rattle.block_processor.specs.Conflicts.{conflict_of, conflict_since, found_behind, ranges_of}
 use Rattle.block_processor.specs.Versions.{Touched, first_conflict, found_by, or_later}
-
-takes_behind : (begin : ℕ) (entries : List Entry) → drop begin (takes_in entries) ≡ takes_in (drop begin entries)
-takes_behind zero entries = refl
-takes_behind (suc begin) [] = refl
-takes_behind (suc begin) (e ∷ es) = takes_behind begin es
 
 takes_changes : (e : Entry) → genids_taken (changes_in e) ≡ takes_of e
 takes_changes (Setup generation schema records) = refl

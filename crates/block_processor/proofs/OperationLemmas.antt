@@ -15,12 +15,6 @@ changes_more (Update table (Own write) old row) ops next = refl
 changes_more (Delete table (Base genid) old) ops next = refl
 changes_more (Delete table (Own write) old) ops next = refl
 
-pub next_few : (next : ℕ) (op : RowOp) → next_of next op ≤ next + 1
-next_few next (Insert table row) = omega arith
-next_few next (Update table (Base genid) old row) = omega arith
-next_few next (Update table (Own write) old row) = omega arith
-next_few next (Delete table target old) = omega arith
-
 applied_next : (rows : Rows) (op : RowOp) → (apply rows op).next ≤ rows.next + 1
 applied_next rows (Insert table row) = omega arith
 applied_next rows (Update table (Base genid) old row) = omega arith

@@ -11,23 +11,17 @@
 --     5   commit   update 1: (1, 10) to 4: (1, 11)   touches the version
 --
 -- At level serializable the interval is touched first, at position 4; at level snapshot the version is, at position 5.
-use Rattle.std.specs.Prelude.{◌≡◌, ℕ, ◌+◌, ◌-◌, ◌<◌, ◌≤◌, List, [], length, drop, Option, Some, None}
+use Rattle.std.specs.Prelude.{◌≡◌, ℕ, ◌+◌, ◌-◌, ◌<◌, ◌≤◌, List, length, drop, Option, Some, None}
 use Rattle.cdb_values.specs.declared.items.GenidItem.{GenidItem}
 use Rattle.cdb_values.specs.declared.items.Interval.{Interval}
-use Rattle.cdb_values.specs.declared.rows.Level.{Level}
-use Rattle.cdb_values.specs.declared.rows.Level.TheVariants.{Snapshot, Serializable}
 use Rattle.cdb_values.specs.declared.tables.TableDef.{TableDef}
 use Rattle.phys_log.specs.declared.entries.Entry.{Entry}
 use Rattle.phys_log.specs.declared.requests.CommitRequest.{CommitRequest}
 use Rattle.log_rows.specs.History.{tables_of}
 use Rattle.range_validate.specs.Touches.{first_touch_of, item_at}
 use Rattle.range_validate.specs.declared.touches.Touch.{Touch}
+use Rattle.session_language.specs.Touched.{ranges_at}
 use Rattle.block_processor.specs.declared.conflicts.Found.{Found}
-
--- the intervals that count at a level: all that were read, or none
-abbrev pub ranges_at : Level → List Interval → List Interval
-ranges_at Snapshot ranges = []
-ranges_at Serializable ranges = ranges
 
 abbrev pub ranges_of : CommitRequest → List Interval
 ranges_of request = ranges_at request.level request.ranges

@@ -20,7 +20,7 @@ use blkseq_table::BlkSeq;
 use log_replay::{LogPages, PagedLog};
 use log_rows::{entry_records, next_genid};
 use page_workspace::Workspace;
-use phys_log::{CommitId, CommitRequest, Decision, Entry};
+use phys_log::{CommitRequest, Decision, Entry};
 use std::alloc::{AllocError, Global};
 use table_edits::{OpsFault, change_rows};
 
@@ -29,20 +29,21 @@ use table_edits::{OpsFault, change_rows};
 /// which the request is what is asked.
 ///
 /// Answers `AllocError` for want of memory, where the next genid or an LSN would not be below 2^62, and where the log has a
-/// setup behind the begin position, which no log that is kept has. A repeat and a conflict take no memory.
+/// setup behind the begin position, which no log that is kept has. A repeat and a conflict take no memory. The rows of the
+/// request are moved into the entry.
 pub fn decide(
     alloc: Global,
-    request: &CommitRequest,
+    request: CommitRequest,
     log: &PagedLog,
     known: &BlkSeq,
     generation: u64,
 ) -> Result<Decision, AllocError>
     ghost footing: { Ground }
-    requires asked { IsAsked footing request.now log.now }
+    requires asked { IsAsked footing request log.now }
     requires known { known.now ≡ identities_of log.now }
-    ensures { IfOk result (Decides footing request.now log.now generation) }
+    ensures { IfOk result (Decides footing request log.now generation) }
 {
-    match repeat_of(request, known) {
+    match repeat_of(&request, known) {
         Some(position) => Ok(Decision::Repeat(position)),
         None => decide_new(alloc, request, log, generation),
     }
@@ -59,19 +60,19 @@ fn repeat_of(request: &CommitRequest, known: &BlkSeq) -> Option<u64>
 /// What is decided of a request whose identity no entry has.
 fn decide_new(
     alloc: Global,
-    request: &CommitRequest,
+    request: CommitRequest,
     log: &PagedLog,
     generation: u64,
 ) -> Result<Decision, AllocError>
     ghost footing: { Ground }
-    requires asked { IsAsked footing request.now log.now }
-    requires fresh { IsNew request.now log.now }
-    ensures { IfOk result (Decides footing request.now log.now generation) }
+    requires asked { IsAsked footing request log.now }
+    requires fresh { IsNew request log.now }
+    ensures { IfOk result (Decides footing request log.now generation) }
 {
     let Some(schema) = log.schema() else {
         unreachable!();
     };
-    match first_conflict(schema, log.entries(), request) {
+    match first_conflict(schema, log.entries(), &request) {
         Some(found) => Ok(Decision::Conflict {
             position: found.position,
             item: found.item,
@@ -83,17 +84,17 @@ fn decide_new(
 /// What is decided of a new request that no entry touches.
 fn decide_free(
     alloc: Global,
-    request: &CommitRequest,
+    request: CommitRequest,
     log: &PagedLog,
     generation: u64,
 ) -> Result<Decision, AllocError>
     ghost footing: { Ground }
-    requires asked { IsAsked footing request.now log.now }
-    requires fresh { IsNew request.now log.now }
-    requires free { conflict_of request.now log.now ≡ None }
-    ensures { IfOk result (Decides footing request.now log.now generation) }
+    requires asked { IsAsked footing request log.now }
+    requires fresh { IsNew request log.now }
+    requires free { conflict_of request log.now ≡ None }
+    ensures { IfOk result (Decides footing request log.now generation) }
 {
-    if !are_able(request, log) {
+    if !are_able(&request, log) {
         return Err(AllocError);
     }
     let Some(schema) = log.schema() else {
@@ -116,38 +117,30 @@ fn decide_free(
 /// The next entry of a log, by a workspace over its pages on which the operations of a request were done.
 fn next_entry<'a>(
     alloc: Global,
-    request: &CommitRequest,
+    request: CommitRequest,
     log: &PagedLog,
     generation: u64,
     space: Workspace<LogPages<'a>>,
 ) -> Result<Entry, AllocError>
     ghost footing: { Ground }
-    requires asked { IsAsked footing request.now log.now }
-    requires fresh { IsNew request.now log.now }
-    requires free { conflict_of request.now log.now ≡ None }
-    requires able { IsAble footing request.now log.now }
-    requires kept { broken_by footing request.now log.now ≡ None }
+    requires asked { IsAsked footing request log.now }
+    requires fresh { IsNew request log.now }
+    requires free { conflict_of request log.now ≡ None }
+    requires able { IsAble footing request log.now }
+    requires kept { broken_by footing request log.now ≡ None }
     requires over { source_pages space.base ≡ pages_of log.now }
-    requires done { Stands (meant source_pages space) (tables_of log.now) (apply_all (rows_over footing log.now) request.now.ops) }
+    requires done { Stands (meant source_pages space) (tables_of log.now) (apply_all (rows_over footing log.now) request.ops) }
     requires within { AreWithin (pages_of log.now) (meant source_pages space) }
-    ensures { IfOk result (IsNextEntry footing request.now log.now generation) }
+    ensures { IfOk result (IsNextEntry footing request log.now generation) }
 {
     let records = entry_records(alloc, log, space)?;
-    let changes = changes_made(alloc, request.ops.as_slice(), next_genid(log))?;
-    let id = copy_id(&request.id)?;
+    let changes = changes_made(alloc, request.ops, next_genid(log))?;
     Ok(Entry::Commit {
         generation,
-        id,
+        id: request.id,
         begin: request.begin,
         level: request.level,
         changes,
         records,
     })
-}
-
-/// An equal identity.
-fn copy_id(id: &CommitId) -> Result<CommitId, AllocError>
-    ensures { IfOk result (λ i. i ≡ id.now) }
-{
-    id.clone()
 }

@@ -1,5 +1,5 @@
 //! The operations of a request: whether they can be done at the end of a log, and the changes that they are.
-ghost use Rattle.std.specs.Prelude.{◌≡◌, ◌+◌, ◌<◌, ◌≤◌, ◌^◌, ◌++◌, ◌∷◌, [], true, None, IfOk, OnOk, drop, length};
+ghost use Rattle.std.specs.Prelude.{◌≡◌, ◌+◌, ◌<◌, ◌≤◌, ◌^◌, ◌++◌, ◌∷◌, [], true, None, IfOk, drop, length};
 ghost use Rattle.std.specs.List.{AllByRecursion, list_all};
 ghost use Rattle.cdb_values.specs.Changes.{changes_of};
 ghost use Rattle.key_code.specs.Codes.{IsInRange};
@@ -91,39 +91,32 @@ fn read_value(value: &Value)
     }
 }
 
-/// The changes that operations are, from a next genid on. The error is want of memory.
+/// The changes that operations are, from a next genid on: their rows are moved. The error is want of memory.
 pub(crate) fn changes_made(
     alloc: Global,
-    ops: &[RowOp],
+    ops: List<RowOp>,
     next: u64,
 ) -> Result<List<Change>, AllocError>
-    requires room { next + length ops.now < 2 ^ 62 }
-    ensures { IfOk result (λ changes. changes ≡ changes_of ops.now next) }
+    requires room { next + length ops < 2 ^ 62 }
+    ensures { IfOk result (λ changes. changes ≡ changes_of ops next) }
 {
     let mut changes = List::new(alloc);
     let mut genid = next;
-    let mut rest = ops;
-    'ops: while let Some((op, others)) = rest.split_first() {
+    'ops: for op in ops.into_vec() {
         genid = add_change(&mut changes, op, genid)?;
-        rest = others;
     }
     Ok(changes)
 }
 
 /// Adds the change that an operation is, and tells the next genid behind it.
-fn add_change(changes: &mut List<Change>, op: &RowOp, genid: u64) -> Result<u64, AllocError>
+fn add_change(changes: &mut List<Change>, op: RowOp, genid: u64) -> Result<u64, AllocError>
     requires room { genid + 1 < 2 ^ 64 }
-    ensures added { IfOk result (λ _. changes.new ≡ changes.old ++ changes_of (op.now ∷ []) genid) }
-    ensures next { IfOk result (λ next. next ≡ next_of genid op.now) }
+    ensures added { IfOk result (λ _. changes.new ≡ changes.old ++ changes_of (op ∷ []) genid) }
+    ensures next { IfOk result (λ next. next ≡ next_of genid op) }
 {
     match op {
         RowOp::Insert { table, row } => {
-            let row = row.clone()?;
-            changes.push(Change::Insert {
-                table: *table,
-                genid,
-                row,
-            })?;
+            changes.push(Change::Insert { table, genid, row })?;
             Ok(genid + 1)
         }
         RowOp::Update {
@@ -132,7 +125,13 @@ fn add_change(changes: &mut List<Change>, op: &RowOp, genid: u64) -> Result<u64,
             old,
             row,
         } => {
-            add_update(changes, *table, *old_genid, old, genid, row)?;
+            changes.push(Change::Update {
+                table,
+                old_genid,
+                old,
+                genid,
+                row,
+            })?;
             Ok(genid + 1)
         }
         RowOp::Delete {
@@ -140,36 +139,13 @@ fn add_change(changes: &mut List<Change>, op: &RowOp, genid: u64) -> Result<u64,
             target: RowRef::Base(old_genid),
             old,
         } => {
-            let old = old.clone()?;
             changes.push(Change::Delete {
-                table: *table,
-                old_genid: *old_genid,
+                table,
+                old_genid,
                 old,
             })?;
             Ok(genid)
         }
         RowOp::Update { .. } | RowOp::Delete { .. } => Ok(genid),
     }
-}
-
-/// Adds the change of an update.
-fn add_update(
-    changes: &mut List<Change>,
-    table: u16,
-    old_genid: u64,
-    old: &Row,
-    genid: u64,
-    row: &Row,
-) -> Result<(), AllocError>
-    ensures { OnOk result (changes.new ≡ changes.old ++ Change.Update table old_genid old.now genid row.now ∷ []) }
-{
-    let old = old.clone()?;
-    let row = row.clone()?;
-    changes.push(Change::Update {
-        table,
-        old_genid,
-        old,
-        genid,
-        row,
-    })
 }

@@ -32,12 +32,12 @@ pub fn decided(
     schema: &Schema,
     log: &PagedLog,
     known: &BlkSeq,
-    request: &CommitRequest,
+    request: CommitRequest,
 ) -> Result<Decision, AllocError>
     requires begun { IsBegun schema.now log.now }
     requires known { known.now ≡ identities_of log.now }
-    requires asks { AsksInserts log.now request.now }
-    ensures { IfOk result (GoesOn schema.now log.now request.now.id) }
+    requires asks { AsksInserts log.now request }
+    ensures { IfOk result (GoesOn schema.now log.now request.id) }
 {
     if request.ops.is_empty() {
         return Err(AllocError);
@@ -55,20 +55,18 @@ pub fn commit(
     schema: &Schema,
     log: &mut PagedLog,
     known: &mut BlkSeq,
-    request: &CommitRequest,
+    request: CommitRequest,
 ) -> Result<(), AllocError>
     requires begun { IsBegun schema.now log.old }
     requires known { known.old ≡ identities_of log.old }
-    requires asks { AsksInserts log.old request.now }
+    requires asks { AsksInserts log.old request }
     ensures begun { OnOk result (IsBegun schema.now log.new) }
     ensures known { OnOk result (known.new ≡ identities_of log.new) }
     ensures longer { OnOk result (length log.new ≡ length log.old + 1) }
 {
+    let id = copy_id(&request.id)?;
     match decided(alloc, schema, log, known, request)? {
-        Decision::Commit(entry) => {
-            let id = copy_id(&request.id)?;
-            append(alloc, log, known, id, entry)
-        }
+        Decision::Commit(entry) => append(alloc, log, known, id, entry),
         _ => Err(AllocError),
     }
 }

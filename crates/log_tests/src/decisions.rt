@@ -93,7 +93,7 @@ fn log_of_one(alloc: Global, schema: &Schema) -> Result<PagedLog, AllocError>
     let mut log = begun_log(alloc, schema)?;
     let mut known = BlkSeq::of_entries(alloc, log.entries())?;
     let request = asked(alloc, 1, Level::Snapshot, WHOLE)?;
-    commit(alloc, schema, &mut log, &mut known, &request)?;
+    commit(alloc, schema, &mut log, &mut known, request)?;
     Ok(log)
 }
 
@@ -128,10 +128,10 @@ fn decided_over(
     alloc: Global,
     schema: &Schema,
     log: &PagedLog,
-    request: &CommitRequest,
+    request: CommitRequest,
 ) -> Result<Told, AllocError>
     requires begun { IsBegun schema.now log.now }
-    requires asks { AsksInserts log.now request.now }
+    requires asks { AsksInserts log.now request }
 {
     let known = BlkSeq::of_entries(alloc, log.entries())?;
     match decided(alloc, schema, log, &known, request) {
@@ -145,7 +145,7 @@ fn behind_one(alloc: Global, txn: u64, level: Level, reads: Reads) -> Result<Tol
     let request = asked(alloc, txn, level, reads)?;
     let schema = schema(alloc)?;
     let log = log_of_one(alloc, &schema)?;
-    decided_over(alloc, &schema, &log, &request)
+    decided_over(alloc, &schema, &log, request)
 }
 
 /// The transaction of an entry is a repeat of its position, at each level.

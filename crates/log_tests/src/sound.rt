@@ -6,7 +6,7 @@ use log_replay::PagedLog;
 use log_rows::setup_entry;
 use page_store::{Cell, Edit};
 use phys_log::{CommitId, Entry, LogRecord};
-use sound_log::is_sound;
+use sound_log::sound_state;
 use std::alloc::{AllocError, Global};
 use std::test::Fail;
 use table_read::read_table;
@@ -115,8 +115,14 @@ fn with_row(alloc: Global) -> Result<PagedLog, Fail> {
 #[test]
 fn logs_are_sound(rt: HostRuntime) -> Result<(), Fail> {
     let alloc = rt.alloc();
-    assert!(rt; is_sound(alloc, 0, &PagedLog::new(alloc))?, "no entry");
-    assert!(rt; is_sound(alloc, 1, &with_row(alloc)?)?, "a row");
+    assert!(rt;
+        sound_state(alloc, 0, &PagedLog::new(alloc))?.is_some(),
+        "no entry"
+    );
+    assert!(rt;
+        sound_state(alloc, 1, &with_row(alloc)?)?.is_some(),
+        "a row"
+    );
     Ok(())
 }
 
@@ -133,7 +139,7 @@ fn sound_with(alloc: Global, began: u64, session: &[u8], txn: u64) -> Result<boo
     let mut log = with_row(alloc)?;
     let id = id_of(alloc, began, session, txn)?;
     commit(alloc, &mut log, id, List::new(alloc))?;
-    Ok(is_sound(alloc, 2, &log)?)
+    Ok(sound_state(alloc, 2, &log)?.is_some())
 }
 
 /// An identity comes twice where all its parts do, and none began later than the accepted generation.
@@ -166,8 +172,11 @@ fn without_key(alloc: Global) -> Result<PagedLog, Fail> {
 fn faults_are_found(rt: HostRuntime) -> Result<(), Fail> {
     let alloc = rt.alloc();
     let unset = without_setup(alloc)?;
-    assert!(rt; !is_sound(alloc, 1, &unset)?, "no setup");
+    assert!(rt; sound_state(alloc, 1, &unset)?.is_none(), "no setup");
     let unkeyed = without_key(alloc)?;
-    assert!(rt; !is_sound(alloc, 1, &unkeyed)?, "a row without its key");
+    assert!(rt;
+        sound_state(alloc, 1, &unkeyed)?.is_none(),
+        "a row without its key"
+    );
     Ok(())
 }

@@ -15,38 +15,17 @@ use Rattle.cdb_values.specs.declared.items.Item.{Item}
 use Rattle.cdb_values.specs.declared.items.Item.TheVariants.{Genid, Range}
 use Rattle.cdb_values.specs.declared.rows.Change.{Change}
 use Rattle.cdb_values.specs.declared.rows.Level.{Level}
-use Rattle.cdb_values.specs.declared.rows.Level.TheVariants.{Snapshot, Serializable}
 use Rattle.cdb_values.specs.declared.rows.RowOp.{RowOp}
 use Rattle.cdb_values.specs.declared.tables.TableDef.{TableDef}
 use Rattle.report_laws.specs.Outcome.{name_of_key, name_of_table}
 use Rattle.cdb_values.specs.declared.replies.Reply.{Reply}
 use Rattle.cdb_values.specs.declared.replies.Reply.TheVariants as reply
 use Rattle.session_language.specs.Intervals.{keys_at}
-use Rattle.session_language.specs.Touched.{Used, TheVersion, TheRange, first_used}
-
--- the intervals that count at a level: all that were read, or none
-abbrev pub ranges_at : Level → List Interval → List Interval
-ranges_at Snapshot ranges = []
-ranges_at Serializable ranges = ranges
+use Rattle.session_language.specs.Touched.{Used, TheVersion, TheRange, FirstUse, first_use, ranges_at}
 
 -- what a transaction uses at a level, by its operations, the versions that its texts used and the intervals that they read
 abbrev pub used_by : Level → List RowOp → List GenidItem → List Interval → List Used
 used_by level ops uses ranges = map TheVersion (taken_by ops ++ uses) ++ map TheRange (ranges_at level ranges)
-
--- a position whose entry touches something that was used, and the first such thing
-pub record FirstUse : Type 0 where
-  pub position : ℕ
-  pub item : Used
-
-abbrev pub or_use : ℕ → Option Used → Option FirstUse → Option FirstUse
-or_use position (Some item) later = Some (record { position = position; item = item })
-or_use position None later = later
-
--- the first of these changes, each of the entry at the next position, that touch something that was used, and the first
--- that they touch
-abbrev pub first_use : List TableDef → ℕ → List (List Change) → List Used → Option FirstUse
-first_use tables position [] used = None
-first_use tables position (changes ∷ later) used = or_use (position + 1) (first_used tables changes used) (first_use tables (position + 1) later used)
 
 -- the names of a table and of a key of it, `all` where no key is named; the empty name where there is none
 abbrev pub table_named : List TableDef → ℕ → List ℕ

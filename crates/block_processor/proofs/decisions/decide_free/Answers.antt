@@ -22,9 +22,9 @@ pub next_entry-requires : goal.next_entry-requires
 next_entry-requires g c = (c.requires.0, (c.requires.1.0, (c.requires.1.1, (c.if-not-are_able.ensures refl, (kept, (over, (done, within)))))))
   where
     -- no key is broken
-    kept : broken_by g.footing c.args.request.now c.args.log.now ≡ None
+    kept : broken_by g.footing c.args.request c.args.log.now ≡ None
     kept =
-        let request = c.args.request.now in
+        let request = c.args.request in
         let log = c.args.log.now in
         let rows = rows_over g.footing log in
         let schema = c.in-Some.schema.now in
@@ -42,9 +42,9 @@ next_entry-requires g c = (c.requires.0, (c.requires.1.0, (c.requires.1.1, (c.if
     over = search rules
 
     -- the operations were done
-    done : Stands (meant source_pages c.change_rows.new.space) (tables_of c.args.log.now) (apply_all (rows_over g.footing c.args.log.now) c.args.request.now.ops)
+    done : Stands (meant source_pages c.change_rows.new.space) (tables_of c.args.log.now) (apply_all (rows_over g.footing c.args.log.now) c.args.request.ops)
     done =
-        let request = c.args.request.now in
+        let request = c.args.request in
         let log = c.args.log.now in
         let rows = rows_over g.footing log in
         let schema = c.in-Some.schema.now in
@@ -75,7 +75,7 @@ next_entry-requires g c = (c.requires.0, (c.requires.1.0, (c.requires.1.1, (c.if
 
 pub returns-in-Err-Duplicate : goal.returns-in-Err-Duplicate
 returns-in-Err-Duplicate g c =
-    let request = c.args.request.now in
+    let request = c.args.request in
     let log = c.args.log.now in
     let rows = rows_over g.footing log in
     let schema = c.in-Some.schema.now in
