@@ -1,5 +1,5 @@
 -- Kept pages, and one of them used.
-use Rattle.std.proofs.Common.{◌≡◌, ℕ, nat_eq, Bool, true, false, List, [], ◌∷◌, Option, Some, None, refl, sym, ap, ◌∙◌, subst, inl, inr}
+use Rattle.std.proofs.Common.{◌≡◌, ℕ, nat_eq, Bool, true, false, List, [], ◌∷◌, Option, Some, None, Result, Ok, Err, OnOk, OnErr, refl, sym, ap, ◌∙◌, subst, inl, inr}
 use Rattle.std.proofs.lemmas.Bool.{eqb-true}
 use Rattle.std.specs.Cmp.{nat_eq_equiv}
 use Rattle.std.specs.Option.{is_some}
@@ -11,7 +11,7 @@ use Rattle.lru.proofs.CallerLemmas.{Contains-lookup, Contains-lookup_entry, Cont
 use Rattle.page_store.specs.Image.{Image}
 use Rattle.phys_log.specs.declared.entries.Entry.{Entry}
 use Rattle.phys_log.specs.Logs.{pages_of}
-use Rattle.undo_snapshot.specs.Kept.{most_kept, kept_page, used_page, AreOf}
+use Rattle.undo_snapshot.specs.Kept.{most_kept, kept_page, used_page, AreOf, Further, used_on}
 use Rattle.undo_snapshot.specs.Snapshots.{IsSnapshot}
 
 -- nothing is kept
@@ -81,3 +81,10 @@ pub used_snapshot : (front now : List Entry) (position id : ℕ) (kept after : L
 used_snapshot front now position id kept after is same used =
     still_snapshot front now position (used_page kept id (pages_of front id)) after
     (record { length = is.length; pages = used_of (pages_of front) kept id is.pages }) same used
+
+-- what is kept after a load is further of what was kept first
+pub further_load : {T E : Type 0} (r : Result T E) (front own : List Entry) (before kept now : List (ℕ × Image)) (id : ℕ) → own ≡ front → Further (pages_of front) before kept
+    → OnOk r (now ≡ used_page kept id (pages_of own id)) → OnErr r (now ≡ kept) → Further (pages_of front) before now
+further_load (Ok x) front own before kept now id same further on_ok on_err =
+    subst (λ (k : List (ℕ × Image)). Further (pages_of front) before k) (sym (on_ok ∙ ap (λ (es : List Entry). used_page kept id (pages_of es id)) same)) (used_on id further)
+further_load (Err e) front own before kept now id same further on_ok on_err = subst (λ (k : List (ℕ × Image)). Further (pages_of front) before k) (sym on_err) further

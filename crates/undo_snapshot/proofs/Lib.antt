@@ -1,3 +1,4 @@
 pub mod KeptLemmas
 pub mod UndoLaws
 pub mod PositionLemmas
+pub mod PutLemmas

@@ -21,6 +21,11 @@ kept_at kept (Some id) = kept_page kept id
 abbrev pub used_page : List (ℕ × Image) → ℕ → Image → List (ℕ × Image)
 used_page kept id image = put_entries nat_eq (lru_cache kept most_kept) id image
 
+-- kept pages of some pages, and what is kept after any uses of them
+pub data Further (pages : ℕ → Image) (before : List (ℕ × Image)) : List (ℕ × Image) → Type 0 where
+  as_before : Further pages before before
+  used_on : {between : List (ℕ × Image)} (id : ℕ) → Further pages before between → Further pages before (used_page between id (pages id))
+
 -- each kept page is the one of its number among these
 pub record AreOf (pages : ℕ → Image) (kept : List (ℕ × Image)) : Type 0 where
   pub each : (id : ℕ) (image : Image) → Contains kept (id, image) → image ≡ pages id

@@ -24,8 +24,15 @@
 //! Who has the log at hand, as a `LogGranter`, copies the page alone and undoes the records where they lie.
 //!
 //! The 256 pages that were used last are kept. They outlive their `SnapshotPages` where they are taken out as `KeptPages`
-//! and handed to the next one over the same first entries. That they are the same is known by the type of a
-//! `FrontGranter`, where the source was lent to code that tells nothing of it.
+//! and handed to the next one over the same first entries. That they are the same, and that the source begins with them, is
+//! known by the type of a `FrontPages`, where the source was lent to code that tells nothing of it. Between two sources they
+//! stand in `KeptPositions`, in the place of their position:
+//!
+//! ```text
+//! take 2    the pages of 2 go out     2: -         5: 0 7
+//! put 2     and come back             2: 0 1 4     5: 0 7
+//! take 5                              5: -         2: 0 1 4
+//! ```
 //!
 //! | Notion | Code | Definition |
 //! |---|---|---|
@@ -33,6 +40,7 @@
 //! | a grant, undone | `Granter::page` | `Undone` of `phys_log` |
 //! | records that can be undone, one after the other | | `Chains` of `log_replay` |
 //! | the kept pages, and one of them used | `KeptPages` | `specs/Kept.antt` |
+//! | what is kept after further uses | `FrontPages` | `Further` of `specs/Kept.antt` |
 //! | the kept pages of several positions | `KeptPositions` | `specs/Positions.antt` |
 //! | a source of undone pages | `SnapshotPages` | `specs/Snapshots.antt` |
 #![tactic(auto)]
@@ -45,9 +53,9 @@ mod positions;
 mod snapshots;
 mod undoing;
 
-pub use fronts::{Front, FrontGranter};
+pub use fronts::{Front, FrontPages};
 pub use granters::{Granter, LogGranter};
 pub use kept::KeptPages;
-pub use laws::undoing_gives_the_first_entries;
+pub use laws::{kept_pages_are_found_again, undoing_gives_the_first_entries};
 pub use positions::KeptPositions;
 pub use snapshots::SnapshotPages;
