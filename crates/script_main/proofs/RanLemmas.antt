@@ -18,6 +18,8 @@ use Rattle.node_opening.specs.Why.{HasRisen, IsWhy, TellsLength}
 use Rattle.page_store.specs.Image.{Image}
 use Rattle.phys_log.specs.Logs.{pages_of}
 use Rattle.phys_log.specs.declared.entries.Entry.{Entry}
+use Rattle.node_reports.specs.Lawful.{LawfulOfNodes}
+use Rattle.node_reports.specs.Order.{InNodesOrder}
 use Rattle.report_laws.specs.History.{changes_at, rows_at}
 use Rattle.report_laws.specs.Lawful.{Lawful}
 use Rattle.report_laws.specs.Nodes.{downs}
@@ -31,7 +33,7 @@ use Rattle.script_play.specs.Basis.{from_start}
 use Rattle.script_play.specs.Down.{history_of, history_by, owner_of, with_entries, IsCaused, IsHeld, IsHeldBy, Owner}
 use Rattle.script_play.specs.EntryLines.{AreTold}
 use Rattle.script_play.specs.Played.{downs_by, IsFurther, IsHistory, IsTold}
-use Rattle.script_play.specs.Played.{IsGivenUp as IsGivenUpIn}
+use Rattle.script_play.specs.Played.{IsGivenUp}
 use Rattle.script_play.specs.Serial.{AreSerial}
 use Rattle.script_play.specs.Start.{Start, base, ground_of}
 use Rattle.script_play.proofs.PlayLaws.{given_first}
@@ -45,7 +47,7 @@ use Rattle.sound_log.proofs.GrowthLemmas.{sound_first, sound_later}
 use Rattle.table_store.specs.Stored.{Stands}
 use Rattle.script_main.proofs.KnownLemmas.{only_state}
 use Rattle.script_main.proofs.SoundLemmas.{alike_again}
-use Rattle.script_main.proofs.ReportedLemmas.{in_nodes_order, lawful_of_nodes, one_such, spelled_over, told_in_grammar}
+use Rattle.script_main.proofs.ReportedLemmas.{one_such, spelled_over, told_in_grammar}
 use Rattle.script_main.specs.Known.{IsKnown}
 use Rattle.script_main.specs.Run.{IsTextOver}
 use Rattle.script_main.specs.Runs.{IsCutOff, IsLeftBy, IsMore, IsRun, IsSoundAgain, IsSoundFurther, IsSoundMore, IsSoundStore, Keeps}
@@ -215,7 +217,7 @@ told_left script start old log report new has owns node stood told caused leaves
     (λ down. let f = further down in record { line = f.line; history = f.history }) left
 
 -- and of one that is given up
-pub given_left : (script : Script) (start : Start) (old log : Logged) (new : Stored) → HasRows start.before start.rows → owner_of log ≡ owner_of old → old.node ≡ 1 → old.promised ≡ old.accepted → IsGivenUpIn script start old log → IsLeftOf log new →
+pub given_left : (script : Script) (start : Start) (old log : Logged) (new : Stored) → HasRows start.before start.rows → owner_of log ≡ owner_of old → old.node ≡ 1 → old.promised ≡ old.accepted → IsGivenUp script start old log → IsLeftOf log new →
     IsLeftFrom script start.before old new
 given_left script start old log new has owns node stood given left =
     left_from script start old log new given.entries has owns node stood given.history given.held.caused (given_fallen old.accepted old.store.faults log given.held)
@@ -223,14 +225,17 @@ given_left script start old log new has owns node stood given left =
 
 -- what is told of a run
 pub played_text : (script : Script) (start : Start) (opened log : Logged) (report : Report) (new : Stored) (s : Status) (text : List ℕ) →
-    owner_of log ≡ owner_of opened → opened.node ≡ 1 → opened.promised ≡ opened.accepted → IsTold script start opened.accepted report (history_of log) → AreSerial (from_start script start) report.entries →
+    owner_of log ≡ owner_of opened → opened.node ≡ 1 → opened.promised ≡ opened.accepted → IsTold script start opened.accepted report (history_of log) → LawfulOfNodes (from_start script start) report →
+    InNodesOrder (from_start script start) report → AreSerial (from_start script start) report.entries →
     downs report.lines ≡ downs_by log.failed → IsCaused log.failed opened.store.faults log.store.faults →
     (log.failed ≡ true → Leaves log.store (with_entries log (history_of log) ∷ log ∷ [])) → (log.failed ≡ true → IsFurther script start opened.accepted report log.entries) →
     IsLeftOf log new → IsReportText report s text → IsPlayedText script start opened new s text
-played_text script start opened log report new s text same node stood told serial counted caused leaves further left is_text = record {
+played_text script start opened log report new s text same node stood told lawful in_order serial counted caused leaves further left is_text = record {
   report = report;
   history = history_of log;
   told = told;
+  lawful = lawful;
+  in_order = in_order;
   serial = serial;
   is_text = is_text;
   left = left_by (IsFurther script start opened.accepted report) log.failed opened log new (downs report.lines) refl same node stood counted caused left (has_fallen log (tables_of script) told.schema leaves) further;
@@ -271,8 +276,8 @@ is_run law script old new base log before s text can names o same rows begun pla
       history = played.history;
       told = subst (λ (g : ℕ). IsTold whole (start_at before rows) g played.report played.history) o.taken.accepted p;
       serial = played.serial;
-      lawful = lawful_of_nodes whole (start_at before rows) played.report can p.lawful;
-      in_order = in_nodes_order whole (start_at before rows) played.report can p.lawful p.in_order;
+      lawful = played.lawful;
+      in_order = played.in_order;
       one = one_such whole (start_at before rows) played.report can p.lawful p.in_order;
       is_report = λ called. told_in_grammar basis played.report (spelled_over script before rows can names begun.behind called) p.lawful p.in_order played.is_text.fits;
       is_text = played.is_text.is_text;

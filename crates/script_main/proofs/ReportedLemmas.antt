@@ -1,21 +1,15 @@
 -- The report of a run is of the grammar, since the names of the script are names, its tables have columns, and the numbers of what was printed fit their types;
 -- and there is no other such report.
-use Rattle.std.proofs.Common.{◌≡◌, ◌≢◌, ℕ, List, [], ◌∷◌, map, refl, sym, subst, inl, inr, ◌⊎◌, Bool, true, false, if◌then◌else◌}
-use Rattle.std.proofs.lemmas.Bool.{both_ways}
-use Rattle.std.proofs.lemmas.Slice.Eq.{bytes_eq-Decides}
-use Rattle.std.specs.Str.{bytes_eq}
+use Rattle.std.proofs.Common.{◌≡◌, ◌≢◌, ℕ, List, [], ◌∷◌, map, refl, sym, subst, inl, inr}
 use Rattle.std.specs.List.{AllByRecursion}
 use Rattle.cdb_values.specs.Rows.{Rows, no_rows}
 use Rattle.cdb_values.specs.declared.tables.ColumnDef.{ColumnDef}
 use Rattle.cdb_values.specs.declared.tables.TableDef.{TableDef}
 use Rattle.node_reports.specs.Lawful.{LawfulOfNodes}
-use Rattle.node_reports.specs.OneNode.{IsOfOneNode, IsPlain}
 use Rattle.node_reports.specs.Order.{InNodesOrder}
-use Rattle.node_reports.proofs.Firsts.{nodes_order}
-use Rattle.node_reports.proofs.OneBack.{lawful_back, none_survives}
-use Rattle.node_reports.proofs.OneLawful.{lawful_of}
+use Rattle.node_reports.proofs.OneBack.{lawful_back}
 use Rattle.node_reports.proofs.OneOrder.{one_order}
-use Rattle.script_form.specs.CanRun.{CanRun, IsDeclared, IsSaid, tables_of}
+use Rattle.script_form.specs.CanRun.{CanRun, IsSaid, tables_of}
 use Rattle.script_form.specs.Named as script
 use Rattle.script_form.specs.declared.scripts.SessionLine.{SessionLine}
 use Rattle.sql_run.proofs.RowLaws.{replies_by_such_rows, leaves_such_rows}
@@ -25,34 +19,30 @@ use Rattle.script_form.specs.declared.scripts.Act.TheVariants as act
 use Rattle.script_form.specs.declared.scripts.BodyLine.{BodyLine}
 use Rattle.script_form.specs.declared.scripts.Script.{Script}
 use Rattle.script_form.specs.declared.scripts.TableLine.{TableLine}
+use Rattle.script_form.specs.Named.{IsNamedTable}
 use Rattle.phys_log.specs.declared.entries.Entry.{Entry}
-use Rattle.query_laws.specs.Alone.{reads_of, sql_language}
+use Rattle.query_laws.specs.Alone.{sql_language}
 use Rattle.report_laws.specs.History.{Basis}
 use Rattle.report_laws.specs.Lawful.{Lawful}
 use Rattle.report_laws.specs.Nodes.{downs, BeginsDown}
-use Rattle.report_laws.specs.Play.{node_among, InPlayOrder}
-use Rattle.report_laws.specs.Spelled.{IsNamedTable, SaysAsNamed, IsSpelled}
+use Rattle.report_laws.specs.Play.{InPlayOrder}
+use Rattle.report_laws.specs.Spelled.{SaysAsNamed, IsSpelled}
 use Rattle.report_laws.proofs.OneLaws.{one_report}
 use Rattle.report_laws.proofs.SpelledLaws.{of_the_grammar}
 use Rattle.report_text.specs.Grammar.{IsReport}
 use Rattle.report_text.specs.Text.{report_text}
 use Rattle.report_text.specs.Types.{FitsTypes}
 use Rattle.report_text.specs.declared.reports.Report.{Report}
+use Rattle.script_play.proofs.NodesLaws.{one_node}
+use Rattle.script_play.proofs.SqlLaws.{sql_is_answered}
 use Rattle.script_play.specs.Basis.{from_base, from_start}
 use Rattle.script_play.specs.Ready.{CanBegin}
 use Rattle.script_play.specs.Start.{Start}
-use Rattle.session_language.proofs.EachLaws.{all_map}
-use Rattle.session_language.specs.Answers.{Answers}
 use Rattle.session_language.specs.Language.{Language}
 use Rattle.session_language.specs.Spelled.{HaveRows, KeepsRows}
-use Rattle.sql_answer.proofs.LanguageLemmas.{sql_answers}
-use Rattle.sql_answer.specs.Language.{bound_in}
 use Rattle.script_main.proofs.ScriptLemmas.{own_tables}
 use Rattle.script_main.specs.Runs.{AreCalled, IsDownText, IsOne}
 use Rattle.script_main.specs.Stores.{start_at, with_tables}
-
-sql_is_answered : Answers sql_language
-sql_is_answered = sql_answers bound_in reads_of
 
 sql_keeps : (tables : List TableDef) → AllByRecursion HasColumns tables → KeepsRows sql_language tables
 sql_keeps tables columns = record {
@@ -132,42 +122,6 @@ spelled_over s before rows can is begins called =
 pub told_in_grammar : (basis : Basis) (report : Report) → IsSpelled basis → Lawful basis report → InPlayOrder basis report → FitsTypes report → IsReport report
 told_in_grammar basis report spelled lawful in_order fits = of_the_grammar basis report spelled lawful in_order fits
 
--- a script that can run has one node, and lines of its sessions alone
-home_of : (name : List ℕ) (sessions : List SessionLine) → AllByRecursion (λ s. (s.node ≡ 1) × (s.hasql ≡ false)) sessions → IsDeclared name sessions → node_among name sessions ≡ 1
-home_of name [] all is = absurd is
-home_of name (s ∷ ss) all is = go (bytes_eq s.name name) refl is (λ e. home_of name ss all.1 e)
-  where
-    go : (b : Bool) → bytes_eq s.name name ≡ b → (s.name ≡ name) ⊎ IsDeclared name ss → (IsDeclared name ss → node_among name ss ≡ 1) → (if b then s.node else node_among name ss) ≡ 1
-    go true e at more = all.0.0
-    go false e (inl same) more = absurd (both_ways (bytes_eq s.name name) e ((bytes_eq-Decides s.name name).1 same))
-    go false e (inr later) more = more later
-
-plain_act : (s : Script) → CanRun s → (a : Act) → IsSaid s.sessions a → IsPlain s a
-plain_act s can (act.Say session text) is = (
-  home_of session s.sessions can.no_hasql is.0,
-  none_survives session s.sessions (all_map (λ l. (l.node ≡ 1) × (l.hasql ≡ false)) (λ l. l.hasql ≡ false) (λ l is. is.1) s.sessions can.no_hasql),
-)
-plain_act s can (act.Stop node) is = absurd is
-plain_act s can (act.Start node) is = absurd is
-plain_act s can (act.Arm session moment) is = absurd is
-plain_act s can act.Barrier is = absurd is
-plain_act s can act.Feed is = absurd is
-
-one_node : (s : Script) → CanRun s → IsOfOneNode s
-one_node s can = record {
-  one = can.one_node;
-  unwatched = can.no_watches;
-  unmoved = all_map (λ l. (l.node ≡ 1) × (l.hasql ≡ false)) (λ l. l.hasql ≡ false) (λ l is. is.1) s.sessions can.no_hasql;
-  plain = all_map (λ l. IsSaid s.sessions l.act) (λ l. IsPlain s l.act) (λ l is. plain_act s can l.act is) s.body can.said;
-}
-
--- so its report is lawful, and in the order of play, as one of several nodes
-pub lawful_of_nodes : (s : Script) (start : Start) (report : Report) → CanRun s → Lawful (from_start s start) report → LawfulOfNodes (from_start s start) report
-lawful_of_nodes s start report can lawful = lawful_of (from_start s start) report (one_node s can) lawful
-
-pub in_nodes_order : (s : Script) (start : Start) (report : Report) → CanRun s → Lawful (from_start s start) report → InPlayOrder (from_start s start) report → InNodesOrder (from_start s start) report
-in_nodes_order s start report can lawful in_order = nodes_order (from_start s start) report (one_node s can) sql_is_answered lawful in_order
-
 -- there is no other such report
 pub one_such : (s : Script) (start : Start) (report : Report) → CanRun s → Lawful (from_start s start) report → InPlayOrder (from_start s start) report → IsOne (from_start s start) report
 one_such s start report can lawful in_order other uncut lawful' in_order' uncut' =
@@ -177,11 +131,12 @@ one_such s start report can lawful in_order other uncut lawful' in_order' uncut'
 -- the text of a report of a node that was down from the opening on, behind a log of that size. It tells no row, so it is one of
 -- the grammar whatever the rows are
 pub down_text : (s : Script) (size : ℕ) (report : Report) (text : List ℕ) → CanRun s → script.IsNamed s → ((rows : Rows) → Lawful (from_base s size rows) report) →
-    ((rows : Rows) → InPlayOrder (from_base s size rows) report) → BeginsDown report.lines → downs report.lines ≡ 1 → report.entries ≡ [] → FitsTypes report → text ≡ report_text report → IsDownText s size text
-down_text s size report text can names lawful in_order first down none fits is = record {
+    ((rows : Rows) → InPlayOrder (from_base s size rows) report) → ((rows : Rows) → LawfulOfNodes (from_base s size rows) report) → ((rows : Rows) → InNodesOrder (from_base s size rows) report) →
+    BeginsDown report.lines → downs report.lines ≡ 1 → report.entries ≡ [] → FitsTypes report → text ≡ report_text report → IsDownText s size text
+down_text s size report text can names lawful in_order of_nodes in_nodes_order first down none fits is = record {
   report = report;
-  lawful = λ rows. lawful_of (from_base s size rows) report (one_node s can) (lawful rows);
-  in_order = λ rows. nodes_order (from_base s size rows) report (one_node s can) sql_is_answered (lawful rows) (in_order rows);
+  lawful = of_nodes;
+  in_order = in_nodes_order;
   first = first;
   down = down;
   none = none;

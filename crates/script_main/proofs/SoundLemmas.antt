@@ -9,8 +9,8 @@ use Rattle.script_read.specs.ScriptText.{script_of}
 use Rattle.sound_log.specs.Sound.{IsSound}
 use Rattle.store_log.specs.declared.standings.Standing.TheVariants.{Log}
 use Rattle.store_log.specs.Keeps.{Stored}
-use Rattle.script_main.specs.Run.{AreCutOff, AreLeft, AreSoundAgain, IsText, IsTextOver, IsWritten, Writes}
-use Rattle.script_main.specs.Runs.{IsCutOff, IsGivenUp, IsLeftBy, IsRun, IsSoundAgain, IsSoundFurther, IsSoundMore, IsSoundStore, Keeps}
+use Rattle.script_main.specs.Run.{AreCutOff, AreLeft, AreSoundAgain, IsStatusText, IsTextOver, IsWritten, Writes}
+use Rattle.script_main.specs.Runs.{IsCutOff, IsStoreGivenUp, IsLeftBy, IsRun, IsSoundAgain, IsSoundFurther, IsSoundMore, IsSoundStore, Keeps}
 use Rattle.script_main.specs.Stores.{cluster_of, start_at, with_tables, IsAlike}
 use Rattle.cdb_outside.specs.declared.statuses.Status.{Status}
 use Rattle.cdb_outside.specs.declared.statuses.Status.TheVariants as status
@@ -43,7 +43,7 @@ run_again script o n text run was =
     left_sound script o n (downs run.report.lines) (run.promised + 1) run.history
     (IsSoundFurther (with_tables script run.before) (start_at run.before run.rows) (run.promised + 1) run.report) run.sound (λ log more. more.sound) run.left
 
-given_again : (script : Script) (o n : Stored) → IsGivenUp script o n → IsSoundAgain script o n
+given_again : (script : Script) (o n : Stored) → IsStoreGivenUp script o n → IsSoundAgain script o n
 given_again script o n given was =
     left_sound script o n given.count (given.promised + 1) given.history
     (IsSoundMore (with_tables script given.before) given.start (given.promised + 1) given.entries) given.sound (λ log more. more.sound) given.left
@@ -72,7 +72,7 @@ same_again (Ok script) (o ∷ os) = λ was. ∣ was ∣₁
 as_before : (script : Result Script Refusal) (old new : List Stored) → new ≡ old → AreSoundAgain script old new
 as_before script old new same = subst (λ (stores : List Stored). AreSoundAgain script old stores) (sym same) (same_again script old)
 
-text_again : (play : Bool) (script : Result Script Refusal) (old new : List Stored) (s : Status) (text : List ℕ) → IsText play script old new s text → AreSoundAgain script old new
+text_again : (play : Bool) (script : Result Script Refusal) (old new : List Stored) (s : Status) (text : List ℕ) → IsStatusText play script old new s text → AreSoundAgain script old new
 text_again false script old new s text is = as_before script old new is.1
 text_again true (Err r) old new s text is = is.1
 text_again true (Ok script) [] new s text is = absurd is

@@ -8,7 +8,7 @@ use Rattle.script_form.specs.declared.scripts.Script.{Script}
 use Rattle.script_form.specs.declared.scripts.TableLine.{TableLine}
 use Rattle.store_log.specs.Keeps.{Stored}
 use Rattle.script_main.proofs.ApartLemmas.{good_not_other, good_not_unsound, log_not_other, log_not_refused, log_not_unsound, one_offset, other_not_unsound, same_place}
-use Rattle.script_main.specs.Run.{Completes, IsAnyFault, IsFault, IsFaultBy, IsGoodAt, IsGoodStore, IsRefusalText, IsRefusedAt, IsStoreBadAt, IsStoreUnsound, IsText, IsTextOver, IsUsageText, IsWritten, TellsRefusal, TellsStoreRefused, TellsUnsound, TellsUsage, Writes}
+use Rattle.script_main.specs.Run.{Completes, IsAnyFault, IsFault, IsFaultBy, IsGoodAt, IsGoodStore, IsRefusalText, IsRefusedAt, IsStoreBadAt, IsStoreUnsound, IsStatusText, IsTextOver, IsUsageText, IsWritten, TellsRefusal, TellsStoreRefused, TellsUnsound, TellsUsage, Writes}
 use Rattle.script_main.specs.Stores.{cluster_of, HasId, IsBadAt, IsOtherAt, IsUnsound}
 use Rattle.cdb_outside.specs.declared.statuses.Status.{Status}
 use Rattle.cdb_outside.specs.declared.statuses.Status.TheVariants as status
@@ -29,17 +29,17 @@ usage_status (status.StoreRefused node at) text is = absurd is
 usage_status (status.Unsound node) text is = absurd is
 usage_status status.NoMemory text is = absurd is
 
-no_usage : (script : Result Script Refusal) (old new : List Stored) (text : List ℕ) → IsText true script old new status.Usage text → ⊥
+no_usage : (script : Result Script Refusal) (old new : List Stored) (text : List ℕ) → IsStatusText true script old new status.Usage text → ⊥
 no_usage (Err r) old new text is = is.0
 no_usage (Ok script) [] new text is = is
 no_usage (Ok script) (o ∷ os) [] text is = is
 no_usage (Ok script) (o ∷ os) (n ∷ ns) text is = is.0
 
-usage_off : (play : Bool) (script : Result Script Refusal) (old new : List Stored) (text : List ℕ) → IsText play script old new status.Usage text → play ≡ false
+usage_off : (play : Bool) (script : Result Script Refusal) (old new : List Stored) (text : List ℕ) → IsStatusText play script old new status.Usage text → play ≡ false
 usage_off false script old new text is = refl
 usage_off true script old new text is = absurd (no_usage script old new text is)
 
-off_usage : (play : Bool) (script : Result Script Refusal) (old new : List Stored) (s : Status) (text : List ℕ) → play ≡ false → IsText play script old new s text → s ≡ status.Usage
+off_usage : (play : Bool) (script : Result Script Refusal) (old new : List Stored) (s : Status) (text : List ℕ) → play ≡ false → IsStatusText play script old new s text → s ≡ status.Usage
 off_usage false script old new s text off is = usage_status s text is.0
 off_usage true script old new s text off is = absurd (not_both true refl off)
 
@@ -126,7 +126,7 @@ unsound_over script o n status.NoMemory text id un t = absurd t
 -- what is written at a status that has a text is that text; the others are faults
 
 abbrev TextOrFault : Bool → Result Script Refusal → List Stored → List Stored → Status → List ℕ → Type 0
-TextOrFault play script old new s text = IsText play script old new s text ⊎ IsFault s
+TextOrFault play script old new s text = IsStatusText play script old new s text ⊎ IsFault s
 
 text_or_fault : (play : Bool) (script : Result Script Refusal) (old new : List Stored) (s : Status) (text : List ℕ) → IsWritten play script old new s text → TextOrFault play script old new s text
 text_or_fault play script old new status.Done text w = inl w
@@ -140,7 +140,7 @@ text_or_fault play script old new status.NoMemory text w = inr (inr (inr refl))
 
 -- refusals of a script
 
-refused_only : (play : Bool) (script : Result Script Refusal) (old new : List Stored) (line why : ℕ) (text : List ℕ) → IsText play script old new (status.Refused line why) text → IsRefusedAt script old line why
+refused_only : (play : Bool) (script : Result Script Refusal) (old new : List Stored) (line why : ℕ) (text : List ℕ) → IsStatusText play script old new (status.Refused line why) text → IsRefusedAt script old line why
 refused_only false script old new line why text is = absurd is.0
 refused_only true (Err r) old new line why text is = is.0.0
 refused_only true (Ok script) [] new line why text is = absurd is
@@ -165,7 +165,7 @@ any_fault A os ns o n s (inl a) = inl a
 any_fault A os ns o n s (inr rose) = inr (inr rose)
 
 refused_always : (play : Bool) (script : Result Script Refusal) (old new : List Stored) (s : Status) (text : List ℕ) (line why : ℕ) →
-    play ≡ true → IsRefusedAt script old line why → IsText play script old new s text → (s ≡ status.Refused line why) ⊎ IsFaultBy script old new s
+    play ≡ true → IsRefusedAt script old line why → IsStatusText play script old new s text → (s ≡ status.Refused line why) ⊎ IsFaultBy script old new s
 refused_always false script old new s text line why on refused is = absurd (not_both false on refl)
 refused_always true (Err r) old new s text line why on refused is = inl (refused_by r s text line why refused is.0)
 refused_always true (Ok script) [] new s text line why on refused is = absurd is
@@ -190,7 +190,7 @@ refusal_told play script old new result text is = record {
 
 -- stores that are refused
 
-bad_only : (play : Bool) (script : Result Script Refusal) (old new : List Stored) (node at : ℕ) (text : List ℕ) → IsText play script old new (status.StoreRefused node at) text → (node ≡ 1) × IsStoreBadAt script old at
+bad_only : (play : Bool) (script : Result Script Refusal) (old new : List Stored) (node at : ℕ) (text : List ℕ) → IsStatusText play script old new (status.StoreRefused node at) text → (node ≡ 1) × IsStoreBadAt script old at
 bad_only false script old new node at text is = absurd is.0
 bad_only true (Err r) old new node at text is = absurd is.0
 bad_only true (Ok script) [] new node at text is = absurd is
@@ -198,7 +198,7 @@ bad_only true (Ok script) (o ∷ os) [] node at text is = absurd is
 bad_only true (Ok script) (o ∷ os) (n ∷ ns) node at text is = (is.0.0, is.0.1)
 
 bad_always : (play : Bool) (script : Result Script Refusal) (old new : List Stored) (s : Status) (text : List ℕ) (at : ℕ) →
-    play ≡ true → IsStoreBadAt script old at → IsText play script old new s text → (s ≡ status.StoreRefused 1 at) ⊎ IsAnyFault old new s
+    play ≡ true → IsStoreBadAt script old at → IsStatusText play script old new s text → (s ≡ status.StoreRefused 1 at) ⊎ IsAnyFault old new s
 bad_always false script old new s text at on bad is = absurd (not_both false on refl)
 bad_always true (Err r) old new s text at on bad is = absurd bad
 bad_always true (Ok script) [] new s text at on bad is = absurd is
@@ -218,7 +218,7 @@ bad_told play script old new result text is = record {
 
 -- logs that are not sound
 
-unsound_only : (play : Bool) (script : Result Script Refusal) (old new : List Stored) (node : ℕ) (text : List ℕ) → IsText play script old new (status.Unsound node) text → (node ≡ 1) × IsStoreUnsound script old
+unsound_only : (play : Bool) (script : Result Script Refusal) (old new : List Stored) (node : ℕ) (text : List ℕ) → IsStatusText play script old new (status.Unsound node) text → (node ≡ 1) × IsStoreUnsound script old
 unsound_only false script old new node text is = absurd is.0
 unsound_only true (Err r) old new node text is = absurd is.0
 unsound_only true (Ok script) [] new node text is = absurd is
@@ -226,7 +226,7 @@ unsound_only true (Ok script) (o ∷ os) [] node text is = absurd is
 unsound_only true (Ok script) (o ∷ os) (n ∷ ns) node text is = (is.0.0, is.0.1)
 
 unsound_always : (play : Bool) (script : Result Script Refusal) (old new : List Stored) (s : Status) (text : List ℕ) →
-    play ≡ true → IsStoreUnsound script old → IsText play script old new s text → (s ≡ status.Unsound 1) ⊎ IsAnyFault old new s
+    play ≡ true → IsStoreUnsound script old → IsStatusText play script old new s text → (s ≡ status.Unsound 1) ⊎ IsAnyFault old new s
 unsound_always false script old new s text on un is = absurd (not_both false on refl)
 unsound_always true (Err r) old new s text on un is = absurd un
 unsound_always true (Ok script) [] new s text on un is = absurd is
@@ -279,7 +279,7 @@ good_over script o n (status.Unsound node) text id good t =
     absurd (log_not_unsound (cluster_of script) o.synced good.promised good.accepted good.entries id good.stands good.sound t.1)
 good_over script o n status.NoMemory text id good t = absurd t
 
-done_always : (play : Bool) (script : Result Script Refusal) (old new : List Stored) (s : Status) (text : List ℕ) → play ≡ true → IsGoodAt script old → IsText play script old new s text → s ≡ status.Done
+done_always : (play : Bool) (script : Result Script Refusal) (old new : List Stored) (s : Status) (text : List ℕ) → play ≡ true → IsGoodAt script old → IsStatusText play script old new s text → s ≡ status.Done
 done_always false script old new s text on good is = absurd (not_both false on refl)
 done_always true (Err r) old new s text on good is = absurd good
 done_always true (Ok script) [] new s text on good is = absurd is

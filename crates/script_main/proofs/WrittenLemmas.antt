@@ -10,7 +10,7 @@ use Rattle.script_read.specs.declared.drafts.Draft.{Draft}
 use Rattle.byte_words.specs.Lines.{lines_of, but_last}
 use Rattle.script_form.specs.declared.scripts.Script.{Script}
 use Rattle.store_log.specs.Keeps.{Stored}
-use Rattle.script_main.specs.Run.{AreCutOff, AreLeft, IsText, IsTextOver, IsRefusalText, IsScriptText, IsUsageText, IsWritten, Finishes, LeavesStores, Writes, AnswersSource, IsStop, StopsAt}
+use Rattle.script_main.specs.Run.{AreCutOff, AreLeft, IsStatusText, IsTextOver, IsRefusalText, IsScriptText, IsUsageText, IsWritten, Finishes, LeavesStores, Writes, AnswersSource, IsStop, StopsAt}
 use Rattle.script_main.specs.Texts.{usage_text}
 use Rattle.cdb_outside.specs.declared.statuses.Status.{Status}
 use Rattle.cdb_outside.specs.declared.statuses.Status.TheVariants as status
@@ -56,7 +56,7 @@ over_has script o n (status.StoreRefused node at) text is = tt
 over_has script o n (status.Unsound node) text is = tt
 over_has script o n status.NoMemory text is = is
 
-pub has_text : (play : Bool) (script : Result Script Refusal) (old new : List Stored) (s : Status) (text : List ℕ) → IsText play script old new s text → HasText s
+pub has_text : (play : Bool) (script : Result Script Refusal) (old new : List Stored) (s : Status) (text : List ℕ) → IsStatusText play script old new s text → HasText s
 has_text false script old new s text is = usage_has s text is.0
 has_text true (Err r) old new s text is = refusal_has r s text is.0
 has_text true (Ok script) [] new s text is = absurd is
@@ -64,7 +64,7 @@ has_text true (Ok script) (o ∷ os) [] s text is = absurd is
 has_text true (Ok script) (o ∷ os) (n ∷ ns) s text is = over_has script o n s text is.0
 
 -- the text of a status is what is written at it
-text_written : (play : Bool) (script : Result Script Refusal) (old new : List Stored) (s : Status) (text : List ℕ) → IsText play script old new s text → IsWritten play script old new s text
+text_written : (play : Bool) (script : Result Script Refusal) (old new : List Stored) (s : Status) (text : List ℕ) → IsStatusText play script old new s text → IsWritten play script old new s text
 text_written play script old new status.Done text is = is
 text_written play script old new status.Usage text is = is
 text_written play script old new (status.Refused line why) text is = is
@@ -76,7 +76,7 @@ text_written play script old new status.NoMemory text is = absurd (has_text play
 
 -- the text of a status that was wanted is written, or a front of it
 pub finished : (play : Bool) (script : Result Script Refusal) (stores stores' : List Stored) (wanted result : Status) (text : List ℕ) (old new : Option (List ℕ)) (before now : ℕ) →
-    IsText play script stores stores' wanted text → Finishes wanted result text old new before now → (w : List ℕ) × Appends old new w × IsWritten play script stores stores' result w
+    IsStatusText play script stores stores' wanted text → Finishes wanted result text old new before now → (w : List ℕ) × Appends old new w × IsWritten play script stores stores' result w
 finished play script stores stores' wanted result text old new before now is (inl (same, appends)) =
     (text, appends, subst (λ s. IsWritten play script stores stores' s text) (sym same) (text_written play script stores stores' wanted text is))
 finished play script stores stores' wanted result text old new before now is (inr (fails, (n, appends), rose)) =
@@ -84,16 +84,16 @@ finished play script stores stores' wanted result text old new before now is (in
 
 -- a write fault comes only where the count rose
 pub write_rose : (play : Bool) (script : Result Script Refusal) (stores stores' : List Stored) (wanted result : Status) (text : List ℕ) (old new : Option (List ℕ)) (before now : ℕ) →
-    IsText play script stores stores' wanted text → Finishes wanted result text old new before now → result ≡ status.WriteFault → Rose before now
+    IsStatusText play script stores stores' wanted text → Finishes wanted result text old new before now → result ≡ status.WriteFault → Rose before now
 write_rose play script stores stores' wanted result text old new before now is (inl (same, appends)) fault =
-    absurd (has_text play script stores stores' status.WriteFault text (subst (λ s. IsText play script stores stores' s text) (sym same ∙ fault) is))
+    absurd (has_text play script stores stores' status.WriteFault text (subst (λ s. IsStatusText play script stores stores' s text) (sym same ∙ fault) is))
 write_rose play script stores stores' wanted result text old new before now is (inr (fails, front, rose)) fault = rose
 
 -- no read fault comes of writing
 pub no_read_fault : (play : Bool) (script : Result Script Refusal) (stores stores' : List Stored) (wanted result : Status) (text : List ℕ) (old new : Option (List ℕ)) (before now : ℕ) →
-    IsText play script stores stores' wanted text → Finishes wanted result text old new before now → result ≡ status.ReadFault → ⊥
+    IsStatusText play script stores stores' wanted text → Finishes wanted result text old new before now → result ≡ status.ReadFault → ⊥
 no_read_fault play script stores stores' wanted result text old new before now is (inl (same, appends)) fault =
-    has_text play script stores stores' status.ReadFault text (subst (λ s. IsText play script stores stores' s text) (sym same ∙ fault) is)
+    has_text play script stores stores' status.ReadFault text (subst (λ s. IsStatusText play script stores stores' s text) (sym same ∙ fault) is)
 no_read_fault play script stores stores' wanted result text old new before now is (inr (fails, front, rose)) fault = absurd (other (sym fails ∙ fault))
   where
     other : status.WriteFault ≡ status.ReadFault → ⊥
@@ -145,7 +145,7 @@ script_for_is stores consumers (Some bytes) = refl
 
 -- a run that wrote a text of a script
 writes_text : (play : Bool) (count consumers : ℕ) (stores stores' : List Stored) (input old new : Option (List ℕ)) (before now : ℕ) (wanted result : Status) (text : List ℕ) (script : Result Script Refusal) →
-    IfSome input (λ bytes. script ≡ script_of count consumers bytes) → IsText play script stores stores' wanted text → Finishes wanted result text old new before now → Writes play count consumers stores stores' input old new result
+    IfSome input (λ bytes. script ≡ script_of count consumers bytes) → IsStatusText play script stores stores' wanted text → Finishes wanted result text old new before now → Writes play count consumers stores stores' input old new result
 writes_text play count consumers stores stores' input old new before now wanted result text script is is_text fin =
     let w = finished play script stores stores' wanted result text old new before now is_text fin in
     record { script = script; is_script = is; text = w.0; taken = w.1; is_written = w.2 }
@@ -156,14 +156,14 @@ pub usage_says : (play : Bool) (count consumers : ℕ) (stores : List Stored) (i
 usage_says play count consumers stores input old new before now result is fin =
     let script = script_for count consumers input in
     writes_text play count consumers stores stores input old new before now status.Usage result usage_text script (script_for_is count consumers input)
-    (subst (λ (p : Bool). IsText p script stores stores status.Usage usage_text) (sym is) (refl, refl)) fin
+    (subst (λ (p : Bool). IsStatusText p script stores stores status.Usage usage_text) (sym is) (refl, refl)) fin
 
 -- the answer to what the source had is written
 pub answer_says : (play : Bool) (count consumers : ℕ) (stores stores' : List Stored) (input left old new : Option (List ℕ)) (before now : ℕ) (wanted result : Status) (text : List ℕ) →
     play ≡ true → AnswersSource count consumers stores stores' input left wanted text → Finishes wanted result text old new before now → Writes play count consumers stores stores' input old new result
 answer_says play count consumers stores stores' input left old new before now wanted result text is answers fin =
     writes_text play count consumers stores stores' input old new before now wanted result text answers.script answers.is_script
-    (subst (λ (p : Bool). IsText p answers.script stores stores' wanted text) (sym is) answers.is_text) fin
+    (subst (λ (p : Bool). IsStatusText p answers.script stores stores' wanted text) (sym is) answers.is_text) fin
 
 -- a run that stopped wrote nothing, so no write failed
 pub stop_written : (s : Status) (script : Result Script Refusal) (stores stores' : List Stored) → IsStop s script stores stores' → s ≡ status.WriteFault → ⊥
@@ -244,13 +244,13 @@ same_script count consumers v (Some input) (Some rest) later c w = pick (nat_lt 
 -- the answer to the bytes that were read is the answer to what the source had
 pub source_answered : (count consumers : ℕ) (stores stores' : List Stored) (old new : Option (List ℕ)) (v : List ℕ) (s : Status) (text : List ℕ) →
     ((bytes rest : List ℕ) → most_bytes < length bytes → script_of count consumers (bytes ++ rest) ≡ script_of count consumers bytes) →
-    Consumes old new v → (length v ≤ most_bytes → IsAtEnd new) → IsText true (script_of count consumers v) stores stores' s text → AnswersSource count consumers stores stores' old new s text
+    Consumes old new v → (length v ≤ most_bytes → IsAtEnd new) → IsStatusText true (script_of count consumers v) stores stores' s text → AnswersSource count consumers stores stores' old new s text
 source_answered count consumers stores stores' old new v s text later consumes whole is = record {
   script = script_of count consumers v;
   is_text = is;
   is_script = same_script count consumers v old new later consumes whole;
   at_end = λ done.
-      let read = done_read (script_of count consumers v) stores stores' text (subst (λ (t : Status). IsText true (script_of count consumers v) stores stores' t text) done is) in
+      let read = done_read (script_of count consumers v) stores stores' text (subst (λ (t : Status). IsStatusText true (script_of count consumers v) stores stores' t text) done is) in
       whole (read_is_short count consumers v read.0 read.1);
 }
 

@@ -64,9 +64,9 @@ IsScriptText (Ok script) (o ∷ os) [] s text = ⊥
 IsScriptText (Ok script) (o ∷ os) (n ∷ ns) s text = IsTextOver script o n s text × HasId script × (ns ≡ os)
 
 -- the text that belongs to a status, by whether the words are a command
-abbrev pub IsText : Bool → Result Script Refusal → List Stored → List Stored → Status → List ℕ → Type 0
-IsText false script old new s text = IsUsageText s text × (new ≡ old)
-IsText true script old new s text = IsScriptText script old new s text
+abbrev pub IsStatusText : Bool → Result Script Refusal → List Stored → List Stored → Status → List ℕ → Type 0
+IsStatusText false script old new s text = IsUsageText s text × (new ≡ old)
+IsStatusText true script old new s text = IsScriptText script old new s text
 
 -- what is left of the stores where memory ran out: those of a script that was read, over the first
 abbrev pub AreCutOff : Script → List Stored → List Stored → Type 0
@@ -81,14 +81,14 @@ AreLeft (Ok script) old new = (new ≡ old) ⊎ AreCutOff script old new
 -- what was written at a status: its text; a front of a text where a write failed; and nothing where a
 -- read failed or memory ran out
 abbrev pub IsWritten : Bool → Result Script Refusal → List Stored → List Stored → Status → List ℕ → Type 0
-IsWritten play script old new status.Done text = IsText play script old new status.Done text
-IsWritten play script old new status.Usage text = IsText play script old new status.Usage text
-IsWritten play script old new (status.Refused line why) text = IsText play script old new (status.Refused line why) text
+IsWritten play script old new status.Done text = IsStatusText play script old new status.Done text
+IsWritten play script old new status.Usage text = IsStatusText play script old new status.Usage text
+IsWritten play script old new (status.Refused line why) text = IsStatusText play script old new (status.Refused line why) text
 IsWritten play script old new status.ReadFault text = (play ≡ true) × (text ≡ []) × (new ≡ old)
 IsWritten play script old new status.WriteFault text =
-    (other : Status) × (whole : List ℕ) × IsText play script old new other whole × IsFront text whole
-IsWritten play script old new (status.StoreRefused node at) text = IsText play script old new (status.StoreRefused node at) text
-IsWritten play script old new (status.Unsound node) text = IsText play script old new (status.Unsound node) text
+    (other : Status) × (whole : List ℕ) × IsStatusText play script old new other whole × IsFront text whole
+IsWritten play script old new (status.StoreRefused node at) text = IsStatusText play script old new (status.StoreRefused node at) text
+IsWritten play script old new (status.Unsound node) text = IsStatusText play script old new (status.Unsound node) text
 IsWritten play script old new status.NoMemory text = (play ≡ true) × (text ≡ []) × AreLeft script old new
 
 -- What a run writes: there is a script or a refusal, that of the bytes of the source where it tells
@@ -214,6 +214,6 @@ pub record StopsAt (stores consumers : ℕ) (before after : List Stored) (old : 
 -- the answer to the bytes that were read from a source: of the bytes that it had, where it tells them
 pub record AnswersSource (stores consumers : ℕ) (before after : List Stored) (old new : Option (List ℕ)) (s : Status) (text : List ℕ) : Type 0 where
   pub script : Result Script Refusal
-  pub is_text : IsText true script before after s text
+  pub is_text : IsStatusText true script before after s text
   pub is_script : IfSome old (λ input. script ≡ script_of stores consumers input)
   pub at_end : s ≡ status.Done → IsAtEnd new

@@ -16,13 +16,13 @@ use Rattle.node_reports.specs.Lawful.{LawfulOfNodes}
 use Rattle.node_reports.specs.Order.{InNodesOrder}
 use Rattle.report_laws.specs.Nodes.{downs, BeginsDown}
 use Rattle.report_laws.specs.One.{IsUncut}
-use Rattle.report_laws.specs.Spelled.{IsNamedTable}
 use Rattle.report_text.specs.Grammar.{IsReport}
 use Rattle.report_text.specs.Text.{report_text}
 use Rattle.report_text.specs.declared.reports.EntryLine.{EntryLine}
 use Rattle.report_text.specs.declared.reports.Report.{Report}
 use Rattle.script_form.specs.CanRun.{tables_of}
 use Rattle.script_form.specs.declared.scripts.Script.{Script}
+use Rattle.script_form.specs.Named.{IsNamedTable}
 use Rattle.script_play.specs.Basis.{from_base, from_start}
 use Rattle.script_play.specs.Played.{IsFurther, IsHistory, IsTold}
 use Rattle.script_play.specs.Serial.{AreSerial}
@@ -141,7 +141,7 @@ pub record IsStopped (script : Script) (old new : Stored) : Type 0 where
 
 -- what is left of the store where the run was given up behind its opening, for want of memory: the log for which it stood, with
 -- entries of the run, whose lines tell its history. It is sound again.
-pub record IsGivenUp (script : Script) (old new : Stored) : Type 0 where
+pub record IsStoreGivenUp (script : Script) (old new : Stored) : Type 0 where
   pub promised : ℕ
   pub accepted : ℕ
   pub before : List Entry
@@ -163,4 +163,4 @@ abbrev pub IsCutOff : Script → Stored → Stored → Type 0
 IsCutOff script old new =
     IsAlike script old new
     ⊎ (IsStopped script old new
-    ⊎ IsGivenUp script old new)
+    ⊎ IsStoreGivenUp script old new)

@@ -7,6 +7,8 @@ use Rattle.node_log.specs.Logged.{Logged, Stand}
 use Rattle.node_opening.specs.declared.up.WhyNotUp.{WhyNotUp}
 use Rattle.node_opening.specs.declared.up.WhyNotUp.TheVariants as why
 use Rattle.node_opening.specs.Up.{IsTakenUp}
+use Rattle.node_reports.specs.Lawful.{LawfulOfNodes}
+use Rattle.node_reports.specs.Order.{InNodesOrder}
 use Rattle.phys_log.specs.declared.entries.Entry.{Entry}
 use Rattle.report_laws.specs.Nodes.{downs}
 use Rattle.report_text.specs.Text.{report_text}
@@ -92,6 +94,8 @@ pub record IsPlayedText (script : Script) (start : Start) (log : Logged) (new : 
   pub report : Report
   pub history : List Entry
   pub told : IsTold script start log.accepted report history
+  pub lawful : LawfulOfNodes (from_start script start) report
+  pub in_order : InNodesOrder (from_start script start) report
   pub serial : AreSerial (from_start script start) report.entries
   pub is_text : IsReportText report s text
   pub left : IsLeftBy (downs report.lines) log.cluster log.store new log.accepted history (IsFurther script start log.accepted report)

@@ -4,7 +4,7 @@ ghost use Rattle.std.specs.Io.KnownBytes.{IsAtEnd};
 ghost use Rattle.std.specs.List.{AllByRecursion};
 ghost use Rattle.cdb_outside.specs.Faults.{Rose};
 ghost use Rattle.script_read.specs.ScriptText.{script_of};
-ghost use Rattle.script_main.specs.Run.{AnswersSource, AreLeft, Finishes, IsText, LeavesStores, StopsAt, TellsUsage};
+ghost use Rattle.script_main.specs.Run.{AnswersSource, AreLeft, Finishes, IsStatusText, LeavesStores, StopsAt, TellsUsage};
 ghost use Rattle.script_main.specs.Stores.{kept_all, IsFirstAlone};
 ghost use Rattle.script_main.specs.World.{world, CompletesSo, FindsUnsoundSo, RefusesSo, RefusesStoreSo};
 ghost use Rattle.script_main.specs.World.{StandsAgainSo, WritesSo};

@@ -10,8 +10,7 @@ use Rattle.cdb_values.specs.declared.rows.RowRef.TheVariants.{Base, Own}
 use Rattle.cdb_values.specs.declared.rows.Version.{Version}
 use Rattle.cdb_values.specs.declared.tables.TableDef.{TableDef}
 use Rattle.cdb_values.specs.declared.values.Value.{Value}
-use Rattle.session_language.proofs.AllLaws.{all_got, all_exchanged, all_filtered}
-use Rattle.session_language.specs.Spelled.{HaveRows, IsToldRow, WritesRow}
+use Rattle.report_laws.proofs.SpelledLaws.{apply_all_rows}
 use Rattle.script_play.proofs.SoundLaws.{sound_later, kept_sound, kept_told}
 use Rattle.script_play.specs.Ready.{AreKept, IsKeptOp}
 use Rattle.sql_run.specs.Sound.{AreSound, IsSoundOp, IsSoundVersion}
@@ -95,33 +94,9 @@ sound_applied tables rows ops sound all = applied_sound tables rows rows.next op
 
 -- ---- with texts of UTF-8
 
-abbrev IsTold : Version → Type 0
-IsTold v = IsToldRow v.row
-
-added_rows : (rows : Rows) (table : ℕ) (row : List Value) → HaveRows rows.tables → IsToldRow row → HaveRows (added rows table row).tables
-added_rows rows table row have is =
-    all_exchanged (AllByRecursion IsTold) rows.tables table (versions_of rows table ++ version rows.next row ∷ []) have
-    (all_append IsTold (versions_of rows table) (version rows.next row ∷ []) (all_got (AllByRecursion IsTold) rows.tables table [] have tt) (is, tt))
-
-taken_rows : (rows : Rows) (table genid : ℕ) → HaveRows rows.tables → HaveRows (taken rows table genid).tables
-taken_rows rows table genid have =
-    all_exchanged (AllByRecursion IsTold) rows.tables table (without genid (versions_of rows table)) have
-    (all_filtered IsTold (λ v. not (v.genid == genid)) (versions_of rows table) (all_got (AllByRecursion IsTold) rows.tables table [] have tt))
-
-apply_rows : (rows : Rows) (o : RowOp) → HaveRows rows.tables → WritesRow o → HaveRows (apply rows o).tables
-apply_rows rows (Insert table row) have is = added_rows rows table row have is
-apply_rows rows (Update table (Base genid) old row) have is = added_rows (taken rows table genid) table row (taken_rows rows table genid have) is
-apply_rows rows (Update table (Own write) old row) have is = have
-apply_rows rows (Delete table (Base genid) old) have is = taken_rows rows table genid have
-apply_rows rows (Delete table (Own write) old) have is = have
-
-told_applied : (rows : Rows) (ops : List RowOp) → HaveRows rows.tables → AllByRecursion WritesRow ops → HaveRows (apply_all rows ops).tables
-told_applied rows [] have all = have
-told_applied rows (o ∷ ops) have all = told_applied (apply rows o) ops (apply_rows rows o have all.0) all.1
-
 -- kept operations keep rows kept, and draw genids upwards
 pub kept_applied : (tables : List TableDef) (rows : Rows) (ops : List RowOp) → AreKept tables rows.next rows.tables → AllByRecursion (IsKeptOp tables rows.next) ops
     → AreKept tables (apply_all rows ops).next (apply_all rows ops).tables × (rows.next ≤ (apply_all rows ops).next)
 kept_applied tables rows ops kept all =
     let sound : AreSound tables (apply_all rows ops).next (apply_all rows ops).tables × (rows.next ≤ (apply_all rows ops).next) = sound_applied tables rows ops kept.0 (kept_sound tables rows.next ops all) in
-    ((sound.0, told_applied rows ops kept.1 (kept_told tables rows.next ops all)), sound.1)
+    ((sound.0, apply_all_rows rows ops kept.1 (kept_told tables rows.next ops all)), sound.1)

@@ -19,17 +19,16 @@ use Rattle.cdb_values.specs.declared.replies.Reply.TheVariants as reply
 use Rattle.cdb_values.specs.Changes.{changes_of}
 use Rattle.report_laws.specs.History.{view_of}
 use Rattle.report_laws.specs.View.{touched_in}
-use Rattle.session_language.specs.Touched.{Used, TheVersion, TheRange, first_used}
+use Rattle.session_language.specs.Touched.{Used, TheVersion, TheRange, first_used, FirstUse, first_use}
 use Rattle.report_laws.specs.Outcome.{IsRight, IsDecided, IsConflict, IsDuplicate}
 use Rattle.report_laws.specs.Paced.{Paced}
 use Rattle.script_form.specs.CanRun.{tables_of}
 use Rattle.report_laws.specs.Work.{Transaction}
 use Rattle.script_play.specs.Basis.{from_start}
 use Rattle.block_processor.specs.Changed.{IsFirstUse}
-use Rattle.session_turns.specs.Decisions.{FirstUse, first_use, used_by, item_of, item_told, conflict_told, decision, judged, by_key, added_by}
+use Rattle.session_turns.specs.Decisions.{used_by, item_of, item_told, conflict_told, decision, judged, by_key, added_by}
 use Rattle.script_play.specs.Decisions.{HasName}
 use Rattle.block_processor.proofs.ChangedLaws.{one_used}
-use Rattle.script_play.proofs.UseLemmas.{use_found, use_out}
 use Rattle.script_play.proofs.ConflictLaws.{named}
 use Rattle.script_play.specs.SoFar.{Stored, now_of}
 use Rattle.script_play.specs.Step.{IsKept}
@@ -111,8 +110,8 @@ module _ (script : Script) (start : Start) (entries : List EntryLine) (changed :
       is_told = named (tables_of script) (unwrap_or (slice_get changed (found.position - 1)) []) used found.position found.item its_changes since.touched;
     }
       where
-        since : IsFirstUse (tables_of script) begin changed used (use_out found)
-        since = one_used (tables_of script) used begin changed (use_out found) (use_found (tables_of script) begin (drop begin changed) used (Some found) is)
+        since : IsFirstUse (tables_of script) begin changed used found
+        since = one_used (tables_of script) used begin changed found is
 
         within : found.position ≤ now_of start entries
         within = let w = since.within in let same = c.stored.changed_length in omega (arith, w, same)

@@ -146,11 +146,6 @@ none_told_lost script name down before (line.Up node ∷ ls) none each = absurd 
 none_told_lost script name down before (line.Barrier ∷ ls) none each = absurd each.0
 none_told_lost script name down before (line.Fed position ∷ ls) none each = absurd each.0
 
--- what is right behind those before it is so in each front
-pub each_front : {A : Type 0} (P : List A → A → Type 0) (before xs ys : List A) → EachAfter P before (xs ++ ys) → EachAfter P before xs
-each_front P before [] ys each = tt
-each_front P before (x ∷ xs) ys each = (each.0, each_front P (before ++ x ∷ []) xs ys each.1)
-
 -- a line that does not cut a transaction of that number short
 abbrev pub IsUncutUnder : ℕ → Numbered → Type 0
 IsUncutUnder n l = ((l.0 == n) && cuts l.1) ≡ false

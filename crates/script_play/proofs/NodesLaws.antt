@@ -12,7 +12,6 @@ use Rattle.node_reports.proofs.OneLawful.{lawful_of}
 use Rattle.node_reports.specs.Lawful.{LawfulOfNodes}
 use Rattle.node_reports.specs.OneNode.{IsOfOneNode, IsPlain}
 use Rattle.node_reports.specs.Order.{InNodesOrder}
-use Rattle.query_laws.specs.Alone.{reads_of, sql_language}
 use Rattle.report_laws.specs.Lawful.{Lawful}
 use Rattle.report_laws.specs.Play.{node_among, InPlayOrder}
 use Rattle.report_text.specs.declared.reports.Report.{Report}
@@ -22,13 +21,8 @@ use Rattle.script_form.specs.declared.scripts.Act.TheVariants as act
 use Rattle.script_form.specs.declared.scripts.Script.{Script}
 use Rattle.script_form.specs.declared.scripts.SessionLine.{SessionLine}
 use Rattle.session_language.proofs.EachLaws.{all_map}
-use Rattle.session_language.specs.Answers.{Answers}
-use Rattle.sql_answer.proofs.LanguageLemmas.{sql_answers}
-use Rattle.sql_answer.specs.Language.{bound_in}
 use Rattle.script_play.specs.Basis.{from_base}
-
-pub sql_is_answered : Answers sql_language
-sql_is_answered = sql_answers bound_in reads_of
+use Rattle.script_play.proofs.SqlLaws.{sql_is_answered}
 
 home_of : (name : List ℕ) (sessions : List SessionLine) → AllByRecursion (λ s. (s.node ≡ 1) × (s.hasql ≡ false)) sessions → IsDeclared name sessions → node_among name sessions ≡ 1
 home_of name [] all is = absurd is

@@ -4,7 +4,6 @@ use Rattle.std.proofs.Common.{◌≡◌, ◌≢◌, ℕ, ◌==◌, ◌++◌, ◌
 use Rattle.std.proofs.lemmas.Str.{IsUtf8-from_is_utf8}
 use Rattle.std.specs.List.{AllByRecursion}
 use Rattle.block_processor.specs.Asked.{IsAsked, Writes}
-use Rattle.block_processor.specs.Changed.{first_use}
 use Rattle.block_processor.proofs.ChangedLemmas.{same_uses}
 use Rattle.cdb_values.specs.Changes.{taken_by}
 use Rattle.cdb_values.specs.declared.items.GenidItem.{GenidItem}
@@ -29,7 +28,7 @@ use Rattle.phys_log.specs.Logs.{pages_of}
 use Rattle.phys_log.specs.declared.entries.Entry.{Entry}
 use Rattle.phys_log.specs.declared.requests.CommitRequest.{CommitRequest}
 use Rattle.session_language.specs.Spelled.{IsToldRow, IsToldValue, WritesRow}
-use Rattle.session_language.specs.Touched.{TheVersion, TheRange, is_same_item}
+use Rattle.session_language.specs.Touched.{TheVersion, TheRange, is_same_item, first_use}
 use Rattle.script_play.proofs.SoundLaws.{kept_sound, kept_told}
 use Rattle.script_play.specs.Ready.{IsAble, IsReady}
 use Rattle.script_play.specs.Start.{Start, ground_of}

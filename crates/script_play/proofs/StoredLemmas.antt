@@ -24,7 +24,7 @@ use Rattle.cdb_values.specs.Changes.{changes_of}
 use Rattle.report_laws.specs.History.{last_position, entry_at, rows_at, rows_after, states_of, ops_of, ops_alone, changes_at, IsEntryAfter, IsCommitAfter, is_entry_of, view_of}
 use Rattle.report_laws.specs.View.{IsUntouched}
 use Rattle.session_language.specs.Language.{Answered}
-use Rattle.session_language.specs.Touched.{Used, first_used, used_at}
+use Rattle.session_language.specs.Touched.{Used, first_used, used_at, first_use}
 use Rattle.report_laws.specs.Outcome.{IsRight, IsEntered}
 use Rattle.report_laws.specs.Told.{alone_at}
 use Rattle.script_form.specs.CanRun.{tables_of}
@@ -33,11 +33,10 @@ use Rattle.script_play.specs.Basis.{from_start}
 use Rattle.query_laws.specs.Alone.{sql_language}
 use Rattle.session_language.proofs.EachLaws.{all_append, each_append, get_front, get_next}
 use Rattle.report_laws.proofs.HistoryLaws.{none_stands, rows_stay, rows_new, entry_new, changes_stay, changes_new, untouched_stays}
-use Rattle.session_turns.specs.Decisions.{first_use, used_by}
+use Rattle.session_turns.specs.Decisions.{used_by}
 use Rattle.script_play.specs.Decisions.{HasName}
 use Rattle.script_play.specs.Ready.{AreKept, IsKeptOp}
 use Rattle.block_processor.proofs.ChangedLaws.{none_used}
-use Rattle.script_play.proofs.UseLemmas.{use_found}
 use Rattle.script_play.proofs.SoundLaws.{all_named, kept_sound, rows_later}
 use Rattle.script_play.specs.SoFar.{Stored, now_of}
 use Rattle.session_turns.specs.Step.{World, world_of}
@@ -93,7 +92,7 @@ module _ (script : Script) (start : Start) (entries : List EntryLine) (changed :
   pub untouched_now : first_use (tables_of script) begin (drop begin changed) used ≡ None → IsUntouched (view_of (from_start script start) entries) begin (now + 1) used
   untouched_now none j after before =
       ap (λ (changes : List Change). first_used (tables_of script) changes used) (sym (c.stored.changed_are j (let b = c.first.1 in omega (arith, after, b)) (omega (arith, before))))
-      ∙ none_used (tables_of script) used begin changed (use_found (tables_of script) begin (drop begin changed) used None none) j after (let same = c.stored.changed_length in omega (arith, before, same))
+      ∙ none_used (tables_of script) used begin changed none j after (let same = c.stored.changed_length in omega (arith, before, same))
 
   -- these are what it uses when it is run alone
   used_is : used_at t.level ran ≡ used

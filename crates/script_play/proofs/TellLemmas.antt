@@ -16,6 +16,7 @@ use Rattle.report_laws.proofs.EntryToldLaws.{told_stands}
 use Rattle.report_laws.proofs.PieceLaws.{cut_at}
 use Rattle.report_laws.proofs.ToldLaws.{told_append}
 use Rattle.report_laws.proofs.WorkLaws.{IsBegun, IsBelow, first_left}
+use Rattle.report_laws.proofs.SerialLaws.{each_front}
 use Rattle.report_text.specs.declared.reports.EntryLine.{EntryLine}
 use Rattle.report_text.specs.declared.reports.Line.{Line}
 use Rattle.report_text.specs.declared.reports.Line.TheVariants as line
@@ -32,7 +33,7 @@ use Rattle.session_turns.specs.Seen.{Seen}
 use Rattle.script_play.specs.SoFar.{IsDown, IsGone, now_of}
 use Rattle.script_play.specs.Start.{Start}
 use Rattle.session_turns.specs.Step.{Turned}
-use Rattle.script_play.proofs.LossLemmas.{at_the_node, each_front, loses, none_survives, none_told_lost}
+use Rattle.script_play.proofs.LossLemmas.{at_the_node, loses, none_survives, none_told_lost}
 use Rattle.script_play.proofs.TurnLemmas.{Comes, WasCutUnder, cut_before}
 use Rattle.script_play.proofs.OpenLemmas.{begin_told, open_uncut}
 use Rattle.script_play.proofs.ToldLemmas.{IsToldSo, told_lone, told_nothing, told_short}

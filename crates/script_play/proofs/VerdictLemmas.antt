@@ -1,15 +1,13 @@
 -- What is decided of a session's request is what the definitions decide of its transaction, and the entry is that of its
 -- operations.
-use Rattle.std.proofs.Common.{◌≡◌, ◌≢◌, ℕ, ◌+◌, ◌++◌, ◌∷◌, [], List, map, true, refl, sym, ◌∙◌, ap, subst, drop, Option, Some, None, Result, Ok, Err, IfOk}
+use Rattle.std.proofs.Common.{◌≡◌, ◌≢◌, ℕ, ◌+◌, ◌++◌, ◌∷◌, [], List, true, refl, sym, ◌∙◌, ap, subst, drop, Option, Some, None, Result, Ok, Err, IfOk}
 use Rattle.std.specs.Option.{is_some}
 use Rattle.std.specs.Prelude.{option_map, slice_get}
 use Rattle.blkseq_table.specs.OfLogs.{HasId, id_of}
 use Rattle.block_processor.proofs.ChangedLemmas.{conflict_changed}
-use Rattle.block_processor.specs.Changed as node
 use Rattle.block_processor.specs.Changed.{changed_in, found_of}
-use Rattle.block_processor.specs.Conflicts as since
 use Rattle.block_processor.specs.Conflicts.{conflict_of}
-use Rattle.script_play.proofs.UseLemmas.{item_alike, ranges_alike, use_out, uses_alike}
+use Rattle.script_play.proofs.UseLemmas.{item_alike}
 use Rattle.block_processor.specs.Decided.{broken_by, IsConflict, IsDuplicate, IsNextEntry}
 use Rattle.cdb_values.specs.Changes.{changes_of, taken_by}
 use Rattle.cdb_values.specs.Good.{first_broken, KeyName}
@@ -33,7 +31,7 @@ use Rattle.range_validate.specs.Touches.{changes_in}
 use Rattle.cdb_values.specs.declared.replies.Reply.{Reply}
 use Rattle.cdb_values.specs.declared.replies.Reply.TheVariants as reply
 use Rattle.script_play.proofs.RequestLemmas.{conflict_once, its_request, log_tables}
-use Rattle.session_turns.specs.Decisions.{FirstUse, first_use, item_told, by_key, decision, judged, added_by, used_by}
+use Rattle.session_turns.specs.Decisions.{item_told, by_key, decision, judged, added_by, used_by}
 use Rattle.script_play.specs.Decisions.{key_place}
 use Rattle.script_play.specs.Effects.{IsVerdict, IsEntryOf, IsFreshIn, IsOfIts, IsUnusedIn, named_by}
 use Rattle.script_play.specs.EntryLines.{line_of}
@@ -43,7 +41,7 @@ use Rattle.script_play.specs.RunViews.{seen_in}
 use Rattle.script_play.specs.Start.{Start, ground_of}
 use Rattle.session_turns.specs.Step.{World, outcome, world_of}
 use Rattle.script_play.specs.declared.verdicts.Verdict.{Verdict}
-use Rattle.session_language.specs.Touched.{Used, TheVersion, TheRange}
+use Rattle.session_language.specs.Touched.{Used, FirstUse, first_use, ranges_at}
 use Rattle.session_turns.specs.Outcomes.{outcome_told}
 use Rattle.session_turns.specs.declared.answers.Outcome.TheVariants.{Duplicate}
 use Rattle.table_edits.specs.Broken.{KeyPlace, broken_place, key_name, name_in, named}
@@ -55,12 +53,12 @@ decision_by : (tables : List TableDef) (changed : List (List Change)) (rows : Ro
 decision_by tables changed rows begin now used [] some = absurd (some refl)
 decision_by tables changed rows begin now used (op ∷ ops) some = refl
 
-judged_conflict : (tables : List TableDef) (rows : Rows) (now : ℕ) (ops : List RowOp) (touch : Option FirstUse) (position : ℕ) (item : Item) → option_map found_of (option_map use_out touch) ≡ Some (record { position = position; item = item }) →
+judged_conflict : (tables : List TableDef) (rows : Rows) (now : ℕ) (ops : List RowOp) (touch : Option FirstUse) (position : ℕ) (item : Item) → option_map found_of touch ≡ Some (record { position = position; item = item }) →
     judged tables rows now ops touch ≡ item_told tables position item
 judged_conflict tables rows now ops None position item is = absurd cc
-judged_conflict tables rows now ops (Some f) position item is = let same : found_of (use_out f) ≡ record { position = position; item = item } = cc in ap (item_told tables f.position) (item_alike f.item) ∙ (λ j. item_told tables (same j).position (same j).item)
+judged_conflict tables rows now ops (Some f) position item is = let same : found_of f ≡ record { position = position; item = item } = cc in ap (item_told tables f.position) (item_alike f.item) ∙ (λ j. item_told tables (same j).position (same j).item)
 
-judged_free : (tables : List TableDef) (rows : Rows) (now : ℕ) (ops : List RowOp) (touch : Option FirstUse) → option_map found_of (option_map use_out touch) ≡ None →
+judged_free : (tables : List TableDef) (rows : Rows) (now : ℕ) (ops : List RowOp) (touch : Option FirstUse) → option_map found_of touch ≡ None →
     judged tables rows now ops touch ≡ by_key now (first_broken tables (apply_all rows ops).tables)
 judged_free tables rows now ops None is = refl
 judged_free tables rows now ops (Some f) is = absurd cc
@@ -136,14 +134,12 @@ module _ (start : Start) (generation : ℕ) (tables : List TableDef) (now : ℕ)
   abbrev first : Option FirstUse
   first = first_use tables s.begin (drop s.begin (changed_in log)) used
 
-  conflict_is : conflict_of request log ≡ option_map found_of (option_map use_out first)
+  conflict_is : conflict_of request log ≡ option_map found_of first
   conflict_is =
       ap (λ (r : CommitRequest). conflict_of r log) its.0
-      ∙ conflict_changed (tables_of log) s.begin log (without_repeats (taken_by s.ops ++ s.genids)) (since.ranges_at s.level s.ranges)
-      ∙ ap (λ (touch : Option node.FirstUse). option_map found_of touch) (conflict_once (tables_of log) s.begin (drop s.begin (changed_in log)) (taken_by s.ops ++ s.genids) (since.ranges_at s.level s.ranges))
-      ∙ ap (λ (rs : List Interval). option_map found_of (node.first_use (tables_of log) s.begin (drop s.begin (changed_in log)) (map TheVersion (taken_by s.ops ++ s.genids) ++ map TheRange rs))) (ranges_alike s.level s.ranges)
-      ∙ ap (λ (ts : List TableDef). option_map found_of (node.first_use ts s.begin (drop s.begin (changed_in log)) used)) same_tables
-      ∙ ap (option_map found_of) (uses_alike tables s.begin (drop s.begin (changed_in log)) used)
+      ∙ conflict_changed (tables_of log) s.begin log (without_repeats (taken_by s.ops ++ s.genids)) (ranges_at s.level s.ranges)
+      ∙ ap (λ (touch : Option FirstUse). option_map found_of touch) (conflict_once (tables_of log) s.begin (drop s.begin (changed_in log)) (taken_by s.ops ++ s.genids) (ranges_at s.level s.ranges))
+      ∙ ap (λ (ts : List TableDef). option_map found_of (first_use ts s.begin (drop s.begin (changed_in log)) used)) same_tables
 
   outcome_is : outcome w s.begin s.level s.genids s.ranges s.ops ≡ judged tables (rows_over_at (ground_of start) log now) now s.ops first
   outcome_is = decision_by tables (changed_in log) (rows_over_at (ground_of start) log now) s.begin now used s.ops its.1

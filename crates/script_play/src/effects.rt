@@ -1,5 +1,5 @@
 //! What a line of a session is to do on a node that is up, with the entry that it appends: nothing is told or kept yet.
-ghost use Rattle.std.specs.Prelude.{◌≡◌, ℕ, List, IfOk};
+ghost use Rattle.std.specs.Prelude.{◌≡◌, ℕ, List, IfOk, OnOk};
 ghost use Rattle.blkseq_table.specs.OfLogs.{identities_of};
 ghost use Rattle.script_play.specs.Effects.{CanCommit, IsEffect};
 ghost use Rattle.script_play.specs.RunViews.{turn_in, world, AreOver, CanGoOn, IsOfText, IsReadyFor};
@@ -8,7 +8,7 @@ ghost use Rattle.session_turns.specs.Asked.{settled_by};
 ghost use Rattle.session_turns.specs.Views.{coming_in, state_in, IsOwn, IsOwnCommit};
 ghost use Rattle.sql_run.specs.Texts.{plan_by};
 ghost use Rattle.sql_run.specs.Views.{text_in};
-ghost use Rattle.undo_snapshot.specs.Positions.{AreOfLog};
+ghost use Rattle.undo_snapshot.specs.Positions.{AreOfLog, Served};
 
 use super::reader::{Footing, LogReader};
 use super::verdicts::decided;
@@ -55,9 +55,11 @@ pub(crate) fn effect_of<J: Footing>(
     requires plan { (text_in prepared.now).plan ≡ plan_by schema.now (text_in prepared.now).meaning }
     requires of_text { IsOfText schema.now (text_in prepared.now).meaning }
     requires undone { AreOfLog log.now undone.old }
+    requires begins { undone.old ≡ J.undone }
     ensures effect { IfOk result (λ p. IsEffect J.start generation schema.now log.now name.now p
         (turn_in J.start schema.now log.now state (text_in prepared.now).meaning (text_in prepared.now).kind)) }
     ensures undone { AreOfLog log.now undone.new }
+    ensures served { OnOk result (Served log.now undone.old undone.new) }
 {
     let pages = mem::replace(undone, KeptPositions::none());
     let mut reader: LogReader<'_, J> = LogReader::new(schema, log, generation, pages);

@@ -1,7 +1,9 @@
 //! The node of a run, as its sessions read it: where transactions begin, and what texts are answered.
-ghost use Rattle.std.specs.Prelude.{◌≡◌};
+ghost use Rattle.std.specs.Prelude.{◌≡◌, ℕ};
 ghost use Rattle.script_play.specs.Start.{Start};
-ghost use Rattle.undo_snapshot.specs.Positions.{AreOfLog};
+ghost use Rattle.std.specs.Prelude as std;
+ghost use Rattle.page_store.specs.Image.{Image};
+ghost use Rattle.undo_snapshot.specs.Positions.{AreOfLog, Served};
 
 use super::reads::answer_text;
 use cdb_values::{List, Reply, Schema};
@@ -13,9 +15,12 @@ use std::alloc::{AllocError, Global};
 use std::marker::{Brand, Model, PhantomData};
 use undo_snapshot::KeptPositions;
 
-/// Where a run began, which no code holds: a type stands for it. A proof picks it where a call passes `Brand`.
+/// Where a run began, and which pages had been undone before a line: no code holds these, and a type stands for them. A proof
+/// picks them where a call passes `Brand`.
 pub(crate) trait Footing {
     ghost start: { Start };
+
+    ghost undone: { std.List (ℕ × std.List (ℕ × Image)) };
 }
 
 impl Footing for Brand {
@@ -23,6 +28,8 @@ impl Footing for Brand {
     ghost use Rattle.cdb_values.specs.Rows.{no_rows};
 
     ghost start = { record { before = []; rows = no_rows [] } };
+
+    ghost undone = { [] };
 }
 
 /// The node of a run that began there, for as long as its log does not grow. Contracts see it as a `Reader` of `specs/Reading`.
@@ -38,13 +45,13 @@ pub(crate) struct LogReader<'a, J: Footing> {
 
 impl<'a, J: Footing> Model for LogReader<'a, J> {
     ghost use Rattle.script_play.specs.Reading.{Reader};
-    ghost use Rattle.undo_snapshot.specs.Positions.{AreOfLog};
+    ghost use Rattle.undo_snapshot.specs.Positions.{AreOfLog, Served};
 
     ghost Value = { Reader };
 
     ghost view = { λ n. record { tables = n.schema.now; log = n.log.now; generation = n.generation } };
 
-    ghost invariant = { λ n. AreOfLog n.log.now n.undone };
+    ghost invariant = { λ n. AreOfLog n.log.now n.undone × Served n.log.now J.undone n.undone };
 }
 
 impl<'a, J: Footing> LogReader<'a, J> {
@@ -55,7 +62,8 @@ impl<'a, J: Footing> LogReader<'a, J> {
         generation: u64,
         undone: KeptPositions,
     ) -> LogReader<'a, J>
-        requires { AreOfLog log.now undone }
+        requires of_log { AreOfLog log.now undone }
+        requires begins { undone ≡ J.undone }
         ensures { result ≡ record { tables = schema.now; log = log.now; generation = generation } }
     {
         LogReader {
@@ -67,9 +75,10 @@ impl<'a, J: Footing> LogReader<'a, J> {
         }
     }
 
-    /// The pages that are undone then. Takes no memory.
+    /// The pages that are undone then: those that it began with, and what was undone since. Takes no memory.
     pub(crate) fn into_undone(self) -> KeptPositions
-        ensures { AreOfLog self.entry.log result }
+        ensures of_log { AreOfLog self.entry.log result }
+        ensures served { Served self.entry.log J.undone result }
     {
         let LogReader { undone, .. } = self;
         undone

@@ -1,15 +1,14 @@
 //! What a text is answered in a transaction: its rows are read from the pages of the log at its begin position.
-ghost use Rattle.std.specs.Prelude.{◌≡◌, ◌≤◌, List as Many, length, take, IfOk, OnErr};
+ghost use Rattle.std.specs.Prelude.{◌≡◌, ◌≤◌, length, IfOk, OnErr};
 ghost use Rattle.cdb_values.specs.Rows.{Rows};
 ghost use Rattle.phys_log.specs.Logs.{page_at, pages_of};
-ghost use Rattle.phys_log.specs.declared.entries.Entry.{Entry};
 ghost use Rattle.session_turns.specs.Answers.{IsAnswered};
 ghost use Rattle.session_turns.specs.Step.{World};
 ghost use Rattle.sql_run.specs.Texts.{plan_by};
 ghost use Rattle.sql_run.specs.Views.{text_in};
 ghost use Rattle.table_store.specs.Stored.{Stands};
-ghost use Rattle.undo_snapshot.specs.Kept.{AreOf};
-ghost use Rattle.undo_snapshot.specs.Positions.{AreOfLog};
+ghost use Rattle.undo_snapshot.specs.Kept.{AreOf, Further};
+ghost use Rattle.undo_snapshot.specs.Positions.{AreOfLog, Served};
 
 use cdb_values::{List, Reply, Schema};
 use log_replay::{LogPages, PagedLog};
@@ -20,12 +19,13 @@ use session_turns::answer_over;
 use sql_run::Prepared;
 use std::alloc::{AllocError, Global};
 use std::marker::Brand;
-use undo_snapshot::{Front, FrontGranter, KeptPages, KeptPositions, LogGranter, SnapshotPages};
+use undo_snapshot::{Front, FrontPages, KeptPages, KeptPositions, LogGranter, SnapshotPages};
 
 /// What a prepared text is answered in a session's transaction, over each history that has at its begin position the rows that
 /// the pages of the log stand for there. Where that is the log's last position, its pages are read as they stand, and none is
 /// copied. Else pages are taken from the log as it is now, and what came after that position is undone on the copies, which
-/// are kept for the transaction's next texts. The error is want of memory, after which the session is as before.
+/// are kept for the transaction's next texts: each of these begins with the pages that are kept. The error is want of memory,
+/// after which the session is as before.
 pub(crate) fn answer_text(
     alloc: Global,
     schema: &Schema,
@@ -44,6 +44,7 @@ pub(crate) fn answer_text(
     ensures unchanged { OnErr result (session.new ≡ session.old) }
     ensures begin { session.new.begin ≡ session.old.begin }
     ensures undone { AreOfLog log.now undone.new }
+    ensures served { Served log.now undone.old undone.new }
 {
     let begin = session.begin();
     if begin == log.entries().len() as u64 {
@@ -97,9 +98,10 @@ fn answer_earlier(
     ensures unchanged { OnErr result (session.new ≡ session.old) }
     ensures begin { session.new.begin ≡ session.old.begin }
     ensures undone { AreOfLog log.now undone.new }
+    ensures served { Served log.now undone.old undone.new }
 {
     let begin = session.begin();
-    let kept = kept_pages(alloc, undone, begin)?;
+    let kept = undone.take(alloc, begin)?;
     let granter = LogGranter::new(log, begin);
     let Undone { answer, kept } = answer_undone::<Brand>(
         alloc, schema, granter, begin, kept, session, prepared,
@@ -109,22 +111,6 @@ fn answer_earlier(
         Ok(replies) => Ok(replies),
         // The log is in memory, and none of its pages can be gone: this is want of memory.
         Err(_) => Err(AllocError),
-    }
-}
-
-/// The pages that are kept of a position; none where there are none yet.
-#[tactic(auto, using(undo_snapshot::proofs::KeptLemmas::none_kept))]
-fn kept_pages(
-    alloc: Global,
-    undone: &mut KeptPositions,
-    position: u64,
-) -> Result<KeptPages, AllocError>
-    ensures pages { (log : Many Entry) → AreOfLog log undone.old → IfOk result (AreOf (pages_of (take position log))) }
-    ensures others { (log : Many Entry) → AreOfLog log undone.old → AreOfLog log undone.new }
-{
-    match undone.take(position) {
-        Some(kept) => Ok(kept),
-        None => KeptPages::new(alloc),
     }
 }
 
@@ -148,6 +134,7 @@ fn answer_undone<F: Front>(
     requires front { granter ≡ F.front }
     requires position { position ≡ length F.front }
     requires kept { AreOf (pages_of F.front) kept }
+    requires begins { kept ≡ F.kept }
     requires stands { (rows : Rows) × Stands (pages_of F.front) schema.now rows }
     requires plan { (text_in prepared.now).plan ≡ plan_by schema.now (text_in prepared.now).meaning }
     ensures answered { (w : World) → w.tables ≡ schema.now
@@ -156,9 +143,10 @@ fn answer_undone<F: Front>(
     ensures unchanged { OnErr result.answer (session.new ≡ session.old) }
     ensures begin { session.new.begin ≡ session.old.begin }
     ensures kept { AreOf (pages_of F.front) result.kept }
+    ensures further { Further (pages_of F.front) kept result.kept }
 {
-    let granter: FrontGranter<F, LogGranter<'_>> = FrontGranter::new(granter);
     let pages = SnapshotPages::with_kept(alloc, granter, position, kept);
+    let pages: FrontPages<F, LogGranter<'_>> = FrontPages::new(pages);
     let mut source = PageRows::new(pages, schema);
     let answer = answer_over(alloc, schema, session, prepared, &mut source);
     let kept = source.pages.into_kept();

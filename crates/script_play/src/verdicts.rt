@@ -50,7 +50,7 @@ pub(crate) fn decided(
             outcome: Reply::Committed(session.begin()),
             added: None,
         }),
-        Some(request) => judged(alloc, schema, generation, log, known, session, &request),
+        Some(request) => judged(alloc, schema, generation, log, known, session, request),
     }
 }
 
@@ -62,14 +62,14 @@ fn judged(
     log: &PagedLog,
     known: &BlkSeq,
     session: &OsqlSession,
-    request: &CommitRequest,
+    request: CommitRequest,
 ) -> Result<Verdict, AllocError>
     ghost start: { Start }
     requires ready { IsReadyFor start schema.now log.now }
     requires known { known.now ≡ identities_of log.now }
     requires able { IsAble start schema.now (length log.now) log.now session.now.begin session.now.ops }
     requires fresh { IsUnusedIn log.now session.now.id }
-    requires asked { request_of session.now ≡ Some request.now }
+    requires asked { request_of session.now ≡ Some request }
     ensures { IfOk result (IsVerdictOn start generation schema.now log.now session.now) }
 {
     let now = log.entries().len() as u64;

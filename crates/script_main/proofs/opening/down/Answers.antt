@@ -14,5 +14,5 @@ returns c =
     IfOk-weaker c.reported.result
     (λ a. IsReportText report a.status a.text)
     (λ a. (a.status ≡ status.Done) × IsDownText script c.args.size a.text)
-    (λ a is. (is.status_is, down_text script c.args.size report a.text c.requires.runs c.requires.names told.lawful told.in_order told.first told.down told.none is.fits is.is_text))
+    (λ a is. (is.status_is, down_text script c.args.size report a.text c.requires.runs c.requires.names told.lawful told.in_order told.lawful_of_nodes told.in_nodes_order told.first told.down told.none is.fits is.is_text))
     c.reported.ensures

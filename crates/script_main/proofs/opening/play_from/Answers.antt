@@ -42,7 +42,7 @@ returns-in-Ok-clause-text g c =
     (b.place ∙ ap (λ (es : List Entry). length es) (sym c.requires.1.1.0)) p.lawful p.in_order p.entries p.schema p.changed p.rows p.stands p.small in
     IfOk-weaker c.told.result.answer (λ a. IsReportText c.in-Ok.played.report a.status a.text)
     (λ a. IsPlayedText c.args.script.now g.start c.args.begun.log new a.status a.text)
-    (λ a is. played_text c.args.script.now g.start c.args.begun.log c.in-Ok.played.log c.in-Ok.played.report new a.status a.text p.owner b.node b.same is_told p.serial p.faults p.cause p.kept p.further
+    (λ a is. played_text c.args.script.now g.start c.args.begun.log c.in-Ok.played.log c.in-Ok.played.report new a.status a.text p.owner b.node b.same is_told p.lawful_of_nodes p.in_nodes_order p.serial p.faults p.cause p.kept p.further
     c.told.ensures.left is)
     c.told.ensures.text
 

@@ -1,4 +1,4 @@
-use Rattle.std.proofs.Common.{◌≡◌, ◌∙◌, List, IfOk, ap, subst, sym}
+use Rattle.std.proofs.Common.{◌≡◌, ◌∙◌, List, IfOk, ap, refl, subst, sym}
 use Rattle.blkseq_table.specs.OfLogs.{identities_of}
 use Rattle.node_log.specs.Logged.{Logged}
 use Rattle.phys_log.specs.declared.entries.Entry.{Entry}
@@ -19,6 +19,7 @@ effect_of-effect-requires g c = record {
   plan = c.requires.1.1.1.1.1.1.0;
   of_text = c.requires.1.1.1.1.1.1.1;
   undone = subst (λ (es : List Entry). AreOfLog es c.take_undone-undone.result) (sym same) c.take_undone-undone.ensures.pages;
+  begins = refl;
 }
   where
     same : c.log.result.now ≡ c.args.log.now.entries
