@@ -5,7 +5,7 @@ use Rattle.std.proofs.lemmas.Bool.Decides.{Decides-eqb}
 use mathlib.Core.Logic.{◌⊎◌, inl, inr}
 use Rattle.core_lists.specs.Fronts.{Front}
 use Rattle.core_lists.specs.Fronts.Front.{front_nil, front_cons}
-use Rattle.core_lists.proofs.Fronts.{front_refl, front_length}
+use Rattle.core_lists.proofs.Fronts.{front_refl, front_length, front_rest}
 use Rattle.cluster_masters.specs.Reported.{IsReported}
 use Rattle.cluster_consensus.proofs.Invariant.{Inv}
 use Rattle.cluster_requests.specs.Requests.{Field}
@@ -27,7 +27,7 @@ use Rattle.report_laws.specs.Outcome.{IsEntered, IsCommitted as IsCommittedAt, I
 use Rattle.report_laws.specs.Places.{survives}
 use Rattle.cluster_masters.proofs.MasterLaws.{reported_has}
 use Rattle.node_reports.specs.Told.{IsToldAlong, MayBeCut}
-use Rattle.cluster_events.proofs.LineLists.{append_assoc, append_nil, along_more}
+use Rattle.cluster_events.proofs.LineLists.{append_assoc, append_nil, along_more, along_weaker}
 use Rattle.cluster_events.proofs.OwnLines.{knows}
 use Rattle.cluster_events.proofs.HistoryLaws.{good_of, Later, later_event, durable_later, pinged_by, begins_of}
 use Rattle.cluster_answers.proofs.AskLaws.{none_some}
@@ -57,10 +57,6 @@ pub record OwnLines (G : Setting) (s : ℕ) (f : Field) (p : Part) : Type 0 wher
   pub head : (o : Opened) → p.opened ≡ Some o → (t : Transaction) × IsAtTransaction p t
   pub some : (o : Opened) → p.opened ≡ Some o → p.mine ≢ []
 
-along_weaker : (P Q : Item → List Reply → Type 0) (items : List Item) (lines : List Numbered) → ((i : Item) (m : List Reply) → P i m → Q i m) → Along P items lines → Along Q items lines
-along_weaker P Q [] lines f a = a
-along_weaker P Q (i ∷ items) lines f a = (a.0, a.1, a.2, f i a.0 a.3, along_weaker P Q items a.1 f a.4)
-
 own_later : {f g : Field} {p : Part} (G : Setting) (s : ℕ) → Later f g → OwnLines G s f p → OwnLines G s g p
 own_later {f} {g} {p} G s on k = record { closed = k.closed; lines' = k.lines'; over' = along_weaker (Fine G s f) (Fine G s g) p.over k.closed (λ i m x. fine_later G s on i m x) k.over'; idle = k.idle; busy = λ o t e at. part_later G on (k.busy o t e at); head = k.head; some = k.some }
 
@@ -82,10 +78,6 @@ over_lines G s f p a i others e k x = record {
   head = λ o q. none_some q;
   some = λ o q. none_some q;
 }
-
-front_rest : {A : Type 0} {xs ys : List A} → Front xs ys → (zs : List A) × (xs ++ zs ≡ ys)
-front_rest {A} {xs} {ys} front_nil = (ys, refl)
-front_rest (front_cons {x = x} p) = let r = front_rest p in (r.0, ap (λ t. x ∷ t) r.1)
 
 cut_part : (G : Setting) (s : ℕ) (f : Field) (t : Transaction) (b : ℕ) (mine : List Reply) (c : Reply) → cuts c ≡ true → ((ops : List RowOp) (rest : List Reply) → MayBeCut (survives G.script (G.names s)) t.end ops mine rest c) → IsFrontAnswered G f t b mine → Fine G s f (Does t) (mine ++ c ∷ [])
 cut_part G s f t b mine c is may k =

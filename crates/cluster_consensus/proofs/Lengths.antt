@@ -20,7 +20,7 @@ Agrees g n l cs = Each (λ c. c.gen ≡ g → n ≤ length c.log → take n c.lo
 tail_of : {E : Type 0} {P : Claim E → Type 0} {c : Claim E} {cs : List (Claim E)} → Each P (c ∷ cs) → Each P cs
 tail_of e = record { at = λ x h. e.at x (there h) }
 
-passes : (a g n m : ℕ) → (a == g && leb n m) ≡ true → (a ≡ g) × (n ≤ m)
+pub passes : (a g n m : ℕ) → (a == g && leb n m) ≡ true → (a ≡ g) × (n ≤ m)
 passes a g n m h = grind (arith, nat_tests)
 
 fails : (a g n m : ℕ) → (a == g && leb n m) ≡ false → a ≡ g → n ≤ m → ⊥

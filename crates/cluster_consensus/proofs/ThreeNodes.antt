@@ -22,7 +22,7 @@ first_has {x = x} p = record { it = x; mem = here; is = p }
 pub second_has : {A : Type 0} {P : A → Type 0} {x y : A} {xs : List A} → P y → Has P (x ∷ y ∷ xs)
 second_has {y = y} p = record { it = y; mem = there here; is = p }
 
-no : {A : Type 0} → false ≡ true → A
+pub no : {A : Type 0} → false ≡ true → A
 no e = absurd (cc)
 
 but_one : (P : ℕ → Type 0) → P 2 → P 3 → (k : ℕ) → 0 < k → k ≤ 3 → not (k == 1) ≡ true → P k
@@ -50,10 +50,10 @@ one_and_two {P} p q = record { who = λ k. not (k == 3); many = let c : count 3 
 all_three : {P : ℕ → Type 0} → ((k : ℕ) → P k) → Majority 3 P
 all_three f = record { who = λ k. true; many = omega arith; hold = λ k q l e. f k }
 
-empty_fits : (xs : List Admit) → Each (λ a. a.accepted ≡ 0) xs → Fit 3 xs
+pub empty_fits : (xs : List Admit) → Each (λ a. a.accepted ≡ 0) xs → Fit 3 xs
 empty_fits xs all = record { at = λ a h. all_three (λ k. record { at = λ b t e. (let z : a.accepted ≡ 0 = all.at a h in omega arith) }) }
 
-apart : (a b : ℕ) → a < b → a ≢ b
+pub apart : (a b : ℕ) → a < b → a ≢ b
 apart a b l e = absurd (omega arith)
 
 pub opened_legal : Legal 3 opened

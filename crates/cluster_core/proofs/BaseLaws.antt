@@ -16,10 +16,10 @@ use Rattle.cluster_events.proofs.HistoryLaws.{steps as core_steps}
 use Rattle.cluster_masters.proofs.BehindLaws.{behind_base}
 use Rattle.cluster_masters.proofs.WholeLogs.{wholes, fronts}
 use Rattle.cluster_requests.specs.KeptEntries.{KeptEntry, plain, rows_behind, state_from, state_of}
-use Rattle.cluster_steps.specs.Guards.{ArePages, PagesStand}
+use Rattle.cluster_steps.specs.Guards.{ArePages, PagesStand, Lawful}
 use Rattle.cluster_steps.specs.Named.{steps, world}
 use Rattle.cluster_steps.specs.declared.events.Event.{Event}
-use Rattle.cluster_steps.proofs.StepLaws.{Lawful, core_legal, world_is}
+use Rattle.cluster_steps.proofs.StepLaws.{core_legal, world_is}
 use Rattle.core_lists.specs.Fronts.{Front}
 use Rattle.core_lists.specs.Fronts.Front.{front_nil, front_cons}
 use Rattle.core_lists.proofs.Fronts.{front_take, front_trans, front_append, front_shorter, take_length}

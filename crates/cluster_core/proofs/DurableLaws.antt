@@ -10,7 +10,8 @@ use Rattle.cluster_events.proofs.HistoryLaws.{steps as core_steps, steps_append 
 use Rattle.cluster_requests.specs.KeptEntries.{KeptEntry}
 use Rattle.cluster_steps.specs.Named.{steps, world}
 use Rattle.cluster_steps.specs.declared.events.Event.{Event}
-use Rattle.cluster_steps.proofs.StepLaws.{Lawful, core_legal, world_is, more_steps, steps_append}
+use Rattle.cluster_steps.proofs.StepLaws.{core_legal, world_is, more_steps, steps_append}
+use Rattle.cluster_steps.specs.Guards.{Lawful}
 use Rattle.core_lists.specs.Fronts.{Front}
 use Rattle.core_lists.specs.Lists.{In}
 

@@ -6,10 +6,9 @@ use Rattle.cluster_events.specs.Settings.{Setting}
 use Rattle.cluster_events.proofs.HistoryLaws.{steps as core_steps, add_step, core_is}
 use Rattle.cluster_masters.specs.WholeLogs.{Leaves, AllLeave}
 use Rattle.cluster_requests.specs.KeptEntries.{KeptEntry}
-use Rattle.cluster_steps.specs.Guards.{PagesStand, LeavesPages}
+use Rattle.cluster_steps.specs.Guards.{PagesStand, LeavesPages, Lawful}
 use Rattle.cluster_steps.specs.Named.{named, steps}
 use Rattle.cluster_steps.specs.declared.events.Event.{Event}
-use Rattle.cluster_steps.proofs.StepLaws.{Lawful}
 
 leave_step : (G : Setting) (g : List (ℕ × Step)) (i : ℕ) (e : Step) → LeavesPages G g i e → AllLeave PagesStand (core_steps g) → AllLeave PagesStand (add_step i e (core_steps g))
 leave_step G g i (Step.Node e) x all = (subst (λ (w : World KeptEntry). Leaves PagesStand (w.nodes i) e) (core_is g) x.0, all)

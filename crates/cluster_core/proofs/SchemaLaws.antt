@@ -16,10 +16,10 @@ use Rattle.cluster_masters.proofs.BehindLaws.{IsBehind, behind_base}
 use Rattle.cluster_masters.proofs.WholeLogs.{wholes}
 use Rattle.cluster_requests.specs.KeptEntries.{KeptEntry, plain}
 use Rattle.cluster_requests.specs.KeptEntries.KeptEntry.{Setup as SetupKept, Commit as CommitKept}
-use Rattle.cluster_steps.specs.Guards.{ArePages, PagesStand, HasSchema, IsOfSchema, LeavesPages}
+use Rattle.cluster_steps.specs.Guards.{ArePages, PagesStand, HasSchema, IsOfSchema, LeavesPages, Lawful}
 use Rattle.cluster_steps.specs.Named.{named, steps, world}
 use Rattle.cluster_steps.specs.declared.events.Event.{Event}
-use Rattle.cluster_steps.proofs.StepLaws.{Lawful, core_legal, world_is}
+use Rattle.cluster_steps.proofs.StepLaws.{core_legal, world_is}
 use Rattle.core_lists.specs.Fronts.{Front}
 use Rattle.core_lists.specs.Fronts.Front.{front_nil, front_cons}
 use Rattle.core_lists.specs.Lists.{In}

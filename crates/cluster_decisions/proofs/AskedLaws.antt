@@ -21,10 +21,10 @@ use Rattle.cluster_decisions.proofs.LedLaws.{at_least_led}
 use Rattle.cluster_masters.proofs.Bases.{some_founded, at_least_one}
 use Rattle.cluster_requests.specs.KeptEntries.{KeptEntry, plain, state_of}
 use Rattle.cluster_requests.specs.Requests.{Sent}
-use Rattle.cluster_steps.specs.Guards.{ArePages, PagesStand}
+use Rattle.cluster_steps.specs.Guards.{ArePages, PagesStand, Lawful}
 use Rattle.cluster_steps.specs.Named.{steps, world}
 use Rattle.cluster_steps.specs.declared.events.Event.{Event}
-use Rattle.cluster_steps.proofs.StepLaws.{Lawful, legal_steps, core_legal, inv_of, world_is}
+use Rattle.cluster_steps.proofs.StepLaws.{legal_steps, core_legal, inv_of, world_is}
 use Rattle.core_lists.specs.Fronts.{Front}
 use Rattle.core_lists.specs.Lists.{In, Has}
 use Rattle.log_rows.specs.History.{Ground, rows_from, rows_over, rows_over_at, tables_of}

@@ -22,14 +22,14 @@ use Rattle.phys_log.specs.declared.requests.CommitRequest.{CommitRequest}
 use Rattle.phys_log.specs.declared.requests.Decision.TheVariants as decision
 use Rattle.log_rows.specs.History.{Ground, rows_over, rows_from, rows_after, tables_of}
 use Rattle.table_edits.specs.Broken.{KeyPlace, broken_place, named}
-use Rattle.cluster_decisions.proofs.BrokenKeys.{first_is_named, first_is_told}
+use Rattle.table_edits.proofs.BrokenLemmas.{first_is_named, first_is_told}
 use Rattle.range_validate.specs.Used.{item_of}
-use Rattle.block_processor.specs.Changed.{FirstUse, IsFirstUse, first_use, or_use, found_of, changed_in}
+use Rattle.block_processor.specs.Changed.{IsFirstUse, found_of, changed_in}
 use Rattle.block_processor.specs.Conflicts.{conflict_of, ranges_of}
 use Rattle.block_processor.specs.Decided.{Decides as IsDecided, IsNew}
 use Rattle.block_processor.proofs.ChangedLaws.{none_used, one_used}
 use Rattle.block_processor.proofs.ChangedLemmas.{conflict_changed}
-use Rattle.session_language.specs.Touched.{Used, TheVersion, TheRange, first_used}
+use Rattle.session_language.specs.Touched.{Used, TheVersion, TheRange, first_used, FirstUse, first_use, or_use}
 use Rattle.report_laws.specs.View.{touched_in, IsUntouched}
 use Rattle.report_laws.specs.Outcome.{IsConflict, conflict_line}
 use Rattle.cdb_values.specs.declared.replies.Reply.{Reply}

@@ -1,4 +1,3 @@
-pub mod BrokenKeys
 pub mod DecisionLaws
 pub mod AskedLaws
 pub mod NamedLaws

@@ -248,7 +248,7 @@ in_last_or (z ∷ xs) (there m) = elim (in_last_or xs m) [ inl r ↦ inl (there 
 not_some : {A : Type 0} {k : ℕ} → Some k ≡ None → A
 not_some e = absurd (cc)
 
-some_is : {j k : ℕ} → Some j ≡ Some k → j ≡ k
+pub some_is : {j k : ℕ} → Some j ≡ Some k → j ≡ k
 some_is e = cc
 
 up_ticked : (i : ℕ) (h : List (ℕ × Event)) (e : Event) → turn e ≡ Rise → (count_of i ((i, e) ∷ h)) ≡ counted (count_of i h) Rise
@@ -274,14 +274,14 @@ stop_now h i o a = subst (λ z. SpentBy z o.ups o.falls (count_of (node_in z) ((
 start_now : (h : List (ℕ × Event)) (i : ℕ) (e : Event) (o : Ordered) → turn e ≡ Rise → o.act ≡ act.Start i → Spent ((i, e) ∷ h) o
 start_now h i e o t a = subst (λ z. SpentBy z o.ups o.falls (count_of (node_in z) ((i, e) ∷ h))) (sym a) (λ q. absurd (let w = ap (λ z. z.up) (up_ticked i h e t) in let w' : (count_of i ((i, e) ∷ h)).up ≡ true = w in cc))
 
-fired_unspent : (h : List (ℕ × Event)) (i : ℕ) (f : Fired) → (count_of i h).up ≡ true → f.node ≡ i → f.ups ≡ (count_of i h).ups → IsGone h f → ⊥
+pub fired_unspent : (h : List (ℕ × Event)) (i : ℕ) (f : Fired) → (count_of i h).up ≡ true → f.node ≡ i → f.ups ≡ (count_of i h).ups → IsGone h f → ⊥
 fired_unspent h i f up n u s =
     let s' = subst (λ z. (count_of z h).up ≡ true → f.ups < (count_of z h).ups) n s in
     let lt = s' up in
     let u' : f.ups ≡ (count_of i h).ups = u in
     omega arith
 
-fired_now : (h : List (ℕ × Event)) (i : ℕ) (f : Fired) → f.node ≡ i → IsGone ((i, Stop) ∷ h) f
+pub fired_now : (h : List (ℕ × Event)) (i : ℕ) (f : Fired) → f.node ≡ i → IsGone ((i, Stop) ∷ h) f
 fired_now h i f n = subst (λ z. (count_of z ((i, Stop) ∷ h)).up ≡ true → f.ups < (count_of z ((i, Stop) ∷ h)).ups) (sym n) (λ q. absurd (let e = ap (λ z. (cond z (counted (count_of i h) Fall) (count_of i h)).up) ((Decides-eqb i i).1 refl) in let q' : (cond (i == i) (counted (count_of i h) Fall) (count_of i h)).up ≡ true = q in cc))
 
 arm_is_none : (a : Act) (name : List ℕ) (when : Moment) → a ≡ act.Arm name when → IsOfNode a → ⊥

@@ -49,7 +49,7 @@ fewer_fed ((n, act.Start node) ∷ xs) d = omega arith
 fewer_fed ((n, act.Say session text) ∷ xs) d = omega arith
 fewer_fed ((n, act.Arm session moment) ∷ xs) d = omega arith
 
-fewer : (d : Duty) (e : Event) → length (heed d e).left ≤ length d.left
+pub fewer : (d : Duty) (e : Event) → length (heed d e).left ≤ length d.left
 fewer d Order = omega arith
 fewer d Obeyed = fewer_next d.left
 fewer d Barrier = fewer_next d.left

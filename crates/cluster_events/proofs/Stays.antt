@@ -282,7 +282,7 @@ left_before p Note q = ap (λ z. rest_of z) q
 left_before p (Finish a) q = ap (λ z. rest_of z) q
 left_before p _ q = q
 
-part_left : (G : Setting) (s : ℕ) (x : ℕ × Event) (h : List (ℕ × Event)) → (part G s h).left ≡ [] → (part G s (x ∷ h)).left ≡ []
+pub part_left : (G : Setting) (s : ℕ) (x : ℕ × Event) (h : List (ℕ × Event)) → (part G s h).left ≡ [] → (part G s (x ∷ h)).left ≡ []
 part_left G s x h q = go (s == x.0)
   where
     go : (b : Bool) → (cond b (moves (part G s h) x.1) (part G s h)).left ≡ []

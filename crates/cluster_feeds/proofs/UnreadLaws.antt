@@ -11,6 +11,7 @@ use Rattle.cluster_events.specs.Guards.{MayDo, IsLegal}
 use Rattle.cluster_events.specs.Parts.{Event, Part, part, moves, field, up_line, lines_by, lines}
 use Rattle.cluster_events.specs.Parts.Event.{Node, Stop, Settle, Repeat, Ask, Begun, Say, Note, Send, Finish, Move, Order, Obeyed, Fire, Barrier, Fed, FedAgain}
 use Rattle.cluster_events.specs.Settings.{Setting}
+use Rattle.cluster_events.proofs.Charges.{some_is}
 use Rattle.node_reports.specs.Fed.{is_read}
 use Rattle.cluster_requests.specs.KeptEntries.{KeptEntry}
 use Rattle.core_lists.proofs.Lists.{each_add, each_none}
@@ -25,9 +26,6 @@ asks_more h i (Node e) t k = asks_row (field h).core e t k
 asks_more h i Stop t k = k
 asks_more h i (Ask u) t k = asks_row (field h).core (Asks u) t k
 asks_more h i _ t k = k
-
-some_is : {j k : ℕ} → Some j ≡ Some k → j ≡ k
-some_is e = cc
 
 -- an actor asked what it waits for
 own_asked : (G : Setting) (h : List (ℕ × Event)) (i : ℕ) (p : Part) (e : Event) (t : ℕ) → (p.asked ≡ Some t → Has (λ u. u ≡ t) (field h).core.asks) → (moves p e).asked ≡ Some t → Has (λ u. u ≡ t) (field ((i, e) ∷ h)).core.asks
@@ -75,7 +73,7 @@ node_unread G before p i (BackGrow l) = each_add refl each_none
 node_unread G before p i (BackAppend x) = each_add refl each_none
 node_unread G before p i _ = each_none
 
-not_own : {A : Type 0} (i : ℕ) → i ≡ 0 → (0 == i) ≡ false → A
+pub not_own : {A : Type 0} (i : ℕ) → i ≡ 0 → (0 == i) ≡ false → A
 not_own i z ne = absurd (let y = (Decides-eqb 0 i).1 (sym z) in cc)
 
 -- an event behind which the operator waits as it did before it

@@ -1,6 +1,6 @@
 -- The adopted log of a master that nobody followed is durable as a front of a later master's.
 use Rattle.std.proofs.Common.{◌≡◌, ◌≢◌, ℕ, ◌<◌, ◌≤◌, [], ◌∷◌, arith, refl}
-use Rattle.std.specs.Prelude.{◌==◌, not, true, false, zero, suc}
+use Rattle.std.specs.Prelude.{◌==◌, not, true, zero, suc}
 use mathlib.Core.Logic.{inr}
 use Rattle.core_lists.specs.Lists.{In, Each}
 use Rattle.core_lists.specs.Majorities.{Majority, count}
@@ -10,14 +10,12 @@ use Rattle.cluster_consensus.specs.Facts.{Admit}
 use Rattle.cluster_consensus.specs.Histories.{Legal, after}
 use Rattle.cluster_consensus.specs.Durable.{DurableIn}
 use Rattle.cluster_consensus.specs.Enabled.{Fit}
+use Rattle.cluster_consensus.proofs.ThreeNodes.{no}
 use Rattle.core_lists.proofs.Lists.{each_add, each_none}
 use Rattle.cluster_masters.specs.TwoMasters.{two_masters}
 
 all3 : {P : ℕ → Type 0} → ((k : ℕ) → P k) → Majority 3 P
 all3 f = record { who = λ k. true; many = omega arith; hold = λ k q l e. f k }
-
-no : {A : Type 0} → false ≡ true → A
-no e = absurd (cc)
 
 not1 : (P : ℕ → Type 0) → P 2 → P 3 → (k : ℕ) → 0 < k → k ≤ 3 → not (k == 1) ≡ true → P k
 not1 P p q (suc zero) a b e = no e

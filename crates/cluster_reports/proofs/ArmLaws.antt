@@ -12,15 +12,16 @@ use Rattle.cluster_events.proofs.OwnLines.{knows, same_name}
 use Rattle.cluster_events.specs.Arms.{Fired, new_fires, fires, fired_by, last_fired, IsStopArmed}
 use Rattle.cluster_events.specs.ByScript.{Heeds, AllHeed}
 use Rattle.cluster_events.specs.Guards.{AreApart, MayDo, IsLegal, AllBeyond}
-use Rattle.cluster_events.specs.Operator.{act_at, counted, count_of, IsStopOrdered}
-use Rattle.cluster_events.specs.Operator.Turn.{Fall}
+use Rattle.cluster_events.specs.Operator.{act_at, count_of, IsStopOrdered}
 use Rattle.cluster_events.specs.Parts.{Event, Part, part, moves, barriers as barriers_of, up_line, lines_by, lines}
 use Rattle.cluster_events.specs.Parts.Event.{Node, Stop, Begun, Say, Note, Finish, Fire, Barrier, Fed, FedAgain}
 use Rattle.cluster_events.specs.Settings.{Setting, basis_from, lines_to_do, closing}
+use Rattle.cluster_events.proofs.Charges.{fired_unspent, fired_now}
 use Rattle.cluster_requests.specs.KeptEntries.{KeptEntry}
+use Rattle.cluster_answers.proofs.OutcomeLaws.{some_same}
 use Rattle.cluster_reports.proofs.OrderLaws.{armed_by, FitsEvent, FitsArms, Run, run_tail}
 use Rattle.cluster_reports.proofs.PlaceLaws.{two_ends}
-use Rattle.cluster_reports.proofs.RestLaws.{some_same, not_some, behind_front, behind_more, Across, across}
+use Rattle.cluster_reports.proofs.RestLaws.{not_some, behind_front, behind_more, Across, across}
 use Rattle.cluster_reports.proofs.SessionLaws.{passed_all, passed_few, step_of}
 use Rattle.cluster_reports.specs.Runs.{FitsScript, FollowsScript}
 use Rattle.cluster_reports.specs.SessionLines.{behind, behind_lines, are_over, barriers_passed, IsAtNext}
@@ -89,16 +90,6 @@ fit_arms G body (x ∷ h) all arms agree = (one x.0 x.1 all agree, fit_arms G bo
     one i _ all agree = tt
 
 -- no arm stops two nodes
-
-fired_unspent : (h : List (ℕ × Event)) (i : ℕ) (f : Fired) → (count_of i h).up ≡ true → f.node ≡ i → f.ups ≡ (count_of i h).ups → IsGone h f → ⊥
-fired_unspent h i f up n u s =
-    let s' = subst (λ z. (count_of z h).up ≡ true → f.ups < (count_of z h).ups) n s in
-    let lt = s' up in
-    let u' : f.ups ≡ (count_of i h).ups = u in
-    omega arith
-
-fired_now : (h : List (ℕ × Event)) (i : ℕ) (f : Fired) → f.node ≡ i → IsGone ((i, Stop) ∷ h) f
-fired_now h i f n = subst (λ z. (count_of z ((i, Stop) ∷ h)).up ≡ true → f.ups < (count_of z ((i, Stop) ∷ h)).ups) (sym n) (λ q. absurd (let e = ap (λ z. (cond z (counted (count_of i h) Fall) (count_of i h)).up) ((Decides-eqb i i).1 refl) in let q' : (cond (i == i) (counted (count_of i h) Fall) (count_of i h)).up ≡ true = q in cc))
 
 abbrev pub IsSpent : List (ℕ × Event) → ℕ → Type 0
 IsSpent h k = Has (λ f. (f.line ≡ k) × IsGone h f) (fires h)

@@ -18,8 +18,9 @@ use Rattle.cluster_events.specs.Operator.{Duty, duty, IsOfNode}
 use Rattle.cluster_events.specs.Parts.{Event, part, moves, field, lines}
 use Rattle.cluster_events.specs.Parts.Event.{Node, Stop, Settle, Repeat, Ask, Begun, Say, Note, Send, Finish, Move, Order, Obeyed, Fire, Barrier, Fed, FedAgain}
 use Rattle.cluster_events.specs.Settings.{Setting, basis_from, lines_to_do}
+use Rattle.cluster_events.proofs.Charges.{some_is}
 use Rattle.cluster_feeds.proofs.FedLaws.{later_trans, all_in, unread_all, fed_again}
-use Rattle.cluster_feeds.proofs.UnreadLaws.{AreUnread, asked_in, asks_long, unread_since}
+use Rattle.cluster_feeds.proofs.UnreadLaws.{AreUnread, asked_in, asks_long, unread_since, not_own}
 use Rattle.cluster_reports.proofs.OrderLaws.{is_calm, heed_calm}
 use Rattle.cluster_reports.proofs.PlaceLaws.{two_ends}
 use Rattle.cluster_reports.proofs.SessionLaws.{AreNotSaid, NoBarrier, is_barrier_event, since, lines_since, hush}
@@ -69,12 +70,6 @@ names_none d (line.Fed p ∷ ls) a b = absurd (let e = b.at (line.Fed p) here in
 not_said_all : (ls : List Line) → AreNotSaid ls → AllByRecursion (λ l. is_sessions l ≡ false) ls
 not_said_all [] k = tt
 not_said_all (l ∷ ls) k = (k.at l here, not_said_all ls (record { at = λ x m. k.at x (there m) }))
-
-some_is : {j k : ℕ} → Some j ≡ Some k → j ≡ k
-some_is e = cc
-
-not_own : {A : Type 0} (i : ℕ) → i ≡ 0 → (0 == i) ≡ false → A
-not_own i z ne = absurd (let y = (Decides-eqb 0 i).1 (sym z) in cc)
 
 module _ (G : Setting) where
   -- the operator waits for its ask at a feed

@@ -10,7 +10,7 @@ use Rattle.core_lists.specs.Lists.In.{here, there}
 use Rattle.core_lists.specs.Fronts.{Front}
 use Rattle.core_lists.specs.Fronts.Front.{front_nil, front_cons}
 use Rattle.core_lists.proofs.Lists.{each_add, each_none}
-use Rattle.core_lists.proofs.Fronts.{front_trans, front_length, front_append, take_length}
+use Rattle.core_lists.proofs.Fronts.{front_trans, front_length, front_append, take_length, front_rest}
 use Rattle.cluster_consensus.specs.Facts.{Claim}
 use Rattle.cluster_masters.specs.FirstMaster.{IsFirstMaster}
 use Rattle.cluster_masters.specs.Reported.{IsReported}
@@ -117,10 +117,6 @@ along_low P Q base f [] ls k a = a
 along_low P Q base f (i ∷ items) ls k a =
     let whole = subst (λ z. Each (λ (x : Numbered). Low base x.1) z) a.2 k in
     (a.0, a.1, a.2, f i a.0 (begins_low base (number_of i) a.0 (each_left (numbered (number_of i) a.0) a.1 whole)) a.3, along_low P Q base f items a.1 (each_right (numbered (number_of i) a.0) a.1 whole) a.4)
-
-pub front_rest : {A : Type 0} {xs ys : List A} → Front xs ys → (zs : List A) × (xs ++ zs ≡ ys)
-front_rest {A} {xs} {ys} front_nil = (ys, refl)
-front_rest (front_cons {x = x} p) = let r = front_rest p in (r.0, ap (λ t. x ∷ t) r.1)
 
 taken_front : (xs : List KeptEntry) (i : ℕ) (y : KeptEntry) → slice_get xs i ≡ Some y → Front (take i xs ++ y ∷ []) xs
 taken_front [] i y g = absurd (cc)

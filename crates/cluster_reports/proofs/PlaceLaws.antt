@@ -1,5 +1,5 @@
 -- The operator's lines have their places in the lines of a history.
-use Rattle.std.proofs.Common.{◌≡◌, ℕ, ◌+◌, ◌<◌, ◌≤◌, List, [], ◌∷◌, ◌++◌, length, arith, refl, ap, sym, subst, ◌∙◌}
+use Rattle.std.proofs.Common.{◌≡◌, ℕ, ◌+◌, ◌<◌, List, [], ◌∷◌, ◌++◌, length, arith, refl, ap, sym, subst, ◌∙◌}
 use Rattle.std.specs.Prelude.{true, false, if◌then◌else◌}
 use mathlib.Core.Logic.{◌⊎◌, inl, inr}
 use Rattle.cluster_events.specs.ByScript.{Heeds, AllHeed}
@@ -7,6 +7,7 @@ use Rattle.cluster_events.specs.Operator.{operators_if, operators_from, Duty, ne
 use Rattle.cluster_events.specs.Parts.{Event}
 use Rattle.cluster_events.specs.Parts.Event.{Order, Obeyed, Barrier, Fed, FedAgain}
 use Rattle.cluster_events.specs.Settings.{Setting}
+use Rattle.cluster_events.proofs.Obeying.{fewer}
 use Rattle.cluster_reports.proofs.OrderLaws.{is_calm, Calm, calm_tail}
 use Rattle.cluster_reports.proofs.SessionLaws.{is_barrier_event, NoBarrier}
 use Rattle.core_lists.proofs.Lists.{each_add, each_none}
@@ -43,28 +44,6 @@ calm_bare (x ∷ a) k = each_add (one x.1 (k.at x here)) (calm_bare a (calm_tail
     one : (e : Event) → is_calm e ≡ true → is_barrier_event e ≡ false
     one Barrier q = absurd (cc)
     one _ q = refl
-
--- the operator's lines that are left become fewer, where it goes on
-fewer_next : (xs : List (ℕ × Act)) → length (next_left xs) ≤ length xs
-fewer_next [] = omega arith
-fewer_next (x ∷ xs) = omega arith
-
-fewer_fed : (xs : List (ℕ × Act)) (d : Duty) → length (fed_over xs d).left ≤ length d.left
-fewer_fed [] d = omega arith
-fewer_fed ((n, act.Feed) ∷ xs) d = fewer_next d.left
-fewer_fed ((n, act.Barrier) ∷ xs) d = omega arith
-fewer_fed ((n, act.Stop node) ∷ xs) d = omega arith
-fewer_fed ((n, act.Start node) ∷ xs) d = omega arith
-fewer_fed ((n, act.Say session text) ∷ xs) d = omega arith
-fewer_fed ((n, act.Arm session moment) ∷ xs) d = omega arith
-
-fewer : (d : Duty) (e : Event) → length (heed d e).left ≤ length d.left
-fewer d Order = omega arith
-fewer d Obeyed = fewer_next d.left
-fewer d Barrier = fewer_next d.left
-fewer d (Fed p g) = fewer_fed d.left d
-fewer d (FedAgain p) = fewer_fed d.left d
-fewer d _ = omega arith
 
 passes : (left : List (ℕ × Act)) (k : ℕ) (a : Act) (rest : List (ℕ × Act)) → left ≡ (k, a) ∷ rest → length (next_left left) < length left
 passes left k a rest e = subst (λ z. length (next_left z) < length z) (sym e) (omega arith)

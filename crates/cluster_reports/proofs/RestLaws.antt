@@ -4,6 +4,7 @@ use Rattle.std.proofs.lemmas.Bool.Decides.{Decides-eqb}
 use mathlib.Core.Logic.{◌⊎◌, inl, inr}
 use Rattle.cdb_values.specs.declared.replies.Reply.{Reply}
 use Rattle.std.proofs.lemmas.List.{append-nil}
+use Rattle.cluster_answers.proofs.OutcomeLaws.{some_same}
 use Rattle.cluster_reports.specs.SessionLines.{with_reply, piece_at, behind_piece, behind}
 use Rattle.node_reports.specs.Pieces.{is_over, IsItsPiece, ArePieces}
 use Rattle.report_laws.specs.Play.{is_own, number_told}
@@ -11,9 +12,6 @@ use Rattle.report_laws.specs.Told.{numbered, Numbered}
 use Rattle.report_laws.specs.Work.{Place, next_place, place_from}
 use Rattle.session_language.specs.Language.{Language}
 use Rattle.session_language.specs.Replies.{are_none, are_up_to, is_last_of}
-
-pub some_same : {A : Type 0} {x y : A} → Some x ≡ Some y → x ≡ y
-some_same e = cc
 
 pub not_some : {A B : Type 0} {x : A} → None ≡ Some x → B
 not_some e = absurd (cc)

@@ -27,12 +27,7 @@ use Rattle.cluster_answers.specs.Entries.{New}
 use Rattle.cluster_answers.specs.Entries.{Appended}
 use Rattle.cluster_answers.proofs.AgreeLaws.{get_of, get_last, Agree, agree_front}
 use Rattle.cluster_answers.proofs.OutcomeLaws.{take_whole, rows_last, entry_last}
-
-rising_above : (k : ℕ) (is : List Item) (t : Transaction) → Rising k is → In (Does t) is → k < t.number
-rising_above k [] t r m = absurd (nothing m)
-rising_above k (Lone a ∷ is) t r (there m) = rising_above k is t r m
-rising_above k (Does u ∷ is) t r here = r.0
-rising_above k (Does u ∷ is) t r (there m) = let a = rising_above u.number is t r.1 m in let b = r.0 in omega arith
+use Rattle.cluster_answers.proofs.NumberLaws.{rising_above}
 
 pub found : (k n : ℕ) (is : List Item) (t : Transaction) → Rising k is → In (Does t) is → n ≡ t.number → numbered_among n is ≡ Some t
 found k n [] t r m e = absurd (nothing m)

@@ -22,10 +22,10 @@ use Rattle.cluster_events.proofs.HistoryLaws.{steps as core_steps, Pinged, begin
 use Rattle.cluster_facts.proofs.ToldLaws.{shipped_accepted}
 use Rattle.cluster_requests.specs.KeptEntries.{KeptEntry, state_of}
 use Rattle.cluster_sessions.proofs.PingLaws.{reached, pings_of_nodes}
-use Rattle.cluster_steps.specs.Guards.{IsNamed}
+use Rattle.cluster_steps.specs.Guards.{IsNamed, Lawful}
 use Rattle.cluster_steps.specs.Named.{log_named, rows_begun, steps, world}
 use Rattle.cluster_steps.specs.declared.events.Event.{Event}
-use Rattle.cluster_steps.proofs.StepLaws.{Lawful, legal_steps, core_legal, inv_of, world_is}
+use Rattle.cluster_steps.proofs.StepLaws.{legal_steps, core_legal, inv_of, world_is}
 
 -- two logs that begin alike up to there
 apart : {A : Type 0} {a b : List A} → Front a b ⊎ Front b a → (k : ℕ) → k ≤ length a → k ≤ length b → take k a ≡ take k b

@@ -13,7 +13,8 @@ use Rattle.cluster_requests.specs.Identities.{HasAt}
 use Rattle.cluster_requests.specs.KeptEntries.{KeptEntry}
 use Rattle.cluster_steps.specs.Named.{steps, world}
 use Rattle.cluster_steps.specs.declared.events.Event.{Event}
-use Rattle.cluster_steps.proofs.StepLaws.{Lawful, core_legal, world_is}
+use Rattle.cluster_steps.proofs.StepLaws.{core_legal, world_is}
+use Rattle.cluster_steps.specs.Guards.{Lawful}
 use Rattle.phys_log.specs.declared.entries.CommitId.{CommitId}
 
 pub kept_by : (G : Setting) (h : List (ℕ × Event)) (i j position : ℕ) (id : CommitId) (d : Claim KeptEntry) → Lawful G h → ((world G h).nodes i).leading ≡ true → HasAt id position ((world G h).nodes i).log

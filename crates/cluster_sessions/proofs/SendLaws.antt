@@ -8,10 +8,9 @@ use Rattle.cluster_events.specs.Parts.{Opened, Part, part}
 use Rattle.cluster_events.specs.Settings.{Setting, run_alone}
 use Rattle.cluster_requests.specs.KeptEntries.{KeptEntry}
 use Rattle.cluster_sessions.proofs.FoundLaws.{named_at, rows_at_begin}
-use Rattle.cluster_steps.specs.Guards.{IsToSend}
+use Rattle.cluster_steps.specs.Guards.{IsToSend, Lawful}
 use Rattle.cluster_steps.specs.Named.{begin_of, rows_begun, sent_of, steps, transaction_of, world}
 use Rattle.cluster_steps.specs.declared.events.Event.{Event}
-use Rattle.cluster_steps.proofs.StepLaws.{Lawful}
 use Rattle.report_laws.specs.Work.{Transaction}
 use Rattle.session_language.specs.Language.{Answered}
 use Rattle.session_language.specs.Touched.{used_at}

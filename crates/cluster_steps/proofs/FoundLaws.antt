@@ -1,8 +1,7 @@
 -- What a generation and a length find was shipped, and is found ever after.
 use Rattle.std.proofs.Common.{ℕ, ◌≡◌, ◌<◌, ◌≤◌, List, [], ◌∷◌, length, take, arith, refl, sym, subst, ap, ◌∙◌}
 use Rattle.std.specs.Prelude.{zero, suc, ◌==◌, ◌&&◌, leb, Bool, true, false, cond, Option, Some, None, unwrap_or}
-use Rattle.std.proofs.lemmas.Bool.Decides.{nat_tests}
-use Rattle.std.proofs.lemmas.Option.{same_Some}
+use Rattle.std.proofs.lemmas.Option.{none-some, same_Some}
 use Rattle.core_lists.specs.Fronts.{Front}
 use Rattle.core_lists.specs.Lists.{In, Has}
 use Rattle.core_lists.specs.Lists.In.{here, there}
@@ -10,7 +9,7 @@ use Rattle.core_lists.proofs.Fronts.{front_take, length_take, take_length}
 use Rattle.cluster_consensus.specs.Facts.{Claim, World}
 use Rattle.cluster_consensus.specs.Shipped.{find_ship, either_of, find_log}
 use Rattle.cluster_consensus.proofs.Invariant.{Inv}
-use Rattle.cluster_consensus.proofs.Lengths.{front_found}
+use Rattle.cluster_consensus.proofs.Lengths.{front_found, passes}
 use Rattle.cluster_requests.specs.KeptEntries.{KeptEntry}
 use Rattle.cluster_steps.specs.Guards.{IsNamed}
 use Rattle.cluster_steps.specs.Named.{log_named}
@@ -20,14 +19,8 @@ use Rattle.election_core.specs.More.{TellsMore}
 abbrev pub IsShip : {E : Type 0} → ℕ → ℕ → List E → List (Claim E) → Type 0
 IsShip g n l cs = Has (λ c. (c.gen ≡ g) × Front l c.log × (length l ≡ n)) cs
 
-passes : (a g n m : ℕ) → (a == g && leb n m) ≡ true → (a ≡ g) × (n ≤ m)
-passes a g n m h = grind (arith, nat_tests)
-
-no_some : {A : Type 0} (a : A) → None ≡ Some a → ⊥
-no_some a e = absurd (cc)
-
 ship_of : {E : Type 0} (g n : ℕ) (l : List E) (cs : List (Claim E)) → find_ship g n cs ≡ Some l → IsShip g n l cs
-ship_of g n l [] e = absurd (no_some l e)
+ship_of g n l [] e = absurd (none-some l e)
 ship_of {E} g n l (c ∷ cs) e = go (ship_of g n l cs) (c.gen == g && leb n (length c.log)) refl e
   where
     go : (find_ship g n cs ≡ Some l → IsShip g n l cs) → (b : Bool) → (c.gen == g && leb n (length c.log)) ≡ b → cond b (Some (take n c.log)) (find_ship g n cs) ≡ Some l → IsShip g n l (c ∷ cs)
@@ -43,7 +36,7 @@ ship_of {E} g n l (c ∷ cs) e = go (ship_of g n l cs) (c.gen == g && leb n (len
 
 -- by a node from 1 to k
 pub found_ship : {E : Type 0} (w : World E) (g n k : ℕ) (l : List E) → find_log w g n k ≡ Some l → (m : ℕ) × (0 < m) × (m ≤ k) × IsShip g n l (w.nodes m).ships
-found_ship w g n zero l e = absurd (no_some l e)
+found_ship w g n zero l e = absurd (none-some l e)
 found_ship {E} w g n (suc k) l e = go (found_ship w g n k l) (find_ship g n (w.nodes (suc k)).ships) refl e
   where
     go : (find_log w g n k ≡ Some l → (m : ℕ) × (0 < m) × (m ≤ k) × IsShip g n l (w.nodes m).ships) → (x : Option (List E)) → find_ship g n (w.nodes (suc k)).ships ≡ x → either_of x (find_log w g n k) ≡ Some l

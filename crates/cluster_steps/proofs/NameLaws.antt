@@ -20,7 +20,7 @@ use Rattle.phys_log.specs.declared.entries.Entry.{Entry}
 use Rattle.report_laws.specs.Work.{Item, Does, Lone}
 
 -- how a node comes up
-up_same : (n : ℕ) (w v : World KeptEntry) (o : Own KeptEntry) (how : Woken) (p a : ℕ) (es : List Entry) → Inv n v → TellsMore w v → IsTold n w how a es
+pub up_same : (n : ℕ) (w v : World KeptEntry) (o : Own KeptEntry) (how : Woken) (p a : ℕ) (es : List Entry) → Inv n v → TellsMore w v → IsTold n w how a es
     → (named_up n v o how p a es ≡ named_up n w o how p a es) × IsTold n v how a es
 up_same n w v o (woken.First rows) p a es inv more x = (refl, tt)
 up_same n w v o woken.AsLeft p a es inv more x = (refl, tt)
@@ -30,7 +30,7 @@ up_same n w v o woken.Took p a es inv more x =
     (ap (λ (t : List KeptEntry). cond (a == o.accepted) (Core.BackGrow t) (Core.BackTake a t)) f.0, f.1)
 up_same n w v o woken.Appended p a es inv more x = (refl, tt)
 
-up_stays : (n i : ℕ) (w v : World KeptEntry) (how : Woken) (p a : ℕ) (es : List Entry) → Inv n v → TellsMore w v → v.nodes i ≡ w.nodes i
+pub up_stays : (n i : ℕ) (w v : World KeptEntry) (how : Woken) (p a : ℕ) (es : List Entry) → Inv n v → TellsMore w v → v.nodes i ≡ w.nodes i
     → IsTold n w how a es → IsFound (change i (w.nodes i) (named_up n w (w.nodes i) how p a es)) p a es
     → (named_up n v (v.nodes i) how p a es ≡ named_up n w (w.nodes i) how p a es) × IsTold n v how a es × IsFound (change i (v.nodes i) (named_up n v (v.nodes i) how p a es)) p a es
 up_stays n i w v how p a es inv more node told found =

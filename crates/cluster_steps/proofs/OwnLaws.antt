@@ -10,11 +10,11 @@ use Rattle.cluster_consensus.proofs.Kept.{self_row}
 use Rattle.cluster_events.specs.Parts.{Event as Step, part, field}
 use Rattle.cluster_events.specs.Settings.{Setting}
 use Rattle.cluster_requests.specs.KeptEntries.{KeptEntry}
-use Rattle.cluster_steps.specs.Guards.{IsExact}
+use Rattle.cluster_steps.specs.Guards.{IsExact, Lawful}
 use Rattle.cluster_steps.specs.Named.{named, steps, world}
 use Rattle.cluster_steps.specs.declared.events.Event.{Event}
 use Rattle.cluster_steps.proofs.NameLaws.{same_name}
-use Rattle.cluster_steps.proofs.StepLaws.{Lawful, inv_of, idle, idle_part, ticket, ticket_of, named_ticket}
+use Rattle.cluster_steps.proofs.StepLaws.{inv_of, idle, idle_part, ticket, ticket_of, named_ticket}
 use Rattle.cluster_steps.proofs.TellsLaws.{tells, tells_on, tells_step}
 use Rattle.election_core.specs.More.{TellsMore}
 

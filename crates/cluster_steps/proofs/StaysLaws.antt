@@ -12,12 +12,12 @@ use Rattle.cluster_events.specs.Settings.{Setting, lines_to_do}
 use Rattle.cluster_events.proofs.Stays.{stays_long, asks_long, by_script_long, ask_by_script_long}
 use Rattle.cluster_masters.specs.WholeLogs.{Leaves}
 use Rattle.cluster_requests.specs.KeptEntries.{KeptEntry}
-use Rattle.cluster_steps.specs.Guards.{MayDo, IsAllowed, IsExact, LeavesPages, PagesStand, HasSchema}
+use Rattle.cluster_steps.specs.Guards.{MayDo, IsAllowed, IsExact, LeavesPages, PagesStand, HasSchema, Lawful}
 use Rattle.cluster_steps.specs.Named.{named, steps, world}
 use Rattle.cluster_steps.specs.declared.events.Event.{Event}
 use Rattle.cluster_steps.specs.declared.events.Event.TheVariants as event
 use Rattle.cluster_steps.proofs.NameLaws.{same_name}
-use Rattle.cluster_steps.proofs.StepLaws.{Lawful, legal_steps, inv_of, more_steps, steps_append, idle_more, idle, idle_part, asks_below, ticket, ticket_of, named_ticket}
+use Rattle.cluster_steps.proofs.StepLaws.{legal_steps, inv_of, more_steps, steps_append, idle_more, idle, idle_part, asks_below, ticket, ticket_of, named_ticket}
 use Rattle.cluster_steps.proofs.TellsLaws.{tells}
 
 pages_on : (G : Setting) (g k : List (ℕ × Step)) (i : ℕ) (e : Step) → (field k).core.nodes i ≡ (field g).core.nodes i → LeavesPages G g i e → LeavesPages G k i e

@@ -2,7 +2,7 @@
 use Rattle.std.proofs.Common.{ℕ, ◌≡◌, ◌≢◌, ◌<◌, List, [], ◌∷◌, ◌++◌, length, arith, refl, sym, subst, ap, ◌∙◌}
 use Rattle.std.specs.Prelude.{◌==◌, ◌+◌, suc, Bool, true, false, cond, Option, Some, None}
 use Rattle.std.proofs.lemmas.Option.{same_Some}
-use Rattle.actor_trace.specs.History.{IsLegal, entries_of}
+use Rattle.actor_trace.specs.History.{entries_of}
 use Rattle.actor_trace.proofs.Entries.{idle_step, not_eq}
 use Rattle.core_lists.specs.Lists.{In, Each}
 use Rattle.core_lists.specs.Lists.In.{here, there}
@@ -19,19 +19,16 @@ use Rattle.cluster_events.specs.Settings.{Setting, lines_to_do}
 use Rattle.cluster_events.proofs.HistoryLaws.{steps as core_steps, core_is, steps_legal, good_of}
 use Rattle.cluster_requests.specs.KeptEntries.{KeptEntry}
 use Rattle.cluster_requests.specs.Requests.{field_after}
-use Rattle.cluster_steps.specs.Guards.{MayDo}
 use Rattle.cluster_steps.specs.Named.{named, named_settled, named_reply, reply_in, steps, world}
 use Rattle.cluster_steps.specs.declared.events.Event.{Event}
 use Rattle.cluster_steps.specs.declared.events.Event.TheVariants as event
+use Rattle.cluster_steps.specs.Guards.{Lawful}
 use Rattle.cdb_values.specs.declared.replies.Reply.{Reply}
 use Rattle.cdb_values.specs.declared.tables.TableDef.{TableDef}
 use Rattle.phys_log.specs.declared.entries.CommitId.{CommitId}
 use Rattle.phys_log.specs.declared.requests.Decision.{Decision}
 use Rattle.phys_log.specs.declared.requests.Decision.TheVariants as decision
 use Rattle.report_laws.specs.Work.{Item, Does, Lone}
-
-abbrev pub Lawful : Setting → List (ℕ × Event) → Type 0
-Lawful G h = IsLegal (λ g i e. MayDo G g i e) h
 
 pub legal_steps : (G : Setting) (h : List (ℕ × Event)) → Lawful G h → IsLegalWhole G (steps G h)
 legal_steps G [] l = tt

@@ -1,6 +1,7 @@
 -- When an actor may do an event, after which history: the event says exactly what it does, it may happen there, it is by
 -- the script, and the pages of a log that it makes stand for the rows that it keeps.
 use Rattle.std.specs.Prelude.{ℕ, ◌≡◌, ◌⊎◌, Some, List, [], ◌∷◌, length, map}
+use Rattle.actor_trace.specs.History.{IsLegal}
 use Rattle.cdb_values.specs.declared.replies.Reply.{Reply}
 use Rattle.cdb_values.specs.declared.tables.TableDef.{TableDef}
 use Rattle.cluster_consensus.specs.Events.{Event as Core, change}
@@ -110,3 +111,7 @@ pub record MayDo (G : Setting) (h : List (ℕ × Event)) (i : ℕ) (e : Event) :
   pub plan : IsPlan G
   pub exact : IsExact G (steps G h) i e
   pub allowed : IsAllowed G (steps G h) i (named G (steps G h) i e)
+
+-- each event might happen where it happened
+abbrev pub Lawful : Setting → List (ℕ × Event) → Type 0
+Lawful G h = IsLegal (λ g i e. MayDo G g i e) h

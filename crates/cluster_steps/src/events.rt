@@ -1,4 +1,4 @@
-use cdb_values::List;
+use log_replay::PagedLog;
 use phys_log::{CommitId, Decision, Entry};
 use report_text::Line;
 use std::snapshot::Snapshot;
@@ -28,7 +28,7 @@ pub enum Event {
         how: Woken,
         promised: u64,
         accepted: u64,
-        entries: Snapshot<List<Entry>>,
+        entries: Snapshot<PagedLog>,
     },
     /// It goes down: by a fault of its store, or by a stop.
     Down {

@@ -12,11 +12,11 @@ use Rattle.cluster_events.specs.Guards.{Commits, IsLegal}
 use Rattle.cluster_events.specs.Parts.{field}
 use Rattle.cluster_events.specs.Parts.Event.{Node}
 use Rattle.cluster_requests.specs.Identities.{identity_of, Lacks}
-use Rattle.cluster_stories.proofs.Story.{its_txn, its_open, its_ran, has_op, lacks, sent_legal}
+use Rattle.cluster_stories.proofs.Story.{its_txn, its_open, its_ran, lacks, sent_legal}
 use Rattle.cluster_stories.specs.Failover.{sent_on, commit_on, appended, sent_again, repeated, fallen, lost, come_back, moved, repeated_on, stopped, moved_on, appended_on, tail_dropped}
 use Rattle.cluster_stories.specs.Story.{given, given_as, script, setup, its_id, commit, its_sent, opened, led, set_up, begun}
 use Rattle.core_lists.proofs.Fronts.{front_refl}
-use Rattle.core_lists.proofs.Lists.{each_add, each_none}
+use Rattle.core_lists.proofs.Lists.{each_add, each_none, has_one}
 use Rattle.core_lists.specs.Fronts.Front.{front_nil, front_cons}
 use Rattle.core_lists.specs.Lists.In.{here}
 use Rattle.phys_log.specs.declared.entries.CommitId.{CommitId}
@@ -38,14 +38,14 @@ abbrev at_appended : Commits given appended 4
 at_appended = record { txn = its_txn; start = its_open; at = record { others = []; is = refl; opened = refl }; ends = tt; ran = its_ran; answered = record { log = setup ∷ []; durable = (1, one_and_two (first_has (refl, front_cons front_nil)) (first_has (refl, front_cons front_nil))); within = omega arith; alone = refl; says = refl } }
 
 sent_again_legal : IsLegal given sent_again
-sent_again_legal = ((each_add (λ q. omega arith) each_none, record { at = at_appended; has_ops = has_op (Insert 0 []); its_by = refl; its_id = refl; its_begin = refl; its_level = refl; its_ops = refl; its_used = refl; low = omega arith; led = first_has refl }), appended_legal true)
+sent_again_legal = ((each_add (λ q. omega arith) each_none, record { at = at_appended; has_ops = has_one (Insert 0 []); its_by = refl; its_id = refl; its_begin = refl; its_level = refl; its_ops = refl; its_used = refl; low = omega arith; led = first_has refl }), appended_legal true)
 
 pub repeated_legal : IsLegal given repeated
 repeated_legal = (
   (
     (
       record { txn = its_txn; start = its_open; at = record { others = []; is = refl; opened = refl }; ends = tt; ran = its_ran; answered = record { log = setup ∷ []; durable = (1, one_and_two (first_has (refl, front_cons front_nil)) (first_has (refl, front_cons front_nil))); within = omega arith; alone = refl; says = refl } },
-      inr (has_op (Insert 0 []), record { gen = 1; before = setup ∷ []; entry = commit; kept = (1, 1, first_has (refl, front_refl (setup ∷ commit ∷ [])), first_has (refl, omega arith)); its_id = refl; position = refl }),
+      inr (has_one (Insert 0 []), record { gen = 1; before = setup ∷ []; entry = commit; kept = (1, 1, first_has (refl, front_refl (setup ∷ commit ∷ [])), first_has (refl, omega arith)); its_id = refl; position = refl }),
     ),
     omega arith,
   ),
@@ -146,14 +146,14 @@ repeated_on_legal = (
   (
     (
       record { txn = its_txn; start = its_open; at = record { others = []; is = refl; opened = refl }; ends = tt; ran = its_ran; answered = record { log = setup ∷ []; durable = (2, two_and_three (first_has (refl, front_cons front_nil)) (first_has (refl, front_cons front_nil))); within = omega arith; alone = refl; says = refl } },
-      inr (has_op (Insert 0 []), record { gen = 2; before = setup ∷ []; entry = commit; kept = (2, 2, first_has (refl, front_refl (setup ∷ commit ∷ [])), first_has (refl, omega arith)); its_id = refl; position = refl }),
+      inr (has_one (Insert 0 []), record { gen = 2; before = setup ∷ []; entry = commit; kept = (2, 2, first_has (refl, front_refl (setup ∷ commit ∷ [])), first_has (refl, omega arith)); its_id = refl; position = refl }),
     ),
     omega arith,
   ),
   (
     (refl, refl, record { before = setup ∷ []; entry = commit; front = front_refl (setup ∷ commit ∷ []); place = refl; is = refl }, first_has (refl, refl, refl)),
     (
-      (each_add (λ q. omega arith) each_none, record { at = at_moved; has_ops = has_op (Insert 0 []); its_by = refl; its_id = refl; its_begin = refl; its_level = refl; its_ops = refl; its_used = refl; low = omega arith; led = first_has refl }),
+      (each_add (λ q. omega arith) each_none, record { at = at_moved; has_ops = has_one (Insert 0 []); its_by = refl; its_id = refl; its_begin = refl; its_level = refl; its_ops = refl; its_used = refl; low = omega arith; led = first_has refl }),
       moved_legal,
     ),
   ),
@@ -188,7 +188,7 @@ appended_on_legal = (
   (
     (
       record { txn = its_txn; start = its_open; at = record { others = []; is = refl; opened = refl }; ends = tt; ran = its_ran; answered = record { log = setup ∷ []; durable = (2, two_and_three (first_has (refl, front_cons front_nil)) (first_has (refl, front_cons front_nil))); within = omega arith; alone = refl; says = refl } },
-      inr (has_op (Insert 0 []), record { gen = 2; before = setup ∷ []; entry = commit_on; kept = (2, 2, first_has (refl, front_refl (setup ∷ commit_on ∷ [])), first_has (refl, omega arith)); its_id = refl; position = refl }),
+      inr (has_one (Insert 0 []), record { gen = 2; before = setup ∷ []; entry = commit_on; kept = (2, 2, first_has (refl, front_refl (setup ∷ commit_on ∷ [])), first_has (refl, omega arith)); its_id = refl; position = refl }),
     ),
     omega arith,
   ),
@@ -199,7 +199,7 @@ appended_on_legal = (
       (
         (((refl, refl), record { made = refl; asked = first_has (refl, refl, refl); unsettled = each_none; new = λ id q. lacks_on id q }), record { sent = sent_on; mem = here; its_id = refl; gen = refl; its_begin = refl; its_level = refl; changes = refl; rows = refl; untouched = λ j lo hi. absurd (omega arith); good = record { rows_fit = tt; keys_kept = refl } }, (omega arith, omega arith)),
         (
-          (each_add (λ q. omega arith) each_none, record { at = at_moved_on; has_ops = has_op (Insert 0 []); its_by = refl; its_id = refl; its_begin = refl; its_level = refl; its_ops = refl; its_used = refl; low = omega arith; led = first_has refl }),
+          (each_add (λ q. omega arith) each_none, record { at = at_moved_on; has_ops = has_one (Insert 0 []); its_by = refl; its_id = refl; its_begin = refl; its_level = refl; its_ops = refl; its_used = refl; low = omega arith; led = first_has refl }),
           moved_on_legal,
         ),
       ),

@@ -1,19 +1,16 @@
 -- The story is legal.
-use Rattle.std.proofs.Common.{◌≡◌, ◌≢◌, ℕ, ◌<◌, List, [], ◌∷◌, ◌++◌, arith, refl, subst}
-use Rattle.std.specs.Prelude.{Bool, true, false, Some}
+use Rattle.std.proofs.Common.{◌≡◌, List, [], ◌∷◌, ◌++◌, arith, refl, subst}
+use Rattle.std.specs.Prelude.{Bool, false, Some}
 use mathlib.Core.Logic.{inl, inr}
-use Rattle.core_lists.specs.Lists.{Each}
 use Rattle.core_lists.specs.Lists.In.{here, there}
 use Rattle.core_lists.specs.Fronts.{Front}
 use Rattle.core_lists.specs.Fronts.Front.{front_nil, front_cons}
-use Rattle.core_lists.proofs.Lists.{each_add, each_none}
+use Rattle.core_lists.proofs.Lists.{each_add, each_none, has_one}
 use Rattle.core_lists.proofs.Fronts.{front_refl}
-use Rattle.cluster_consensus.specs.Facts.{Admit}
 use Rattle.cluster_requests.specs.Identities.{identity_of, Lacks}
 use Rattle.phys_log.specs.declared.entries.CommitId.{CommitId}
 use Rattle.cluster_requests.specs.KeptEntries.{KeptEntry}
-use Rattle.cdb_values.specs.declared.rows.RowOp.{RowOp}
-use Rattle.report_laws.specs.Work.{Transaction, Item, Does, WithItsLine}
+use Rattle.report_laws.specs.Work.{Transaction, Does, WithItsLine}
 use Rattle.cdb_values.specs.declared.replies.Reply.TheVariants as reply
 use Rattle.session_language.specs.Language.{Answered}
 use Rattle.cluster_events.specs.Parts.{Opened, field}
@@ -21,18 +18,11 @@ use Rattle.cluster_events.specs.Parts.Event.{Say}
 use Rattle.cluster_events.specs.Guards.{DurableNow, BeganBy, Commits, IsLegal}
 use Rattle.cdb_values.specs.declared.rows.Level.TheVariants.{Snapshot}
 use Rattle.cdb_values.specs.declared.rows.RowOp.TheVariants.{Insert}
-use Rattle.cluster_consensus.specs.Enabled.{Fit}
-use Rattle.cluster_consensus.proofs.ThreeNodes.{first_has, one_and_two}
+use Rattle.cluster_consensus.proofs.ThreeNodes.{first_has, one_and_two, apart, empty_fits}
 use Rattle.core_lists.proofs.Lasts.{front_parts, no_more}
 use Rattle.cluster_stories.specs.Story.{its_ops, given_as, setup, its_id, commit, its_sent, opened, led, set_up, begun, sent, committed}
 
-empty_fits : (xs : List Admit) → Each (λ a. a.accepted ≡ 0) xs → Fit 3 xs
-empty_fits xs all = record { at = λ a h. record { who = λ k. true; many = omega arith; hold = λ k q l e. record { at = λ b t e. (let z : a.accepted ≡ 0 = all.at a h in omega arith) } } }
-
-apart : (a b : ℕ) → a < b → a ≢ b
-apart a b l e = absurd (omega arith)
-
-no_old : (xs : List KeptEntry) (e : KeptEntry) → Front (xs ++ e ∷ []) [] → BeganBy 0 e
+pub no_old : (xs : List KeptEntry) (e : KeptEntry) → Front (xs ++ e ∷ []) [] → BeganBy 0 e
 no_old xs e p = absurd (no_more xs e p)
 
 pub opened_legal : (q : Bool) → IsLegal (given_as q) opened
@@ -62,14 +52,8 @@ its_open = record { begin = 1; gen = 1 }
 abbrev pub its_ran : Answered
 its_ran = record { replies = reply.Changed 1 ∷ []; ops = its_ops; uses = []; ranges = []; failed = false }
 
-has_item : (x : Item) → x ∷ [] ≢ []
-has_item x e = absurd (cc)
-
-pub has_op : (x : RowOp) → x ∷ [] ≢ []
-has_op x e = absurd (cc)
-
 pub begun_legal : (q : Bool) → IsLegal (given_as q) begun
-begun_legal q = ((7, refl, refl, its_txn, record { others = []; is = refl }, (1, first_has (refl, refl, refl), one_and_two (inl refl) (inr (first_has (refl, refl)))), refl), ((((refl, omega arith, 1, first_has (refl, refl)), tt), tt, (omega arith, omega arith)), ((((refl, refl, first_has refl, omega arith, omega arith), tt), tt, (omega arith, omega arith)), (((each_none, tt), omega arith, inl (has_item (Does its_txn))), set_up_legal q))))
+begun_legal q = ((7, refl, refl, its_txn, record { others = []; is = refl }, (1, first_has (refl, refl, refl), one_and_two (inl refl) (inr (first_has (refl, refl)))), refl), ((((refl, omega arith, 1, first_has (refl, refl)), tt), tt, (omega arith, omega arith)), ((((refl, refl, first_has refl, omega arith, omega arith), tt), tt, (omega arith, omega arith)), (((each_none, tt), omega arith, inl (has_one (Does its_txn))), set_up_legal q))))
 
 durable_then : DurableNow 3 (field begun) (setup ∷ [])
 durable_then = (1, one_and_two (first_has (refl, front_refl (setup ∷ []))) (first_has (refl, front_refl (setup ∷ []))))
@@ -78,7 +62,7 @@ abbrev at_commit : (q : Bool) → Commits (given_as q) ((4, Say (reply.Changed 1
 at_commit q = record { txn = its_txn; start = its_open; at = record { others = []; is = refl; opened = refl }; ends = tt; ran = its_ran; answered = record { log = setup ∷ []; durable = durable_then; within = omega arith; alone = refl; says = refl } }
 
 pub sent_legal : (q : Bool) → IsLegal (given_as q) sent
-sent_legal q = ((each_none, record { at = at_commit q; has_ops = has_op (Insert 0 []); its_by = refl; its_id = refl; its_begin = refl; its_level = refl; its_ops = refl; its_used = refl; low = omega arith; led = first_has refl }), ((its_txn, its_open, record { others = []; is = refl; opened = refl }, record { log = setup ∷ []; durable = durable_then; within = omega arith; fits = front_refl (reply.Begin 1 ∷ reply.Changed 1 ∷ []) }, tt, omega arith), begun_legal q))
+sent_legal q = ((each_none, record { at = at_commit q; has_ops = has_one (Insert 0 []); its_by = refl; its_id = refl; its_begin = refl; its_level = refl; its_ops = refl; its_used = refl; low = omega arith; led = first_has refl }), ((its_txn, its_open, record { others = []; is = refl; opened = refl }, record { log = setup ∷ []; durable = durable_then; within = omega arith; fits = front_refl (reply.Begin 1 ∷ reply.Changed 1 ∷ []) }, tt, omega arith), begun_legal q))
 
 pub lacks : Lacks its_id (setup ∷ [])
 lacks [] e p q = absurd (let z : e ≡ setup = (front_parts e setup [] [] p).0 in let w : identity_of setup ≡ Some its_id = subst (λ t. identity_of t ≡ Some its_id) z q in cc)
@@ -92,7 +76,7 @@ committed_legal q = (
   (
     (
       record { txn = its_txn; start = its_open; at = record { others = []; is = refl; opened = refl }; ends = tt; ran = its_ran; answered = record { log = setup ∷ []; durable = (1, one_and_two (first_has (refl, front_cons front_nil)) (first_has (refl, front_cons front_nil))); within = omega arith; alone = refl; says = refl } },
-      inr (has_op (Insert 0 []), record { gen = 1; before = setup ∷ []; entry = commit; kept = (1, 1, first_has (refl, front_refl (setup ∷ commit ∷ [])), first_has (refl, omega arith)); its_id = refl; position = refl }),
+      inr (has_one (Insert 0 []), record { gen = 1; before = setup ∷ []; entry = commit; kept = (1, 1, first_has (refl, front_refl (setup ∷ commit ∷ [])), first_has (refl, omega arith)); its_id = refl; position = refl }),
     ),
     omega arith,
   ),

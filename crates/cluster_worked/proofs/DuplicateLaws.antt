@@ -6,16 +6,15 @@ use Rattle.std.proofs.lemmas.Bool.Decides.{Decides-eqb}
 use mathlib.Core.Logic.{inl, inr}
 use Rattle.cdb_values.specs.declared.replies.Reply.TheVariants as reply
 use Rattle.cdb_values.specs.declared.rows.Level.TheVariants.{Snapshot}
-use Rattle.cdb_values.specs.declared.rows.RowOp.{RowOp}
 use Rattle.cdb_values.specs.declared.rows.RowOp.TheVariants.{Insert}
-use Rattle.cluster_consensus.proofs.ThreeNodes.{first_has, one_and_two, second_has}
+use Rattle.cluster_consensus.proofs.ThreeNodes.{first_has, one_and_two, second_has, apart}
 use Rattle.cluster_events.specs.ByScript.{AllHeed}
 use Rattle.cluster_events.specs.Guards.{AllBeyond, Commits, DurableNow, IsLegal}
 use Rattle.cluster_events.specs.Parts.{Event, Opened, field, part}
 use Rattle.cluster_events.specs.Parts.Event.{Finish}
 use Rattle.cluster_events.specs.Settings.{lines_to_do}
+use Rattle.cluster_events.proofs.Stays.{part_left}
 use Rattle.cluster_requests.specs.Identities.{identity_of, Lacks}
-use Rattle.cluster_worked.proofs.Nodes.{apart, part_left}
 use Rattle.cluster_worked.proofs.SetUpLaws.{set_up_heeded, set_up_legal}
 use Rattle.cluster_worked.proofs.WordLaws.{other_name}
 use Rattle.cluster_worked.specs.Duplicate.{body, setting, id_of, sent_by, commit, refusal, begun, begun_both, sent, sent_both, settled, told, finished}
@@ -23,7 +22,7 @@ use Rattle.cluster_worked.specs.SetUp.{setup}
 use Rattle.cluster_worked.specs.Words.{its_row, its_ops, words}
 use Rattle.core_lists.proofs.Fronts.{front_refl}
 use Rattle.core_lists.proofs.Lasts.{front_parts, no_more}
-use Rattle.core_lists.proofs.Lists.{each_add, each_none}
+use Rattle.core_lists.proofs.Lists.{each_add, each_none, has_one}
 use Rattle.core_lists.specs.Fronts.Front.{front_nil, front_cons}
 use Rattle.core_lists.specs.Lists.In.{here, there}
 use Rattle.phys_log.specs.declared.entries.CommitId.{CommitId}
@@ -62,12 +61,6 @@ its_open = record { begin = 1; gen = 1 }
 abbrev its_ran : Answered
 its_ran = record { replies = reply.Changed 1 ∷ []; ops = its_ops; uses = []; ranges = []; failed = false }
 
-has_item : (x : Item) → x ∷ [] ≢ []
-has_item x e = absurd (cc)
-
-has_op : (x : RowOp) → x ∷ [] ≢ []
-has_op x e = absurd (cc)
-
 begun_legal : IsLegal setting begun
 begun_legal = (
   (7, refl, refl, its_txn, record { others = []; is = refl }, (1, first_has (refl, refl, refl), one_and_two (inl refl) (inr (first_has (refl, refl)))), refl),
@@ -75,7 +68,7 @@ begun_legal = (
     (((refl, omega arith, 1, first_has (refl, refl)), tt), tt, (omega arith, omega arith)),
     (
       (((refl, refl, first_has refl, omega arith, omega arith), tt), tt, (omega arith, omega arith)),
-      (((each_none, tt), omega arith, inl (has_item (Does its_txn))), set_up_legal body),
+      (((each_none, tt), omega arith, inl (has_one (Does its_txn))), set_up_legal body),
     ),
   ),
 )
@@ -87,7 +80,7 @@ begun_both_legal = (
     (((refl, omega arith, 1, first_has (refl, refl)), tt), tt, (omega arith, omega arith)),
     (
       (((refl, refl, first_has refl, omega arith, omega arith), tt), tt, (omega arith, omega arith)),
-      (((each_add (apart 7 8 (omega arith)) each_none, tt), omega arith, inl (has_item (Does its_txn))), begun_legal),
+      (((each_add (apart 7 8 (omega arith)) each_none, tt), omega arith, inl (has_one (Does its_txn))), begun_legal),
     ),
   ),
 )
@@ -101,7 +94,7 @@ sent_legal = (
     each_none,
     record {
       at = record { txn = its_txn; start = its_open; at = record { others = []; is = refl; opened = refl }; ends = tt; ran = its_ran; answered = record { log = setup ∷ []; durable = durable; within = omega arith; alone = refl; says = refl } };
-      has_ops = has_op (Insert 0 its_row);
+      has_ops = has_one (Insert 0 its_row);
       its_by = refl;
       its_id = refl;
       its_begin = refl;
@@ -124,7 +117,7 @@ sent_both_legal = (
     each_add (λ q. omega arith) each_none,
     record {
       at = record { txn = its_txn; start = its_open; at = record { others = []; is = refl; opened = refl }; ends = tt; ran = its_ran; answered = record { log = setup ∷ []; durable = durable; within = omega arith; alone = refl; says = refl } };
-      has_ops = has_op (Insert 0 its_row);
+      has_ops = has_one (Insert 0 its_row);
       its_by = refl;
       its_id = refl;
       its_begin = refl;
@@ -168,7 +161,7 @@ settled_legal : IsLegal setting settled
 settled_legal = (
   (
     (refl, refl, lacks_second),
-    record { sent = sent_by 98; mem = here; its_id = refl; its_node = refl; gen = refl; is_right = record { has_ops = has_op (Insert 0 its_row); begun = omega arith; within = omega arith; untouched = λ j lo hi. refl; breaks = refl } },
+    record { sent = sent_by 98; mem = here; its_id = refl; its_node = refl; gen = refl; is_right = record { has_ops = has_one (Insert 0 its_row); begun = omega arith; within = omega arith; untouched = λ j lo hi. refl; breaks = refl } },
   ),
   (
     (((refl, refl, omega arith, omega arith, one_and_two (first_has (refl, omega arith)) (first_has (refl, omega arith))), tt), tt, (omega arith, omega arith)),
@@ -225,7 +218,7 @@ told_legal = (
     (
       (
         commits_a,
-        inr (has_op (Insert 0 its_row), record { gen = 1; before = setup ∷ []; entry = commit; kept = (1, 1, first_has (refl, front_refl (setup ∷ commit ∷ [])), first_has (refl, omega arith)); its_id = refl; position = refl }),
+        inr (has_one (Insert 0 its_row), record { gen = 1; before = setup ∷ []; entry = commit; kept = (1, 1, first_has (refl, front_refl (setup ∷ commit ∷ [])), first_has (refl, omega arith)); its_id = refl; position = refl }),
       ),
       omega arith,
     ),

@@ -12,7 +12,7 @@ use Rattle.cluster_events.specs.Parts.{field}
 use Rattle.cluster_events.specs.Settings.{basis_from}
 use Rattle.cluster_masters.specs.FirstMaster.{IsFirstMaster}
 use Rattle.cluster_masters.specs.Reported.{IsReported}
-use Rattle.cluster_reports.proofs.LawfulRuns.{begins', front_rest, report}
+use Rattle.cluster_reports.proofs.LawfulRuns.{begins', report}
 use Rattle.cluster_reports.proofs.NodesRuns.{with_master}
 use Rattle.cluster_events.specs.Guards.{Rising}
 use Rattle.cluster_reports.specs.Runs.{Covers, FitsScript, FollowsScript, IsFinished, lines_from}
@@ -27,6 +27,7 @@ use Rattle.cluster_worked.specs.Words.{unwritten_of}
 use Rattle.core_lists.specs.Fronts.Front.{front_nil}
 use Rattle.core_lists.specs.Lists.{In}
 use Rattle.core_lists.specs.Lists.In.{here}
+use Rattle.core_lists.proofs.Fronts.{front_rest}
 use Rattle.node_reports.specs.Fed.{AreFeeds}
 use Rattle.node_reports.specs.Lawful.{LawfulOfNodes}
 use Rattle.report_laws.specs.History.{view_of}

@@ -12,7 +12,7 @@ use Rattle.cluster_steps.specs.Guards.{IsExact, IsPlan, LeavesPages, MayDo}
 use Rattle.cluster_steps.specs.Named.{named, steps}
 use Rattle.cluster_steps.specs.declared.events.Event.{Event}
 use Rattle.cluster_worked.proofs.ShortLaws.{setting_fits, setting_follows, without_master_heeded, without_master_legal}
-use Rattle.cluster_worked.specs.Named.{opened, run, stopped}
+use Rattle.cluster_worked.specs.Named.{machine_opened, run, stopped}
 use Rattle.cluster_worked.specs.Short.{setting}
 use Rattle.phys_log.specs.declared.entries.Entry.{Entry}
 
@@ -25,7 +25,7 @@ run_of : (G : Setting) → IsPlan G → (h : List (ℕ × Event)) → IsLegal G 
 run_of G plan [] legal heeds exact = tt
 run_of G plan (x ∷ h) legal heeds exact = (record { plan = plan; exact = exact.0.0; allowed = record { may = legal.0; by_script = heeds.0; pages = exact.0.1 } }, run_of G plan h legal.1 heeds.1 exact.1)
 
-opened_exact : (rows : Snapshot Rows) (log : Snapshot (List Entry)) → AreExact setting (opened rows log)
+opened_exact : (rows : Snapshot Rows) (log : Snapshot (List Entry)) → AreExact setting (machine_opened rows log)
 opened_exact rows log = (((tt, record { promise = refl; acceptance = refl; log = refl }), (inl refl, tt)), (((tt, record { promise = refl; acceptance = refl; log = refl }), (inl refl, tt)), (((tt, record { promise = refl; acceptance = refl; log = refl }), (inl refl, tt)), ((tt, (tt, tt)), ((tt, (tt, tt)), ((tt, (tt, tt)), tt))))))
 
 stopped_exact : (rows : Snapshot Rows) (log : Snapshot (List Entry)) → AreExact setting (stopped rows log)

@@ -1,23 +1,18 @@
 -- How each run with a leader begins is legal, and by its script, whatever the script says.
-use Rattle.std.proofs.Common.{List, [], ◌∷◌, ◌++◌, arith, refl}
+use Rattle.std.proofs.Common.{List, [], ◌∷◌, arith, refl}
 use mathlib.Core.Logic.{inl, inr}
-use Rattle.cluster_consensus.proofs.ThreeNodes.{first_has, one_and_two}
+use Rattle.cluster_consensus.proofs.ThreeNodes.{first_has, one_and_two, apart, empty_fits}
 use Rattle.cluster_events.specs.ByScript.{AllHeed}
-use Rattle.cluster_events.specs.Guards.{BeganBy, IsLegal}
+use Rattle.cluster_events.specs.Guards.{IsLegal}
 use Rattle.cluster_events.specs.Settings.{lines_to_do}
-use Rattle.cluster_requests.specs.KeptEntries.{KeptEntry}
-use Rattle.cluster_worked.proofs.Nodes.{apart, empty_fits}
-use Rattle.cluster_worked.specs.SetUp.{setup, opened, led, set_up}
+use Rattle.cluster_stories.proofs.Story.{no_old}
+use Rattle.cluster_stories.specs.Story.{opened, led}
+use Rattle.cluster_worked.specs.SetUp.{setup, set_up}
 use Rattle.cluster_worked.specs.Words.{setting_of}
 use Rattle.core_lists.proofs.Fronts.{front_refl}
-use Rattle.core_lists.proofs.Lasts.{no_more}
 use Rattle.core_lists.proofs.Lists.{each_add, each_none}
-use Rattle.core_lists.specs.Fronts.{Front}
 use Rattle.core_lists.specs.Lists.In.{here, there}
 use Rattle.script_form.specs.declared.scripts.BodyLine.{BodyLine}
-
-no_old : (xs : List KeptEntry) (e : KeptEntry) → Front (xs ++ e ∷ []) [] → BeganBy 0 e
-no_old xs e p = absurd (no_more xs e p)
 
 pub opened_legal : (body : List BodyLine) → IsLegal (setting_of body) opened
 opened_legal body = (

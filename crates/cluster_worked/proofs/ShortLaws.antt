@@ -16,6 +16,7 @@ use Rattle.cluster_events.specs.Guards.{IsLegal, Rising}
 use Rattle.cluster_events.specs.Parts.{Event, field, part}
 use Rattle.cluster_events.specs.Parts.Event.{Finish}
 use Rattle.cluster_events.specs.Settings.{basis_from, lines_to_do}
+use Rattle.cluster_events.proofs.Stays.{part_left}
 use Rattle.cluster_masters.proofs.MasterLaws.{some_in}
 use Rattle.cluster_masters.specs.FirstMaster.{HasNoMaster}
 use Rattle.cluster_masters.specs.Reported.{IsReported}
@@ -23,7 +24,7 @@ use Rattle.cluster_reports.proofs.NodesRuns as laws
 use Rattle.cluster_reports.specs.Runs.{Covers, FitsScript, FollowsScript, IsFinished}
 use Rattle.cluster_requests.specs.KeptEntries.{KeptEntry}
 use Rattle.cluster_runs.proofs.WrittenLaws.{follows}
-use Rattle.cluster_worked.proofs.Nodes.{keeps, of_three, part_left}
+use Rattle.cluster_worked.proofs.Nodes.{keeps, of_three}
 use Rattle.cluster_worked.proofs.SetUpLaws.{opened_heeded, opened_legal}
 use Rattle.cluster_worked.proofs.WordLaws.{apart_names, long_name, no_name, other_name, words_answer}
 use Rattle.cluster_worked.specs.Short.{body, setting, stopped_one, stopped, stopped_ask, without_master, refused_one, refused, refused_obeyed, refused_ask, without_nodes, report_by}

@@ -6,13 +6,12 @@ use Rattle.std.proofs.lemmas.Bool.Decides.{Decides-eqb}
 use mathlib.Core.Logic.{inl, inr}
 use Rattle.cdb_values.specs.declared.replies.Reply.TheVariants as reply
 use Rattle.cdb_values.specs.declared.rows.Level.TheVariants.{Snapshot}
-use Rattle.cdb_values.specs.declared.rows.RowOp.{RowOp}
 use Rattle.cdb_values.specs.declared.rows.RowOp.TheVariants.{Insert}
-use Rattle.cluster_consensus.proofs.ThreeNodes.{first_has, one_and_two}
+use Rattle.cluster_consensus.proofs.ThreeNodes.{first_has, one_and_two, apart}
 use Rattle.cluster_events.specs.Guards.{AllBeyond, DurableNow, IsLegal}
 use Rattle.cluster_events.specs.Parts.{Event, Opened, barriers, field, part}
+use Rattle.cluster_events.proofs.Stays.{part_left}
 use Rattle.cluster_requests.specs.Identities.{identity_of, Lacks}
-use Rattle.cluster_worked.proofs.Nodes.{apart, part_left}
 use Rattle.cluster_worked.proofs.SetUpLaws.{set_up_legal}
 use Rattle.cluster_worked.proofs.WordLaws.{other_name}
 use Rattle.cluster_worked.specs.SetUp.{setup}
@@ -20,7 +19,7 @@ use Rattle.cluster_worked.specs.Whole.{body, setting, its_id, commit, its_sent, 
 use Rattle.cluster_worked.specs.Words.{its_row, its_ops, words}
 use Rattle.core_lists.proofs.Fronts.{front_refl}
 use Rattle.core_lists.proofs.Lasts.{front_parts, no_more}
-use Rattle.core_lists.proofs.Lists.{each_add, each_none}
+use Rattle.core_lists.proofs.Lists.{each_add, each_none, has_one}
 use Rattle.core_lists.specs.Fronts.Front.{front_nil, front_cons}
 use Rattle.core_lists.specs.Lists.In.{here}
 use Rattle.phys_log.specs.declared.entries.CommitId.{CommitId}
@@ -63,12 +62,6 @@ its_open = record { begin = 1; gen = 1 }
 abbrev its_ran : Answered
 its_ran = record { replies = reply.Changed 1 ∷ []; ops = its_ops; uses = []; ranges = []; failed = false }
 
-has_item : (x : Item) → x ∷ [] ≢ []
-has_item x e = absurd (cc)
-
-has_op : (x : RowOp) → x ∷ [] ≢ []
-has_op x e = absurd (cc)
-
 begun_legal : IsLegal setting begun
 begun_legal = (
   (7, refl, refl, its_txn, record { others = []; is = refl }, (1, first_has (refl, refl, refl), one_and_two (inl refl) (inr (first_has (refl, refl)))), refl),
@@ -76,7 +69,7 @@ begun_legal = (
     (((refl, omega arith, 1, first_has (refl, refl)), tt), tt, (omega arith, omega arith)),
     (
       (((refl, refl, first_has refl, omega arith, omega arith), tt), tt, (omega arith, omega arith)),
-      (((each_none, tt), omega arith, inl (has_item (Does its_txn))), set_up_legal body),
+      (((each_none, tt), omega arith, inl (has_one (Does its_txn))), set_up_legal body),
     ),
   ),
 )
@@ -90,7 +83,7 @@ sent_legal = (
     each_none,
     record {
       at = record { txn = its_txn; start = its_open; at = record { others = []; is = refl; opened = refl }; ends = tt; ran = its_ran; answered = record { log = setup ∷ []; durable = set_up_durable; within = omega arith; alone = refl; says = refl } };
-      has_ops = has_op (Insert 0 its_row);
+      has_ops = has_one (Insert 0 its_row);
       its_by = refl;
       its_id = refl;
       its_begin = refl;
@@ -119,7 +112,7 @@ committed_legal = (
   (
     (
       record { txn = its_txn; start = its_open; at = record { others = []; is = refl; opened = refl }; ends = tt; ran = its_ran; answered = record { log = setup ∷ []; durable = (1, one_and_two (first_has (refl, front_cons front_nil)) (first_has (refl, front_cons front_nil))); within = omega arith; alone = refl; says = refl } },
-      inr (has_op (Insert 0 its_row), record { gen = 1; before = setup ∷ []; entry = commit; kept = (1, 1, first_has (refl, front_refl (setup ∷ commit ∷ [])), first_has (refl, omega arith)); its_id = refl; position = refl }),
+      inr (has_one (Insert 0 its_row), record { gen = 1; before = setup ∷ []; entry = commit; kept = (1, 1, first_has (refl, front_refl (setup ∷ commit ∷ [])), first_has (refl, omega arith)); its_id = refl; position = refl }),
     ),
     omega arith,
   ),
@@ -256,7 +249,7 @@ begun_again_legal = (
     (((refl, omega arith, 1, first_has (refl, refl)), tt), tt, (omega arith, omega arith)),
     (
       (((refl, refl, first_has refl, omega arith, omega arith), tt), tt, (omega arith, omega arith)),
-      (((each_add (apart 8 9 (omega arith)) (each_add (apart 7 9 (omega arith)) each_none), tt), omega arith, inl (has_item (Does (read_txn 2)))), started_on_legal),
+      (((each_add (apart 8 9 (omega arith)) (each_add (apart 7 9 (omega arith)) each_none), tt), omega arith, inl (has_one (Does (read_txn 2)))), started_on_legal),
     ),
   ),
 )

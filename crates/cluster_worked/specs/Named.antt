@@ -13,11 +13,11 @@ use Rattle.report_text.specs.declared.reports.Line.TheVariants as line
 abbrev pub up : Snapshot Rows → Snapshot (List Entry) → Event
 up rows log = event.Up (woken.First rows) 0 0 (record log { value = [] })
 
-abbrev pub opened : Snapshot Rows → Snapshot (List Entry) → List (ℕ × Event)
-opened rows log = (3, up rows log) ∷ (2, up rows log) ∷ (1, up rows log) ∷ (0, event.Admit 3 0 0) ∷ (0, event.Admit 2 0 0) ∷ (0, event.Admit 1 0 0) ∷ []
+abbrev pub machine_opened : Snapshot Rows → Snapshot (List Entry) → List (ℕ × Event)
+machine_opened rows log = (3, up rows log) ∷ (2, up rows log) ∷ (1, up rows log) ∷ (0, event.Admit 3 0 0) ∷ (0, event.Admit 2 0 0) ∷ (0, event.Admit 1 0 0) ∷ []
 
 abbrev pub stopped : Snapshot Rows → Snapshot (List Entry) → List (ℕ × Event)
-stopped rows log = (0, event.Obeyed) ∷ (2, event.Down false) ∷ (0, event.Order) ∷ (0, event.Obeyed) ∷ (1, event.Down false) ∷ (0, event.Order) ∷ opened rows log
+stopped rows log = (0, event.Obeyed) ∷ (2, event.Down false) ∷ (0, event.Order) ∷ (0, event.Obeyed) ∷ (1, event.Down false) ∷ (0, event.Order) ∷ machine_opened rows log
 
 abbrev pub run : Snapshot Rows → Snapshot (List Entry) → List (ℕ × Event)
 run rows log = (0, event.FedAgain 0) ∷ (0, event.Ask) ∷ (97, event.Outcome (line.Session (97 ∷ []) 1 (reply.NoMajority 1 3))) ∷ stopped rows log

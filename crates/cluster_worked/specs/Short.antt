@@ -9,7 +9,7 @@ use Rattle.cluster_consensus.specs.Events.Event.{Down}
 use Rattle.cluster_events.specs.Parts.{Event}
 use Rattle.cluster_events.specs.Parts.Event.{Node, Stop, Ask, Finish, Order, Obeyed, FedAgain}
 use Rattle.cluster_events.specs.Settings.{Setting}
-use Rattle.cluster_worked.specs.SetUp.{opened}
+use Rattle.cluster_stories.specs.Story.{opened}
 use Rattle.cluster_worked.specs.Words.{setting_of}
 use Rattle.report_text.specs.declared.reports.Line.TheVariants as line
 use Rattle.report_text.specs.declared.reports.Report.{Report}

@@ -1,7 +1,9 @@
+pub mod Grammar
 pub mod Known
 pub mod Next
 pub mod OneReport
 pub mod Reply
+pub mod RowStops
 pub mod SamePiece
 pub mod Split
 pub mod Under

@@ -1,5 +1,5 @@
--- The law of one report of several nodes: two reports of a script without arms, in which nothing fails, are the same, by induction over
--- the script's lines.
+-- The law of one report of several nodes: two reports of a script without arms of a commit, in which nothing fails, are the same, by
+-- induction over the script's lines.
 use Rattle.std.proofs.Common.{◌≡◌, ℕ, ◌+◌, ◌-◌, ◌≤◌, List, [], ◌∷◌, ◌++◌, refl, sym, subst, ap, arith, ◌∙◌, Some, append_assoc, Bool, true, false, if◌then◌else◌, ◌⊎◌, inl, inr}
 use Rattle.std.proofs.lemmas.Bool.{both_ways, true≢false}
 use Rattle.std.specs.List.{AllByRecursion, list_any}
@@ -16,35 +16,49 @@ use Rattle.script_form.specs.declared.scripts.Act.{Act}
 use Rattle.script_form.specs.declared.scripts.Act.TheVariants as act
 use Rattle.script_form.specs.declared.scripts.BodyLine.{BodyLine}
 use Rattle.script_form.specs.declared.scripts.Moment.{Moment}
+use Rattle.script_form.specs.declared.scripts.Moment.TheVariants as moment
 use Rattle.script_form.specs.declared.scripts.Script.{Script}
 use Rattle.session_language.proofs.AllLaws.{all_behind}
 use Rattle.session_language.proofs.EachLaws.{all_append, all_front, all_map}
 use Rattle.session_language.specs.Answers.{Answers}
 use Rattle.session_language.specs.Each.{EachAfter}
-use Rattle.node_reports.specs.Arms.{waiting_by, waiting_from}
+use Rattle.node_reports.specs.Arms.{of_commit, waiting_by, waiting_from}
 use Rattle.node_reports.specs.Fed.{AreFeeds, IsFeedTold, events}
 use Rattle.node_reports.specs.Lawful.{LawfulOfNodes}
 use Rattle.node_reports.specs.Order.{Changes, InNodesOrder, InTurns, IsFault, IsOpened, IsStarted, IsStopped, IsTurnOf, is_fault, is_up_line, last_fed}
-use Rattle.node_laws.specs.Unhurt.{HasNoArms, IsNoArm, IsUnhurt, IsUnhurtLine}
+use Rattle.node_laws.specs.Unhurt.{HasNoCommitArms, IsNoCommitArm, IsOfARow, IsUnhurt, IsUnhurtLine}
 use Rattle.node_laws.proofs.Known.{BeginUpTo, IsAcknowledged, Known, begin_told, known_more}
 use Rattle.node_laws.proofs.SamePiece.{Whole, one_piece}
 
--- no arm waits where the script has none
-none_waits : (session : List ℕ) (done : List BodyLine) → AllByRecursion (λ (b : BodyLine). IsNoArm b.act) done → waiting_from session [] done ≡ []
-none_waits session [] all = refl
-none_waits session (b ∷ bs) all = ap (λ arms. waiting_from session arms bs) (by b.act all.0) ∙ none_waits session bs all.1
+-- no arm of a commit waits where the script has none
+
+row_arm : (arms : List Moment) (when : Moment) → IsOfARow when → of_commit (arms ++ when ∷ []) ≡ of_commit arms
+row_arm [] (moment.Row row) is = refl
+row_arm [] moment.Append is = absurd is
+row_arm [] moment.Ship is = absurd is
+row_arm (moment.Row row ∷ arms) when is = row_arm arms when is
+row_arm (moment.Append ∷ arms) when is = ap (λ (k : ℕ). k + 1) (row_arm arms when is)
+row_arm (moment.Ship ∷ arms) when is = ap (λ (k : ℕ). k + 1) (row_arm arms when is)
+
+rows_wait : (session : List ℕ) (arms : List Moment) (done : List BodyLine) → AllByRecursion (λ (b : BodyLine). IsNoCommitArm b.act) done → of_commit arms ≡ 0 → of_commit (waiting_from session arms done) ≡ 0
+rows_wait session arms [] all none = none
+rows_wait session arms (b ∷ bs) all none = rows_wait session (waiting_by session arms b.act) bs all.1 (by b.act all.0)
   where
-    by : (a : Act) → IsNoArm a → waiting_by session [] a ≡ []
-    by (act.Say name text) is = none (bytes_eq name session) [] refl
+    by : (a : Act) → IsNoCommitArm a → of_commit (waiting_by session arms a) ≡ 0
+    by (act.Say name text) is = go (bytes_eq name session)
       where
-        none : (b : Bool) (arms : List Moment) → arms ≡ [] → (if b then [] else arms) ≡ []
-        none true arms is = refl
-        none false arms is = is
-    by (act.Stop node) is = refl
-    by (act.Start node) is = refl
-    by (act.Arm name moment) is = absurd is
-    by act.Barrier is = refl
-    by act.Feed is = refl
+        go : (b : Bool) → of_commit (if b then [] else arms) ≡ 0
+        go true = refl
+        go false = none
+    by (act.Stop node) is = none
+    by (act.Start node) is = none
+    by (act.Arm name when) is = go (bytes_eq name session)
+      where
+        go : (b : Bool) → of_commit (if b then arms ++ when ∷ [] else arms) ≡ 0
+        go true = row_arm arms when is ∙ none
+        go false = none
+    by act.Barrier is = none
+    by act.Feed is = none
 
 -- lines of which none tells of a fault
 no_fault : (ls : List Line) → AllByRecursion IsUnhurtLine ls → list_any is_fault ls ≡ false
@@ -121,7 +135,7 @@ module _ (basis : Basis) (answers : Answers basis.language) where
   whole_on : (lines lines' : List Line) (entries entries' : List EntryLine) → lines ≡ lines' → entries ≡ entries' → Whole basis lines entries → Whole basis lines' entries'
   whole_on lines lines' entries entries' same_lines same_entries whole = subst (λ (ls : List Line). Whole basis ls entries') same_lines (subst (λ (es : List EntryLine). Whole basis lines es) same_entries whole)
 
-  module _ (done : List BodyLine) (before : List Line) (history : List EntryLine) (no_arms : AllByRecursion (λ (b : BodyLine). IsNoArm b.act) done) (known : Known basis.origin before history) where
+  module _ (done : List BodyLine) (before : List Line) (history : List EntryLine) (no_arms : AllByRecursion (λ (b : BodyLine). IsNoCommitArm b.act) done) (known : Known basis.origin before history) where
     abbrev Step : List Line → List Line → List EntryLine → List EntryLine → Type 0
     Step mine mine' added added' = (mine ≡ mine') × (added ≡ added') × Known basis.origin (before ++ mine) (history ++ added)
 
@@ -147,22 +161,22 @@ module _ (basis : Basis) (answers : Answers basis.language) where
           known_more basis.origin before mine history added known (that_begins _ before node up told mine (none (last_position basis.origin (history ++ added))) that) (opened_known basis history before mine (before ++ mine) added opened),
         )
 
-    one_step : (a : Act) (mine mine' others others' : List Line) (added added' later later' : List EntryLine) → IsNoArm a → Whole basis (before ++ (mine ++ others)) (history ++ (added ++ later)) → Whole basis (before ++ (mine' ++ others')) (history ++ (added' ++ later')) →
+    one_step : (a : Act) (mine mine' others others' : List Line) (added added' later later' : List EntryLine) → IsNoCommitArm a → Whole basis (before ++ (mine ++ others)) (history ++ (added ++ later)) → Whole basis (before ++ (mine' ++ others')) (history ++ (added' ++ later')) →
         IsTurnOf basis (view_of basis (history ++ (added ++ later))) done before history a mine others added → IsTurnOf basis (view_of basis (history ++ (added' ++ later'))) done before history a mine' others' added' → Step mine mine' added added'
     one_step (act.Say session text) mine mine' others others' added added' later later' arm whole whole' turn turn' =
-        one_piece basis answers done before history session text known mine mine' others others' added added' later later' (none_waits session done no_arms) whole whole' turn turn'
+        one_piece basis answers done before history session text known mine mine' others others' added added' later later' (rows_wait session [] done no_arms refl) whole whole' turn turn'
     one_step (act.Stop node) mine mine' others others' added added' later later' arm whole whole' turn turn' =
         opened_step node false (line.Down (downs before + 1) node false) mine mine' added added' (λ now. (omega arith, tt)) (unhurt_mine mine others _ whole)
         (stopped_that basis.script before node mine (unhurt_mine mine others _ whole) turn.0) (stopped_that basis.script before node mine' (unhurt_mine mine' others' _ whole') turn'.0) turn.1 turn'.1
     one_step (act.Start node) mine mine' others others' added added' later later' arm whole whole' turn turn' =
         opened_step node true (line.Up node) mine mine' added added' (λ now. (omega arith, tt)) (unhurt_mine mine others _ whole)
         (started_that basis.script before node mine (unhurt_mine mine others _ whole) turn.0) (started_that basis.script before node mine' (unhurt_mine mine' others' _ whole') turn'.0) turn.1 turn'.1
-    one_step (act.Arm session moment) mine mine' others others' added added' later later' arm whole whole' turn turn' = absurd arm
+    one_step (act.Arm session moment) mine mine' others others' added added' later later' arm whole whole' turn turn' = plain_step mine mine' [] added added' tt turn.0 turn'.0 turn.1 turn'.1
     one_step act.Barrier mine mine' others others' added added' later later' arm whole whole' turn turn' = plain_step mine mine' (line.Barrier ∷ []) added added' (omega arith, tt) turn.0 turn'.0 turn.1 turn'.1
     one_step act.Feed mine mine' others others' added added' later later' arm whole whole' turn turn' = plain_step mine mine' _ added added' (omega arith, tt) turn.0 turn'.0 turn.1 turn'.1
 
   -- the lines and entries that are left are the same where those before are
-  one_rest : (bs done : List BodyLine) (before : List Line) (history : List EntryLine) → AllByRecursion (λ (b : BodyLine). IsNoArm b.act) done → AllByRecursion (λ (b : BodyLine). IsNoArm b.act) bs → Known basis.origin before history →
+  one_rest : (bs done : List BodyLine) (before : List Line) (history : List EntryLine) → AllByRecursion (λ (b : BodyLine). IsNoCommitArm b.act) done → AllByRecursion (λ (b : BodyLine). IsNoCommitArm b.act) bs → Known basis.origin before history →
       (lines lines' : List Line) (entries entries' : List EntryLine) → Whole basis (before ++ lines) (history ++ entries) → Whole basis (before ++ lines') (history ++ entries') →
       InTurns basis (view_of basis (history ++ entries)) done before history bs lines entries → InTurns basis (view_of basis (history ++ entries')) done before history bs lines' entries' → (lines ≡ lines') × (entries ≡ entries')
   one_rest [] done before history no_arms none known lines lines' entries entries' whole whole' turns turns' = (turns.0 ∙ sym turns'.0, turns.1 ∙ sym turns'.1)
@@ -174,7 +188,7 @@ module _ (basis : Basis) (answers : Answers basis.language) where
       (subst (λ (es : List EntryLine). IsTurnOf basis (view_of basis (history ++ es)) done before history b.act mine others added) es_are turn)
       (subst (λ (es : List EntryLine). IsTurnOf basis (view_of basis (history ++ es)) done before history b.act mine' others' added') es_are' turn') in
       let further : (others ≡ others') × (later ≡ later') =
-      one_rest bs (done ++ b ∷ []) (before ++ mine) (history ++ added) (all_append (λ (c : BodyLine). IsNoArm c.act) done (b ∷ []) no_arms (none.0, tt)) none.1 step.2 others others' later later'
+      one_rest bs (done ++ b ∷ []) (before ++ mine) (history ++ added) (all_append (λ (c : BodyLine). IsNoCommitArm c.act) done (b ∷ []) no_arms (none.0, tt)) none.1 step.2 others others' later later'
       (whole_on _ _ _ _ (sym (append_assoc before mine others)) (sym (append_assoc history added later)) split)
       (whole_on _ _ _ _ (ap (λ (ls : List Line). before ++ (ls ++ others')) (sym step.0) ∙ sym (append_assoc before mine others'))
       (ap (λ (es : List EntryLine). history ++ (es ++ later')) (sym step.1) ∙ sym (append_assoc history added later')) split')
@@ -240,7 +254,7 @@ module _ (basis : Basis) (answers : Answers basis.language) where
   one_feeds view position place (watched ∷ more) (f ∷ fs) (f' ∷ fs') kept kept' is is' =
       ap (λ (x : FeedLine). x ∷ fs) (one_feed view position place watched f f' kept.0 kept'.0 is.0 is'.0) ∙ ap (λ (xs : List FeedLine). f' ∷ xs) (one_feeds view position (place + 1) more fs fs' kept.1 kept'.1 is.1 is'.1)
 
-  pub one_report : (report other : Report) → HasNoArms basis.script → LawfulOfNodes basis report → InNodesOrder basis report → IsUnhurt report → LawfulOfNodes basis other → InNodesOrder basis other → IsUnhurt other → report ≡ other
+  pub one_report : (report other : Report) → HasNoCommitArms basis.script → LawfulOfNodes basis report → InNodesOrder basis report → IsUnhurt report → LawfulOfNodes basis other → InNodesOrder basis other → IsUnhurt other → report ≡ other
   one_report report other none lawful order unhurt lawful' order' unhurt' = λ j. record { lines = same.0 j; base = bases j; entries = entries j; feeds = feeds j; end = ends j }
     where
       w : FromFirst report

@@ -12,6 +12,7 @@ use Rattle.report_laws.specs.Cut.{cuts}
 use Rattle.report_laws.specs.History.{Basis, alone_on, entry_at, last_position, rows_at, view_of}
 use Rattle.report_laws.specs.Nodes.{up_count}
 use Rattle.report_laws.specs.Outcome.{Ends, IsDecided, IsRight}
+use Rattle.report_laws.specs.Places.{survives}
 use Rattle.report_laws.specs.Play.{HasChanges, IsOrMemory, IsTimely}
 use Rattle.report_laws.specs.Told.{alone_at, told, Along}
 use Rattle.report_laws.specs.View.{View}
@@ -31,13 +32,13 @@ use Rattle.session_language.specs.Answers.{Answers, IsPlain}
 use Rattle.session_language.specs.Each.{StandsIn}
 use Rattle.session_language.specs.Language.{Answered}
 use Rattle.session_language.specs.Touched.{used_at}
-use Rattle.node_reports.specs.Piece.{IsGiven, IsUnsent, Saying, lacks_at, loss_at, site_at, wanes_at}
+use Rattle.node_reports.specs.Piece.{IsGiven, IsUnsent, Saying, commits_at, lacks_at, loss_at, site_at, wanes_at}
 use Rattle.node_reports.specs.Told.{IsToldAlong}
 use Rattle.node_laws.specs.Unhurt.{is_wanting}
 use Rattle.node_laws.proofs.Known.{BeginUpTo, IsAcknowledged, begin_of, begins_under}
 use Rattle.node_laws.proofs.Next.{head_begin, head_same, IsEnding, IsQuiet, IsReplied, all_at_begin, next_is, only_begin, plain_quiet}
 use Rattle.node_laws.proofs.Split.{no_longer, none_left, same_next}
-use Rattle.node_laws.proofs.Under.{IsIts, IsOf, told_outside, told_under, under_stands, work_rises}
+use Rattle.node_laws.proofs.Under.{IsIts, told_outside, told_under, under_stands, work_rises}
 
 -- what a session's line tells there: a loss, a missing majority, or an answer
 
@@ -80,15 +81,15 @@ timely_uncut now after (reply.Lost node down) unhurt is = absurd is
 timely_uncut now after (reply.NoMajority up nodes) unhurt is = absurd is
 timely_uncut now after reply.NoMemory unhurt is = absurd (true≢false unhurt)
 
--- no node goes down among lines of a session
-none_fell : (session : List ℕ) (n : ℕ) (front : List Line) (down node : ℕ) (fault : Bool) → AllByRecursion (IsOf session n) front → StandsIn front (line.Down down node fault) → ⊥
-none_fell session n front down node fault all stands = all_at (IsOf session n) front (line.Down down node fault) all stands
+-- of what a session that does not go on is told at its commit: no node went down in its piece before
+abbrev pub HasNoFall : Saying → List Line → Type 0
+HasNoFall s front = survives s.basis.script s.session ≡ false → commits_at s front ≡ true → (down node : ℕ) (fault : Bool) → StandsIn front (line.Down down node fault) → ⊥
 
-pub one_of : (s : Saying) (now after : ℕ) (front : List Line) (r : Reply) → AllByRecursion (IsOf s.session s.number) front → is_wanting r ≡ false → IsGiven s now after front r → IsOneOf s now after front r
-one_of s now after front r all unhurt (inl is) = inl (is.down, is.is_lost, without _ r unhurt is.says)
-one_of s now after front r all unhurt (inr (inl is)) = absurd (none_fell s.session s.number front is.down is.node is.fault all is.fell)
-one_of s now after front r all unhurt (inr (inr (inl is))) = inr (inl (record { kept = is.kept.kept; lacks = is.lacks; says = without _ r unhurt is.says }))
-one_of s now after front r all unhurt (inr (inr (inr is))) = inr (inr (record { kept = is.kept.kept; majority = is.majority; unsent = unsent; timely = is.timely; uncut = timely_uncut now after r unhurt is.timely }))
+pub one_of : (s : Saying) (now after : ℕ) (front : List Line) (r : Reply) → HasNoFall s front → is_wanting r ≡ false → IsGiven s now after front r → IsOneOf s now after front r
+one_of s now after front r none unhurt (inl is) = inl (is.down, is.is_lost, without _ r unhurt is.says)
+one_of s now after front r none unhurt (inr (inl is)) = absurd (none is.stays is.at_commit is.down is.node is.fault is.fell)
+one_of s now after front r none unhurt (inr (inr (inl is))) = inr (inl (record { kept = is.kept.kept; lacks = is.lacks; says = without _ r unhurt is.says }))
+one_of s now after front r none unhurt (inr (inr (inr is))) = inr (inr (record { kept = is.kept.kept; majority = is.majority; unsent = unsent; timely = is.timely; uncut = timely_uncut now after r unhurt is.timely }))
   where
     committed : (q : Reply) → is_wanting q ≡ false → IsUnsent q → (position : ℕ) × (q ≡ reply.Committed position)
     committed (reply.Begin position) w e = absurd e

@@ -1,6 +1,7 @@
--- Two pieces of a session's line behind the same lines are the same, where no arm waits and nothing fails, and append the same.
-use Rattle.std.proofs.Common.{◌≡◌, ℕ, zero, suc, ◌+◌, ◌-◌, ◌≤◌, ◌&&◌, List, [], ◌∷◌, ◌++◌, length, refl, sym, subst, ap, arith, ◌∙◌, Some, append_assoc, Bool, true, false, ◌⊎◌, inl, inr}
-use Rattle.std.proofs.lemmas.Bool.{both_ways, true≢false}
+-- Two pieces of a session's line behind the same lines are the same, where no arm of a commit waits and nothing fails, and append the
+-- same.
+use Rattle.std.proofs.Common.{◌≡◌, ℕ, zero, suc, ◌+◌, ◌-◌, ◌≤◌, List, [], ◌∷◌, ◌++◌, length, refl, sym, subst, ap, arith, ◌∙◌, Some, append_assoc, Bool, true, false, ◌⊎◌, inl, inr}
+use Rattle.std.proofs.lemmas.Bool.{and_from, both_ways, false≢true, true≢false}
 use Rattle.std.proofs.lemmas.List.{append-nil, length-append}
 use Rattle.std.specs.List.{AllByRecursion}
 use Rattle.cdb_values.specs.declared.replies.Reply.{Reply}
@@ -9,7 +10,7 @@ use Rattle.cdb_values.specs.Rows.{Rows}
 use Rattle.cdb_values.specs.declared.rows.Level.{Level}
 use Rattle.report_laws.specs.Cut.{cuts}
 use Rattle.report_laws.specs.History.{Basis, IsCommitAfter, IsEntryAfter, alone_on, last_position, view_of}
-use Rattle.report_laws.specs.Nodes.{downs}
+use Rattle.report_laws.specs.Nodes.{is_up}
 use Rattle.report_laws.specs.Play.{HasChanges, IsTimely, is_own_by, was_cut}
 use Rattle.report_laws.specs.Told.{Along, told}
 use Rattle.report_laws.specs.View.{View}
@@ -31,14 +32,15 @@ use Rattle.session_language.proofs.UpToLaws.{up_to_same}
 use Rattle.session_language.specs.Answers.{Answers}
 use Rattle.session_language.specs.Each.{EachAfter, StandsIn}
 use Rattle.session_language.specs.Replies.{are_up_to, is_last_of}
-use Rattle.node_reports.specs.Arms.{is_last_a_down, is_last_a_row, is_row_due, of_commit, stops}
+use Rattle.node_reports.specs.Arms.{is_row_due, of_commit}
 use Rattle.node_reports.specs.Order.{saying}
-use Rattle.node_reports.specs.Piece.{Appends, FallsAt, FallsAtCommit, IsDue, IsPiece, IsSkipped, IsUnacknowledged, Saying, StopsAtRow, lacks_at, replies_in, site_at, wanes_at}
+use Rattle.node_reports.specs.Piece.{Appends, FallsAt, IsDue, IsPiece, IsSkipped, IsUnacknowledged, Saying, StopsAtRow, commits_at, lacks_at, replies_in, site_at, wanes_at}
 use Rattle.node_reports.specs.Told.{IsEntryHeard, IsHeard, IsToldAlong}
 use Rattle.node_laws.specs.Unhurt.{IsUnhurtLine, is_wanting}
 use Rattle.node_laws.proofs.Known.{BeginUpTo, IsAcknowledged, Known, acknowledged_more, begin_of, begin_told, known_more}
 use Rattle.node_laws.proofs.Next.{IsQuiet, begin_first, cut_is_last, head_begin}
-use Rattle.node_laws.proofs.Reply.{IsAnswer, IsMissing, IsOneOf, Telling, no_changes, none_zero, not_some, one_of, same_answer, same_some}
+use Rattle.node_laws.proofs.Reply.{HasNoFall, IsAnswer, IsMissing, IsOneOf, Telling, no_changes, none_zero, not_some, one_of, same_answer, same_some}
+use Rattle.node_laws.proofs.RowStops.{no_master, none_at_commit, none_at_end, row_due, stop_in, Piece}
 use Rattle.node_laws.proofs.Split.{no_longer, none_left}
 use Rattle.node_laws.proofs.Under.{IsIts, IsOf, cut_stands, line_of, lones_uncut, replies_are, told_outside, told_under, under_at, under_stands, work_rises}
 
@@ -49,61 +51,34 @@ pub record Whole (basis : Basis) (lines : List Line) (entries : List EntryLine) 
   pub answered : AllByRecursion (IsHeard basis (view_of basis entries) lines) entries
   pub unhurt : AllByRecursion IsUnhurtLine lines
 
--- in a piece are lines of its session alone
+-- in a piece are lines of its session, and stops
 
-never_row : (session : List ℕ) (front : List Line) → is_row_due [] session front ≡ false
-never_row session front = go (is_last_a_row front)
-  where
-    go : (b : Bool) → (b && false) ≡ false
-    go true = refl
-    go false = refl
-
-none_falls : (s : Saying) (now after : ℕ) (front : List Line) (count node : ℕ) (fault : Bool) → s.arms ≡ [] → fault ≡ false → FallsAt s front count node fault → ⊥
-none_falls s now after front count node fault bare unhurt falls = go falls.cause
-  where
-    by : (fault ≡ true) ⊎ (stops front + 1 ≤ of_commit s.arms) → ⊥
-    by (inl e) = true≢false (sym e ∙ unhurt)
-    by (inr some) = let none : of_commit s.arms ≡ 0 = ap of_commit bare in omega (arith, some, none)
-
-    go : FallsAtCommit s front fault ⊎ (StopsAtRow s front node fault ⊎ ((fault ≡ true) × (is_last_a_down front ≡ true))) → ⊥
-    go (inl is) = by is.by
-    go (inr (inl is)) = true≢false (sym is.due ∙ ap (λ arms. is_row_due arms s.session front) bare ∙ never_row s.session front)
-    go (inr (inr is)) = true≢false (sym is.0 ∙ unhurt)
-
-of_session : (s : Saying) (now after : ℕ) (front mine : List Line) → s.arms ≡ [] → AllByRecursion IsUnhurtLine mine → EachAfter (IsDue s now after) front mine → AllByRecursion (IsOf s.session s.number) mine
-of_session s now after front [] bare unhurt each = tt
-of_session s now after front (line.Session name txn r ∷ ls) bare unhurt each = ((each.0.0, each.0.1), of_session s now after (front ++ line.Session name txn r ∷ []) ls bare unhurt.1 each.1)
-of_session s now after front (line.Down count node fault ∷ ls) bare unhurt each = absurd (none_falls s now after front count node fault bare unhurt.0 each.0)
-of_session s now after front (line.Up node ∷ ls) bare unhurt each = absurd each.0
-of_session s now after front (line.Barrier ∷ ls) bare unhurt each = absurd each.0
-of_session s now after front (line.Fed position ∷ ls) bare unhurt each = absurd each.0
-
-no_downs : (session : List ℕ) (n : ℕ) (ls : List Line) → AllByRecursion (IsOf session n) ls → downs ls ≡ 0
-no_downs session n [] all = refl
-no_downs session n (line.Session name txn r ∷ ls) all = no_downs session n ls all.1
-no_downs session n (line.Down count node fault ∷ ls) all = absurd all.0
-no_downs session n (line.Up node ∷ ls) all = absurd all.0
-no_downs session n (line.Barrier ∷ ls) all = absurd all.0
-no_downs session n (line.Fed position ∷ ls) all = absurd all.0
+of_session : (s : Saying) (now after : ℕ) (front mine : List Line) → EachAfter (IsDue s now after) front mine → AllByRecursion (IsOf s.session s.number) mine
+of_session s now after front [] each = tt
+of_session s now after front (line.Session name txn r ∷ ls) each = ((each.0.0, each.0.1), of_session s now after (front ++ line.Session name txn r ∷ []) ls each.1)
+of_session s now after front (line.Down count node fault ∷ ls) each = (tt, of_session s now after (front ++ line.Down count node fault ∷ []) ls each.1)
+of_session s now after front (line.Up node ∷ ls) each = absurd each.0
+of_session s now after front (line.Barrier ∷ ls) each = absurd each.0
+of_session s now after front (line.Fed position ∷ ls) each = absurd each.0
 
 -- where an entry is appended it is told
-appended_told : (s : Saying) (now : ℕ) (mine others : List Line) (e : EntryLine) (es : List EntryLine) → AllByRecursion (IsOf s.session s.number) mine → Appends s now mine others (e ∷ es) → StandsIn (replies_in s.session mine) (reply.Committed (now + 1))
-appended_told s now mine others e es all is = go is.4
+appended_told : (s : Saying) (now after : ℕ) (mine others : List Line) (e : EntryLine) (es : List EntryLine) → Piece s now after mine → Appends s now mine others (e ∷ es) → StandsIn (replies_in s.session mine) (reply.Committed (now + 1))
+appended_told s now after mine others e es piece is = go is.4
   where
     go : StandsIn (replies_in s.session mine) (reply.Committed (now + 1)) ⊎ IsUnacknowledged s mine others → StandsIn (replies_in s.session mine) (reply.Committed (now + 1))
     go (inl stands) = stands
-    go (inr un) = absurd (let none : downs mine ≡ 0 = no_downs s.session s.number mine all in let some : 1 ≤ downs mine = un.fell in omega (arith, none, some))
+    go (inr un) = absurd (none_at_commit s now after mine piece un.fell)
 
 -- the entries of a piece are those of its last reply
-outcomes_of : (s : Saying) (now : ℕ) (u : List Reply) (r : Reply) (mine others : List Line) (added : List EntryLine) → AllByRecursion (IsOf s.session s.number) mine → Appends s now mine others added → AllByRecursion IsQuiet u →
+outcomes_of : (s : Saying) (now after : ℕ) (u : List Reply) (r : Reply) (mine others : List Line) (added : List EntryLine) → Piece s now after mine → Appends s now mine others added → AllByRecursion IsQuiet u →
     ((q : Reply) → StandsIn (under s.session s.number mine) q → StandsIn (u ++ r ∷ []) q) → IsOutcomes now s.session s.number r added
-outcomes_of s now u r mine others [] all is quiet among = inl refl
-outcomes_of s now u r mine others (e ∷ es) all is quiet among =
+outcomes_of s now after u r mine others [] piece is quiet among = inl refl
+outcomes_of s now after u r mine others (e ∷ es) piece is quiet among =
     inr (
       is.1,
       is.2,
       ap (λ (rest : List EntryLine). e ∷ rest) is.0 ∙ ap (λ (d : EntryLine). d ∷ []) is.3,
-      commit_is_last u r (now + 1) quiet (among (reply.Committed (now + 1)) (subst (λ (rs : List Reply). StandsIn rs (reply.Committed (now + 1))) (replies_are s.session s.number mine all) (appended_told s now mine others e es all is))),
+      commit_is_last u r (now + 1) quiet (among (reply.Committed (now + 1)) (subst (λ (rs : List Reply). StandsIn rs (reply.Committed (now + 1))) (replies_are s.session s.number mine piece.of_it) (appended_told s now after mine others e es piece is))),
     )
 
 module _ (basis : Basis) (answers : Answers basis.language) (done : List BodyLine) (before : List Line) (history : List EntryLine) (session text : List ℕ) (known : Known basis.origin before history) where
@@ -120,13 +95,15 @@ module _ (basis : Basis) (answers : Answers basis.language) (done : List BodyLin
   -- one of the two reports
   record Side (mine others : List Line) (added later : List EntryLine) : Type 0 where
     whole : Whole basis (before ++ (mine ++ others)) (history ++ (added ++ later))
-    of_it : AllByRecursion (IsOf session number) mine
-    unhurt : AllByRecursion IsUnhurtLine mine
-    each : EachAfter (IsDue (as_said (view_of basis (history ++ (added ++ later)))) now (now + length added)) [] mine
+    piece : Piece (as_said (view_of basis (history ++ (added ++ later)))) now (now + length added) mine
     appended : Appends (as_said (view_of basis (history ++ (added ++ later)))) now mine others added
 
-  side_of : (mine others : List Line) (added later : List EntryLine) → Whole basis (before ++ (mine ++ others)) (history ++ (added ++ later)) → (as_said (view_of basis history)).arms ≡ [] → IsPiece (as_said (view_of basis (history ++ (added ++ later)))) now mine others added → Side mine others added later
-  side_of mine others added later whole bare piece = record { whole = whole; of_it = of_session (as_said (view_of basis (history ++ (added ++ later)))) now (now + length added) [] mine bare unhurt piece.each; unhurt = unhurt; each = piece.each; appended = piece.appended }
+  side_of : (mine others : List Line) (added later : List EntryLine) → Whole basis (before ++ (mine ++ others)) (history ++ (added ++ later)) → of_commit (as_said (view_of basis history)).arms ≡ 0 → IsPiece (as_said (view_of basis (history ++ (added ++ later)))) now mine others added → Side mine others added later
+  side_of mine others added later whole bare piece = record {
+    whole = whole;
+    piece = record { bare = bare; of_it = of_session (as_said (view_of basis (history ++ (added ++ later)))) now (now + length added) [] mine piece.each; unhurt = unhurt; each = piece.each };
+    appended = piece.appended;
+  }
     where
       unhurt : AllByRecursion IsUnhurtLine mine
       unhurt = all_front IsUnhurtLine mine others (all_behind IsUnhurtLine before (mine ++ others) whole.unhurt)
@@ -139,7 +116,7 @@ module _ (basis : Basis) (answers : Answers basis.language) (done : List BodyLin
     tail = under session number (rest ++ others);
     told_there = there;
     replies = side.whole.replies session;
-    outcomes = λ none quiet. outcomes_of (as_said (view_of basis (history ++ (added ++ later)))) now (under session number (before ++ front)) r mine others added side.of_it side.appended quiet (among none);
+    outcomes = λ none quiet. outcomes_of (as_said (view_of basis (history ++ (added ++ later)))) now (now + length added) (under session number (before ++ front)) r mine others added side.piece side.appended quiet (among none);
   }
     where
       split : before ++ (mine ++ others) ≡ (before ++ front) ++ line.Session session number r ∷ (rest ++ others)
@@ -183,8 +160,17 @@ module _ (basis : Basis) (answers : Answers basis.language) (done : List BodyLin
     -- what stands in the piece is told there
     one_at : (front rest : List Line) (r : Reply) → mine ≡ front ++ line.Session session number r ∷ rest → is_wanting r ≡ false → IsOneOf (as_said its_view) now (now + length added) front r
     one_at front rest r is unhurt =
-        one_of (as_said its_view) now (now + length added) front r (all_front (IsOf session number) front (line.Session session number r ∷ rest) (subst (AllByRecursion (IsOf session number)) is side.of_it)) unhurt
-        (each_at (IsDue (as_said its_view) now (now + length added)) [] front (line.Session session number r) rest (subst (EachAfter (IsDue (as_said its_view) now (now + length added)) []) is side.each)).3
+        one_of (as_said its_view) now (now + length added) front r none unhurt
+        (each_at (IsDue (as_said its_view) now (now + length added)) [] front (line.Session session number r) rest (subst (EachAfter (IsDue (as_said its_view) now (now + length added)) []) is side.piece.each)).3
+      where
+        none : HasNoFall (as_said its_view) front
+        none stays there down node true (f0, f1, at) =
+            true≢false (all_standing IsUnhurtLine f0 (f1 ++ line.Session session number r ∷ rest) (line.Down down node true)
+            (subst (AllByRecursion IsUnhurtLine) (is ∙ ap (λ (ls : List Line). ls ++ line.Session session number r ∷ rest) at ∙ append_assoc f0 (line.Down down node true ∷ f1) (line.Session session number r ∷ rest)) side.piece.unhurt))
+        none stays there down node false (f0, f1, at) =
+            no_master (as_said its_view) now (now + length added) mine f0 down node side.piece stays f1 (line.Session session number r ∷ rest)
+            (is ∙ ap (λ (ls : List Line). ls ++ line.Session session number r ∷ rest) at ∙ append_assoc f0 (line.Down down node false ∷ f1) (line.Session session number r ∷ rest))
+            (subst (λ (ls : List Line). commits_at (as_said its_view) ls ≡ true) at there)
 
     begins_in : (front rest : List Line) → mine ≡ front ++ rest → AllByRecursion (IsOf session number) rest → AllByRecursion IsUnhurtLine rest → BeginUpTo now rest
     begins_in front [] is all unhurt = tt
@@ -193,17 +179,17 @@ module _ (basis : Basis) (answers : Answers basis.language) (done : List BodyLin
       where
         its : line.Session name txn r ≡ line.Session session number r
         its = ap (λ (s : List ℕ). line.Session s txn r) all.0.0 ∙ ap (λ (k : ℕ). line.Session session k r) all.0.1
-    begins_in front (line.Down count node fault ∷ ls) is all unhurt = absurd all.0
+    begins_in front (line.Down count node fault ∷ ls) is all unhurt = (omega arith, begins_in (front ++ line.Down count node fault ∷ []) ls (is ∙ sym (append_assoc front (line.Down count node fault ∷ []) ls)) all.1 unhurt.1)
     begins_in front (line.Up node ∷ ls) is all unhurt = absurd all.0
     begins_in front (line.Barrier ∷ ls) is all unhurt = absurd all.0
     begins_in front (line.Fed position ∷ ls) is all unhurt = absurd all.0
 
     commit_line : (e : EntryLine) (es : List EntryLine) → added ≡ e ∷ es → StandsIn mine (line.Session session number (reply.Committed (now + 1)))
-    commit_line e es is = line_of session number (reply.Committed (now + 1)) mine side.of_it (appended_told (as_said its_view) now mine others e es side.of_it (subst (Appends (as_said its_view) now mine others) is side.appended))
+    commit_line e es is = line_of session number (reply.Committed (now + 1)) mine side.piece.of_it (appended_told (as_said its_view) now (now + length added) mine others e es side.piece (subst (Appends (as_said its_view) now mine others) is side.appended))
 
     -- what is known goes on
     known_next : Known basis.origin (before ++ mine) (history ++ added)
-    known_next = known_more basis.origin before mine history added known (all_map (λ (l : Line). begin_told l ≤ now) (λ (l : Line). begin_told l ≤ last_position basis.origin (history ++ added)) grows mine (begins_in [] mine refl side.of_it side.unhurt)) (acked added refl side.appended)
+    known_next = known_more basis.origin before mine history added known (all_map (λ (l : Line). begin_told l ≤ now) (λ (l : Line). begin_told l ≤ last_position basis.origin (history ++ added)) grows mine (begins_in [] mine refl side.piece.of_it side.piece.unhurt)) (acked added refl side.appended)
       where
         grows : (l : Line) → begin_told l ≤ now → begin_told l ≤ last_position basis.origin (history ++ added)
         grows l is = omega (arith, is, length-append history added)
@@ -215,7 +201,7 @@ module _ (basis : Basis) (answers : Answers basis.language) (done : List BodyLin
 
     -- where its transaction was cut short before, nothing is told
     skipped : was_cut before session number ≡ true → mine ≡ []
-    skipped cut = go mine refl side.of_it
+    skipped cut = go mine refl side.piece.of_it
       where
         c : (c : Reply) × (cuts c ≡ true) × StandsIn before (line.Session session number c)
         c = cut_stands session number before cut
@@ -245,7 +231,7 @@ module _ (basis : Basis) (answers : Answers basis.language) (done : List BodyLin
         go : (ls : List Line) → mine ≡ ls → AllByRecursion (IsOf session number) ls → mine ≡ []
         go [] is all = is
         go (line.Session name txn r ∷ ls) is all = absurd (at r ls (is ∙ ap (λ (s : List ℕ). line.Session s txn r ∷ ls) all.0.0 ∙ ap (λ (k : ℕ). line.Session session k r ∷ ls) all.0.1))
-        go (line.Down count node fault ∷ ls) is all = absurd all.0
+        go (line.Down count node fault ∷ ls) is all = absurd (false≢true (row_due (as_said its_view) [] node fault (stop_in (as_said its_view) now (now + length added) mine [] ls count node fault side.piece is)))
         go (line.Up node ∷ ls) is all = absurd all.0
         go (line.Barrier ∷ ls) is all = absurd all.0
         go (line.Fed position ∷ ls) is all = absurd all.0
@@ -377,29 +363,45 @@ module _ (basis : Basis) (answers : Answers basis.language) (done : List BodyLin
     abbrev up : Reply → Bool
     up = is_last_of (is_own_by (as_said one_view).kind (as_said one_view).pending)
 
-    no_more : (front rest : List Line) (xs ys : List Line) (l : Line) → AllByRecursion (IsOf session number) xs → AllByRecursion (IsOf session number) ys → are_up_to up (replies_in session xs) ≡ true → are_up_to up (replies_in session ys) ≡ true → xs ≡ front ++ [] → ys ≡ front ++ l ∷ rest → ⊥
-    no_more front rest xs ys l all all' ends ends' is is' = go l (all_standing (IsOf session number) front rest l (subst (AllByRecursion (IsOf session number)) is' all')) is'
+    no_more : (view : View) (after : ℕ) (front rest : List Line) (xs ys : List Line) (l : Line) → AllByRecursion (IsOf session number) xs → Piece (as_said view) now after ys → are_up_to up (replies_in session xs) ≡ true → are_up_to up (replies_in session ys) ≡ true → xs ≡ front ++ [] → ys ≡ front ++ l ∷ rest → ⊥
+    no_more view after front rest xs ys l all piece ends ends' is is' = go l (all_standing (IsOf session number) front rest l (subst (AllByRecursion (IsOf session number)) is' piece.of_it)) is'
       where
         go : (x : Line) → IsOf session number x → ys ≡ front ++ x ∷ rest → ⊥
         go (line.Session name txn q) (same, number_is) at =
             no_longer (under session number front) q (under session number rest) (sym (replies_are session number xs all ∙ ap (under session number) (is ∙ append-nil front)) ∙ equal ∙ there)
           where
             there : replies_in session ys ≡ under session number front ++ q ∷ under session number rest
-            there = replies_are session number ys all' ∙ ap (under session number) at ∙ ap (λ (s : List ℕ). under session number (front ++ line.Session s txn q ∷ rest)) same ∙ ap (λ (k : ℕ). under session number (front ++ line.Session session k q ∷ rest)) number_is ∙ under_at session number q front rest
+            there = replies_are session number ys piece.of_it ∙ ap (under session number) at ∙ ap (λ (s : List ℕ). under session number (front ++ line.Session s txn q ∷ rest)) same ∙ ap (λ (k : ℕ). under session number (front ++ line.Session session k q ∷ rest)) number_is ∙ under_at session number q front rest
 
             equal : replies_in session xs ≡ replies_in session ys
             equal = up_to_same up (replies_in session xs) (replies_in session ys) (q ∷ under session number rest) [] ends ends'
                 (ap (λ (rs : List Reply). rs ++ q ∷ under session number rest) (replies_are session number xs all ∙ ap (under session number) (is ∙ append-nil front)) ∙ sym there ∙ sym (append-nil (replies_in session ys)))
-        go (line.Down count node fault) its at = absurd its
+        go (line.Down count node fault) its at =
+            none_at_end (as_said view) now after ys front rest count node fault (is_own_by (as_said one_view).kind (as_said one_view).pending) piece at
+            (subst (λ (ls : List Line). are_up_to up (replies_in session ls) ≡ true) (is ∙ append-nil front) ends)
         go (line.Up node) its at = absurd its
         go line.Barrier its at = absurd its
         go (line.Fed position) its at = absurd its
 
+    -- no line is told where a node is to be stopped
+    not_both : (view view' : View) (after after' : ℕ) (front rest rest' xs ys : List Line) (name : List ℕ) (txn : ℕ) (r : Reply) (count node : ℕ) (fault : Bool) → Piece (as_said view) now after xs → Piece (as_said view') now after' ys → xs ≡ front ++ line.Session name txn r ∷ rest →
+        ys ≡ front ++ line.Down count node fault ∷ rest' → ⊥
+    not_both view view' after after' front rest rest' xs ys name txn r count node fault piece piece' is is' =
+        both_ways _ (each_at (IsDue (as_said view) now after) [] front (line.Session name txn r) rest (subst (EachAfter (IsDue (as_said view) now after) []) is piece.each)).2
+        (and_from (is_row_due (as_said view).arms session front) (is_up (site_at (as_said view) front).node (before ++ front)) stop.due
+        (ap (λ (k : ℕ). is_up k (before ++ front)) (sym stop.its) ∙ falls.was_up))
+      where
+        stop : StopsAtRow (as_said view') front node fault
+        stop = stop_in (as_said view') now after' ys front rest' count node fault piece' is'
+
+        falls : FallsAt (as_said view') front count node fault
+        falls = each_at (IsDue (as_said view') now after') [] front (line.Down count node fault) rest' (subst (EachAfter (IsDue (as_said view') now after') []) is' piece'.each)
+
     same_rest : are_up_to up (replies_in session mine) ≡ true → are_up_to up (replies_in session mine') ≡ true → (front rest rest' : List Line) → mine ≡ front ++ rest → mine' ≡ front ++ rest' → BeginUpTo now front →
         AllByRecursion (IsOf session number) rest → AllByRecursion (IsOf session number) rest' → AllByRecursion IsUnhurtLine rest → AllByRecursion IsUnhurtLine rest' → rest ≡ rest'
     same_rest ends ends' front [] [] is is' begins all all' unhurt unhurt' = refl
-    same_rest ends ends' front [] (l ∷ ls) is is' begins all all' unhurt unhurt' = absurd (no_more front ls mine mine' l side.of_it side'.of_it ends ends' is is')
-    same_rest ends ends' front (l ∷ ls) [] is is' begins all all' unhurt unhurt' = absurd (no_more front ls mine' mine l side'.of_it side.of_it ends' ends is' is)
+    same_rest ends ends' front [] (l ∷ ls) is is' begins all all' unhurt unhurt' = absurd (no_more other_view (now + length added') front ls mine mine' l side.piece.of_it side'.piece ends ends' is is')
+    same_rest ends ends' front (l ∷ ls) [] is is' begins all all' unhurt unhurt' = absurd (no_more one_view (now + length added) front ls mine' mine l side'.piece.of_it side.piece ends' ends is' is)
     same_rest ends ends' front (line.Session name txn r ∷ ls) (line.Session name' txn' q ∷ ls') is is' begins all all' unhurt unhurt' =
         ap (λ (x : Line). x ∷ ls) same ∙ ap (λ (xs : List Line). line.Session name' txn' q ∷ xs) (same_rest ends ends' (front ++ line.Session name txn r ∷ []) ls ls' (is ∙ sym (append_assoc front (line.Session name txn r ∷ []) ls)) (is' ∙ ap (λ (x : Line). front ++ x ∷ ls') (sym same) ∙ sym (append_assoc front (line.Session name txn r ∷ []) ls'))
         (all_append (λ (x : Line). begin_told x ≤ now) front (line.Session name txn r ∷ []) begins (given_begin (as_said one_view) (now + length added) front r one, tt)) all.1 all'.1 unhurt.1 unhurt'.1)
@@ -424,11 +426,32 @@ module _ (basis : Basis) (answers : Answers basis.language) (done : List BodyLin
 
         same : line.Session name txn r ≡ line.Session name' txn' q
         same = its ∙ ap (λ (p : Reply). line.Session session number p) (same_reply front ls ls' r q at at' begins one other) ∙ sym its'
-    same_rest ends ends' front (line.Session name txn r ∷ ls) (line.Down count node fault ∷ ls') is is' begins all all' unhurt unhurt' = absurd all'.0
+    same_rest ends ends' front (line.Session name txn r ∷ ls) (line.Down count node fault ∷ ls') is is' begins all all' unhurt unhurt' = absurd (not_both one_view other_view (now + length added) (now + length added') front ls ls' mine mine' name txn r count node fault side.piece side'.piece is is')
     same_rest ends ends' front (line.Session name txn r ∷ ls) (line.Up node ∷ ls') is is' begins all all' unhurt unhurt' = absurd all'.0
     same_rest ends ends' front (line.Session name txn r ∷ ls) (line.Barrier ∷ ls') is is' begins all all' unhurt unhurt' = absurd all'.0
     same_rest ends ends' front (line.Session name txn r ∷ ls) (line.Fed position ∷ ls') is is' begins all all' unhurt unhurt' = absurd all'.0
-    same_rest ends ends' front (line.Down count node fault ∷ ls) (l ∷ ls') is is' begins all all' unhurt unhurt' = absurd all.0
+    same_rest ends ends' front (line.Down count node fault ∷ ls) (line.Session name txn r ∷ ls') is is' begins all all' unhurt unhurt' = absurd (not_both other_view one_view (now + length added') (now + length added) front ls' ls mine' mine name txn r count node fault side'.piece side.piece is' is)
+    same_rest ends ends' front (line.Down count node fault ∷ ls) (line.Down again other fault' ∷ ls') is is' begins all all' unhurt unhurt' =
+        ap (λ (x : Line). x ∷ ls) same ∙ ap (λ (xs : List Line). line.Down again other fault' ∷ xs) (same_rest ends ends' (front ++ line.Down count node fault ∷ []) ls ls' (is ∙ sym (append_assoc front (line.Down count node fault ∷ []) ls)) (is' ∙ ap (λ (x : Line). front ++ x ∷ ls') (sym same) ∙ sym (append_assoc front (line.Down count node fault ∷ []) ls'))
+        (all_append (λ (x : Line). begin_told x ≤ now) front (line.Down count node fault ∷ []) begins (omega arith, tt)) all.1 all'.1 unhurt.1 unhurt'.1)
+      where
+        falls : FallsAt (as_said one_view) front count node fault
+        falls = each_at (IsDue (as_said one_view) now (now + length added)) [] front (line.Down count node fault) ls (subst (EachAfter (IsDue (as_said one_view) now (now + length added)) []) is side.piece.each)
+
+        falls' : FallsAt (as_said other_view) front again other fault'
+        falls' = each_at (IsDue (as_said other_view) now (now + length added')) [] front (line.Down again other fault') ls' (subst (EachAfter (IsDue (as_said other_view) now (now + length added')) []) is' side'.piece.each)
+
+        stop : StopsAtRow (as_said one_view) front node fault
+        stop = stop_in (as_said one_view) now (now + length added) mine front ls count node fault side.piece is
+
+        stop' : StopsAtRow (as_said other_view) front other fault'
+        stop' = stop_in (as_said other_view) now (now + length added') mine' front ls' again other fault' side'.piece is'
+
+        same : line.Down count node fault ≡ line.Down again other fault'
+        same = ap (λ (k : ℕ). line.Down k node fault) (falls.counted ∙ sym falls'.counted) ∙ ap (λ (k : ℕ). line.Down again k fault) (stop.its ∙ sym stop'.its) ∙ ap (λ (b : Bool). line.Down again other b) (stop.stopped ∙ sym stop'.stopped)
+    same_rest ends ends' front (line.Down count node fault ∷ ls) (line.Up other ∷ ls') is is' begins all all' unhurt unhurt' = absurd all'.0
+    same_rest ends ends' front (line.Down count node fault ∷ ls) (line.Barrier ∷ ls') is is' begins all all' unhurt unhurt' = absurd all'.0
+    same_rest ends ends' front (line.Down count node fault ∷ ls) (line.Fed position ∷ ls') is is' begins all all' unhurt unhurt' = absurd all'.0
     same_rest ends ends' front (line.Up node ∷ ls) (l ∷ ls') is is' begins all all' unhurt unhurt' = absurd all.0
     same_rest ends ends' front (line.Barrier ∷ ls) (l ∷ ls') is is' begins all all' unhurt unhurt' = absurd all.0
     same_rest ends ends' front (line.Fed position ∷ ls) (l ∷ ls') is is' begins all all' unhurt unhurt' = absurd all.0
@@ -442,7 +465,7 @@ module _ (basis : Basis) (answers : Answers basis.language) (done : List BodyLin
 
         go : (b : Bool) → was_cut before session number ≡ b → mine ≡ mine'
         go true cut = skipped mine others added later side cut ∙ sym (skipped mine' others' added' later' side' cut)
-        go false uncut = same_rest (ends one_view mine uncut up_to) (ends other_view mine' uncut up_to') [] mine mine' refl refl tt side.of_it side'.of_it side.unhurt side'.unhurt
+        go false uncut = same_rest (ends one_view mine uncut up_to) (ends other_view mine' uncut up_to') [] mine mine' refl refl tt side.piece.of_it side'.piece.of_it side.piece.unhurt side'.piece.unhurt
 
     -- where the one appends an entry, so does the other
     not_none : (e : EntryLine) (es : List EntryLine) → mine ≡ mine' → added ≡ e ∷ es → added' ≡ [] → ⊥
@@ -489,7 +512,7 @@ module _ (basis : Basis) (answers : Answers basis.language) (done : List BodyLin
         go (e ∷ es) (e' ∷ es') is is' = both_entries e e' es es' same is is'
 
   -- so two pieces are one, and what is known goes on
-  pub one_piece : (mine mine' others others' : List Line) (added added' later later' : List EntryLine) → (as_said (view_of basis history)).arms ≡ [] →
+  pub one_piece : (mine mine' others others' : List Line) (added added' later later' : List EntryLine) → of_commit (as_said (view_of basis history)).arms ≡ 0 →
       Whole basis (before ++ (mine ++ others)) (history ++ (added ++ later)) → Whole basis (before ++ (mine' ++ others')) (history ++ (added' ++ later')) →
       IsPiece (as_said (view_of basis (history ++ (added ++ later)))) now mine others added → IsPiece (as_said (view_of basis (history ++ (added' ++ later')))) now mine' others' added' →
       (mine ≡ mine') × (added ≡ added') × Known basis.origin (before ++ mine) (history ++ added)

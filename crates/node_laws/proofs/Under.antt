@@ -113,10 +113,10 @@ lones_uncut language name body = subst (λ (items : List Item). AreUncut (lones 
 
 -- lines
 
--- a line of a session under a number
+-- a line of a session under a number, or that a node went down
 abbrev pub IsOf : List ℕ → ℕ → Line → Type 0
 IsOf session n (line.Session name txn answer) = (name ≡ session) × (txn ≡ n)
-IsOf session n (line.Down count node fault) = ⊥
+IsOf session n (line.Down count node fault) = Unit {0}
 IsOf session n (line.Up node) = ⊥
 IsOf session n line.Barrier = ⊥
 IsOf session n (line.Fed position) = ⊥
@@ -141,7 +141,7 @@ replies_are name n (line.Session session txn r ∷ ls) all =
     ∙ sym (under_at name n r [] ls)
     ∙ ap (λ (k : ℕ). under name n (line.Session name k r ∷ ls)) (sym all.0.1)
     ∙ ap (λ (s : List ℕ). under name n (line.Session s txn r ∷ ls)) (sym all.0.0)
-replies_are name n (line.Down count node fault ∷ ls) all = absurd all.0
+replies_are name n (line.Down count node fault ∷ ls) all = replies_are name n ls all.1
 replies_are name n (line.Up node ∷ ls) all = absurd all.0
 replies_are name n (line.Barrier ∷ ls) all = absurd all.0
 replies_are name n (line.Fed position ∷ ls) all = absurd all.0
@@ -157,7 +157,7 @@ line_of name n r lines all stands = go lines all (subst (λ (rs : List Reply). S
         at : StandsIn (q ∷ under name n ls) r → StandsIn (line.Session session txn q ∷ ls) (line.Session name n r)
         at ([], back, is) = ([], ls, ap (λ (s : List ℕ). line.Session s txn q ∷ ls) same ∙ ap (λ (k : ℕ). line.Session name k q ∷ ls) number ∙ ap (λ (p : Reply). line.Session name n p ∷ ls) (let it : q ≡ r = cc in it))
         at (y ∷ front, back, is) = let more = later (front, back, (let rest : under name n ls ≡ front ++ r ∷ back = cc in rest)) in (line.Session session txn q ∷ more.0, more.1, ap (λ (xs : List Line). line.Session session txn q ∷ xs) more.2)
-    first (line.Down count node fault) ls its stands later = absurd its
+    first (line.Down count node fault) ls its stands later = let more = later stands in (line.Down count node fault ∷ more.0, more.1, ap (λ (xs : List Line). line.Down count node fault ∷ xs) more.2)
     first (line.Up node) ls its stands later = absurd its
     first line.Barrier ls its stands later = absurd its
     first (line.Fed position) ls its stands later = absurd its

@@ -17,6 +17,7 @@ use Rattle.report_laws.proofs.EntryToldLaws.{commit_stands}
 use Rattle.report_laws.proofs.PieceLaws.{all_at}
 use Rattle.report_text.specs.declared.reports.Line.{Line}
 use Rattle.report_text.specs.declared.reports.Line.TheVariants as line
+use Rattle.node_laws.proofs.Reply.{same_some}
 use Rattle.report_worked.specs.Small.{from_nothing}
 use Rattle.report_worked.specs.Worked.{to_a}
 use Rattle.node_reports.specs.Lawful.{LawfulOfNodes}
@@ -148,9 +149,6 @@ before_barrier_is_refused is = go (is.operator.arms 1) refl
 abbrev IsNoCommitLine : Line → Type 0
 IsNoCommitLine (line.Session name txn (reply.Committed position)) = ⊥
 IsNoCommitLine _ = Unit {0}
-
-same_some : (t u : Transaction) → Some t ≡ Some u → t ≡ u
-same_some t u is = cc
 
 -- an entry of what was rolled back
 pub rollback_is_refused : LawfulOfNodes (from_nothing rolled_and_lost) entry_of_a_rollback → ⊥

@@ -27,6 +27,7 @@ use Rattle.report_laws.proofs.PieceLaws.{all_at}
 use Rattle.report_text.specs.declared.reports.EntryLine.TheVariants.{Commit, Setup}
 use Rattle.report_text.specs.declared.reports.Line.{Line}
 use Rattle.report_text.specs.declared.reports.Line.TheVariants as line
+use Rattle.node_laws.proofs.Reply.{same_some}
 use Rattle.report_worked.specs.Small.{from_log, from_nothing}
 use Rattle.report_worked.specs.Worked.{worked_table}
 use Rattle.report_worked.proofs.InsertSelectLemmas.{inserting}
@@ -103,9 +104,6 @@ begun_below_is_refused is = let no_such : 2 ≤ 1 = is.begins.1.1.1.1.1.0.base i
 
 pub lost_with_hasql_is_refused : LawfulOfNodes (from_nothing moves_on_one) lost_with_hasql → ⊥
 lost_with_hasql_is_refused is = true≢false is.places.1.1.1.1.1.1.1.0.0
-
-same_some : (t u : Transaction) → Some t ≡ Some u → t ≡ u
-same_some t u is = cc
 
 pub at_another_level_is_refused : LawfulOfNodes (from_nothing armed_append) at_another_level → ⊥
 at_another_level_is_refused is =

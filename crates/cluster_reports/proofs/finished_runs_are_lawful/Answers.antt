@@ -1,6 +1,7 @@
 use Rattle.std.proofs.Common.{refl}
+use Rattle.core_lists.proofs.Fronts.{front_rest}
 use Rattle.cluster_reports.proofs.NodesRuns.{with_master}
-use Rattle.cluster_reports.proofs.LawfulRuns.{begins', front_rest, report}
+use Rattle.cluster_reports.proofs.LawfulRuns.{begins', report}
 use Rattle.cluster_reports.proofs.finished_runs_are_lawful.Goals as goal
 
 pub returns : goal.returns

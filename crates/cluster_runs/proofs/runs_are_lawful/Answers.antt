@@ -1,6 +1,7 @@
 use Rattle.std.proofs.Common.{refl}
+use Rattle.core_lists.proofs.Fronts.{front_rest}
 use Rattle.cluster_reports.proofs.NodesRuns.{with_master, without_master}
-use Rattle.cluster_reports.proofs.LawfulRuns.{begins', front_rest, report}
+use Rattle.cluster_reports.proofs.LawfulRuns.{begins', report}
 use Rattle.cluster_reports.proofs.MasterlessRuns as masterless
 use Rattle.cluster_runs.proofs.RunLaws.{finished}
 use Rattle.cluster_runs.proofs.runs_are_lawful.Goals as goal
