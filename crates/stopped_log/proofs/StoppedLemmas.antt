@@ -17,7 +17,7 @@ use Rattle.node_log.proofs.SameLaws.{log_among}
 use Rattle.stopped_log.specs.Stopped.{Excuses, HoldsOne, Stopped}
 
 -- the log of a node
-named_of : (node cluster : ℕ) (bytes : List ℕ) (l : Logged) → IsOfNode node cluster l → Stand bytes l → StandsFor node cluster bytes (Log l.promised l.accepted l.entries)
+pub named_of : (node cluster : ℕ) (bytes : List ℕ) (l : Logged) → IsOfNode node cluster l → Stand bytes l → StandsFor node cluster bytes (Log l.promised l.accepted l.entries)
 named_of node cluster bytes l is s =
     subst (λ (k : ℕ). StandsFor k cluster bytes (Log l.promised l.accepted l.entries)) is.node
     (subst (λ (k : ℕ). StandsFor l.node k bytes (Log l.promised l.accepted l.entries)) is.cluster s)
@@ -80,3 +80,14 @@ holds_still s t u q a b alike logs h = subst (λ x. HoldsOne x logs) (sym q) (re
 pub excused : (why told : OpenFault) (s t u : Stopped) → t ≡ u → told ≡ why → IsNode s.node s.cluster → IsOpenFault why s.node s.cluster s.synced s.faults u.faults → IsLater why s.faults u.faults → (logs : List Logged) → HoldsOne s logs → Excuses told s.faults t.faults
 excused why told s t u q e is x l logs h =
     subst (λ w. Excuses w s.faults t.faults) (sym e) (subst (λ (y : Stopped). Excuses why s.faults y.faults) (sym q) (excuses why s.node s.cluster s.synced logs s.faults u.faults is h.of_node h.one x l))
+
+-- what is told of a store that was not opened is told of what stands there then
+pub refused_is : (why told : OpenFault) (node cluster : ℕ) (bytes : List ℕ) (before : ℕ) (t u : Stopped) → t ≡ u → told ≡ why → IsOpenFault why node cluster bytes before u.faults → IsOpenFault told node cluster bytes before t.faults
+refused_is why told node cluster bytes before t u q e x =
+    subst (λ w. IsOpenFault w node cluster bytes before t.faults) (sym e) (subst (λ (y : Stopped). IsOpenFault why node cluster bytes before y.faults) (sym q) x)
+
+pub later_is : (why told : OpenFault) (before : ℕ) (t u : Stopped) → t ≡ u → told ≡ why → IsLater why before u.faults → IsLater told before t.faults
+later_is why told before t u q e x = subst (λ w. IsLater w before t.faults) (sym e) (subst (λ (y : Stopped). IsLater why before y.faults) (sym q) x)
+
+pub alike_is : (node cluster : ℕ) (bytes : List ℕ) (t u : Stopped) → t ≡ u → StandsAlike node cluster bytes u.synced → StandsAlike node cluster bytes t.synced
+alike_is node cluster bytes t u q x = subst (λ (y : Stopped). StandsAlike node cluster bytes y.synced) (sym q) x

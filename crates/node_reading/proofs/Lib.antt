@@ -1,0 +1,2 @@
+mod RightLemmas
+mod ReadLaws
