@@ -1,0 +1,9 @@
+pub mod Packets
+pub mod Deliveries
+pub mod Loads
+pub mod Takes
+pub mod Led
+pub mod Polled
+pub mod Quiet
+pub mod Places
+pub mod ThreeNodes
