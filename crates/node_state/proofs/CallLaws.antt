@@ -7,6 +7,7 @@ use Rattle.actor_trace.specs.Steps.{Adds, Rests}
 use Rattle.cluster_events.specs.Settings.{Setting}
 use Rattle.cluster_steps.specs.declared.events.Event.{Event}
 use Rattle.cluster_steps.specs.declared.events.Event.TheVariants as event
+use Rattle.cluster_steps.specs.Guards.{Lawful}
 use Rattle.election_core.specs.Allowed.{MayStand}
 use Rattle.election_core.specs.Counted.{acted, counted}
 use Rattle.election_core.specs.Senders.{sender_of}
@@ -16,7 +17,7 @@ use Rattle.election_core.specs.declared.messages.Message.{Message}
 use Rattle.election_core.specs.declared.votes.NodeVote.{NodeVote}
 use Rattle.phys_log.specs.declared.entries.Entry.{Entry}
 use Rattle.node_state.specs.Calls.{Did, IsAsBefore, Judges, Acts, Answers, IsPartly, Stands, Probes, takes, events_by, through, log_by}
-use Rattle.node_state.specs.Nodes.{Lawful, IsNode, IsOwn, Held, Follows, events_of}
+use Rattle.node_state.specs.Nodes.{IsNode, IsOwn, Held, Follows, events_of}
 use Rattle.node_state.specs.Packets.{Sent, packets_of, standing_packets, probing_packets, shipped_in}
 use Rattle.node_state.proofs.NodeLaws.{after_adds, after_rests}
 use Rattle.node_state.proofs.LogLists.{none_behind}

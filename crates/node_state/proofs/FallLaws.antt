@@ -12,7 +12,7 @@ use Rattle.cluster_events.specs.Parts.{Event as Step, add_act, acts, field}
 use Rattle.cluster_events.specs.Settings.{Setting}
 use Rattle.cluster_requests.specs.KeptEntries.{KeptEntry, plain}
 use Rattle.cluster_requests.specs.Requests.{field_after}
-use Rattle.cluster_steps.specs.Guards.{MayDo}
+use Rattle.cluster_steps.specs.Guards.{MayDo, Lawful}
 use Rattle.cluster_steps.specs.Named.{steps, world}
 use Rattle.cluster_steps.specs.declared.events.Event.{Event}
 use Rattle.cluster_steps.specs.declared.events.Event.TheVariants as event
@@ -23,7 +23,7 @@ use Rattle.election_core.proofs.Acted.{counted_on}
 use Rattle.election_core.specs.declared.votes.NodeVote.{NodeVote}
 use Rattle.phys_log.specs.declared.entries.Entry.{Entry}
 use Rattle.node_state.specs.Calls.{Did}
-use Rattle.node_state.specs.Nodes.{Lawful, IsNode, IsOwn, Held, Follows}
+use Rattle.node_state.specs.Nodes.{IsNode, IsOwn, Held, Follows}
 use Rattle.node_state.specs.Restarts.{Falls, IsStopTold, down_vote}
 use Rattle.node_state.proofs.NodeLaws.{fired_adds}
 

@@ -19,7 +19,7 @@ use Rattle.cluster_requests.specs.Identities.{Lacks, identity_of}
 use Rattle.cluster_requests.specs.KeptEntries.{KeptEntry, plain}
 use Rattle.cluster_requests.specs.KeptEntries.KeptEntry.{Setup as SetupKept, Commit as CommitKept}
 use Rattle.cluster_requests.specs.Requests.{Act, Field, IsAskedFor, May, MayAppend, does}
-use Rattle.cluster_steps.specs.Guards.{IsNamed, IsOfSchema, MayDo, PagesStand}
+use Rattle.cluster_steps.specs.Guards.{IsNamed, IsOfSchema, MayDo, PagesStand, Lawful}
 use Rattle.cluster_steps.specs.Named.{back_append, kept_over, kept_with, log_named, named, steps, world}
 use Rattle.cluster_steps.specs.declared.events.Event.{Event}
 use Rattle.cluster_steps.specs.declared.events.Event.TheVariants as event
@@ -37,7 +37,7 @@ use Rattle.phys_log.specs.Logs.{IsLog}
 use Rattle.phys_log.specs.declared.entries.CommitId.{CommitId}
 use Rattle.phys_log.specs.declared.entries.Entry.{Entry}
 use Rattle.phys_log.specs.declared.entries.Entry.TheVariants as entry
-use Rattle.node_state.specs.Nodes.{Lawful, IsNode, Follows}
+use Rattle.node_state.specs.Nodes.{IsNode, Follows}
 use Rattle.node_state.specs.Restarts.{Kept, MayRise, MayWake, kept, woken_by}
 use Rattle.node_state.proofs.LogLists.{map_size}
 

@@ -8,7 +8,12 @@ pub mod NewLaws
 pub mod TakeLaws
 pub mod BehindLaws
 pub mod SetupLaws
+pub mod AppendLaws
+pub mod SettleLaws
+pub mod LearnedLaws
+pub mod AgainLaws
 pub mod FallLaws
 pub mod WakeLaws
 pub mod LeftLaws
 pub mod FirstLaws
+pub mod StoreLaws

@@ -1,30 +1,21 @@
 -- A node that did nothing yet.
-use Rattle.std.proofs.Common.{ℕ, ◌≡◌, ◌≤◌, List, [], ◌++◌, map, arith, refl, sym, subst, ap, ◌∙◌}
+use Rattle.std.proofs.Common.{ℕ, ◌≡◌, ◌≤◌, List, [], ◌++◌, map, refl, sym, subst, ap, ◌∙◌}
 use Rattle.std.specs.Prelude.{true, false}
-use Rattle.std.specs.Int.{bit_at}
-use Rattle.std.proofs.lemmas.Nat.Bits.{bit_at-zero}
-use Rattle.std.proofs.lemmas.Bool.Decides.{Decides-eqb}
 use Rattle.actor_trace.specs.Actors.{Knows}
 use Rattle.actor_trace.specs.History.{entries_of}
 use Rattle.cluster_consensus.specs.Facts.{Own, blank}
 use Rattle.cluster_events.specs.Arms.{last_fired}
 use Rattle.cluster_events.specs.Settings.{Setting}
 use Rattle.cluster_requests.specs.KeptEntries.{KeptEntry, plain}
-use Rattle.cluster_steps.specs.Guards.{IsPlan}
+use Rattle.cluster_steps.specs.Guards.{IsPlan, Lawful}
 use Rattle.cluster_steps.specs.Named.{steps, world}
 use Rattle.cluster_steps.specs.declared.events.Event.{Event}
 use Rattle.cluster_steps.proofs.StepLaws.{idle}
-use Rattle.election_core.specs.Counts.{has_bit}
 use Rattle.election_core.specs.Told.{IsPart}
-use Rattle.node_state.specs.Nodes.{Lawful, IsOwn, blank_vote, held}
+use Rattle.election_core.proofs.Acted.{no_bit}
+use Rattle.node_state.specs.Nodes.{IsOwn, blank_vote, held}
 use Rattle.node_state.proofs.LogLists.{none_behind}
 use Rattle.node_state.proofs.NodeLaws.{fired_more}
-
-no_bit : (k : ℕ) → has_bit 0 k ≡ true → ⊥
-no_bit k e =
-    let a : bit_at 0 k ≡ 1 = (Decides-eqb (bit_at 0 k) 1).0 e in
-    let z : bit_at 0 k ≡ 0 = bit_at-zero k in
-    absurd (omega arith)
 
 -- who did nothing
 pub nothing_done : (i : ℕ) (seen : List (ℕ × Event)) → entries_of i seen ≡ [] → entries_of i (seen ++ []) ≡ entries_of i []

@@ -13,7 +13,7 @@ use Rattle.cluster_events.specs.Arms.{last_fired, fired_by, HasFallen}
 use Rattle.cluster_events.specs.Parts.{Event as Step}
 use Rattle.cluster_events.specs.Settings.{Setting}
 use Rattle.cluster_requests.specs.KeptEntries.{KeptEntry, plain}
-use Rattle.cluster_steps.specs.Guards.{IsAllowed, IsExact, IsPlan, MayDo}
+use Rattle.cluster_steps.specs.Guards.{IsAllowed, IsExact, IsPlan, MayDo, Lawful}
 use Rattle.cluster_steps.specs.Named.{named, steps, world}
 use Rattle.cluster_steps.specs.declared.events.Event.{Event}
 use Rattle.cluster_steps.specs.declared.events.Event.TheVariants.{Stand, Grant, Lead, Learn, Probe, Confirm}
@@ -34,7 +34,7 @@ use Rattle.election_core.specs.declared.messages.Message.TheVariants.{Pong}
 use Rattle.election_core.specs.declared.votes.NodeVote.{NodeVote}
 use Rattle.phys_log.specs.Logs.{IsLog}
 use Rattle.phys_log.specs.declared.entries.Entry.{Entry}
-use Rattle.node_state.specs.Nodes.{Lawful, IsNode, Follows}
+use Rattle.node_state.specs.Nodes.{IsNode, Follows}
 use Rattle.node_state.specs.Packets.{IsPacket}
 
 -- the events of elections and shipping: nothing of requests, scripts or pages is asked of them

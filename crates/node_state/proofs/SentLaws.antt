@@ -14,7 +14,8 @@ use Rattle.cluster_steps.specs.declared.events.Event.{Event}
 use Rattle.cluster_steps.specs.declared.events.Event.TheVariants.{Stand, Grant, Lead, Take, Learn, Probe, Confirm}
 use Rattle.cluster_steps.proofs.OwnLaws.{own_adds, tells_rests, tells_begins}
 use Rattle.cluster_steps.proofs.StepLaws.{core_legal, world_is}
-use Rattle.core_lists.specs.Lists.{In, Has}
+use Rattle.cluster_steps.specs.Guards.{Lawful}
+use Rattle.core_lists.specs.Lists.{Has}
 use Rattle.core_lists.specs.Lists.In.{here}
 use Rattle.core_lists.proofs.Fronts.{length_take, take_length}
 use Rattle.election_core.specs.Allowed.{Allows}
@@ -28,16 +29,14 @@ use Rattle.election_core.specs.declared.messages.Action.TheVariants as action
 use Rattle.election_core.specs.declared.messages.Message.{Message}
 use Rattle.election_core.specs.declared.messages.Message.TheVariants.{Vote, Granted, Adopt, Ship, Ack, Durable, Ping, Pong}
 use Rattle.election_core.specs.declared.votes.NodeVote.{NodeVote}
+use Rattle.election_core.proofs.Acted.{has_in}
 use Rattle.phys_log.specs.Logs.{IsLog}
 use Rattle.phys_log.specs.declared.entries.Entry.{Entry}
-use Rattle.node_state.specs.Nodes.{IsNode, Lawful}
+use Rattle.node_state.specs.Nodes.{IsNode}
 use Rattle.node_state.specs.Packets.{Sent, IsPacket, IsTail, IsTailOf, AreSent, packet, others, packets_of, standing_packets, probing_packets}
 use Rattle.node_state.proofs.LogLists.{map_size}
 use Rattle.node_state.proofs.NodeLaws.{allowed}
 use Rattle.node_state.proofs.ShipLaws.{taken}
-
-has_in : {A : Type 0} {P : A → Type 0} {xs ys : List A} → ((x : A) → In x xs → In x ys) → Has P xs → Has P ys
-has_in f h = record { it = h.it; mem = f h.it h.mem; is = h.is }
 
 told_on : {w u : World KeptEntry} (m : Message) → TellsMore w u → IsTold w m → IsTold u m
 told_on (Vote f g a l) t x = has_in (t.nodes f).votes x

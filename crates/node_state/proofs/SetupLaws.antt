@@ -1,6 +1,7 @@
 -- A leader with an empty log appends the setup of the script's tables.
 use Rattle.std.proofs.Common.{ℕ, ◌≡◌, ◌≢◌, ◌+◌, ◌≤◌, List, [], ◌∷◌, ◌++◌, length, map, arith, refl, sym, subst, ap, ◌∙◌}
-use Rattle.std.specs.Prelude.{Option, Some, None, true, false}
+use Rattle.std.proofs.lemmas.Option.{none-some}
+use Rattle.std.specs.Prelude.{Option, None, true, false}
 use Rattle.std.specs.declared.snapshot.Snapshot.{Snapshot}
 use mathlib.Core.Logic.{◌⊎◌, inl, inr}
 use Rattle.actor_trace.specs.Steps.{Adds}
@@ -14,7 +15,7 @@ use Rattle.cluster_events.specs.Parts.{Event as Step, field}
 use Rattle.cluster_events.specs.Settings.{Setting}
 use Rattle.cluster_requests.specs.KeptEntries.{KeptEntry, plain}
 use Rattle.cluster_requests.specs.KeptEntries.KeptEntry.{Setup as SetupKept}
-use Rattle.cluster_steps.specs.Guards.{IsAllowed, MayDo, PagesStand}
+use Rattle.cluster_steps.specs.Guards.{IsAllowed, MayDo, PagesStand, Lawful}
 use Rattle.cluster_steps.specs.Named.{kept_over, named, steps, world}
 use Rattle.cluster_steps.specs.declared.events.Event.{Event}
 use Rattle.cluster_steps.specs.declared.events.Event.TheVariants.{Append}
@@ -33,14 +34,11 @@ use Rattle.phys_log.specs.declared.entries.Entry.TheVariants as entry
 use Rattle.phys_log.specs.declared.entries.LogRecord.{LogRecord}
 use Rattle.table_store.specs.Stored.{Stands}
 use Rattle.node_state.specs.Calls.{Did, IsAsBefore, IsAppend, SetsUp}
-use Rattle.node_state.specs.Nodes.{Lawful, IsNode, IsOwn, Held, Follows}
+use Rattle.node_state.specs.Nodes.{IsNode, IsOwn, Held, Follows}
 use Rattle.node_state.specs.Packets.{Sent, IsPacket, IsTailOf, AreSent, packet, others, appending_packets}
 use Rattle.node_state.proofs.ActionLaws.{own_adds_of}
 use Rattle.node_state.proofs.CallLaws.{did_behind}
 use Rattle.node_state.proofs.SentLaws.{sent_more, others_sent, one_sent}
-
-no_some : {A : Type 0} (a : A) → None ≡ Some a → ⊥
-no_some a e = absurd (cc)
 
 no_log : (l : List KeptEntry) → [] ≡ map plain l → l ≡ []
 no_log [] e = refl
@@ -53,7 +51,7 @@ allowed : (G : Setting) (seen : List (ℕ × Event)) (i g : ℕ) (records : List
     → IsAllowed G (steps G seen) i (Step.Node (Core.Append (SetupKept g G.tables records (no_rows G.tables))))
 allowed G seen i g records low high none up leading gen empty stands = record {
   may = (
-    ((up, leading), record { made = gen; asked = empty; unsettled = record { at = λ t h e. no_some t e }; new = λ id e. absurd (no_some id e) }),
+    ((up, leading), record { made = gen; asked = empty; unsettled = record { at = λ t h e. none-some t e }; new = λ id e. absurd (none-some id e) }),
     (empty, refl),
     (low, high),
   );

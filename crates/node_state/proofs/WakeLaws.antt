@@ -1,14 +1,10 @@
 -- A node comes up with what its store holds, where it may; and it may, whatever others do.
-use Rattle.std.proofs.Common.{ℕ, ◌≡◌, ◌≤◌, List, [], ◌∷◌, ◌++◌, length, map, replicate, arith, refl, sym, subst, ap, ◌∙◌}
+use Rattle.std.proofs.Common.{ℕ, ◌≡◌, ◌≤◌, List, [], ◌∷◌, ◌++◌, length, map, replicate, refl, sym, subst, ap, ◌∙◌}
 use Rattle.std.specs.Prelude.{◌==◌, Bool, true, false, cond, Option, Some, None, slice_get}
-use Rattle.std.specs.Int.{bit_at}
 use Rattle.std.specs.declared.snapshot.Snapshot.{Snapshot}
-use Rattle.std.proofs.lemmas.Nat.Bits.{bit_at-zero}
-use Rattle.std.proofs.lemmas.Bool.Decides.{Decides-eqb}
 use Rattle.actor_trace.specs.Steps.{Rests}
 use Rattle.cluster_consensus.specs.Events.{Event as Core, change}
 use Rattle.cluster_consensus.specs.Facts.{Own, World}
-use Rattle.cluster_consensus.proofs.Invariant.{Inv}
 use Rattle.cluster_events.specs.Arms.{HasFallen}
 use Rattle.cluster_events.specs.ByScript.{Heeds}
 use Rattle.cluster_events.specs.Guards.{IsLegal as IsLegalWhole, MayDo as IsStep}
@@ -19,22 +15,21 @@ use Rattle.cluster_events.proofs.Stays.{stays_long}
 use Rattle.cluster_masters.specs.WholeLogs.{Leaves}
 use Rattle.cluster_requests.specs.KeptEntries.{KeptEntry, plain}
 use Rattle.cluster_requests.specs.Requests.{Field}
-use Rattle.cluster_steps.specs.Guards.{HasSchema, IsFound, IsPlan, IsTold, MayDo, PagesStand}
+use Rattle.cluster_steps.specs.Guards.{HasSchema, IsFound, IsPlan, IsTold, MayDo, PagesStand, Lawful}
 use Rattle.cluster_steps.specs.Named.{back_append, kept_over, log_named, named_up, steps, world}
 use Rattle.cluster_steps.specs.declared.events.Event.{Event}
 use Rattle.cluster_steps.specs.declared.events.Event.TheVariants as event
 use Rattle.cluster_steps.specs.declared.events.Woken.{Woken}
 use Rattle.cluster_steps.specs.declared.events.Woken.TheVariants as woken
-use Rattle.cluster_steps.proofs.FoundLaws.{log_stays}
 use Rattle.cluster_steps.proofs.StepLaws.{legal_steps, inv_of, more_steps, steps_append, idle_more, idle, ticket_of}
 use Rattle.cluster_steps.proofs.TellsLaws.{tells}
-use Rattle.election_core.specs.Counts.{has_bit}
-use Rattle.election_core.specs.More.{TellsMore}
+use Rattle.cluster_steps.proofs.NameLaws.{up_same}
 use Rattle.election_core.specs.Told.{IsPart, IsCounted}
 use Rattle.election_core.specs.declared.votes.NodeVote.{NodeVote}
+use Rattle.election_core.proofs.Acted.{no_bit}
 use Rattle.phys_log.specs.declared.entries.Entry.{Entry}
 use Rattle.node_state.specs.Calls.{Did, IsAsBefore}
-use Rattle.node_state.specs.Nodes.{Lawful, IsNode, Held, Follows}
+use Rattle.node_state.specs.Nodes.{IsNode, Held, Follows}
 use Rattle.node_state.specs.Restarts.{Kept, IsStartTold, MayRise, MayWake, Wakes, kept, woken_by, woken_vote}
 use Rattle.node_state.proofs.FallLaws.{counts}
 use Rattle.node_state.proofs.LogLists.{map_size}
@@ -97,12 +92,6 @@ heeds_up G seen i w o woken.Appended p a es down told = go (slice_get es (length
     go None = (down, told)
     go (Some e) = (down, told)
 
-no_bit : (k : ℕ) → has_bit 0 k ≡ true → ⊥
-no_bit k e =
-    let a : bit_at 0 k ≡ 1 = (Decides-eqb (bit_at 0 k) 1).0 e in
-    let z : bit_at 0 k ≡ 0 = bit_at-zero k in
-    absurd (omega arith)
-
 woken_counted : (w : World KeptEntry) (v : NodeVote) (p a l : ℕ) → IsCounted w (woken_vote v p a l)
 woken_counted w v p a l = record { size = refl; granted = λ k e. absurd (no_bit k e); acked = λ (lead : false ≡ true) m k one e. absurd (cc) }
 
@@ -155,17 +144,6 @@ wake_follows G v u log log' seen how p a es is down k told q e = subst (λ t. Fo
       same = refl;
       nodes = is.nodes_is;
     }
-
--- what a node may come up with it may come up with, whatever others do
-up_same : (n : ℕ) (w v : World KeptEntry) (o : Own KeptEntry) (how : Woken) (p a : ℕ) (es : List Entry) → Inv n v → TellsMore w v → IsTold n w how a es
-    → (named_up n v o how p a es ≡ named_up n w o how p a es) × IsTold n v how a es
-up_same n w v o (woken.First rows) p a es inv more x = (refl, tt)
-up_same n w v o woken.AsLeft p a es inv more x = (refl, tt)
-up_same n w v o woken.Led p a es inv more x = (refl, tt)
-up_same n w v o woken.Took p a es inv more x =
-    let f = log_stays inv more a (length es) x in
-    (ap (λ (t : List KeptEntry). cond (a == o.accepted) (Core.BackGrow t) (Core.BackTake a t)) f.0, f.1)
-up_same n w v o woken.Appended p a es inv more x = (refl, tt)
 
 no_ask : (c : Core KeptEntry) (t : ℕ) → Step.Node c ≡ Step.Ask t → ⊥
 no_ask c t z = let f : None ≡ Some t = ap ticket_of z in absurd (cc)

@@ -1,4 +1,6 @@
 pub mod Calls
+pub mod Commits
 pub mod Nodes
 pub mod Packets
 pub mod Restarts
+pub mod Ships

@@ -1,23 +1,18 @@
 -- When a node is the history's node: its numbers and its log are those of its part after what its actor saw.
 use Rattle.std.specs.Prelude.{ℕ, ◌≡◌, ◌≤◌, List, [], ◌∷◌, None, map, replicate, false}
 use Rattle.actor_trace.specs.Actors.{Knows}
-use Rattle.actor_trace.specs.History.{IsLegal}
 use Rattle.cluster_consensus.specs.Events.{Event as Core, change}
 use Rattle.cluster_events.specs.Arms.{last_fired, fired_by}
 use Rattle.cluster_events.specs.Parts.{Event as Step}
 use Rattle.cluster_events.specs.Settings.{Setting}
 use Rattle.cluster_requests.specs.KeptEntries.{KeptEntry, plain}
-use Rattle.cluster_steps.specs.Guards.{IsPlan, MayDo}
+use Rattle.cluster_steps.specs.Guards.{IsPlan, MayDo, Lawful}
 use Rattle.cluster_steps.specs.Named.{named, steps, world}
 use Rattle.cluster_steps.specs.declared.events.Event.{Event}
 use Rattle.election_core.specs.Told.{IsPart, IsCounted}
 use Rattle.election_core.specs.declared.votes.NodeVote.{NodeVote}
 use Rattle.phys_log.specs.Logs.{IsLog}
 use Rattle.phys_log.specs.declared.entries.Entry.{Entry}
-
--- each event might happen where it happened
-abbrev pub Lawful : Setting → List (ℕ × Event) → Type 0
-Lawful G h = IsLegal (λ g i e. MayDo G g i e) h
 
 -- a node with these numbers and this log, which is the history's node after what was seen
 pub record IsNode (G : Setting) (v : NodeVote) (log : List Entry) (seen : List (ℕ × Event)) : Type 0 where

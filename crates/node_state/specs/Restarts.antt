@@ -74,6 +74,11 @@ pub record MayWake (G : Setting) (f : Field) (i : ℕ) (how : Woken) (k : Kept) 
   pub rises : MayRise G f i (woken_by G f i how k) k
   pub logged : IsLog k.entries
 
+-- it may come up so, in one way or another, with each of these
+abbrev pub MayWakeAny : Setting → Field → ℕ → List Kept → Type 0
+MayWakeAny G f i [] = Unit {0}
+MayWakeAny G f i (k ∷ ks) = ((how : Woken) × MayWake G f i how k) × MayWakeAny G f i ks
+
 -- a transaction began in a generation, or before it
 abbrev pub IsBegunBy : ℕ → Entry → Type 0
 IsBegunBy a (entry.Setup generation schema records) = Unit {0}

@@ -39,7 +39,12 @@ pub(crate) fn copies(alloc: Global, entries: &[Entry]) -> Result<Vec<Entry>, All
 }
 
 /// A draft with copies of these entries.
-fn draft_to(alloc: Global, to: u8, message: Message, entries: &[Entry]) -> Result<Draft, AllocError>
+pub(crate) fn draft_to(
+    alloc: Global,
+    to: u8,
+    message: Message,
+    entries: &[Entry],
+) -> Result<Draft, AllocError>
     ensures { IfOk result (λ p. p ≡ packet to message entries.now) }
 {
     let entries = copies(alloc, entries)?;

@@ -1,5 +1,5 @@
 //! The laws of a node that is down: what its store may hold is what it may come up with.
-ghost use Rattle.std.specs.Prelude.{ℕ, ◌≡◌, ◌≤◌, List, [], Bool, true, false};
+ghost use Rattle.std.specs.Prelude.{ℕ, ◌≡◌, ◌≤◌, List, [], ◌∷◌, Bool, true, false};
 ghost use Rattle.std.specs.declared.snapshot.Snapshot.{Snapshot};
 ghost use Rattle.actor_trace.specs.History.{entries_of};
 ghost use Rattle.actor_trace.specs.Steps.{Adds, Rests};
@@ -7,7 +7,7 @@ ghost use Rattle.cdb_values.specs.Rows.{Rows};
 ghost use Rattle.cluster_events.specs.Parts.{field, lines};
 ghost use Rattle.cluster_events.specs.Settings.{Setting};
 ghost use Rattle.cluster_requests.specs.Requests.{Field};
-ghost use Rattle.cluster_steps.specs.Guards.{IsPlan, MayDo};
+ghost use Rattle.cluster_steps.specs.Guards.{IsPlan, Lawful, MayDo};
 ghost use Rattle.cluster_steps.specs.Named.{steps, world};
 ghost use Rattle.cluster_steps.specs.declared.events.Event.{Event};
 ghost use Rattle.cluster_steps.specs.declared.events.Event.TheVariants as event;
@@ -15,8 +15,8 @@ ghost use Rattle.cluster_steps.specs.declared.events.Woken.{Woken};
 ghost use Rattle.cluster_steps.specs.declared.events.Woken.TheVariants as woken;
 ghost use Rattle.core_lists.specs.Lists.{In};
 ghost use Rattle.election_core.specs.declared.votes.NodeVote.{NodeVote};
-ghost use Rattle.node_state.specs.Nodes.{Follows, IsNode, Lawful};
-ghost use Rattle.node_state.specs.Restarts.{IsRead, Kept, MayWake, kept};
+ghost use Rattle.node_state.specs.Nodes.{Follows, IsNode};
+ghost use Rattle.node_state.specs.Restarts.{IsRead, Kept, MayWake, MayWakeAny, kept};
 ghost use Rattle.phys_log.specs.declared.entries.Entry.{Entry};
 ghost use Rattle.report_laws.specs.Nodes.{is_up};
 
@@ -40,6 +40,38 @@ pub fn what_a_store_may_hold_may_come_up()
         (seen now : List (ℕ × Event)) → IsNode G v log seen → v.up ≡ true → Follows G v.node (event.Append next) u longer seen
         → Adds v.node (event.Down fault) seen now → Lawful G now
         → MayWake G (field (steps G now)) v.node woken.Appended (kept u.promised u.accepted longer) }
+{}
+
+/// What each call of a node's log leaves of a store that fails there, the node may come up with: the log as it was, the same with
+/// the promise of the event that was under way, and the log as that event would have left it. It stays so, whatever others do.
+pub fn what_a_call_may_leave_may_come_up()
+    ensures stopping { (G : Setting) (v : NodeVote) (log : List Entry) (fault : Bool) (seen now : List (ℕ × Event))
+        → IsNode G v log seen → v.up ≡ true → Adds v.node (event.Down fault) seen now
+        → MayWakeAny G (field (steps G now)) v.node (kept v.promised v.accepted log ∷ []) }
+    ensures promising { (G : Setting) (v : NodeVote) (log : List Entry) (g : ℕ) (fault : Bool) (seen now : List (ℕ × Event))
+        → IsNode G v log seen → v.up ≡ true → v.promised ≤ g → Adds v.node (event.Down fault) seen now
+        → MayWakeAny G (field (steps G now)) v.node (kept v.promised v.accepted log ∷ kept g v.accepted log ∷ []) }
+    ensures leading { (G : Setting) (v : NodeVote) (log : List Entry) (g : ℕ) (fault : Bool) (seen now : List (ℕ × Event))
+        → IsNode G v log seen → v.up ≡ true → MayDo G seen v.node (event.Lead g) → Adds v.node (event.Down fault) seen now
+        → Lawful G now → MayWakeAny G (field (steps G now)) v.node
+        (kept v.promised v.accepted log ∷ kept v.promised v.promised log ∷ []) }
+    ensures taking { (G : Setting) (v u : NodeVote) (log taken : List Entry) (g n : ℕ) (fault : Bool) (seen now : List (ℕ × Event))
+        → IsNode G v log seen → v.up ≡ true → v.promised ≤ g → Follows G v.node (event.Take g n) u taken seen
+        → u.promised ≡ g → u.accepted ≡ g → Adds v.node (event.Down fault) seen now → Lawful G now
+        → MayWakeAny G (field (steps G now)) v.node
+        (kept v.promised v.accepted log ∷ kept g v.accepted log ∷ kept g g taken ∷ []) }
+    ensures growing { (G : Setting) (v u : NodeVote) (log longer : List Entry) (g n : ℕ) (fault : Bool)
+        (seen now : List (ℕ × Event)) → IsNode G v log seen → v.up ≡ true → Follows G v.node (event.Take g n) u longer seen
+        → u.promised ≡ v.promised → u.accepted ≡ v.accepted → Adds v.node (event.Down fault) seen now → Lawful G now
+        → MayWakeAny G (field (steps G now)) v.node
+        (kept v.promised v.accepted log ∷ kept v.promised v.accepted longer ∷ []) }
+    ensures appending { (G : Setting) (v u : NodeVote) (log longer : List Entry) (next : Snapshot Entry) (fault : Bool)
+        (seen now : List (ℕ × Event)) → IsNode G v log seen → v.up ≡ true → Follows G v.node (event.Append next) u longer seen
+        → u.promised ≡ v.promised → u.accepted ≡ v.accepted → Adds v.node (event.Down fault) seen now → Lawful G now
+        → MayWakeAny G (field (steps G now)) v.node
+        (kept v.promised v.accepted log ∷ kept v.promised v.accepted longer ∷ []) }
+    ensures stays { (G : Setting) (i : ℕ) (old new : List (ℕ × Event)) (ks : List Kept) → IsPlan G → Rests i old new
+        → Lawful G new → MayWakeAny G (field (steps G old)) i ks → MayWakeAny G (field (steps G new)) i ks }
 {}
 
 /// What a node may come up with it may come up with, whatever others do.

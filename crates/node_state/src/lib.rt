@@ -7,6 +7,9 @@
 //! |---|---|---|
 //! | `stand` | `Stand` | a `Vote` to each other node, its own `Granted` |
 //! | `setup` | `Append` | a `Ship` with the entry to each other node, its own `Ack` |
+//! | `append` | `Append` | the same |
+//! | `settle` | `Settle` | nothing |
+//! | `ship` | none | to one node an `Adopt` with the whole log, and the `Durable` that was told last |
 //! | `begin` | `Probe` | a `Ping` to each other node |
 //! | `deliver` of a `Vote` | `Grant` | a `Granted` to its sender |
 //! | of a `Granted` | `Lead` | an `Adopt` with the whole log to each other node, its own `Ack` |
@@ -33,16 +36,19 @@
 
 mod appends;
 mod bodies;
+mod commits;
 mod drafts;
 mod laws;
 mod nodes;
 mod packets;
 mod restarts;
+mod ships;
 mod steps;
 mod takes;
 
 pub use laws::{
-    what_a_store_may_hold_may_come_up, what_may_come_up_stays, what_was_read_may_come_up,
+    what_a_call_may_leave_may_come_up, what_a_store_may_hold_may_come_up, what_may_come_up_stays,
+    what_was_read_may_come_up,
 };
 pub use nodes::Node;
 pub use packets::Packet;

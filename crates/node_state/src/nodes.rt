@@ -1,24 +1,28 @@
 //! A node, and its calls.
 ghost use Rattle.std.specs.Prelude.{ℕ, ◌≡◌, ◌+◌, ◌<◌, ◌≤◌, ◌++◌, ◌∷◌, [], true, false, length, IfOk, OnOk, OnErr};
+ghost use Rattle.actor_trace.specs.History.{entries_of};
 ghost use Rattle.actor_trace.specs.Lists.{Begins};
 ghost use Rattle.cluster_events.specs.Parts.{field};
 ghost use Rattle.cluster_steps.specs.Guards.{IsPlan};
 ghost use Rattle.cluster_steps.specs.Named.{steps, world};
 ghost use Rattle.cluster_steps.specs.declared.events.Event.TheVariants as event;
 ghost use Rattle.core_lists.specs.Lists.{In};
+ghost use Rattle.node_state.specs.Commits.{Enters, MayEnter, MaySettle, Settles};
 ghost use Rattle.node_state.specs.Nodes.{blank_vote};
 ghost use Rattle.node_state.specs.Restarts.{Falls, IsStartTold, IsStopTold, MayWake, Wakes, kept};
+ghost use Rattle.node_state.specs.Ships.{ShipsAgain};
+ghost use Rattle.phys_log.specs.Logs.{Fits};
 
 use crate::bodies::Body;
 use crate::packets::Packet;
 use crate::steps::{BeginStep, Step};
 use actor_trace::{Actor, Naming, Note, Trace};
-use cdb_values::{List, Schema};
+use cdb_values::Schema;
 use cluster_core::{Cluster, Plan};
 use cluster_steps::Woken;
 use election_core::NodeVote;
 use log_replay::PagedLog;
-use phys_log::Entry;
+use phys_log::{CommitId, Decision, Entry};
 use std::alloc::{AllocError, Global};
 use std::marker::Model;
 
@@ -41,6 +45,7 @@ impl<J: Plan, N: Naming> Model for Node<J, N> {
 
 impl<J: Plan, N: Naming> Node<J, N> {
     ghost use Rattle.node_state.specs.Calls.{IsAsBefore, IsBegun, IsBehind, IsDelivered, IsPartly, IsSetUp, IsStood};
+    ghost use Rattle.node_state.specs.Nodes.{IsOwn};
 
     /// A node that is down, with an empty log.
     pub fn new(alloc: Global, node: u8, nodes: u8, actor: Actor<Cluster<J>, N>) -> Node<J, N>
@@ -73,6 +78,21 @@ impl<J: Plan, N: Naming> Node<J, N> {
         ensures { result.now ≡ self.now.entries }
     {
         self.body.log.entries()
+    }
+
+    /// Its log with its pages, up or down.
+    pub fn log(&self) -> &PagedLog
+        ensures { result.now ≡ self.now.entries }
+    {
+        &self.body.log
+    }
+
+    /// It is the history's node, and what it did is its part of what it knows.
+    pub fn knows(&self)
+        ensures own { IsOwn J.setting self.now }
+        ensures made { self.now.actor.made ≡ entries_of self.now.actor.number self.now.actor.seen }
+    {
+        self.body.actor.knows();
     }
 
     /// Room for at least `n` further steps.
@@ -201,6 +221,47 @@ impl<J: Plan, N: Naming> Node<J, N> {
         Ok(Step::Sent(self.body.set_up(alloc, trace, schema)?))
     }
 
+    /// As a leader it appends an entry that may be appended, and ships it.
+    pub fn append(
+        &mut self,
+        alloc: Global,
+        trace: &Trace<Cluster<J>, N>,
+        entry: Entry,
+    ) -> Result<Vec<Packet<J, N>>, AllocError>
+        requires room { 0 < self.old.actor.room }
+        requires may { MayEnter J.setting self.old.actor.seen self.old.vote.node entry }
+        requires fits { Fits self.old.entries entry }
+        ensures enters { IfOk result (λ ps. Enters entry ps.items self.old self.new) }
+        ensures unchanged { OnErr result (self.new ≡ self.old) }
+    {
+        self.body.append(alloc, trace, entry)
+    }
+
+    /// As a leader it tells what it decided of a request, in place of an entry. Takes no memory.
+    pub fn settle(&mut self, trace: &Trace<Cluster<J>, N>, id: &CommitId, decision: &Decision)
+        requires room { 0 < self.old.actor.room }
+        requires may { MaySettle J.setting self.old.actor.seen self.old.vote.node id.now decision.now }
+        ensures settles { Settles id.now decision.now self.old self.new }
+        ensures room { self.new.actor.room + 1 ≡ self.old.actor.room }
+    {
+        self.body.settle(trace, id, decision);
+    }
+
+    /// Where it leads it ships what it has once more, to a node that did not get it: its whole log, and the length that it told
+    /// last as durable.
+    pub fn ship(
+        &mut self,
+        alloc: Global,
+        trace: &Trace<Cluster<J>, N>,
+        to: u8,
+    ) -> Result<Vec<Packet<J, N>>, AllocError>
+        requires to { (1 ≤ to) × (to ≤ J.setting.nodes) }
+        ensures ships { IfOk result (λ ps. ShipsAgain to ps.items self.old self.new) }
+        ensures unchanged { OnErr result (self.new ≡ self.old) }
+    {
+        self.body.ship(alloc, trace, to)
+    }
+
     /// Goes down by a stop that it knows of, and answers the ticket of that. Takes no memory.
     pub fn stop(&mut self, trace: &Trace<Cluster<J>, N>) -> u64
         requires room { 0 < self.old.actor.room }
@@ -224,23 +285,21 @@ impl<J: Plan, N: Naming> Node<J, N> {
     /// stop.
     pub fn start(
         &mut self,
-        alloc: Global,
         trace: &Trace<Cluster<J>, N>,
         how: Woken,
         promised: u64,
         accepted: u64,
-        entries: List<Entry>,
+        log: PagedLog,
     ) -> Result<(), AllocError>
         requires down { self.old.vote.up ≡ false }
         requires may { MayWake J.setting (field (steps J.setting self.old.actor.seen)) self.old.vote.node how
-            (kept promised accepted entries) }
+            (kept promised accepted log) }
         requires told { IsStartTold J.setting self.old.actor.seen self.old.vote.node how }
-        ensures wakes { OnOk result (Wakes how (kept promised accepted entries) self.old self.new) }
+        ensures wakes { OnOk result (Wakes how (kept promised accepted log) self.old self.new) }
         ensures room { OnOk result (1 ≤ self.new.actor.room) }
         ensures unchanged { OnErr result (IsAsBefore self.old self.new) }
     {
-        self.body
-            .wake(alloc, trace, how, promised, accepted, entries)
+        self.body.wake(trace, how, promised, accepted, log)
     }
 
     /// Its actor.

@@ -10,13 +10,11 @@ ghost use Rattle.phys_log.specs.Logs.{IsLog};
 
 use crate::bodies::Body;
 use actor_trace::{Naming, Trace};
-use cdb_values::List;
 use cluster_core::{Cluster, Plan};
 use cluster_steps::{Event, Woken};
 use election_core::NodeVote;
 use log_replay::PagedLog;
-use phys_log::Entry;
-use std::alloc::{AllocError, Global};
+use std::alloc::AllocError;
 use std::snapshot::Snapshot;
 
 /// The numbers of a node that comes up.
@@ -33,17 +31,6 @@ fn woken_vote(vote: &NodeVote, promised: u64, accepted: u64, length: u64) -> Nod
     woken.leading = false;
     woken.up = true;
     woken
-}
-
-/// The log of these entries.
-fn log_of(alloc: Global, entries: List<Entry>) -> Result<PagedLog, AllocError>
-    ensures { IfOk result (λ l. l ≡ entries) }
-{
-    let mut log = PagedLog::new(alloc);
-    if log.replace_tail(alloc, 0, entries.into_vec()).is_err() {
-        return Err(AllocError);
-    }
-    Ok(log)
 }
 
 impl<J: Plan, N: Naming> Body<J, N> {
@@ -76,31 +63,30 @@ impl<J: Plan, N: Naming> Body<J, N> {
         self.happens(trace, vote, Event::Down { fault: true });
     }
 
-    /// Comes up with these numbers and entries. All memory is taken first, with room for a stop.
+    /// Comes up with these numbers and this log. All memory is taken first, with room for a stop.
     pub(crate) fn wake(
         &mut self,
-        alloc: Global,
         trace: &Trace<Cluster<J>, N>,
         how: Woken,
         promised: u64,
         accepted: u64,
-        entries: List<Entry>,
+        log: PagedLog,
     ) -> Result<(), AllocError>
         requires down { self.old.vote.up ≡ false }
         requires may { MayWake J.setting (field (steps J.setting self.old.actor.seen)) self.old.vote.node how
-            (kept promised accepted entries) }
+            (kept promised accepted log) }
         requires told { IsStartTold J.setting self.old.actor.seen self.old.vote.node how }
         requires own { IsOwn J.setting (held self.old.vote self.old.log self.old.actor) }
         ensures own { IsOwn J.setting (held self.new.vote self.new.log self.new.actor) }
-        ensures wakes { OnOk result (Wakes how (kept promised accepted entries)
+        ensures wakes { OnOk result (Wakes how (kept promised accepted log)
             (held self.old.vote self.old.log self.old.actor) (held self.new.vote self.new.log self.new.actor)) }
         ensures room { OnOk result (1 ≤ self.new.actor.room) }
         ensures unchanged { OnErr result (IsAsBefore (held self.old.vote self.old.log self.old.actor)
             (held self.new.vote self.new.log self.new.actor)) }
     {
-        let told = Snapshot::of(&entries);
-        let vote = woken_vote(&self.vote, promised, accepted, entries.len() as u64);
-        let log = log_of(alloc, entries)?;
+        let told = Snapshot::of(&log);
+        let length = log.entries().len() as u64;
+        let vote = woken_vote(&self.vote, promised, accepted, length);
         self.actor.reserve(2)?;
         self.log = log;
         let event = Event::Up {

@@ -14,6 +14,6 @@ happens-requires-clause-follows g c =
     let told = c.of-told.result in
     let same = sym c.of-told.ensures in
     let may = subst (λ es. MayWake G (field (steps G c.args.self.now.actor.seen)) v.node c.args.how (kept c.args.promised c.args.accepted es)) same c.requires.may in
-    let numbers = c.woken_vote-vote.ensures ∙ ap (λ l. woken_vote v c.args.promised c.args.accepted l) (c.len.ensures ∙ ap length same) in
-    subst (λ t. Follows G v.node (Up c.args.how c.args.promised c.args.accepted told) c.woken_vote-vote.result c.in_ok-log.log t) (sym c.reserve.ensures.same.2)
-    (wake_follows G v c.woken_vote-vote.result c.args.self.now.log c.in_ok-log.log c.args.self.now.actor.seen c.args.how c.args.promised c.args.accepted told c.requires.own.node c.requires.down may c.requires.told numbers (c.in_ok-log.ensures ∙ same))
+    let numbers = c.woken_vote-vote.ensures ∙ ap (λ l. woken_vote v c.args.promised c.args.accepted l) (ap length (c.entries.ensures ∙ same)) in
+    subst (λ t. Follows G v.node (Up c.args.how c.args.promised c.args.accepted told) c.woken_vote-vote.result c.args.log t) (sym c.reserve.ensures.same.2)
+    (wake_follows G v c.woken_vote-vote.result c.args.self.now.log c.args.log c.args.self.now.actor.seen c.args.how c.args.promised c.args.accepted told c.requires.own.node c.requires.down may c.requires.told numbers same)
