@@ -80,6 +80,17 @@ impl<D: LogStore + Drop> KeptLog<D> {
         }
     }
 
+    /// The log with its pages, open or stopped. Takes no memory.
+    pub fn log(&self) -> &PagedLog
+        ensures { result.now ≡ self.now.entries }
+    {
+        match &self.place {
+            Place::Open(log) => log.log(),
+            Place::Stopped(stayed) => &stayed.log,
+            Place::Moved => unreachable!(),
+        }
+    }
+
     /// The promised generation, open or stopped. Takes no memory.
     pub fn promised(&self) -> u64
         ensures { result ≡ self.now.promised }

@@ -17,6 +17,7 @@ use Rattle.phys_log.specs.declared.entries.Entry.{Entry}
 use Rattle.node_state.specs.Calls.{Did, Joins, Judges, Acts, events_by, through, log_by}
 use Rattle.node_state.specs.Nodes.{IsNode, IsOwn, Held, Follows, events_of}
 use Rattle.node_state.specs.Packets.{IsPacket, AreSent, ask_of, asked_in, packet, packets_of}
+use Rattle.node_state.proofs.CallLaws.{none_less, same_less}
 use Rattle.node_state.proofs.NodeLaws.{counts, grants, leads, learns, confirms}
 use Rattle.node_state.proofs.LogLists.{none_behind}
 use Rattle.node_state.proofs.SentLaws.{grant_sent, lead_sent, know_sent, confirm_sent}
@@ -34,7 +35,7 @@ keep_own G old u m es a own p e q =
 pub keep_acts : (old : Held) (u : NodeVote) (m : Message) (es : List Entry) (a : Action) → a ≡ action.Nothing → u ≡ acted (counted old.vote m) a
     → Acts old.vote m es a old (record { vote = u; entries = old.entries; actor = old.actor })
 keep_acts old u m es a e q = subst (λ t. Acts old.vote m es t old (record { vote = u; entries = old.entries; actor = old.actor })) (sym e) (record {
-  did = record { number = refl; made = sym (none_behind (events_of old.actor.made)); more = record { later = []; whole = refl } };
+  did = record { number = refl; made = sym (none_behind (events_of old.actor.made)); more = record { later = []; whole = refl }; room = none_less old.actor.room old.actor.room [] refl (same_less old.actor.room old.actor.room refl) };
   vote = q ∙ ap (λ t. acted (counted old.vote m) t) e;
   entries = refl;
 })
@@ -154,7 +155,7 @@ is_pong v m x a to is d = is ∙ ap (λ y. action.Answer y to) (pong_of v m x to
 
 -- what is judged to be done was decided, and joins
 judged_decides : (v : NodeVote) (m : Message) (es : List Entry) (a : Action) → Judges v m es a → (a ≡ action.Nothing → ⊥) → Joins v m es × Decides v m a
-judged_decides v m es a (inl x) none = x
+judged_decides v m es a (inl x) none = (x.0, x.1)
 judged_decides v m es a (inr x) none = absurd (none x.1)
 
 pub judged_grant : (v : NodeVote) (m : Message) (es : List Entry) (a : Action) (g to : ℕ) → Judges v m es a → a ≡ action.Promise g to → Decides v m a

@@ -1,6 +1,6 @@
 -- What calls do, one after the other.
-use Rattle.std.proofs.Common.{ℕ, ◌≡◌, ◌<◌, List, [], ◌∷◌, ◌++◌, append_assoc, refl, sym, subst, ap, ◌∙◌}
-use Rattle.std.specs.Prelude.{Result, Ok, Err, OnErr, true}
+use Rattle.std.proofs.Common.{ℕ, ◌≡◌, ◌+◌, ◌<◌, ◌≤◌, List, [], ◌∷◌, ◌++◌, length, length-append, append_assoc, arith, refl, sym, subst, ap, ◌∙◌}
+use Rattle.std.specs.Prelude.{Result, Ok, Err, OnErr, OnOk, Bool, true}
 use mathlib.Core.Logic.{◌⊎◌, inl, inr}
 use Rattle.actor_trace.specs.Lists.{Begins}
 use Rattle.actor_trace.specs.Steps.{Adds, Rests}
@@ -16,7 +16,7 @@ use Rattle.election_core.specs.declared.messages.Action.TheVariants as action
 use Rattle.election_core.specs.declared.messages.Message.{Message}
 use Rattle.election_core.specs.declared.votes.NodeVote.{NodeVote}
 use Rattle.phys_log.specs.declared.entries.Entry.{Entry}
-use Rattle.node_state.specs.Calls.{Did, IsAsBefore, Judges, Acts, Answers, IsPartly, Stands, Probes, takes, events_by, through, log_by}
+use Rattle.node_state.specs.Calls.{Did, Falls, IsAsBefore, Judges, Acts, Answers, FallsPartly, IsPartly, Stands, Probes, takes, events_by, through, left_of, log_by, down_vote, vote_taken}
 use Rattle.node_state.specs.Nodes.{IsNode, IsOwn, Held, Follows, events_of}
 use Rattle.node_state.specs.Packets.{Sent, packets_of, standing_packets, probing_packets, shipped_in}
 use Rattle.node_state.proofs.NodeLaws.{after_adds, after_rests}
@@ -35,9 +35,23 @@ begins_rests d = record { later = d.between; whole = sym d.whole }
 pub begins_on : {old mid new : List (ℕ × Event)} → Begins old mid → Begins mid new → Begins old new
 begins_on {old} {mid} {new} a b = record { later = b.later ++ a.later; whole = append_assoc b.later a.later old ∙ (ap (λ t. b.later ++ t) a.whole ∙ b.whole) }
 
+-- the room that is left
+one_less : (a b : ℕ) (es : List Event) → length es ≡ 1 → b + 1 ≡ a → a ≤ b + length es
+one_less a b es one r = omega arith
+
+pub none_less : (a b : ℕ) (es : List Event) → length es ≡ 0 → a ≤ b → a ≤ b + length es
+none_less a b es none le = omega arith
+
+both_less : (a b k : ℕ) (es fs : List Event) → a ≤ b + length es → b ≤ k + length fs → a ≤ k + length (es ++ fs)
+both_less a b k es fs x y = let e : length (es ++ fs) ≡ length es + length fs = length-append es fs in omega arith
+
+pub same_less : (a b : ℕ) → b ≡ a → a ≤ b
+same_less a b e = omega arith
+
 -- after a step
-pub did_one : (old new : Held) (e : Event) (t : ℕ) → new.actor.number ≡ old.actor.number → new.actor.made ≡ old.actor.made ++ (t, e) ∷ [] → Adds old.actor.number e old.actor.seen new.actor.seen → Did (e ∷ []) old new
-did_one old new e t n m d = record { number = n; made = ap events_of m ∙ events_more old.actor.made ((t, e) ∷ []); more = begins_adds d }
+pub did_one : (old new : Held) (e : Event) (t : ℕ) → new.actor.number ≡ old.actor.number → new.actor.made ≡ old.actor.made ++ (t, e) ∷ [] → Adds old.actor.number e old.actor.seen new.actor.seen → new.actor.room + 1 ≡ old.actor.room
+    → Did (e ∷ []) old new
+did_one old new e t n m d r = record { number = n; made = ap events_of m ∙ events_more old.actor.made ((t, e) ∷ []); more = begins_adds d; room = one_less old.actor.room new.actor.room (e ∷ []) refl r }
 
 pub own_one : (G : Setting) (old new : Held) (e : Event) → old.vote.node ≡ old.actor.number → Follows G old.vote.node e new.vote new.entries old.actor.seen
     → Adds old.actor.number e old.actor.seen new.actor.seen → Lawful G new.actor.seen → new.actor.number ≡ old.actor.number → IsOwn G new
@@ -47,8 +61,21 @@ own_one G old new e n f d legal same = record {
 }
 
 -- after a look
-pub as_before : (old new : Held) → new.vote ≡ old.vote → new.entries ≡ old.entries → new.actor.number ≡ old.actor.number → new.actor.made ≡ old.actor.made → Rests old.actor.number old.actor.seen new.actor.seen → IsAsBefore old new
-as_before old new v l n m d = record { did = record { number = n; made = ap events_of m ∙ sym (none_behind (events_of old.actor.made)); more = begins_rests d }; vote = v; entries = l }
+pub as_before : (old new : Held) → new.vote ≡ old.vote → new.entries ≡ old.entries → new.actor.number ≡ old.actor.number → new.actor.made ≡ old.actor.made → Rests old.actor.number old.actor.seen new.actor.seen
+    → new.actor.room ≡ old.actor.room → IsAsBefore old new
+as_before old new v l n m d r = record {
+  did = record { number = n; made = ap events_of m ∙ sym (none_behind (events_of old.actor.made)); more = begins_rests d; room = none_less old.actor.room new.actor.room [] refl (same_less old.actor.room new.actor.room r) };
+  vote = v;
+  entries = l;
+}
+
+-- after it made room
+pub as_reserved : (old new : Held) → new.vote ≡ old.vote → new.entries ≡ old.entries → new.actor.number ≡ old.actor.number → new.actor.made ≡ old.actor.made → new.actor.seen ≡ old.actor.seen → old.actor.room ≤ new.actor.room → IsAsBefore old new
+as_reserved old new v l n m s r = record {
+  did = record { number = n; made = ap events_of m ∙ sym (none_behind (events_of old.actor.made)); more = record { later = []; whole = sym s }; room = none_less old.actor.room new.actor.room [] refl r };
+  vote = v;
+  entries = l;
+}
 
 pub own_rests : (G : Setting) (old new : Held) → IsOwn G old → new.vote ≡ old.vote → new.entries ≡ old.entries → new.actor.number ≡ old.actor.number → Rests old.actor.number old.actor.seen new.actor.seen → Lawful G new.actor.seen → IsOwn G new
 own_rests G old new own v l n d legal =
@@ -64,6 +91,7 @@ did_then es fs old mid new a b = record {
   number = b.number ∙ a.number;
   made = b.made ∙ (ap (λ t. t ++ fs) a.made ∙ append_assoc (events_of old.actor.made) es fs);
   more = begins_on a.more b.more;
+  room = both_less old.actor.room mid.actor.room new.actor.room es fs a.room b.room;
 }
 
 pub did_before : (es : List Event) (old mid new : Held) → IsAsBefore old mid → Did es mid new → Did es old new
@@ -87,14 +115,33 @@ answers_before m es ps old mid new a b = record {
   sends = b.sends;
 }
 
-pub partly_before : (m : Message) (old mid new : Held) → IsAsBefore old mid → IsPartly m mid new → IsPartly m old new
-partly_before m old mid new a b = record { taken = b.taken; did = subst (λ (v : NodeVote). Did (takes (shipped_in m) v.length b.taken) old new) a.vote (did_before (takes (shipped_in m) mid.vote.length b.taken) old mid new a b.did) }
+pub partly_before : (m : Message) (es : List Entry) (old mid new : Held) → IsAsBefore old mid → IsPartly m es mid new → IsPartly m es old new
+partly_before m es old mid new a b = record {
+  taken = b.taken;
+  within = b.within;
+  did = subst (λ (v : NodeVote). Did (takes (shipped_in m) v.length b.taken) old new) a.vote (did_before (takes (shipped_in m) mid.vote.length b.taken) old mid new a b.did);
+  vote = b.vote ∙ ap (λ (v : NodeVote). vote_taken v (shipped_in m) b.taken) a.vote;
+  left = b.left ∙ (ap (λ (v : NodeVote). mid.entries ++ left_of v.length m es) a.vote ∙ ap (λ l. l ++ left_of old.vote.length m es) a.entries);
+}
 
-pub nothing_partly : (m : Message) (old new : Held) → IsAsBefore old new → IsPartly m old new
-nothing_partly m old new a = record { taken = 0; did = a.did }
+pub falls_before : (m : Message) (es : List Entry) (old mid new : Held) → IsAsBefore old mid → FallsPartly m es mid new → FallsPartly m es old new
+falls_before m es old mid new a b = record { mid = b.mid; partly = partly_before m es old mid b.mid a b.partly; falls = b.falls }
+
+pub nothing_partly : (m : Message) (es : List Entry) (old new : Held) → IsAsBefore old new → IsPartly m es old new
+nothing_partly m es old new a = record {
+  taken = 0;
+  within = let n : 0 ≤ length es = omega arith in n;
+  did = a.did;
+  vote = a.vote;
+  left = ap (λ (v : NodeVote). new.entries ++ left_of v.length m es) a.vote ∙ ap (λ l. l ++ left_of old.vote.length m es) a.entries;
+}
+
+-- it goes down after a look
+pub fallen_behind : (fault : Bool) (old mid new : Held) → IsAsBefore old mid → Falls fault mid new → Falls fault old new
+fallen_behind fault old mid new a f = record { did = did_before (event.Down fault ∷ []) old mid new a f.did; vote = f.vote ∙ ap down_vote a.vote; entries = f.entries ∙ a.entries }
 
 pub unchanged : (h : Held) → IsAsBefore h h
-unchanged h = record { did = record { number = refl; made = sym (none_behind (events_of h.actor.made)); more = record { later = []; whole = refl } }; vote = refl; entries = refl }
+unchanged h = record { did = record { number = refl; made = sym (none_behind (events_of h.actor.made)); more = record { later = []; whole = refl }; room = none_less h.actor.room h.actor.room [] refl (same_less h.actor.room h.actor.room refl) }; vote = refl; entries = refl }
 
 -- packets that were made before the act are those of it
 pub same_packets : (v : NodeVote) (m : Message) (es : List Entry) (a : Action) (u : NodeVote) (old new : List Entry) (s : ℕ) → new ≡ log_by v m es a old → packets_of u (through m a) old s ≡ packets_of u (through m a) new s
@@ -164,3 +211,16 @@ drafts_made v u m a w log given s from ds q e l f d =
 pub on_err : {T E P : Type 0} (r : Result T E) → P → OnErr r P
 on_err (Ok x) p = tt
 on_err (Err e) p = p
+
+-- several facts about an `Ok`
+pub ok_two : {T E P Q R : Type 0} (r : Result T E) → (P → Q → R) → OnOk r P → OnOk r Q → OnOk r R
+ok_two (Ok x) f p q = f p q
+ok_two (Err e) f p q = tt
+
+pub ok_three : {T E P Q R S : Type 0} (r : Result T E) → (P → Q → R → S) → OnOk r P → OnOk r Q → OnOk r R → OnOk r S
+ok_three (Ok x) f p q s = f p q s
+ok_three (Err e) f p q s = tt
+
+pub ok_five : {T E P Q R S U V : Type 0} (r : Result T E) → (P → Q → R → S → U → V) → OnOk r P → OnOk r Q → OnOk r R → OnOk r S → OnOk r U → OnOk r V
+ok_five (Ok x) f p q s t u = f p q s t u
+ok_five (Err e) f p q s t u = tt

@@ -119,7 +119,7 @@ stop_may G v log i seen is vi up told = subst (λ k. MayDo G seen k (event.Down 
       };
     }
 
-stop_part : (G : Setting) (i : ℕ) (old new : List (ℕ × Event)) → Adds i (event.Down false) old new → (world G new).nodes i ≡ change i ((world G old).nodes i) Core.Down
+pub stop_part : (G : Setting) (i : ℕ) (old new : List (ℕ × Event)) → Adds i (event.Down false) old new → (world G new).nodes i ≡ change i ((world G old).nodes i) Core.Down
 stop_part G i old new d =
     let x = world G (d.between ++ old) in
     ap (λ t. (world G t).nodes i) d.whole ∙ (self_row x i Core.Down ∙ ap (λ (o : Own KeptEntry). change i o Core.Down) (idle G i d.between old d.none))

@@ -31,7 +31,8 @@ use Rattle.phys_log.specs.declared.entries.Entry.TheVariants as entry
 use Rattle.report_laws.specs.Nodes.{is_up, up_from}
 use Rattle.report_laws.proofs.NodesLaws.{up_append}
 use Rattle.table_store.specs.Stored.{Stands}
-use Rattle.node_state.specs.Restarts.{IsBegunBy, IsRead, Kept, MayWake}
+use Rattle.node_reading.specs.Reading.{IsBegunBy, MayBegin}
+use Rattle.node_state.specs.Restarts.{Kept, MayWake}
 use Rattle.node_state.proofs.LeftLaws.{plain_kept}
 use Rattle.node_state.proofs.LogLists.{none_behind}
 use Rattle.node_state.proofs.NewLaws.{blank_part, nothing_done}
@@ -72,7 +73,7 @@ begun_all a rows (y ∷ es) all [] e p = subst (λ t. BeganBy a t) (sym (front_p
 begun_all a rows (y ∷ es) all (x ∷ xs) e p = begun_all a rows es all.1 xs e (front_parts x (kept_with rows y) (xs ++ e ∷ []) (kept_all rows es) p).1
 
 pub first_wakes : (G : Setting) (f : Field) (i : ℕ) (rows : Snapshot Rows) (k : Kept) → 1 ≤ i → i ≤ G.nodes → (f.core.nodes i).up ≡ false → (f.core.nodes i).was_up ≡ false
-    → In (record { node = i; promised = k.promised; accepted = k.accepted }) f.core.admits → IsRead rows.value k → MayWake G f i (woken.First rows) k
+    → In (record { node = i; promised = k.promised; accepted = k.accepted }) f.core.admits → MayBegin k.promised k.accepted k.entries rows.value → MayWake G f i (woken.First rows) k
 first_wakes G f i rows k low high down new admitted read = record {
   told = tt;
   rises = record {

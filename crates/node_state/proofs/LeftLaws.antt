@@ -42,10 +42,10 @@ use Rattle.node_state.specs.Restarts.{Kept, MayRise, MayWake, kept, woken_by}
 use Rattle.node_state.proofs.LogLists.{map_size}
 
 -- a node's part when it is down
-abbrev lain : Own KeptEntry → Own KeptEntry
+abbrev pub lain : Own KeptEntry → Own KeptEntry
 lain o = record o { up = false }
 
-abbrev fallen : Field → ℕ → Field
+abbrev pub fallen : Field → ℕ → Field
 fallen f i = does f i (Act.Core Core.Down)
 
 row : (f : Field) (i : ℕ) → (fallen f i).core.nodes i ≡ lain (f.core.nodes i)
@@ -145,7 +145,7 @@ took_left G f i g n l inv low high was found is may logged = record {
     go false t m = whole_left G f i g l low high was m.0.1
 
 -- with an entry that it was to append
-same_either : {A : Type 0} (b : Bool) (x : A) → cond b x x ≡ x
+pub same_either : {A : Type 0} (b : Bool) (x : A) → cond b x x ≡ x
 same_either true x = refl
 same_either false x = refl
 
@@ -218,14 +218,14 @@ appended_left G f i p next low high was lead acc may right pages logged = record
     }
 
 -- the field behind the fall, and what is known there
-fell : (G : Setting) (i : ℕ) (fault : Bool) (seen now : List (ℕ × Event)) → (d : Adds i (event.Down fault) seen now) → field (steps G now) ≡ fallen (field (steps G (d.between ++ seen))) i
+pub fell : (G : Setting) (i : ℕ) (fault : Bool) (seen now : List (ℕ × Event)) → (d : Adds i (event.Down fault) seen now) → field (steps G now) ≡ fallen (field (steps G (d.between ++ seen))) i
 fell G i true seen now d = ap (λ t. field (steps G t)) d.whole
 fell G i false seen now d = ap (λ t. field (steps G t)) d.whole
 
-before : (G : Setting) (i : ℕ) (fault : Bool) (seen now : List (ℕ × Event)) → (d : Adds i (event.Down fault) seen now) → Lawful G now → Lawful G (d.between ++ seen)
+pub before : (G : Setting) (i : ℕ) (fault : Bool) (seen now : List (ℕ × Event)) → (d : Adds i (event.Down fault) seen now) → Lawful G now → Lawful G (d.between ++ seen)
 before G i fault seen now d legal = let l : Lawful G ((i, event.Down fault) ∷ (d.between ++ seen)) = subst (λ t. Lawful G t) d.whole legal in l.1
 
-awake : (G : Setting) (v : NodeVote) (log : List Entry) (seen : List (ℕ × Event)) → IsNode G v log seen → v.up ≡ true → ((world G seen).nodes v.node).was_up ≡ true
+pub awake : (G : Setting) (v : NodeVote) (log : List Entry) (seen : List (ℕ × Event)) → IsNode G v log seen → v.up ≡ true → ((world G seen).nodes v.node).was_up ≡ true
 awake G v log seen is up = ((inv_of G seen is.legal).local v.node).awake (sym is.part.up ∙ up)
 
 -- as it was, with a promise that is not less

@@ -17,3 +17,9 @@ pub mod WakeLaws
 pub mod LeftLaws
 pub mod FirstLaws
 pub mod StoreLaws
+pub mod KeepLaws
+pub mod NumberLaws
+pub mod OverLaws
+pub mod GenerationLaws
+pub mod StartLaws
+pub mod SpellLaws

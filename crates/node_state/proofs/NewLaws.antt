@@ -13,7 +13,11 @@ use Rattle.cluster_steps.specs.declared.events.Event.{Event}
 use Rattle.cluster_steps.proofs.StepLaws.{idle}
 use Rattle.election_core.specs.Told.{IsPart}
 use Rattle.election_core.proofs.Acted.{no_bit}
+use Rattle.election_core.specs.declared.votes.NodeVote.{NodeVote}
+use Rattle.kept_log.specs.Kept.{OverStore}
+use Rattle.node_state.specs.declared.faults.UnderWay.{UnderWay}
 use Rattle.node_state.specs.Nodes.{IsOwn, blank_vote, held}
+use Rattle.node_state.specs.Stores.{IsKeptBy, IsStored}
 use Rattle.node_state.proofs.LogLists.{none_behind}
 use Rattle.node_state.proofs.NodeLaws.{fired_more}
 
@@ -45,3 +49,16 @@ new_own G node nodes a plan n few low high number made own legal =
       };
       number_is = sym number;
     }
+
+-- over a store that it did not open yet
+pub new_stored : (G : Setting) (node nodes : ℕ) (v : NodeVote) (o : OverStore) (a : Knows Event) (u : UnderWay) → a.number ≡ node → a.made ≡ [] → a.made ≡ entries_of a.number a.seen → v ≡ blank_vote node nodes → IsKeptBy (blank_vote node nodes) o
+    → o.entries ≡ [] → IsOwn G (held (blank_vote node nodes) [] a) → IsStored G (held v o.entries a) o u
+new_stored G node nodes v o a u number made own e k none is =
+    subst (λ t. IsStored G (held t o.entries a) o u) (sym e) (record {
+      own = subst (λ es. IsOwn G (held (blank_vote node nodes) es a)) (sym none) is;
+      over = k;
+      down = λ down was. (let z : false ≡ true = ap (λ (x : Own KeptEntry). x.was_up) (sym (blank_part G node a.seen nothing)) ∙ was in absurd (cc));
+    })
+  where
+    nothing : entries_of node a.seen ≡ []
+    nothing = ap (λ i. entries_of i a.seen) (sym number) ∙ (sym own ∙ made)

@@ -1,6 +1,6 @@
 -- A leader tells what it decided of a request: that is no event of consensus, so its part stays as it is.
 use Rattle.std.proofs.Common.{ℕ, ◌≡◌, List, [], ◌∷◌, ◌++◌, map, refl, sym, subst, ap, ◌∙◌}
-use Rattle.std.specs.Prelude.{None}
+use Rattle.std.specs.Prelude.{None, true}
 use Rattle.std.specs.declared.snapshot.Snapshot.{Snapshot}
 use Rattle.actor_trace.specs.Steps.{Adds}
 use Rattle.cdb_values.specs.declared.tables.TableDef.{TableDef}
@@ -92,3 +92,13 @@ own_settle G old new request told own v l n d legal =
 pub settled : (old new : Held) (request : Snapshot CommitId) (told : Snapshot Decision) (id : CommitId) (d : Decision) → request.value ≡ id → told.value ≡ d → Did (Settle request told ∷ []) old new
     → new.vote ≡ old.vote → new.entries ≡ old.entries → Settles id d old new
 settled old new request told id d q r did v l = record { event = Settle request told; settles = (q, r); did = did; vote = v; entries = l }
+
+-- it is up then
+pub settle_up : (G : Setting) (v : NodeVote) (log : List Entry) (seen : List (ℕ × Event)) (id : CommitId) (d : Decision) → IsNode G v log seen → MaySettle G seen v.node id d → v.up ≡ true
+settle_up G v log seen id d is may = is.part.up ∙ here d may.may
+  where
+    here : (d : Decision) → MayHappen G (steps G seen) v.node (named_settled G.tables id d) → ((world G seen).nodes v.node).up ≡ true
+    here (decision.Repeat position) m = m.0
+    here (decision.Conflict position item) m = m.0.0
+    here (decision.Duplicate position table key) m = m.0.0
+    here (decision.Commit next) m = m.0.0

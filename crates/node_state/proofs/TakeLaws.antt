@@ -19,20 +19,13 @@ use Rattle.election_core.specs.declared.messages.Message.{Message}
 use Rattle.election_core.specs.declared.messages.Message.TheVariants.{Ack}
 use Rattle.election_core.specs.declared.votes.NodeVote.{NodeVote}
 use Rattle.phys_log.specs.declared.entries.Entry.{Entry}
-use Rattle.node_state.specs.Calls.{Did, Joins, Acts, IsPartly, TakesOne, Continues, takes, left_of, through}
+use Rattle.node_state.specs.Calls.{Did, Joins, Acts, IsPartly, TakesOne, Continues, takes, left_of, through, vote_taken}
 use Rattle.node_state.specs.Nodes.{IsOwn, Held, Follows, events_of}
 use Rattle.node_state.specs.Packets.{IsPacket, AreSent, packet, packets_of, shipped_in, shipped_length}
 use Rattle.node_state.proofs.LogLists.{drop_at, put_step, none_behind, map_size}
 use Rattle.node_state.proofs.SentLaws.{packet_on, take_acked, ack_sent}
 use Rattle.node_state.proofs.CallLaws.{did_then}
 use Rattle.node_state.proofs.ShipLaws.{shipped, takes_whole, takes_one, takes_none, takes_ships, takes_all_new, counted_ships, continues_allows}
-
-pub did_same : (es : List Event) (old mid new : Held) → mid.actor ≡ old.actor → Did es mid new → Did es old new
-did_same es old mid new e d = record {
-  number = d.number ∙ ap (λ x. x.number) e;
-  made = d.made ∙ ap (λ x. events_of x.made ++ es) e;
-  more = subst (λ x. Begins x.seen new.actor.seen) e d.more;
-}
 
 own_take : (G : Setting) (old : Held) (g l : ℕ) (new : List (ℕ × Event)) → IsOwn G old → Adds old.actor.number (Take g l) old.actor.seen new → Adds old.vote.node (Take g l) old.actor.seen new
 own_take G old g l new own d = subst (λ t. Adds t (Take g l) old.actor.seen new) (sym own.number_is) d
@@ -238,8 +231,23 @@ still_joins G m es old now j h =
 pub room_left : (G : Setting) (m : Message) (es : List Entry) (old now : Held) → HasTaken G m es old now → now.vote.length < shipped_length m → 0 < now.actor.room
 room_left G m es old now h lt = let a : shipped_length m ≤ now.vote.length + now.actor.room = h.room in omega arith
 
-pub partly_taken : (G : Setting) (m : Message) (es : List Entry) (old now : Held) → HasTaken G m es old now → IsPartly m old now
-partly_taken G m es old now h = record { taken = now.vote.length - old.vote.length; did = h.did }
+some_taken : (v : NodeVote) (g k : ℕ) → 0 < k → vote_taken v g k ≡ acted v (action.Take g (v.length + k))
+some_taken v g zero some = absurd (omega arith)
+some_taken v g (suc k) some = refl
+
+pub partly_taken : (G : Setting) (m : Message) (es : List Entry) (old now : Held) → Joins old.vote m es → HasTaken G m es old now → IsPartly m es old now
+partly_taken G m es old now j h =
+    let a : old.vote.length < now.vote.length = h.some in
+    let b : now.vote.length ≤ shipped_length m = h.within in
+    let r : shipped_length m ≤ old.vote.length + length es = j.reaches in
+    let all : now.vote.length ≡ old.vote.length + (now.vote.length - old.vote.length) = omega arith in
+    record {
+      taken = now.vote.length - old.vote.length;
+      within = omega arith;
+      did = h.did;
+      vote = h.vote ∙ (ap (λ k. acted old.vote (action.Take (shipped_in m) k)) all ∙ sym (some_taken old.vote (shipped_in m) (now.vote.length - old.vote.length) (omega arith)));
+      left = h.left;
+    }
 
 -- all of them
 drop_none : (n : ℕ) (xs : List Entry) → length xs ≤ n → drop n xs ≡ []

@@ -1,12 +1,14 @@
 -- What each call of a node does: the events that it adds, the node that it leaves, and the packets that it sends.
 use Rattle.std.specs.declared.alloc.Global.{Global}
-use Rattle.std.specs.Prelude.{Vec, ℕ, zero, suc, ◌≡◌, ◌+◌, ◌-◌, ◌<◌, ◌≤◌, ◌⊎◌, ltb, if◌then◌else◌, true, false, List, [], ◌∷◌, ◌++◌, length, drop}
+use Rattle.std.specs.declared.snapshot.Snapshot.{Snapshot}
+use Rattle.std.specs.Prelude.{Bool, Vec, ℕ, zero, suc, ◌≡◌, ◌+◌, ◌-◌, ◌<◌, ◌≤◌, ◌⊎◌, ltb, if◌then◌else◌, true, false, List, [], ◌∷◌, ◌++◌, length, drop}
 use Rattle.actor_trace.specs.Lists.{Begins}
+use Rattle.actor_trace.specs.Steps.{Adds}
 use Rattle.cdb_values.specs.declared.tables.TableDef.{TableDef}
 use Rattle.cluster_events.specs.Settings.{Setting}
 use Rattle.cluster_steps.specs.declared.events.Event.{Event}
 use Rattle.cluster_steps.specs.declared.events.Event.TheVariants as event
-use Rattle.election_core.specs.Allowed.{Decides}
+use Rattle.election_core.specs.Allowed.{Decides, IsMost}
 use Rattle.election_core.specs.Counted.{acted, counted}
 use Rattle.election_core.specs.Senders.{sender_of}
 use Rattle.election_core.specs.declared.messages.Action.{Action}
@@ -23,11 +25,12 @@ use Rattle.node_state.specs.declared.steps.Step.TheVariants as step
 use Rattle.node_state.specs.Nodes.{Held, events_of}
 use Rattle.node_state.specs.Packets.{Sent, AreBehind, IsPacket, appending_packets, packets_of, standing_packets, probing_packets, shipped_length, shipped_in}
 
--- its numbers and its log are as before, and it did these events and no other; it may know more
+-- it did these events and no other, each of which takes room for one; it may know more
 pub record Did (es : List Event) (old new : Held) : Type 0 where
   pub number : new.actor.number ≡ old.actor.number
   pub made : events_of new.actor.made ≡ events_of old.actor.made ++ es
   pub more : Begins old.actor.seen new.actor.seen
+  pub room : old.actor.room ≤ new.actor.room + length es
 
 pub record IsAsBefore (old new : Held) : Type 0 where
   pub did : Did [] old new
@@ -40,9 +43,9 @@ pub record Joins (v : NodeVote) (m : Message) (es : List Entry) : Type 0 where
   pub reaches : shipped_length m ≤ v.length + length es
   pub whole : v.accepted < shipped_in m → length es ≡ shipped_length m
 
--- a message is dropped where its entries do not join, else by what the node decides about it
+-- a message is dropped where its entries do not join, else by what the node decides about it, which is the most that it allows
 abbrev pub Judges : NodeVote → Message → List Entry → Action → Type 0
-Judges v m es a = (Joins v m es × Decides v m a) ⊎ ((Joins v m es → ⊥) × (a ≡ action.Nothing))
+Judges v m es a = (Joins v m es × Decides v m a × IsMost v m a) ⊎ ((Joins v m es → ⊥) × (a ≡ action.Nothing))
 
 -- entries are taken one by one behind the first ones, so many
 abbrev pub takes : ℕ → ℕ → ℕ → List Event
@@ -134,19 +137,45 @@ pub record TakesOne (G : Setting) (m : Message) (es : List Entry) (old new : Hel
   pub acked : IsPacket G (Ack new.vote.node (shipped_in m) new.vote.length) [] new.actor.seen
   pub room : new.actor.room + 1 ≡ old.actor.room
 
--- after want of memory it may have taken the first entries
-pub record IsPartly (m : Message) (old new : Held) : Type 0 where
+-- a node's numbers when it is down: only that it is not up is changed
+abbrev pub down_vote : NodeVote → NodeVote
+down_vote v = record v { up = false }
+
+-- it goes down, by a fault or by a stop: it does this one event, and keeps its numbers and its log
+pub record Falls (fault : Bool) (old new : Held) : Type 0 where
+  pub did : Did (event.Down fault ∷ []) old new
+  pub vote : new.vote ≡ down_vote old.vote
+  pub entries : new.entries ≡ old.entries
+
+-- its numbers when it took so many entries more in a generation
+abbrev pub vote_taken : NodeVote → ℕ → ℕ → NodeVote
+vote_taken v g zero = v
+vote_taken v g (suc k) = acted v (action.Take g (v.length + suc k))
+
+-- after want of memory it may have taken the first entries, so many
+pub record IsPartly (m : Message) (es : List Entry) (old new : Held) : Type 0 where
   pub taken : ℕ
+  pub within : taken ≤ length es
   pub did : Did (takes (shipped_in m) old.vote.length taken) old new
+  pub vote : new.vote ≡ vote_taken old.vote (shipped_in m) taken
+  pub left : new.entries ++ left_of new.vote.length m es ≡ old.entries ++ left_of old.vote.length m es
+
+-- its store failed: it may have taken the first entries, and went down then
+pub record FallsPartly (m : Message) (es : List Entry) (old new : Held) : Type 0 where
+  pub mid : Held
+  pub partly : IsPartly m es old mid
+  pub falls : Falls true mid new
 
 -- what comes of standing: nothing of a node that is down, and nothing where the generation is not above its promise
 abbrev pub IsStood : ℕ → Step (Vec Sent Global) → Held → Held → Type 0
 IsStood g step.Down old new = (old.vote.up ≡ false) × IsAsBefore old new
+IsStood g step.Fault old new = (old.vote.up ≡ true) × (old.vote.promised < g) × Falls true old new
 IsStood g (step.Sent ps) old new = (old.vote.up ≡ true) × (((g ≤ old.vote.promised) × (ps.items ≡ []) × IsAsBefore old new) ⊎ ((old.vote.promised < g) × Stands g ps.items old new))
 
 -- what comes of a packet: nothing of a node that is down
 abbrev pub IsDelivered : Sent → Step (Vec Sent Global) → Held → Held → Type 0
 IsDelivered p step.Down old new = (old.vote.up ≡ false) × IsAsBefore old new
+IsDelivered p step.Fault old new = (old.vote.up ≡ true) × FallsPartly p.message p.entries old new
 IsDelivered p (step.Sent ps) old new = (old.vote.up ≡ true) × Answers p.message p.entries ps.items old new
 
 -- what comes of a begin's question: each answer exactly where it is so
@@ -160,11 +189,19 @@ IsBegun ask (begun.Sent ps) old new = (old.vote.up ≡ true) × MayProbe old.vot
 abbrev pub IsBehind : Message → Step (Vec Sent Global) → Type 0
 IsBehind m step.Down = Unit {0}
 IsBehind m (step.Sent ps) = AreBehind m ps.items
+IsBehind m step.Fault = Unit {0}
 
 -- an event appends this entry
 abbrev pub IsAppend : Entry → Event → Type 0
 IsAppend e (event.Append next) = next.value ≡ e
 IsAppend e _ = ⊥
+
+-- it appends this entry, by this event alone
+pub record Appends (e : Entry) (old new : Held) : Type 0 where
+  pub next : Snapshot Entry
+  pub value : next.value ≡ e
+  pub did : Did (event.Append next ∷ []) old new
+  pub adds : Adds old.actor.number (event.Append next) old.actor.seen new.actor.seen
 
 -- the setup of these tables is the log, and is shipped
 pub record SetsUp (tables : List TableDef) (ps : List Sent) (old new : Held) : Type 0 where
@@ -180,4 +217,5 @@ pub record SetsUp (tables : List TableDef) (ps : List Sent) (old new : Held) : T
 -- what comes of a setup: nothing of a node that is down
 abbrev pub IsSetUp : List TableDef → Step (Vec Sent Global) → Held → Held → Type 0
 IsSetUp tables step.Down old new = (old.vote.up ≡ false) × IsAsBefore old new
+IsSetUp tables step.Fault old new = (old.vote.up ≡ true) × Falls true old new
 IsSetUp tables (step.Sent ps) old new = (old.vote.up ≡ true) × SetsUp tables ps.items old new

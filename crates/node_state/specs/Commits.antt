@@ -5,10 +5,11 @@
 --   nothing stands against it       Append    its entry is the third; it is shipped, and acknowledged to itself
 --   entry 2 touches what it used    Settle    a conflict at 2
 --   entry 2 is its own              Settle    a repeat of 2
-use Rattle.std.specs.Prelude.{ℕ, ◌≡◌, List, [], ◌∷◌, ◌++◌, length}
+use Rattle.std.specs.declared.alloc.Global.{Global}
+use Rattle.std.specs.Prelude.{Vec, true, ℕ, ◌≡◌, List, [], ◌∷◌, ◌++◌, length}
 use Rattle.cluster_consensus.specs.Events.{Event as Core}
 use Rattle.cluster_events.specs.Guards.{MayDo as MayHappen}
-use Rattle.cluster_events.specs.Parts.{Event as Step}
+use Rattle.cluster_events.specs.Parts.{Event as Whole}
 use Rattle.cluster_events.specs.Settings.{Setting}
 use Rattle.cluster_steps.specs.Guards.{LeavesPages}
 use Rattle.cluster_steps.specs.Named.{kept_over, named_settled, steps, world}
@@ -17,13 +18,15 @@ use Rattle.cluster_steps.specs.declared.events.Event.TheVariants as event
 use Rattle.phys_log.specs.declared.entries.CommitId.{CommitId}
 use Rattle.phys_log.specs.declared.entries.Entry.{Entry}
 use Rattle.phys_log.specs.declared.requests.Decision.{Decision}
-use Rattle.node_state.specs.Calls.{Did, IsAppend}
+use Rattle.node_state.specs.declared.steps.Step.{Step}
+use Rattle.node_state.specs.declared.steps.Step.TheVariants as step
+use Rattle.node_state.specs.Calls.{Did, Falls, IsAppend}
 use Rattle.node_state.specs.Nodes.{Held}
 use Rattle.node_state.specs.Packets.{Sent, appending_packets}
 
 -- the event of whole histories by which a node appends an entry, kept with what it makes of the rows before it
-abbrev pub appends : Setting → List (ℕ × Event) → ℕ → Entry → Step
-appends G seen i next = Step.Node (Core.Append (kept_over ((world G seen).nodes i).log next))
+abbrev pub appends : Setting → List (ℕ × Event) → ℕ → Entry → Whole
+appends G seen i next = Whole.Node (Core.Append (kept_over ((world G seen).nodes i).log next))
 
 -- an entry may be appended by a node: the whole history allows it, and the pages of the log with it stand
 pub record MayEnter (G : Setting) (seen : List (ℕ × Event)) (i : ℕ) (next : Entry) : Type 0 where
@@ -42,6 +45,12 @@ pub record Enters (next : Entry) (ps : List Sent) (old new : Held) : Type 0 wher
   pub entries : new.entries ≡ old.entries ++ next ∷ []
   pub vote : new.vote ≡ record old.vote { length = length new.entries }
   pub sends : ps ≡ appending_packets new.vote (next ∷ [])
+
+-- what comes of it, where the node is up
+abbrev pub IsEntered : Entry → Step (Vec Sent Global) → Held → Held → Type 0
+IsEntered next step.Down old new = ⊥
+IsEntered next step.Fault old new = Falls true old new
+IsEntered next (step.Sent ps) old new = Enters next ps.items old new
 
 -- an event tells that of a request
 abbrev pub IsSettle : CommitId → Decision → Event → Type 0

@@ -4,3 +4,4 @@ pub mod Nodes
 pub mod Packets
 pub mod Restarts
 pub mod Ships
+pub mod Stores

@@ -9,9 +9,7 @@
 --   to take the log [c] of 5   4 3 [a, b]   5 3 [a, b]   5 5 [c]
 --
 -- It comes up with any of these, by an event that says which it is.
-use Rattle.std.specs.List.{AllByRecursion}
-use Rattle.std.specs.Prelude.{ℕ, ◌≡◌, ◌⊎◌, ◌≤◌, Bool, true, false, Some, List, [], ◌∷◌, length, replicate}
-use Rattle.cdb_values.specs.Rows.{Rows}
+use Rattle.std.specs.Prelude.{ℕ, ◌≡◌, ◌⊎◌, ◌≤◌, Bool, true, false, List, [], ◌∷◌, length, replicate}
 use Rattle.cluster_consensus.specs.Events.{Event as Core, change}
 use Rattle.cluster_events.specs.Arms.{IsStopArmed}
 use Rattle.cluster_events.specs.Guards.{IsActedBy, MayStep}
@@ -28,28 +26,14 @@ use Rattle.cluster_steps.specs.declared.events.Event.TheVariants as event
 use Rattle.cluster_steps.specs.declared.events.Woken.{Woken}
 use Rattle.cluster_steps.specs.declared.events.Woken.TheVariants as woken
 use Rattle.election_core.specs.declared.votes.NodeVote.{NodeVote}
-use Rattle.log_replay.specs.Answers.{schema_of}
-use Rattle.log_rows.specs.History.{tables_of}
-use Rattle.phys_log.specs.Logs.{IsLog, pages_of}
-use Rattle.phys_log.specs.declared.entries.Entry.{Entry}
-use Rattle.phys_log.specs.declared.entries.Entry.TheVariants as entry
+use Rattle.phys_log.specs.Logs.{IsLog}
 use Rattle.report_laws.specs.Nodes.{is_up}
-use Rattle.table_store.specs.Stored.{Stands}
+pub use Rattle.kept_log.specs.Kept.{Kept, kept}
+pub use Rattle.node_state.specs.Calls.{Falls, down_vote}
+use Rattle.node_state.specs.declared.steps.Started.{Started}
+use Rattle.node_state.specs.declared.steps.Started.TheVariants as started
 use Rattle.node_state.specs.Calls.{Did}
 use Rattle.node_state.specs.Nodes.{Held}
-
--- what a store holds of a node
-pub record Kept : Type 0 where
-  pub promised : ℕ
-  pub accepted : ℕ
-  pub entries : List Entry
-
-abbrev pub kept : ℕ → ℕ → List Entry → Kept
-kept p a es = record { promised = p; accepted = a; entries = es }
-
--- a node's numbers when it is down: only that it is not up is changed
-abbrev pub down_vote : NodeVote → NodeVote
-down_vote v = record v { up = false }
 
 -- and when it comes up with such a promise, such an acceptance and a log of that length: it knows nothing as durable, counts
 -- nothing, and does not lead
@@ -79,18 +63,6 @@ abbrev pub MayWakeAny : Setting → Field → ℕ → List Kept → Type 0
 MayWakeAny G f i [] = Unit {0}
 MayWakeAny G f i (k ∷ ks) = ((how : Woken) × MayWake G f i how k) × MayWakeAny G f i ks
 
--- a transaction began in a generation, or before it
-abbrev pub IsBegunBy : ℕ → Entry → Type 0
-IsBegunBy a (entry.Setup generation schema records) = Unit {0}
-IsBegunBy a (entry.Commit generation id begin level changes records) = id.began ≤ a
-
--- a store that was read holds a log, which is empty or has a setup first and pages that stand for these rows
-pub record IsRead (rows : Rows) (k : Kept) : Type 0 where
-  pub below : k.accepted ≤ k.promised
-  pub logged : IsLog k.entries
-  pub pages : (k.entries ≡ []) ⊎ ((schema_of k.entries ≡ Some (tables_of k.entries)) × Stands (pages_of k.entries) (tables_of k.entries) rows)
-  pub begun : AllByRecursion (IsBegunBy k.accepted) k.entries
-
 -- a stop of the node is ordered, or an arm fired that stops it
 abbrev pub IsStopTold : Setting → List (ℕ × Event) → ℕ → Type 0
 IsStopTold G seen i = IsStopOrdered (lines_to_do G) (steps G seen) i ⊎ IsStopArmed (steps G seen) i
@@ -99,12 +71,6 @@ IsStopTold G seen i = IsStopOrdered (lines_to_do G) (steps G seen) i ⊎ IsStopA
 abbrev pub IsStartTold : Setting → List (ℕ × Event) → ℕ → Woken → Type 0
 IsStartTold G seen i (woken.First rows) = (is_up i (lines G (steps G seen)) ≡ true) ⊎ IsStartOrdered (lines_to_do G) (steps G seen) i
 IsStartTold G seen i _ = IsStartOrdered (lines_to_do G) (steps G seen) i
-
--- it goes down, by a fault or by a stop: it does this one event, and keeps its numbers and its log
-pub record Falls (fault : Bool) (old new : Held) : Type 0 where
-  pub did : Did (event.Down fault ∷ []) old new
-  pub vote : new.vote ≡ down_vote old.vote
-  pub entries : new.entries ≡ old.entries
 
 -- an event by which a node comes up so with it
 abbrev pub IsUp : Woken → Kept → Event → Type 0
@@ -118,3 +84,8 @@ pub record Wakes (how : Woken) (k : Kept) (old new : Held) : Type 0 where
   pub did : Did (event ∷ []) old new
   pub vote : new.vote ≡ woken_vote old.vote k.promised k.accepted (length k.entries)
   pub entries : new.entries ≡ k.entries
+
+-- what comes of a start: it comes up in one way, with room for a stop; or its store failed, and it goes down once more
+abbrev pub IsStarted : Started → Held → Held → Type 0
+IsStarted started.Up old new = ((how : Woken) × (k : Kept) × Wakes how k old new) × (1 ≤ new.actor.room)
+IsStarted started.Fault old new = Falls true old new

@@ -1,6 +1,6 @@
 //! A node without what its type says: each action is a function of its own, which asks for the history's node and leaves it.
 //! All memory is taken before the step.
-ghost use Rattle.std.specs.Prelude.{ℕ, ◌≡◌, ◌⊎◌, ◌+◌, ◌<◌, ◌≤◌, ◌∷◌, ◌++◌, [], length, true, IfOk, OnOk, OnErr};
+ghost use Rattle.std.specs.Prelude.{ℕ, ◌≡◌, ◌⊎◌, ◌+◌, ◌<◌, ◌≤◌, ◌∷◌, ◌++◌, [], length, true, IfOk, IsErrOf, OnOk, OnErr};
 ghost use Rattle.std.specs.Prelude.{vec_len, vec_capacity};
 ghost use Rattle.actor_trace.specs.Lists.{Begins};
 ghost use Rattle.actor_trace.specs.Steps.{Adds, Rests};
@@ -10,27 +10,31 @@ ghost use Rattle.election_core.specs.Allowed.{Decides};
 ghost use Rattle.election_core.specs.Counted.{acted, counted};
 ghost use Rattle.election_core.specs.Senders.{sender_of};
 ghost use Rattle.election_core.specs.declared.messages.Action.TheVariants as deed;
-ghost use Rattle.node_state.specs.Calls.{Acts, Answers, Did, IsAsBefore, IsPartly, Judges, MayProbe, Probes, Ships};
+ghost use Rattle.node_state.specs.Calls.{Acts, Answers, Did, IsAsBefore, Judges, MayProbe, Probes, Ships};
 ghost use Rattle.node_state.specs.Calls.{Stands, through};
 ghost use Rattle.node_state.specs.Nodes.{Follows, IsOwn, held};
+ghost use Rattle.node_state.specs.Stores.{FallsAfter, FallsOver, IsKeptBy, StopsShort};
 ghost use Rattle.node_state.specs.Packets.{AreSent, IsPacket, IsSent, ask_of, asked_in, packets_of};
 
 use crate::drafts::{Draft, packets_after, packets_probing, packets_standing};
+use crate::faults::{UnderWay, Unkept};
 use crate::packets::Packet;
 use crate::takes::{joins, length_shipped};
 use actor_trace::{Actor, Naming, Note, Trace};
+use cdb_outside::LogStore;
 use cluster_core::{Cluster, Plan};
 use cluster_steps::Event;
 use election_core::{Action, Message, NodeVote, on_message, stand};
-use log_replay::PagedLog;
+use kept_log::KeptLog;
 use phys_log::Entry;
 use std::alloc::{AllocError, Global};
 
-/// The numbers of a node, its log with its pages, and its actor.
+/// The numbers of a node, its log over its store, what was under way where that failed, and its actor.
 #[derive(Drop)]
-pub(crate) struct Body<J: Plan, N: Naming> {
+pub(crate) struct Body<D: LogStore, J: Plan, N: Naming> {
     pub vote: NodeVote,
-    pub log: PagedLog,
+    pub log: KeptLog<D>,
+    pub under_way: UnderWay,
     pub actor: Actor<Cluster<J>, N>,
 }
 
@@ -82,19 +86,21 @@ fn whole_action(message: &Message, action: Action) -> Action
     }
 }
 
-impl<J: Plan, N: Naming> Body<J, N> {
+impl<D: LogStore + Drop, J: Plan, N: Naming> Body<D, J, N> {
     /// An event happens, by which the node has these numbers.
     pub(crate) fn happens(&mut self, trace: &Trace<Cluster<J>, N>, vote: NodeVote, event: Event)
         requires room { 0 < self.old.actor.room }
         requires is_its { self.old.vote.node ≡ self.old.actor.number }
-        requires follows { Follows J.setting self.old.vote.node event vote self.old.log self.old.actor.seen }
-        ensures own { IsOwn J.setting (held self.new.vote self.new.log self.new.actor) }
-        ensures did { Did (event ∷ []) (held self.old.vote self.old.log self.old.actor)
-            (held self.new.vote self.new.log self.new.actor) }
+        requires follows { Follows J.setting self.old.vote.node event vote self.old.log.entries self.old.actor.seen }
+        ensures own { IsOwn J.setting (held self.new.vote self.new.log.entries self.new.actor) }
+        ensures did { Did (event ∷ []) (held self.old.vote self.old.log.entries self.old.actor)
+            (held self.new.vote self.new.log.entries self.new.actor) }
         ensures adds { Adds self.old.actor.number event self.old.actor.seen self.new.actor.seen }
         ensures room { self.new.actor.room + 1 ≡ self.old.actor.room }
         ensures vote { self.new.vote ≡ vote }
-        ensures entries { self.new.log ≡ self.old.log }
+        ensures entries { self.new.log.entries ≡ self.old.log.entries }
+        ensures log { self.new.log ≡ self.old.log }
+        ensures under_way { self.new.under_way ≡ self.old.under_way }
     {
         self.actor.step(trace, event);
         self.vote = vote;
@@ -102,11 +108,13 @@ impl<J: Plan, N: Naming> Body<J, N> {
 
     /// Knows what the note knows, too.
     pub(crate) fn hear(&mut self, trace: &Trace<Cluster<J>, N>, note: Note<Cluster<J>, N>)
-        requires own { IsOwn J.setting (held self.old.vote self.old.log self.old.actor) }
-        ensures own { IsOwn J.setting (held self.new.vote self.new.log self.new.actor) }
-        ensures same { IsAsBefore (held self.old.vote self.old.log self.old.actor)
-            (held self.new.vote self.new.log self.new.actor) }
+        requires own { IsOwn J.setting (held self.old.vote self.old.log.entries self.old.actor) }
+        ensures own { IsOwn J.setting (held self.new.vote self.new.log.entries self.new.actor) }
+        ensures same { IsAsBefore (held self.old.vote self.old.log.entries self.old.actor)
+            (held self.new.vote self.new.log.entries self.new.actor) }
         ensures rests { Rests self.old.actor.number self.old.actor.seen self.new.actor.seen }
+        ensures log { self.new.log ≡ self.old.log }
+        ensures under_way { self.new.under_way ≡ self.old.under_way }
         ensures heard { Begins note self.new.actor.seen }
         ensures room { self.new.actor.room ≡ self.old.actor.room }
     {
@@ -115,10 +123,12 @@ impl<J: Plan, N: Naming> Body<J, N> {
 
     /// A note of all that was done so far, which the node knows from now on.
     pub(crate) fn note(&mut self, trace: &Trace<Cluster<J>, N>) -> Note<Cluster<J>, N>
-        requires own { IsOwn J.setting (held self.old.vote self.old.log self.old.actor) }
-        ensures own { IsOwn J.setting (held self.new.vote self.new.log self.new.actor) }
-        ensures same { IsAsBefore (held self.old.vote self.old.log self.old.actor)
-            (held self.new.vote self.new.log self.new.actor) }
+        requires own { IsOwn J.setting (held self.old.vote self.old.log.entries self.old.actor) }
+        ensures own { IsOwn J.setting (held self.new.vote self.new.log.entries self.new.actor) }
+        ensures same { IsAsBefore (held self.old.vote self.old.log.entries self.old.actor)
+            (held self.new.vote self.new.log.entries self.new.actor) }
+        ensures log { self.new.log ≡ self.old.log }
+        ensures under_way { self.new.under_way ≡ self.old.under_way }
         ensures note { result ≡ self.new.actor.seen }
         ensures rests { Rests self.old.actor.number self.old.actor.seen self.new.actor.seen }
         ensures room { self.new.actor.room ≡ self.old.actor.room }
@@ -129,14 +139,17 @@ impl<J: Plan, N: Naming> Body<J, N> {
     /// Keeps what was counted.
     fn keep(&mut self, vote: NodeVote, action: Action, message: &Message, entries: &[Entry])
         requires nothing { action ≡ deed.Nothing }
-        requires own { IsOwn J.setting (held self.old.vote self.old.log self.old.actor) }
+        requires own { IsOwn J.setting (held self.old.vote self.old.log.entries self.old.actor) }
+        requires kept { IsKeptBy self.old.vote self.old.log }
         requires packet { IsPacket J.setting message.now entries.now self.old.actor.seen }
         requires vote { vote ≡ acted (counted self.old.vote message.now) action }
-        ensures own { IsOwn J.setting (held self.new.vote self.new.log self.new.actor) }
+        ensures own { IsOwn J.setting (held self.new.vote self.new.log.entries self.new.actor) }
+        ensures kept { IsKeptBy self.new.vote self.new.log }
         ensures acts { Acts self.old.vote message.now entries.now action
-            (held self.old.vote self.old.log self.old.actor) (held self.new.vote self.new.log self.new.actor) }
+            (held self.old.vote self.old.log.entries self.old.actor) (held self.new.vote self.new.log.entries self.new.actor) }
         ensures sends { AreSent J.setting self.new.actor.seen
-            (packets_of self.new.vote (through message.now action) self.new.log (sender_of message.now)) }
+            (packets_of self.new.vote (through message.now action) self.new.log.entries (sender_of message.now)) }
+        ensures log { self.new.log ≡ self.old.log }
     {
         self.vote = vote;
     }
@@ -144,6 +157,7 @@ impl<J: Plan, N: Naming> Body<J, N> {
     /// Gives its vote.
     fn grant(
         &mut self,
+        alloc: Global,
         trace: &Trace<Cluster<J>, N>,
         vote: NodeVote,
         action: Action,
@@ -151,45 +165,66 @@ impl<J: Plan, N: Naming> Body<J, N> {
         to: u8,
         message: &Message,
         entries: &[Entry],
-    )
+    ) -> Result<(), Unkept>
         requires is { action ≡ deed.Promise generation to }
         requires room { 0 < self.old.actor.room }
-        requires own { IsOwn J.setting (held self.old.vote self.old.log self.old.actor) }
+        requires own { IsOwn J.setting (held self.old.vote self.old.log.entries self.old.actor) }
+        requires kept { IsKeptBy self.old.vote self.old.log }
         requires packet { IsPacket J.setting message.now entries.now self.old.actor.seen }
         requires decided { Decides self.old.vote message.now action }
         requires vote { vote ≡ acted (counted self.old.vote message.now) action }
-        ensures own { IsOwn J.setting (held self.new.vote self.new.log self.new.actor) }
-        ensures acts { Acts self.old.vote message.now entries.now action
-            (held self.old.vote self.old.log self.old.actor) (held self.new.vote self.new.log self.new.actor) }
-        ensures sends { AreSent J.setting self.new.actor.seen
-            (packets_of self.new.vote (through message.now action) self.new.log (sender_of message.now)) }
+        ensures own { IsOwn J.setting (held self.new.vote self.new.log.entries self.new.actor) }
+        ensures kept { IsKeptBy self.new.vote self.new.log }
+        ensures acts { OnOk result (Acts self.old.vote message.now entries.now action
+            (held self.old.vote self.old.log.entries self.old.actor) (held self.new.vote self.new.log.entries self.new.actor)) }
+        ensures sends { OnOk result (AreSent J.setting self.new.actor.seen
+            (packets_of self.new.vote (through message.now action) self.new.log.entries (sender_of message.now))) }
+        ensures calm { OnOk result (self.new.log.faults ≡ self.old.log.faults) }
+        ensures unchanged { IsErrOf result Unkept.NoMemory → self.new ≡ self.old }
+        ensures falls { IsErrOf result Unkept.Fault → FallsOver J.setting
+            (held self.old.vote self.old.log.entries self.old.actor) (held self.new.vote self.new.log.entries self.new.actor)
+            self.old.log self.new.log self.new.under_way }
     {
-        self.happens(trace, vote, Event::Grant { generation, to });
+        self.promises(
+            alloc,
+            trace,
+            generation,
+            vote,
+            Event::Grant { generation, to },
+        )
     }
 
     /// Leads.
     fn lead(
         &mut self,
+        alloc: Global,
         trace: &Trace<Cluster<J>, N>,
         vote: NodeVote,
         action: Action,
         generation: u64,
         message: &Message,
         entries: &[Entry],
-    )
+    ) -> Result<(), Unkept>
         requires is { action ≡ deed.Lead generation }
         requires room { 0 < self.old.actor.room }
-        requires own { IsOwn J.setting (held self.old.vote self.old.log self.old.actor) }
+        requires own { IsOwn J.setting (held self.old.vote self.old.log.entries self.old.actor) }
+        requires kept { IsKeptBy self.old.vote self.old.log }
         requires packet { IsPacket J.setting message.now entries.now self.old.actor.seen }
         requires decided { Decides self.old.vote message.now action }
         requires vote { vote ≡ acted (counted self.old.vote message.now) action }
-        ensures own { IsOwn J.setting (held self.new.vote self.new.log self.new.actor) }
-        ensures acts { Acts self.old.vote message.now entries.now action
-            (held self.old.vote self.old.log self.old.actor) (held self.new.vote self.new.log self.new.actor) }
-        ensures sends { AreSent J.setting self.new.actor.seen
-            (packets_of self.new.vote (through message.now action) self.new.log (sender_of message.now)) }
+        ensures own { IsOwn J.setting (held self.new.vote self.new.log.entries self.new.actor) }
+        ensures kept { IsKeptBy self.new.vote self.new.log }
+        ensures acts { OnOk result (Acts self.old.vote message.now entries.now action
+            (held self.old.vote self.old.log.entries self.old.actor) (held self.new.vote self.new.log.entries self.new.actor)) }
+        ensures sends { OnOk result (AreSent J.setting self.new.actor.seen
+            (packets_of self.new.vote (through message.now action) self.new.log.entries (sender_of message.now))) }
+        ensures calm { OnOk result (self.new.log.faults ≡ self.old.log.faults) }
+        ensures unchanged { IsErrOf result Unkept.NoMemory → self.new ≡ self.old }
+        ensures falls { IsErrOf result Unkept.Fault → FallsOver J.setting
+            (held self.old.vote self.old.log.entries self.old.actor) (held self.new.vote self.new.log.entries self.new.actor)
+            self.old.log self.new.log self.new.under_way }
     {
-        self.happens(trace, vote, Event::Lead { generation });
+        self.leads(alloc, trace, generation, vote)
     }
 
     /// Knows that length as durable.
@@ -204,15 +239,18 @@ impl<J: Plan, N: Naming> Body<J, N> {
     )
         requires is { action ≡ deed.Know durable }
         requires room { 0 < self.old.actor.room }
-        requires own { IsOwn J.setting (held self.old.vote self.old.log self.old.actor) }
+        requires own { IsOwn J.setting (held self.old.vote self.old.log.entries self.old.actor) }
+        requires kept { IsKeptBy self.old.vote self.old.log }
         requires packet { IsPacket J.setting message.now entries.now self.old.actor.seen }
         requires decided { Decides self.old.vote message.now action }
         requires vote { vote ≡ acted (counted self.old.vote message.now) action }
-        ensures own { IsOwn J.setting (held self.new.vote self.new.log self.new.actor) }
+        ensures own { IsOwn J.setting (held self.new.vote self.new.log.entries self.new.actor) }
+        ensures kept { IsKeptBy self.new.vote self.new.log }
         ensures acts { Acts self.old.vote message.now entries.now action
-            (held self.old.vote self.old.log self.old.actor) (held self.new.vote self.new.log self.new.actor) }
+            (held self.old.vote self.old.log.entries self.old.actor) (held self.new.vote self.new.log.entries self.new.actor) }
         ensures sends { AreSent J.setting self.new.actor.seen
-            (packets_of self.new.vote (through message.now action) self.new.log (sender_of message.now)) }
+            (packets_of self.new.vote (through message.now action) self.new.log.entries (sender_of message.now)) }
+        ensures log { self.new.log ≡ self.old.log }
     {
         self.happens(trace, vote, Event::Learn { length: durable });
     }
@@ -230,15 +268,18 @@ impl<J: Plan, N: Naming> Body<J, N> {
     )
         requires is { action ≡ deed.Answer answer to }
         requires room { 0 < self.old.actor.room }
-        requires own { IsOwn J.setting (held self.old.vote self.old.log self.old.actor) }
+        requires own { IsOwn J.setting (held self.old.vote self.old.log.entries self.old.actor) }
+        requires kept { IsKeptBy self.old.vote self.old.log }
         requires packet { IsPacket J.setting message.now entries.now self.old.actor.seen }
         requires decided { Decides self.old.vote message.now action }
         requires vote { vote ≡ acted (counted self.old.vote message.now) action }
-        ensures own { IsOwn J.setting (held self.new.vote self.new.log self.new.actor) }
+        ensures own { IsOwn J.setting (held self.new.vote self.new.log.entries self.new.actor) }
+        ensures kept { IsKeptBy self.new.vote self.new.log }
         ensures acts { Acts self.old.vote message.now entries.now action
-            (held self.old.vote self.old.log self.old.actor) (held self.new.vote self.new.log self.new.actor) }
+            (held self.old.vote self.old.log.entries self.old.actor) (held self.new.vote self.new.log.entries self.new.actor) }
         ensures sends { AreSent J.setting self.new.actor.seen
-            (packets_of self.new.vote (through message.now action) self.new.log (sender_of message.now)) }
+            (packets_of self.new.vote (through message.now action) self.new.log.entries (sender_of message.now)) }
+        ensures log { self.new.log ≡ self.old.log }
     {
         let generation = generation_asked(message);
         let ask = ask_in(message);
@@ -255,40 +296,53 @@ impl<J: Plan, N: Naming> Body<J, N> {
         action: Action,
         message: &Message,
         entries: &[Entry],
-    ) -> Result<(), AllocError>
+    ) -> Result<(), Unkept>
         requires room { length entries.now + 1 ≤ self.old.actor.room }
-        requires own { IsOwn J.setting (held self.old.vote self.old.log self.old.actor) }
+        requires own { IsOwn J.setting (held self.old.vote self.old.log.entries self.old.actor) }
+        requires kept { IsKeptBy self.old.vote self.old.log }
         requires packet { IsPacket J.setting message.now entries.now self.old.actor.seen }
         requires judged { Judges self.old.vote message.now entries.now action }
         requires vote { vote ≡ acted (counted self.old.vote message.now) action }
-        ensures own { IsOwn J.setting (held self.new.vote self.new.log self.new.actor) }
+        ensures own { IsOwn J.setting (held self.new.vote self.new.log.entries self.new.actor) }
+        ensures kept { IsKeptBy self.new.vote self.new.log }
         ensures acts { OnOk result (Acts self.old.vote message.now entries.now action
-            (held self.old.vote self.old.log self.old.actor) (held self.new.vote self.new.log self.new.actor)) }
+            (held self.old.vote self.old.log.entries self.old.actor) (held self.new.vote self.new.log.entries self.new.actor)) }
         ensures sends { OnOk result (AreSent J.setting self.new.actor.seen
-            (packets_of self.new.vote (through message.now action) self.new.log (sender_of message.now))) }
-        ensures partly { OnErr result (IsPartly message.now (held self.old.vote self.old.log self.old.actor)
-            (held self.new.vote self.new.log self.new.actor)) }
+            (packets_of self.new.vote (through message.now action) self.new.log.entries (sender_of message.now))) }
+        ensures calm { OnOk result (self.new.log.faults ≡ self.old.log.faults) }
+        ensures short { IsErrOf result Unkept.NoMemory → StopsShort message.now entries.now
+            (held self.old.vote self.old.log.entries self.old.actor) (held self.new.vote self.new.log.entries self.new.actor)
+            self.old.log self.new.log }
+        ensures falls { IsErrOf result Unkept.Fault → FallsAfter J.setting message.now entries.now
+            (held self.old.vote self.old.log.entries self.old.actor) (held self.new.vote self.new.log.entries self.new.actor)
+            self.old.log self.new.log self.new.under_way }
     {
         match action {
-            Action::Nothing => self.keep(vote, action, message, entries),
+            Action::Nothing => {
+                self.keep(vote, action, message, entries);
+                Ok(())
+            }
             Action::Promise { generation, to } => {
-                self.grant(trace, vote, action, generation, to, message, entries)
+                self.grant(alloc, trace, vote, action, generation, to, message, entries)
             }
             Action::Lead { generation } => {
-                self.lead(trace, vote, action, generation, message, entries)
+                self.lead(alloc, trace, vote, action, generation, message, entries)
             }
-            Action::Know { durable } => self.learn(trace, vote, action, durable, message, entries),
+            Action::Know { durable } => {
+                self.learn(trace, vote, action, durable, message, entries);
+                Ok(())
+            }
             Action::Answer {
                 message: answer,
                 to,
-            } => self.confirm(trace, vote, action, answer, to, message, entries),
-            Action::Take { generation, length } => {
-                return self.accept(
-                    alloc, trace, vote, action, generation, length, message, entries,
-                );
+            } => {
+                self.confirm(trace, vote, action, answer, to, message, entries);
+                Ok(())
             }
+            Action::Take { generation, length } => self.accept(
+                alloc, trace, vote, action, generation, length, message, entries,
+            ),
         }
-        Ok(())
     }
 
     /// Takes a message in with its entries, and answers what it sends about it. What it sends is made first.
@@ -298,15 +352,22 @@ impl<J: Plan, N: Naming> Body<J, N> {
         trace: &Trace<Cluster<J>, N>,
         message: &Message,
         entries: &[Entry],
-    ) -> Result<Vec<Packet<J, N>>, AllocError>
+    ) -> Result<Vec<Packet<J, N>>, Unkept>
         requires room { length entries.now + 1 ≤ self.old.actor.room }
-        requires own { IsOwn J.setting (held self.old.vote self.old.log self.old.actor) }
+        requires own { IsOwn J.setting (held self.old.vote self.old.log.entries self.old.actor) }
+        requires kept { IsKeptBy self.old.vote self.old.log }
         requires packet { IsPacket J.setting message.now entries.now self.old.actor.seen }
-        ensures own { IsOwn J.setting (held self.new.vote self.new.log self.new.actor) }
+        ensures own { IsOwn J.setting (held self.new.vote self.new.log.entries self.new.actor) }
+        ensures kept { IsKeptBy self.new.vote self.new.log }
         ensures delivers { IfOk result (λ ps. Answers message.now entries.now ps.items
-            (held self.old.vote self.old.log self.old.actor) (held self.new.vote self.new.log self.new.actor)) }
-        ensures partly { OnErr result (IsPartly message.now (held self.old.vote self.old.log self.old.actor)
-            (held self.new.vote self.new.log self.new.actor)) }
+            (held self.old.vote self.old.log.entries self.old.actor) (held self.new.vote self.new.log.entries self.new.actor)) }
+        ensures calm { OnOk result (self.new.log.faults ≡ self.old.log.faults) }
+        ensures short { IsErrOf result Unkept.NoMemory → StopsShort message.now entries.now
+            (held self.old.vote self.old.log.entries self.old.actor) (held self.new.vote self.new.log.entries self.new.actor)
+            self.old.log self.new.log }
+        ensures falls { IsErrOf result Unkept.Fault → FallsAfter J.setting message.now entries.now
+            (held self.old.vote self.old.log.entries self.old.actor) (held self.new.vote self.new.log.entries self.new.actor)
+            self.old.log self.new.log self.new.under_way }
     {
         let mut vote = self.vote;
         let action = judge(&mut vote, message, entries);
@@ -325,12 +386,14 @@ impl<J: Plan, N: Naming> Body<J, N> {
         drafts: Vec<Draft>,
         packets: &mut Vec<Packet<J, N>>,
     )
-        requires own { IsOwn J.setting (held self.old.vote self.old.log self.old.actor) }
+        requires own { IsOwn J.setting (held self.old.vote self.old.log.entries self.old.actor) }
         requires sent { AreSent J.setting self.old.actor.seen drafts.items }
         requires room { vec_len packets.old + length drafts.items ≤ vec_capacity packets.old }
-        ensures own { IsOwn J.setting (held self.new.vote self.new.log self.new.actor) }
-        ensures same { IsAsBefore (held self.old.vote self.old.log self.old.actor)
-            (held self.new.vote self.new.log self.new.actor) }
+        ensures own { IsOwn J.setting (held self.new.vote self.new.log.entries self.new.actor) }
+        ensures same { IsAsBefore (held self.old.vote self.old.log.entries self.old.actor)
+            (held self.new.vote self.new.log.entries self.new.actor) }
+        ensures log { self.new.log ≡ self.old.log }
+        ensures under_way { self.new.under_way ≡ self.old.under_way }
         ensures packets { packets.new.items ≡ packets.old.items ++ drafts.items }
     {
         'sending: for draft in drafts {
@@ -343,12 +406,14 @@ impl<J: Plan, N: Naming> Body<J, N> {
 
     /// One packet, with a note.
     fn sent(&mut self, trace: &Trace<Cluster<J>, N>, draft: Draft) -> Packet<J, N>
-        requires own { IsOwn J.setting (held self.old.vote self.old.log self.old.actor) }
+        requires own { IsOwn J.setting (held self.old.vote self.old.log.entries self.old.actor) }
         requires sent { IsSent J.setting self.old.actor.seen draft }
-        ensures own { IsOwn J.setting (held self.new.vote self.new.log self.new.actor) }
-        ensures same { IsAsBefore (held self.old.vote self.old.log self.old.actor)
-            (held self.new.vote self.new.log self.new.actor) }
+        ensures own { IsOwn J.setting (held self.new.vote self.new.log.entries self.new.actor) }
+        ensures same { IsAsBefore (held self.old.vote self.old.log.entries self.old.actor)
+            (held self.new.vote self.new.log.entries self.new.actor) }
         ensures rests { Rests self.old.actor.number self.old.actor.seen self.new.actor.seen }
+        ensures log { self.new.log ≡ self.old.log }
+        ensures under_way { self.new.under_way ≡ self.old.under_way }
         ensures packet { result ≡ draft }
     {
         let note = self.note(trace);
@@ -371,21 +436,28 @@ impl<J: Plan, N: Naming> Body<J, N> {
         alloc: Global,
         trace: &Trace<Cluster<J>, N>,
         generation: u64,
-    ) -> Result<Vec<Packet<J, N>>, AllocError>
+    ) -> Result<Vec<Packet<J, N>>, Unkept>
         requires room { 0 < self.old.actor.room }
         requires up { self.old.vote.up ≡ true }
         requires above { self.old.vote.promised < generation }
-        requires own { IsOwn J.setting (held self.old.vote self.old.log self.old.actor) }
-        ensures own { IsOwn J.setting (held self.new.vote self.new.log self.new.actor) }
-        ensures stands { IfOk result (λ ps. Stands generation ps.items (held self.old.vote self.old.log self.old.actor)
-            (held self.new.vote self.new.log self.new.actor)) }
-        ensures err { OnErr result (self.new ≡ self.old) }
+        requires own { IsOwn J.setting (held self.old.vote self.old.log.entries self.old.actor) }
+        requires kept { IsKeptBy self.old.vote self.old.log }
+        ensures own { IsOwn J.setting (held self.new.vote self.new.log.entries self.new.actor) }
+        ensures kept { IsKeptBy self.new.vote self.new.log }
+        ensures stands { IfOk result (λ ps. Stands generation ps.items
+            (held self.old.vote self.old.log.entries self.old.actor)
+            (held self.new.vote self.new.log.entries self.new.actor)) }
+        ensures calm { OnOk result (self.new.log.faults ≡ self.old.log.faults) }
+        ensures falls { IsErrOf result Unkept.Fault → FallsOver J.setting
+            (held self.old.vote self.old.log.entries self.old.actor) (held self.new.vote self.new.log.entries self.new.actor)
+            self.old.log self.new.log self.new.under_way }
+        ensures unchanged { IsErrOf result Unkept.NoMemory → self.new ≡ self.old }
     {
         let mut vote = self.vote;
         stand(&mut vote, generation);
         let drafts = packets_standing(alloc, &vote, generation)?;
         let mut packets = Vec::with_capacity(alloc, drafts.len())?;
-        self.happens(trace, vote, Event::Stand { generation });
+        self.promises(alloc, trace, generation, vote, Event::Stand { generation })?;
         self.send(trace, drafts, &mut packets);
         Ok(packets)
     }
@@ -401,10 +473,13 @@ impl<J: Plan, N: Naming> Body<J, N> {
         requires up { self.old.vote.up ≡ true }
         requires may { MayProbe self.old.vote }
         requires asked { In ask (world J.setting self.old.actor.seen).asks }
-        requires own { IsOwn J.setting (held self.old.vote self.old.log self.old.actor) }
-        ensures own { IsOwn J.setting (held self.new.vote self.new.log self.new.actor) }
-        ensures probes { IfOk result (λ ps. Probes ask ps.items (held self.old.vote self.old.log self.old.actor)
-            (held self.new.vote self.new.log self.new.actor)) }
+        requires own { IsOwn J.setting (held self.old.vote self.old.log.entries self.old.actor) }
+        requires kept { IsKeptBy self.old.vote self.old.log }
+        ensures own { IsOwn J.setting (held self.new.vote self.new.log.entries self.new.actor) }
+        ensures kept { IsKeptBy self.new.vote self.new.log }
+        ensures probes { IfOk result (λ ps. Probes ask ps.items (held self.old.vote self.old.log.entries self.old.actor)
+            (held self.new.vote self.new.log.entries self.new.actor)) }
+        ensures log { self.new.log ≡ self.old.log }
         ensures err { OnErr result (self.new ≡ self.old) }
     {
         let vote = self.vote;

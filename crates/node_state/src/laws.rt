@@ -16,7 +16,8 @@ ghost use Rattle.cluster_steps.specs.declared.events.Woken.TheVariants as woken;
 ghost use Rattle.core_lists.specs.Lists.{In};
 ghost use Rattle.election_core.specs.declared.votes.NodeVote.{NodeVote};
 ghost use Rattle.node_state.specs.Nodes.{Follows, IsNode};
-ghost use Rattle.node_state.specs.Restarts.{IsRead, Kept, MayWake, MayWakeAny, kept};
+ghost use Rattle.node_reading.specs.Reading.{MayBegin};
+ghost use Rattle.node_state.specs.Restarts.{Kept, MayWake, MayWakeAny, kept};
 ghost use Rattle.phys_log.specs.declared.entries.Entry.{Entry};
 ghost use Rattle.report_laws.specs.Nodes.{is_up};
 
@@ -86,7 +87,7 @@ pub fn what_was_read_may_come_up()
     ensures wakes { (G : Setting) (f : Field) (i : ℕ) (rows : Snapshot Rows) (k : Kept) → 1 ≤ i → i ≤ G.nodes
         → (f.core.nodes i).up ≡ false → (f.core.nodes i).was_up ≡ false
         → In (record { node = i; promised = k.promised; accepted = k.accepted }) f.core.admits
-        → IsRead rows.value k → MayWake G f i (woken.First rows) k }
+        → MayBegin k.promised k.accepted k.entries rows.value → MayWake G f i (woken.First rows) k }
     ensures never_up { (G : Setting) (i : ℕ) (seen : List (ℕ × Event)) → entries_of i seen ≡ []
         → (((world G seen).nodes i).up ≡ false) × (((world G seen).nodes i).was_up ≡ false) }
     ensures untold { (G : Setting) (i : ℕ) (seen : List (ℕ × Event)) → entries_of i seen ≡ []

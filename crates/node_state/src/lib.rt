@@ -16,7 +16,7 @@
 //! | of an `Adopt`, `Ship` | `Take`, of the whole log, or one an entry | one `Ack` of the last length to its sender |
 //! | of an `Ack`, a `Durable` | `Learn` | by a leader a `Durable` to each other node |
 //! | of a `Ping` | `Confirm` | a `Pong` to its sender |
-//! | `stop`, `fall` | `Down` | nothing |
+//! | `stop`, and where the store fails | `Down` | nothing |
 //! | `start` | `Up` | nothing |
 //!
 //! Of a message that allows nothing by the numbers nothing comes, but that a vote or a length is counted. Here node 1 has two
@@ -38,11 +38,14 @@ mod appends;
 mod bodies;
 mod commits;
 mod drafts;
+mod faults;
+mod keeps;
 mod laws;
 mod nodes;
 mod packets;
 mod restarts;
 mod ships;
+mod spellings;
 mod steps;
 mod takes;
 
@@ -52,4 +55,4 @@ pub use laws::{
 };
 pub use nodes::Node;
 pub use packets::Packet;
-pub use steps::{BeginStep, Step};
+pub use steps::{BeginStep, Started, Step};

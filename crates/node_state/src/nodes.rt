@@ -1,66 +1,81 @@
 //! A node, and its calls.
-ghost use Rattle.std.specs.Prelude.{ℕ, ◌≡◌, ◌+◌, ◌<◌, ◌≤◌, ◌++◌, ◌∷◌, [], true, false, length, IfOk, OnOk, OnErr};
+ghost use Rattle.std.specs.Prelude.{ℕ, ◌≡◌, ◌+◌, ◌<◌, ◌≤◌, ◌++◌, ◌∷◌, [], true, false, length, IfOk, IfErr, OnOk, OnErr};
 ghost use Rattle.actor_trace.specs.History.{entries_of};
 ghost use Rattle.actor_trace.specs.Lists.{Begins};
-ghost use Rattle.cluster_events.specs.Parts.{field};
+ghost use Rattle.cluster_events.specs.Operator.{IsStartOrdered};
+ghost use Rattle.cluster_events.specs.Settings.{lines_to_do};
 ghost use Rattle.cluster_steps.specs.Guards.{IsPlan};
 ghost use Rattle.cluster_steps.specs.Named.{steps, world};
 ghost use Rattle.cluster_steps.specs.declared.events.Event.TheVariants as event;
+ghost use Rattle.cluster_steps.specs.declared.events.Woken.TheVariants as woken;
 ghost use Rattle.core_lists.specs.Lists.{In};
-ghost use Rattle.node_state.specs.Commits.{Enters, MayEnter, MaySettle, Settles};
+ghost use Rattle.kept_log.specs.Kept.{HoldsAny, kept_by};
+ghost use Rattle.node_reading.specs.Reading.{IsWhyUnread, WasRead};
+ghost use Rattle.node_state.specs.Commits.{IsEntered, MayEnter, MaySettle, Settles};
 ghost use Rattle.node_state.specs.Nodes.{blank_vote};
-ghost use Rattle.node_state.specs.Restarts.{Falls, IsStartTold, IsStopTold, MayWake, Wakes, kept};
+ghost use Rattle.node_state.specs.Restarts.{Falls, IsStarted, IsStartTold, IsStopTold};
 ghost use Rattle.node_state.specs.Ships.{ShipsAgain};
 ghost use Rattle.phys_log.specs.Logs.{Fits};
 
 use crate::bodies::Body;
+use crate::faults::{UnderWay, Unkept};
 use crate::packets::Packet;
-use crate::steps::{BeginStep, Step};
+use crate::steps::{BeginStep, Started, Step};
 use actor_trace::{Actor, Naming, Note, Trace};
+use cdb_outside::LogStore;
 use cdb_values::Schema;
 use cluster_core::{Cluster, Plan};
-use cluster_steps::Woken;
 use election_core::NodeVote;
+use kept_log::KeptLog;
 use log_replay::PagedLog;
+use node_reading::{Found, WhyUnread};
 use phys_log::{CommitId, Decision, Entry};
 use std::alloc::{AllocError, Global};
 use std::marker::Model;
+use std::snapshot::Snapshot;
+use table_state::State;
 
 /// A node of a cluster. Its type says that it is the history's node: its numbers and its log are those of its part after what
-/// its actor saw, and each vote and length that it counted was told.
+/// its actor saw, and each vote and length that it counted was told. The log over its store is its own, and where it is down it
+/// may come up with what its store holds.
 #[derive(Drop)]
-pub struct Node<J: Plan, N: Naming> {
-    body: Body<J, N>,
+pub struct Node<D: LogStore, J: Plan, N: Naming> {
+    body: Body<D, J, N>,
 }
 
-impl<J: Plan, N: Naming> Model for Node<J, N> {
-    ghost use Rattle.node_state.specs.Nodes.{Held, IsOwn, held};
+impl<D: LogStore, J: Plan, N: Naming> Model for Node<D, J, N> {
+    ghost use Rattle.node_state.specs.Nodes.{held};
+    ghost use Rattle.node_state.specs.Stores.{IsStored, Stored, stored};
 
-    ghost Value = { Held };
+    ghost Value = { Stored };
 
-    ghost view = { λ n. held n.body.vote n.body.log n.body.actor };
+    ghost view = { λ n. stored n.body.vote n.body.actor n.body.log };
 
-    ghost invariant = { λ n. IsOwn J.setting (held n.body.vote n.body.log n.body.actor) };
+    ghost invariant = { λ n. IsStored J.setting (held n.body.vote n.body.log.entries n.body.actor) n.body.log n.body.under_way };
 }
 
-impl<J: Plan, N: Naming> Node<J, N> {
-    ghost use Rattle.node_state.specs.Calls.{IsAsBefore, IsBegun, IsBehind, IsDelivered, IsPartly, IsSetUp, IsStood};
+impl<D: LogStore + Drop, J: Plan, N: Naming> Node<D, J, N> {
+    ghost use Rattle.node_state.specs.Calls.{IsAsBefore, IsBegun, IsBehind, IsDelivered, IsSetUp, IsStood};
     ghost use Rattle.node_state.specs.Nodes.{IsOwn};
+    ghost use Rattle.node_state.specs.Stores.{AsksStore, IsFirst, IsKeptBy, IsUnopened, MayBeFirst, OpensStore, StopsShort};
+    ghost use Rattle.node_state.specs.Stores.{HoldsStill, held_of};
 
-    /// A node that is down, with an empty log.
-    pub fn new(alloc: Global, node: u8, nodes: u8, actor: Actor<Cluster<J>, N>) -> Node<J, N>
+    /// A node that is down, with a log that was not opened yet.
+    pub fn new(node: u8, nodes: u8, log: KeptLog<D>, actor: Actor<Cluster<J>, N>) -> Node<D, J, N>
         requires plan { IsPlan J.setting }
         requires run { (nodes ≡ J.setting.nodes) × (nodes ≤ 7) × (1 ≤ node) × (node ≤ nodes) }
+        requires log { IsKeptBy (blank_vote node nodes) log × (log.entries ≡ []) }
         requires actor { (actor.number ≡ node) × (actor.made ≡ []) }
         ensures vote { result.vote ≡ blank_vote node nodes }
-        ensures entries { result.entries ≡ [] }
+        ensures over { result.over ≡ log }
         ensures actor { result.actor ≡ actor }
     {
         actor.knows();
         Node {
             body: Body {
                 vote: first_vote(node, nodes),
-                log: PagedLog::new(alloc),
+                log,
+                under_way: UnderWay::Nothing,
                 actor,
             },
         }
@@ -84,12 +99,13 @@ impl<J: Plan, N: Naming> Node<J, N> {
     pub fn log(&self) -> &PagedLog
         ensures { result.now ≡ self.now.entries }
     {
-        &self.body.log
+        self.body.log.log()
     }
 
-    /// It is the history's node, and what it did is its part of what it knows.
+    /// It is the history's node over its store, and what it did is its part of what it knows.
     pub fn knows(&self)
-        ensures own { IsOwn J.setting self.now }
+        ensures own { IsOwn J.setting (held_of self.now) }
+        ensures over { IsKeptBy self.now.vote self.now.over × (self.now.over.entries ≡ self.now.entries) }
         ensures made { self.now.actor.made ≡ entries_of self.now.actor.number self.now.actor.seen }
     {
         self.body.actor.knows();
@@ -97,8 +113,8 @@ impl<J: Plan, N: Naming> Node<J, N> {
 
     /// Room for at least `n` further steps.
     pub fn reserve(&mut self, n: u32) -> Result<(), AllocError>
-        ensures same { IsAsBefore self.old self.new }
-        ensures kept { self.old.actor.room ≤ self.new.actor.room }
+        ensures same { IsAsBefore (held_of self.old) (held_of self.new) }
+        ensures over { self.new.over ≡ self.old.over }
         ensures room { IfOk result (λ _. n ≤ self.new.actor.room) }
     {
         self.body.actor.reserve(n)
@@ -106,18 +122,18 @@ impl<J: Plan, N: Naming> Node<J, N> {
 
     /// Knows what the note knows, too.
     pub fn hear(&mut self, trace: &Trace<Cluster<J>, N>, note: Note<Cluster<J>, N>)
-        ensures same { IsAsBefore self.old self.new }
+        ensures same { IsAsBefore (held_of self.old) (held_of self.new) }
+        ensures over { self.new.over ≡ self.old.over }
         ensures heard { Begins note self.new.actor.seen }
-        ensures room { self.new.actor.room ≡ self.old.actor.room }
     {
         self.body.hear(trace, note);
     }
 
     /// A note of all that was done so far, which the node knows from now on.
     pub fn note(&mut self, trace: &Trace<Cluster<J>, N>) -> Note<Cluster<J>, N>
-        ensures same { IsAsBefore self.old self.new }
+        ensures same { IsAsBefore (held_of self.old) (held_of self.new) }
+        ensures over { self.new.over ≡ self.old.over }
         ensures note { result ≡ self.new.actor.seen }
-        ensures room { self.new.actor.room ≡ self.old.actor.room }
     {
         self.body.note(trace)
     }
@@ -130,7 +146,8 @@ impl<J: Plan, N: Naming> Node<J, N> {
         generation: u64,
     ) -> Result<Step<Vec<Packet<J, N>>>, AllocError>
         requires room { 0 < self.old.actor.room }
-        ensures stood { IfOk result (λ s. IsStood generation s self.old self.new) }
+        ensures stood { IfOk result (λ s. IsStood generation s (held_of self.old) (held_of self.new)) }
+        ensures store { IfOk result (λ s. AsksStore s self.old.over self.new.over) }
         ensures unchanged { OnErr result (self.new ≡ self.old) }
     {
         if !self.body.vote.up {
@@ -139,7 +156,11 @@ impl<J: Plan, N: Naming> Node<J, N> {
         if generation <= self.body.vote.promised {
             return Ok(Step::Sent(Vec::new(alloc)));
         }
-        Ok(Step::Sent(self.body.stand(alloc, trace, generation)?))
+        match self.body.stand(alloc, trace, generation) {
+            Ok(packets) => Ok(Step::Sent(packets)),
+            Err(Unkept::Fault) => Ok(Step::Fault),
+            Err(Unkept::NoMemory) => Err(AllocError),
+        }
     }
 
     /// Takes a packet in. Nothing is asked of it: its type says that its message was told. After want of memory the node may
@@ -151,9 +172,11 @@ impl<J: Plan, N: Naming> Node<J, N> {
         packet: Packet<J, N>,
     ) -> Result<Step<Vec<Packet<J, N>>>, AllocError>
         requires room { length packet.entries + 1 ≤ self.old.actor.room }
-        ensures delivered { IfOk result (λ s. IsDelivered packet s self.old self.new) }
+        ensures delivered { IfOk result (λ s. IsDelivered packet s (held_of self.old) (held_of self.new)) }
         ensures behind { IfOk result (λ s. IsBehind packet.message s) }
-        ensures partly { OnErr result (IsPartly packet.message self.old self.new) }
+        ensures store { IfOk result (λ s. AsksStore s self.old.over self.new.over) }
+        ensures short { OnErr result (StopsShort packet.message packet.entries (held_of self.old) (held_of self.new)
+            self.old.over self.new.over) }
     {
         let Packet {
             message,
@@ -165,10 +188,14 @@ impl<J: Plan, N: Naming> Node<J, N> {
         if !self.body.vote.up {
             return Ok(Step::Down);
         }
-        let packets = self
+        match self
             .body
-            .deliver(alloc, trace, &message, entries.as_slice())?;
-        Ok(Step::Sent(packets))
+            .deliver(alloc, trace, &message, entries.as_slice())
+        {
+            Ok(packets) => Ok(Step::Sent(packets)),
+            Err(Unkept::Fault) => Ok(Step::Fault),
+            Err(Unkept::NoMemory) => Err(AllocError),
+        }
     }
 
     /// A begin asks for a position: the node knows the ask.
@@ -180,7 +207,8 @@ impl<J: Plan, N: Naming> Node<J, N> {
     ) -> Result<BeginStep<Vec<Packet<J, N>>>, AllocError>
         requires room { 0 < self.old.actor.room }
         requires asked { In ask (world J.setting self.old.actor.seen).asks }
-        ensures begun { IfOk result (λ s. IsBegun ask s self.old self.new) }
+        ensures begun { IfOk result (λ s. IsBegun ask s (held_of self.old) (held_of self.new)) }
+        ensures over { self.new.over ≡ self.old.over }
         ensures unchanged { OnErr result (self.new ≡ self.old) }
     {
         let vote = self.body.vote;
@@ -212,13 +240,18 @@ impl<J: Plan, N: Naming> Node<J, N> {
         requires schema { schema.now ≡ J.setting.tables }
         requires leads { self.old.vote.leading ≡ true }
         requires empty { self.old.entries ≡ [] }
-        ensures set_up { IfOk result (λ s. IsSetUp J.setting.tables s self.old self.new) }
+        ensures set_up { IfOk result (λ s. IsSetUp J.setting.tables s (held_of self.old) (held_of self.new)) }
+        ensures store { IfOk result (λ s. AsksStore s self.old.over self.new.over) }
         ensures unchanged { OnErr result (self.new ≡ self.old) }
     {
         if !self.body.vote.up {
             return Ok(Step::Down);
         }
-        Ok(Step::Sent(self.body.set_up(alloc, trace, schema)?))
+        match self.body.set_up(alloc, trace, schema) {
+            Ok(packets) => Ok(Step::Sent(packets)),
+            Err(Unkept::Fault) => Ok(Step::Fault),
+            Err(Unkept::NoMemory) => Err(AllocError),
+        }
     }
 
     /// As a leader it appends an entry that may be appended, and ships it.
@@ -227,28 +260,33 @@ impl<J: Plan, N: Naming> Node<J, N> {
         alloc: Global,
         trace: &Trace<Cluster<J>, N>,
         entry: Entry,
-    ) -> Result<Vec<Packet<J, N>>, AllocError>
+    ) -> Result<Step<Vec<Packet<J, N>>>, AllocError>
         requires room { 0 < self.old.actor.room }
         requires may { MayEnter J.setting self.old.actor.seen self.old.vote.node entry }
         requires fits { Fits self.old.entries entry }
-        ensures enters { IfOk result (λ ps. Enters entry ps.items self.old self.new) }
+        ensures entered { IfOk result (λ s. IsEntered entry s (held_of self.old) (held_of self.new)) }
+        ensures store { IfOk result (λ s. AsksStore s self.old.over self.new.over) }
         ensures unchanged { OnErr result (self.new ≡ self.old) }
     {
-        self.body.append(alloc, trace, entry)
+        match self.body.append(alloc, trace, entry) {
+            Ok(packets) => Ok(Step::Sent(packets)),
+            Err(Unkept::Fault) => Ok(Step::Fault),
+            Err(Unkept::NoMemory) => Err(AllocError),
+        }
     }
 
     /// As a leader it tells what it decided of a request, in place of an entry. Takes no memory.
     pub fn settle(&mut self, trace: &Trace<Cluster<J>, N>, id: &CommitId, decision: &Decision)
         requires room { 0 < self.old.actor.room }
         requires may { MaySettle J.setting self.old.actor.seen self.old.vote.node id.now decision.now }
-        ensures settles { Settles id.now decision.now self.old self.new }
-        ensures room { self.new.actor.room + 1 ≡ self.old.actor.room }
+        ensures settles { Settles id.now decision.now (held_of self.old) (held_of self.new) }
+        ensures over { self.new.over ≡ self.old.over }
     {
         self.body.settle(trace, id, decision);
     }
 
-    /// Where it leads it ships what it has once more, to a node that did not get it: its whole log, and the length that it told
-    /// last as durable.
+    /// Where it leads it ships what it has once more, to another node that did not get it: its whole log, and the length that it
+    /// told last as durable.
     pub fn ship(
         &mut self,
         alloc: Global,
@@ -256,10 +294,26 @@ impl<J: Plan, N: Naming> Node<J, N> {
         to: u8,
     ) -> Result<Vec<Packet<J, N>>, AllocError>
         requires to { (1 ≤ to) × (to ≤ J.setting.nodes) }
-        ensures ships { IfOk result (λ ps. ShipsAgain to ps.items self.old self.new) }
+        requires other { to ≡ self.old.vote.node → ⊥ }
+        ensures ships { IfOk result (λ ps. ShipsAgain to ps.items (held_of self.old) (held_of self.new)) }
+        ensures over { self.new.over ≡ self.old.over }
         ensures unchanged { OnErr result (self.new ≡ self.old) }
     {
         self.body.ship(alloc, trace, to)
+    }
+
+    /// Reads its store, where it is down: what that holds, or why a node may not come up with it. It holds what it held.
+    pub fn read_store(&mut self, alloc: Global) -> Result<Found, WhyUnread>
+        requires down { self.old.vote.up ≡ false }
+        ensures same { (self.new.vote ≡ self.old.vote) × (self.new.entries ≡ self.old.entries)
+            × (self.new.actor ≡ self.old.actor) }
+        ensures found { IfOk result (λ f. WasRead self.old.over self.new.over f.promised f.accepted f.state) }
+        ensures holds { HoldsStill self.old.over self.new.over }
+        ensures calm { OnOk result (self.new.over.faults ≡ self.old.over.faults) }
+        ensures why { IfErr result (λ w. IsWhyUnread w self.old.over.node self.old.over.cluster self.old.over.synced
+            self.old.over.faults self.new.over.faults) }
+    {
+        node_reading::read_store(alloc, &mut self.body.log)
     }
 
     /// Goes down by a stop that it knows of, and answers the ticket of that. Takes no memory.
@@ -267,47 +321,59 @@ impl<J: Plan, N: Naming> Node<J, N> {
         requires room { 0 < self.old.actor.room }
         requires up { self.old.vote.up ≡ true }
         requires told { IsStopTold J.setting self.old.actor.seen self.old.vote.node }
-        ensures falls { Falls false self.old self.new }
+        ensures falls { Falls false (held_of self.old) (held_of self.new) }
+        ensures holds { HoldsAny self.new.over (kept_by self.old.over ∷ []) }
+        ensures calm { self.new.over.faults ≡ self.old.over.faults }
         ensures ticket { self.new.actor.made ≡ self.old.actor.made ++ (result, event.Down false) ∷ [] }
     {
         self.body.stop(trace)
     }
 
-    /// Goes down by a fault of its store. Takes no memory.
-    pub fn fall(&mut self, trace: &Trace<Cluster<J>, N>)
-        requires room { 0 < self.old.actor.room }
-        ensures falls { Falls true self.old self.new }
-    {
-        self.body.fall(trace);
-    }
-
-    /// Comes up with what its store holds: it may come up so with it, and knows that its start is ordered. It takes room for a
-    /// stop.
+    /// Opens its store, and comes up with what that holds, as it knows that its start is ordered: it was up before. It takes room
+    /// for a stop. Where the store fails there it goes down once more.
     pub fn start(
         &mut self,
+        alloc: Global,
         trace: &Trace<Cluster<J>, N>,
-        how: Woken,
-        promised: u64,
-        accepted: u64,
-        log: PagedLog,
-    ) -> Result<(), AllocError>
+    ) -> Result<Started, AllocError>
         requires down { self.old.vote.up ≡ false }
-        requires may { MayWake J.setting (field (steps J.setting self.old.actor.seen)) self.old.vote.node how
-            (kept promised accepted log) }
-        requires told { IsStartTold J.setting self.old.actor.seen self.old.vote.node how }
-        ensures wakes { OnOk result (Wakes how (kept promised accepted log) self.old self.new) }
-        ensures room { OnOk result (1 ≤ self.new.actor.room) }
-        ensures unchanged { OnErr result (IsAsBefore self.old self.new) }
+        requires was_up { ((world J.setting self.old.actor.seen).nodes self.old.vote.node).was_up ≡ true }
+        requires told { IsStartOrdered (lines_to_do J.setting) (steps J.setting self.old.actor.seen) self.old.vote.node }
+        ensures started { IfOk result (λ s. IsStarted s (held_of self.old) (held_of self.new)) }
+        ensures store { IfOk result (λ s. OpensStore s self.old.over self.new.over) }
+        ensures unchanged { OnErr result (IsUnopened (held_of self.old) (held_of self.new) self.old.over self.new.over) }
     {
-        self.body.wake(trace, how, promised, accepted, log)
+        self.body.start(alloc, trace)
     }
 
-    /// Its actor.
-    pub fn give_back(self) -> Actor<Cluster<J>, N>
-        ensures { result ≡ self.actor }
+    /// So for the first time: its store holds what was read, which stands for these rows.
+    pub fn start_first(
+        &mut self,
+        alloc: Global,
+        trace: &Trace<Cluster<J>, N>,
+        rows: Snapshot<State>,
+    ) -> Result<Started, AllocError>
+        requires down { self.old.vote.up ≡ false }
+        requires first { MayBeFirst J.setting (held_of self.old) self.old.over (woken.First rows) }
+        requires told { IsStartTold J.setting self.old.actor.seen self.old.vote.node (woken.First rows) }
+        ensures first { IfOk result (λ s. IsFirst s (woken.First rows) self.old self.new) }
+        ensures store { IfOk result (λ s. OpensStore s self.old.over self.new.over) }
+        ensures unchanged { OnErr result (IsUnopened (held_of self.old) (held_of self.new) self.old.over self.new.over) }
+    {
+        self.body.start_first(alloc, trace, rows)
+    }
+
+    /// Its store, which is stopped, and its actor. Takes no memory.
+    pub fn give_back(self) -> (D, Actor<Cluster<J>, N>)
+        ensures synced { D.synced result.0 ≡ self.over.synced }
+        ensures settled { D.pending result.0 ≡ [] }
+        ensures calm { D.faults result.0 ≡ self.over.faults }
+        ensures holds { self.over.is_open ≡ true → HoldsAny self.over (kept_by self.over ∷ []) }
+        ensures actor { result.1 ≡ self.actor }
     {
         let Node { body } = self;
-        body.actor
+        let Body { log, actor, .. } = body;
+        (log.give_back(), actor)
     }
 }
 

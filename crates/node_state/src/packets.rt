@@ -41,4 +41,11 @@ impl<J: Plan, N: Naming> Packet<J, N> {
     {
         self.message
     }
+
+    /// The last entries of the log that it tells.
+    pub fn entries(&self) -> &[Entry]
+        ensures { result.now ≡ self.now.entries }
+    {
+        self.entries.as_slice()
+    }
 }

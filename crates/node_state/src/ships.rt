@@ -1,13 +1,15 @@
 //! A leader ships what it has once more, to a node that did not get it.
 ghost use Rattle.std.specs.Prelude.{◌≡◌, ◌≤◌, ◌↔◌, Bool, IsTrue, IsNone, IfSome, IfOk, OnErr};
 ghost use Rattle.actor_trace.specs.History.{entries_of};
-ghost use Rattle.node_state.specs.Nodes.{IsOwn, events_of, held};
+ghost use Rattle.node_state.specs.Nodes.{events_of, held};
+ghost use Rattle.node_state.specs.Stores.{IsStored};
 ghost use Rattle.node_state.specs.Ships.{Leads, ShipsAgain, again_packets, learned_after, learned_by};
 
 use crate::bodies::Body;
 use crate::drafts::{Draft, draft_to};
 use crate::packets::Packet;
 use actor_trace::{Naming, Trace};
+use cdb_outside::LogStore;
 use cluster_core::{Cluster, Plan};
 use cluster_steps::Event;
 use election_core::{Message, NodeVote};
@@ -76,7 +78,7 @@ fn drafts_again(
     Ok(out)
 }
 
-impl<J: Plan, N: Naming> Body<J, N> {
+impl<D: LogStore + Drop, J: Plan, N: Naming> Body<D, J, N> {
     /// Ships what it has once more, where it leads.
     pub(crate) fn ship(
         &mut self,
@@ -85,10 +87,14 @@ impl<J: Plan, N: Naming> Body<J, N> {
         to: u8,
     ) -> Result<Vec<Packet<J, N>>, AllocError>
         requires to { (1 ≤ to) × (to ≤ J.setting.nodes) }
-        requires own { IsOwn J.setting (held self.old.vote self.old.log self.old.actor) }
-        ensures own { IsOwn J.setting (held self.new.vote self.new.log self.new.actor) }
-        ensures ships { IfOk result (λ ps. ShipsAgain to ps.items (held self.old.vote self.old.log self.old.actor)
-            (held self.new.vote self.new.log self.new.actor)) }
+        requires other { to ≡ self.old.vote.node → ⊥ }
+        requires node { IsStored J.setting (held self.old.vote self.old.log.entries self.old.actor) self.old.log
+            self.old.under_way }
+        ensures node { IsStored J.setting (held self.new.vote self.new.log.entries self.new.actor) self.new.log
+            self.new.under_way }
+        ensures ships { IfOk result (λ ps. ShipsAgain to ps.items (held self.old.vote self.old.log.entries self.old.actor)
+            (held self.new.vote self.new.log.entries self.new.actor)) }
+        ensures log { self.new.log ≡ self.old.log }
         ensures unchanged { OnErr result (self.new ≡ self.old) }
     {
         if !leads(&self.vote) {

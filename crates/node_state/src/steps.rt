@@ -1,10 +1,11 @@
 //! What comes of the calls of a node.
 
-/// What comes of a call: what the node sends; or it is down, and did nothing.
+/// What comes of a call: what the node sends; or it is down, and did nothing; or its store failed, and it is down now.
 #[derive(Drop)]
 pub enum Step<T> {
     Sent(T),
     Down,
+    Fault,
 }
 
 /// What comes of a begin's question.
@@ -18,4 +19,11 @@ pub enum BeginStep<T> {
     NotYet { durable: u64, adopted: u64 },
     /// It is down.
     Down,
+}
+
+/// What comes of a start: the node is up; or its store failed there, and it is down still.
+#[derive(Clone, Copy, Drop)]
+pub enum Started {
+    Up,
+    Fault,
 }

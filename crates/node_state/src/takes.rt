@@ -1,24 +1,27 @@
 //! A node takes a log that is shipped: whole, where the generation is a new one; else the entries that it has not, one by one.
 ghost use Rattle.std.specs.Prelude.{ℕ, ◌≡◌, ◌+◌, ◌-◌, ◌<◌, ◌≤◌, ◌↔◌, ◌++◌, ◌∷◌, [], List, length, true, IsTrue, IfOk};
-ghost use Rattle.std.specs.Prelude.{OnOk, OnErr};
+ghost use Rattle.std.specs.Prelude.{OnOk, IsErrOf};
 ghost use Rattle.cluster_steps.specs.declared.events.Event.TheVariants.{Take};
 ghost use Rattle.election_core.specs.Allowed.{Allows, Decides};
 ghost use Rattle.election_core.specs.Counted.{acted, counted};
 ghost use Rattle.election_core.specs.Senders.{sender_of};
 ghost use Rattle.election_core.specs.declared.messages.Action.TheVariants as deed;
 ghost use Rattle.election_core.specs.declared.messages.Message.TheVariants.{Ack};
-ghost use Rattle.node_state.specs.Calls.{Acts, Continues, IsPartly, Joins, TakesOne, through};
+ghost use Rattle.node_state.specs.Calls.{Acts, Continues, Joins, TakesOne, through};
 ghost use Rattle.node_state.specs.Nodes.{IsOwn, held};
+ghost use Rattle.node_state.specs.Stores.{FallsAfter, FallsOver, IsKeptBy, StopsShort};
 ghost use Rattle.node_state.specs.Packets.{AreSent, IsPacket, packets_of, shipped_in, shipped_length};
 
 use crate::bodies::Body;
 use crate::drafts::copies;
+use crate::faults::Unkept;
 use actor_trace::{Naming, Trace};
+use cdb_outside::LogStore;
 use cluster_core::{Cluster, Plan};
 use cluster_steps::Event;
 use election_core::{Action, Message, NodeVote};
 use phys_log::{Entry, copy_entry};
-use std::alloc::{AllocError, Global};
+use std::alloc::Global;
 
 /// The length of the log that a message ships.
 pub(crate) fn length_shipped(message: &Message) -> u64
@@ -64,7 +67,7 @@ fn with_taken(vote: &NodeVote, generation: u64, length: u64) -> NodeVote
     taken
 }
 
-impl<J: Plan, N: Naming> Body<J, N> {
+impl<D: LogStore + Drop, J: Plan, N: Naming> Body<D, J, N> {
     /// Accepts a log.
     pub(crate) fn accept(
         &mut self,
@@ -76,21 +79,28 @@ impl<J: Plan, N: Naming> Body<J, N> {
         taken: u64,
         message: &Message,
         entries: &[Entry],
-    ) -> Result<(), AllocError>
+    ) -> Result<(), Unkept>
         requires is { action ≡ deed.Take generation taken }
         requires room { length entries.now + 1 ≤ self.old.actor.room }
-        requires own { IsOwn J.setting (held self.old.vote self.old.log self.old.actor) }
+        requires own { IsOwn J.setting (held self.old.vote self.old.log.entries self.old.actor) }
+        requires kept { IsKeptBy self.old.vote self.old.log }
         requires packet { IsPacket J.setting message.now entries.now self.old.actor.seen }
         requires joins { Joins self.old.vote message.now entries.now }
         requires decided { Decides self.old.vote message.now action }
         requires vote { vote ≡ acted (counted self.old.vote message.now) action }
-        ensures own { IsOwn J.setting (held self.new.vote self.new.log self.new.actor) }
+        ensures own { IsOwn J.setting (held self.new.vote self.new.log.entries self.new.actor) }
+        ensures kept { IsKeptBy self.new.vote self.new.log }
         ensures acts { OnOk result (Acts self.old.vote message.now entries.now action
-            (held self.old.vote self.old.log self.old.actor) (held self.new.vote self.new.log self.new.actor)) }
+            (held self.old.vote self.old.log.entries self.old.actor) (held self.new.vote self.new.log.entries self.new.actor)) }
         ensures sends { OnOk result (AreSent J.setting self.new.actor.seen
-            (packets_of self.new.vote (through message.now action) self.new.log (sender_of message.now))) }
-        ensures partly { OnErr result (IsPartly message.now (held self.old.vote self.old.log self.old.actor)
-            (held self.new.vote self.new.log self.new.actor)) }
+            (packets_of self.new.vote (through message.now action) self.new.log.entries (sender_of message.now))) }
+        ensures calm { OnOk result (self.new.log.faults ≡ self.old.log.faults) }
+        ensures short { IsErrOf result Unkept.NoMemory → StopsShort message.now entries.now
+            (held self.old.vote self.old.log.entries self.old.actor) (held self.new.vote self.new.log.entries self.new.actor)
+            self.old.log self.new.log }
+        ensures falls { IsErrOf result Unkept.Fault → FallsAfter J.setting message.now entries.now
+            (held self.old.vote self.old.log.entries self.old.actor) (held self.new.vote self.new.log.entries self.new.actor)
+            self.old.log self.new.log self.new.under_way }
     {
         if self.vote.accepted < generation {
             self.take_whole(alloc, trace, vote, generation, taken, message, entries)
@@ -112,35 +122,30 @@ impl<J: Plan, N: Naming> Body<J, N> {
         taken: u64,
         message: &Message,
         entries: &[Entry],
-    ) -> Result<(), AllocError>
+    ) -> Result<(), Unkept>
         requires newer { self.old.vote.accepted < generation }
         requires room { length entries.now + 1 ≤ self.old.actor.room }
-        requires own { IsOwn J.setting (held self.old.vote self.old.log self.old.actor) }
+        requires own { IsOwn J.setting (held self.old.vote self.old.log.entries self.old.actor) }
+        requires kept { IsKeptBy self.old.vote self.old.log }
         requires packet { IsPacket J.setting message.now entries.now self.old.actor.seen }
         requires joins { Joins self.old.vote message.now entries.now }
         requires allowed { Allows self.old.vote message.now (deed.Take generation taken) }
         requires vote { vote ≡ acted (counted self.old.vote message.now) (deed.Take generation taken) }
-        ensures own { IsOwn J.setting (held self.new.vote self.new.log self.new.actor) }
+        ensures own { IsOwn J.setting (held self.new.vote self.new.log.entries self.new.actor) }
+        ensures kept { IsKeptBy self.new.vote self.new.log }
         ensures acts { OnOk result
             (Acts self.old.vote message.now entries.now (deed.Take generation taken)
-            (held self.old.vote self.old.log self.old.actor) (held self.new.vote self.new.log self.new.actor)) }
+            (held self.old.vote self.old.log.entries self.old.actor) (held self.new.vote self.new.log.entries self.new.actor)) }
         ensures sends { OnOk result (AreSent J.setting self.new.actor.seen (packets_of self.new.vote
-            (through message.now (deed.Take generation taken)) self.new.log (sender_of message.now))) }
-        ensures partly { OnErr result (self.new ≡ self.old) }
+            (through message.now (deed.Take generation taken)) self.new.log.entries (sender_of message.now))) }
+        ensures calm { OnOk result (self.new.log.faults ≡ self.old.log.faults) }
+        ensures unchanged { IsErrOf result Unkept.NoMemory → self.new ≡ self.old }
+        ensures falls { IsErrOf result Unkept.Fault → FallsOver J.setting
+            (held self.old.vote self.old.log.entries self.old.actor) (held self.new.vote self.new.log.entries self.new.actor)
+            self.old.log self.new.log self.new.under_way }
     {
         let copies = copies(alloc, entries)?;
-        if self.log.replace_tail(alloc, 0, copies).is_err() {
-            return Err(AllocError);
-        }
-        self.happens(
-            trace,
-            vote,
-            Event::Take {
-                generation,
-                length: taken,
-            },
-        );
-        Ok(())
+        self.takes(alloc, trace, generation, taken, vote, copies)
     }
 
     /// All of it is there.
@@ -156,15 +161,18 @@ impl<J: Plan, N: Naming> Body<J, N> {
         requires same { self.old.vote.accepted < generation → ⊥ }
         requires whole { self.old.vote.length < taken → ⊥ }
         requires room { length entries.now + 1 ≤ self.old.actor.room }
-        requires own { IsOwn J.setting (held self.old.vote self.old.log self.old.actor) }
+        requires own { IsOwn J.setting (held self.old.vote self.old.log.entries self.old.actor) }
+        requires kept { IsKeptBy self.old.vote self.old.log }
         requires packet { IsPacket J.setting message.now entries.now self.old.actor.seen }
         requires allowed { Allows self.old.vote message.now (deed.Take generation taken) }
         requires vote { vote ≡ acted (counted self.old.vote message.now) (deed.Take generation taken) }
-        ensures own { IsOwn J.setting (held self.new.vote self.new.log self.new.actor) }
+        ensures own { IsOwn J.setting (held self.new.vote self.new.log.entries self.new.actor) }
+        ensures kept { IsKeptBy self.new.vote self.new.log }
         ensures acts { Acts self.old.vote message.now entries.now (deed.Take generation taken)
-            (held self.old.vote self.old.log self.old.actor) (held self.new.vote self.new.log self.new.actor) }
+            (held self.old.vote self.old.log.entries self.old.actor) (held self.new.vote self.new.log.entries self.new.actor) }
         ensures sends { AreSent J.setting self.new.actor.seen (packets_of self.new.vote
-            (through message.now (deed.Take generation taken)) self.new.log (sender_of message.now)) }
+            (through message.now (deed.Take generation taken)) self.new.log.entries (sender_of message.now)) }
+        ensures log { self.new.log ≡ self.old.log }
     {
         self.happens(
             trace,
@@ -185,22 +193,29 @@ impl<J: Plan, N: Naming> Body<J, N> {
         taken: u64,
         message: &Message,
         entries: &[Entry],
-    ) -> Result<(), AllocError>
+    ) -> Result<(), Unkept>
         requires same { self.old.vote.accepted < generation → ⊥ }
         requires longer { self.old.vote.length < taken }
         requires room { length entries.now + 1 ≤ self.old.actor.room }
-        requires own { IsOwn J.setting (held self.old.vote self.old.log self.old.actor) }
+        requires own { IsOwn J.setting (held self.old.vote self.old.log.entries self.old.actor) }
+        requires kept { IsKeptBy self.old.vote self.old.log }
         requires packet { IsPacket J.setting message.now entries.now self.old.actor.seen }
         requires joins { Joins self.old.vote message.now entries.now }
         requires allowed { Allows self.old.vote message.now (deed.Take generation taken) }
-        ensures own { IsOwn J.setting (held self.new.vote self.new.log self.new.actor) }
+        ensures own { IsOwn J.setting (held self.new.vote self.new.log.entries self.new.actor) }
+        ensures kept { IsKeptBy self.new.vote self.new.log }
         ensures acts { OnOk result
             (Acts self.old.vote message.now entries.now (deed.Take generation taken)
-            (held self.old.vote self.old.log self.old.actor) (held self.new.vote self.new.log self.new.actor)) }
+            (held self.old.vote self.old.log.entries self.old.actor) (held self.new.vote self.new.log.entries self.new.actor)) }
         ensures sends { OnOk result (AreSent J.setting self.new.actor.seen (packets_of self.new.vote
-            (through message.now (deed.Take generation taken)) self.new.log (sender_of message.now))) }
-        ensures partly { OnErr result (IsPartly message.now (held self.old.vote self.old.log self.old.actor)
-            (held self.new.vote self.new.log self.new.actor)) }
+            (through message.now (deed.Take generation taken)) self.new.log.entries (sender_of message.now))) }
+        ensures calm { OnOk result (self.new.log.faults ≡ self.old.log.faults) }
+        ensures short { IsErrOf result Unkept.NoMemory → StopsShort message.now entries.now
+            (held self.old.vote self.old.log.entries self.old.actor) (held self.new.vote self.new.log.entries self.new.actor)
+            self.old.log self.new.log }
+        ensures falls { IsErrOf result Unkept.Fault → FallsAfter J.setting message.now entries.now
+            (held self.old.vote self.old.log.entries self.old.actor) (held self.new.vote self.new.log.entries self.new.actor)
+            self.old.log self.new.log self.new.under_way }
     {
         self.take_one(alloc, trace, message, entries)?;
         'taking: while self.vote.length < length_shipped(message) {
@@ -216,27 +231,29 @@ impl<J: Plan, N: Naming> Body<J, N> {
         trace: &Trace<Cluster<J>, N>,
         message: &Message,
         entries: &[Entry],
-    ) -> Result<(), AllocError>
+    ) -> Result<(), Unkept>
         requires continues { Continues self.old.vote message.now }
         requires room { 0 < self.old.actor.room }
-        requires own { IsOwn J.setting (held self.old.vote self.old.log self.old.actor) }
+        requires own { IsOwn J.setting (held self.old.vote self.old.log.entries self.old.actor) }
+        requires kept { IsKeptBy self.old.vote self.old.log }
         requires packet { IsPacket J.setting message.now entries.now self.old.actor.seen }
         requires joins { Joins self.old.vote message.now entries.now }
-        ensures own { IsOwn J.setting (held self.new.vote self.new.log self.new.actor) }
+        ensures own { IsOwn J.setting (held self.new.vote self.new.log.entries self.new.actor) }
+        ensures kept { IsKeptBy self.new.vote self.new.log }
         ensures takes { OnOk result (TakesOne J.setting message.now entries.now
-            (held self.old.vote self.old.log self.old.actor) (held self.new.vote self.new.log self.new.actor)) }
-        ensures unchanged { OnErr result (self.new ≡ self.old) }
+            (held self.old.vote self.old.log.entries self.old.actor) (held self.new.vote self.new.log.entries self.new.actor)) }
+        ensures calm { OnOk result (self.new.log.faults ≡ self.old.log.faults) }
+        ensures unchanged { IsErrOf result Unkept.NoMemory → self.new ≡ self.old }
+        ensures falls { IsErrOf result Unkept.Fault → FallsOver J.setting
+            (held self.old.vote self.old.log.entries self.old.actor) (held self.new.vote self.new.log.entries self.new.actor)
+            self.old.log self.new.log self.new.under_way }
     {
         let generation = generation_shipped(message);
         let skipped = length_shipped(message).saturating_sub(entries.len() as u64);
         let at = self.vote.length - skipped;
         let entry = copy_entry(alloc, &entries[at as usize])?;
-        if self.log.append(alloc, entry).is_err() {
-            return Err(AllocError);
-        }
         let length = self.vote.length + 1;
         let vote = with_taken(&self.vote, generation, length);
-        self.happens(trace, vote, Event::Take { generation, length });
-        Ok(())
+        self.grows(alloc, trace, generation, length, vote, entry)
     }
 }

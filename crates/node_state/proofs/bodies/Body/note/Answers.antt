@@ -4,7 +4,7 @@ use Rattle.node_state.proofs.CallLaws.{as_before, own_rests}
 use Rattle.node_state.proofs.bodies.Body.note.Goals as goal
 
 pub returns-clause-own : goal.returns-clause-own
-returns-clause-own g c = own_rests g.J.Plan.setting (held c.args.self.now.vote c.args.self.now.log c.args.self.now.actor) (held c.args.self.now.vote c.args.self.now.log c.note.new.self) c.requires.own refl refl c.note.ensures.same.0 c.note.ensures.more c.note.ensures.legal
+returns-clause-own g c = own_rests g.J.Plan.setting (held c.args.self.now.vote c.args.self.now.log.entries c.args.self.now.actor) (held c.args.self.now.vote c.args.self.now.log.entries c.note.new.self) c.requires.own refl refl c.note.ensures.same.0 c.note.ensures.more c.note.ensures.legal
 
 pub returns-clause-same : goal.returns-clause-same
-returns-clause-same g c = as_before (held c.args.self.now.vote c.args.self.now.log c.args.self.now.actor) (held c.args.self.now.vote c.args.self.now.log c.note.new.self) refl refl c.note.ensures.same.0 c.note.ensures.same.1 c.note.ensures.more
+returns-clause-same g c = as_before (held c.args.self.now.vote c.args.self.now.log.entries c.args.self.now.actor) (held c.args.self.now.vote c.args.self.now.log.entries c.note.new.self) refl refl c.note.ensures.same.0 c.note.ensures.same.1 c.note.ensures.more c.note.ensures.same.2

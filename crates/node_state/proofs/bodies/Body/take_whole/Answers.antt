@@ -1,20 +1,30 @@
-use Rattle.std.proofs.Common.{rules, ◌≡◌, ◌∷◌, [], refl, ◌∙◌}
-use Rattle.cluster_steps.specs.declared.events.Event.TheVariants.{Take}
+use Rattle.std.proofs.Common.{refl, ◌∙◌}
 use Rattle.election_core.specs.Senders.{sender_of}
 use Rattle.node_state.specs.Nodes.{held}
-use Rattle.node_state.proofs.TakeLaws.{did_same, whole_follows, whole_acts, whole_sends}
+use Rattle.node_state.proofs.CallLaws.{ok_three, ok_two}
+use Rattle.node_state.proofs.NumberLaws.{take_promised, take_up, whole_numbers}
+use Rattle.node_state.proofs.TakeLaws.{whole_follows, whole_acts, whole_sends}
 use Rattle.node_state.proofs.bodies.Body.take_whole.Goals as goal
 
-pub happens-requires-clause-follows : goal.happens-requires-clause-follows
-happens-requires-clause-follows g c =
-    whole_follows g.J.Plan.setting (held c.args.self.now.vote c.args.self.now.log c.args.self.now.actor) c.args.vote c.replace_tail.new.self c.args.message.now c.args.entries.now c.args.generation c.args.taken c.requires.own c.requires.packet c.requires.allowed c.requires.newer c.requires.joins
-    (let e : c.replace_tail.new.self ≡ c.args.entries.now = search rules in e) c.requires.vote
+pub takes-requires-clause-up : goal.takes-requires-clause-up
+takes-requires-clause-up g c = take_up c.args.self.now.vote c.args.message.now c.args.generation c.args.taken c.requires.allowed
+
+pub takes-requires-clause-promised : goal.takes-requires-clause-promised
+takes-requires-clause-promised g c = take_promised c.args.self.now.vote c.args.message.now c.args.generation c.args.taken c.requires.allowed
+
+pub takes-requires-clause-follows : goal.takes-requires-clause-follows
+takes-requires-clause-follows g c =
+    whole_follows g.J.Plan.setting (held c.args.self.now.vote c.args.self.now.log.entries c.args.self.now.actor) c.args.vote c.in_ok-copies.copies.items c.args.message.now c.args.entries.now c.args.generation c.args.taken c.requires.own c.requires.packet c.requires.allowed c.requires.newer c.requires.joins c.in_ok-copies.ensures c.requires.vote
+
+pub takes-requires-clause-numbers : goal.takes-requires-clause-numbers
+takes-requires-clause-numbers g c = whole_numbers c.args.self.now.vote c.args.vote c.args.message.now c.args.generation c.args.taken c.requires.allowed c.requires.vote
 
 pub returns-clause-acts : goal.returns-clause-acts
 returns-clause-acts g c =
-    let e : c.replace_tail.new.self ≡ c.args.entries.now = search rules in
-    whole_acts g.J.Plan.setting (held c.args.self.now.vote c.args.self.now.log c.args.self.now.actor) (held c.happens.new.self.vote c.happens.new.self.log c.happens.new.self.actor) c.args.vote c.args.message.now c.args.entries.now c.args.generation c.args.taken c.requires.packet c.requires.allowed c.requires.newer c.requires.vote
-    (did_same (Take c.args.generation c.args.taken ∷ []) (held c.args.self.now.vote c.args.self.now.log c.args.self.now.actor) (held c.args.self.now.vote c.replace_tail.new.self c.args.self.now.actor) (held c.happens.new.self.vote c.happens.new.self.log c.happens.new.self.actor) refl c.happens.ensures.did) c.happens.ensures.vote (c.happens.ensures.entries ∙ e)
+    ok_three c.takes.result (λ d v l. whole_acts g.J.Plan.setting (held c.args.self.now.vote c.args.self.now.log.entries c.args.self.now.actor) (held c.takes.new.self.vote c.takes.new.self.log.entries c.takes.new.self.actor) c.args.vote c.args.message.now c.args.entries.now c.args.generation c.args.taken c.requires.packet c.requires.allowed c.requires.newer c.requires.vote d v (l ∙ c.in_ok-copies.ensures))
+    c.takes.ensures.did c.takes.ensures.vote c.takes.ensures.entries
 
 pub returns-clause-sends : goal.returns-clause-sends
-returns-clause-sends g c = whole_sends g.J.Plan.setting (held c.args.self.now.vote c.args.self.now.log c.args.self.now.actor) (held c.happens.new.self.vote c.happens.new.self.log c.happens.new.self.actor) c.args.vote c.args.message.now c.args.entries.now c.args.generation c.args.taken (sender_of c.args.message.now) c.requires.own c.happens.ensures.own c.requires.packet c.requires.allowed refl c.requires.newer c.requires.vote c.happens.ensures.vote c.happens.ensures.adds
+returns-clause-sends g c =
+    ok_two c.takes.result (λ v d. whole_sends g.J.Plan.setting (held c.args.self.now.vote c.args.self.now.log.entries c.args.self.now.actor) (held c.takes.new.self.vote c.takes.new.self.log.entries c.takes.new.self.actor) c.args.vote c.args.message.now c.args.entries.now c.args.generation c.args.taken (sender_of c.args.message.now) c.requires.own c.takes.ensures.own c.requires.packet c.requires.allowed refl c.requires.newer c.requires.vote v d)
+    c.takes.ensures.vote c.takes.ensures.adds

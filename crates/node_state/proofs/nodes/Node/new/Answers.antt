@@ -1,10 +1,11 @@
 use Rattle.std.proofs.Common.{sym, subst}
 use Rattle.node_state.specs.Nodes.{IsOwn, blank_vote, held}
-use Rattle.node_state.proofs.NewLaws.{new_own}
+use Rattle.node_state.specs.Stores.{IsStored}
+use Rattle.node_state.proofs.NewLaws.{new_own, new_stored}
 use Rattle.node_state.proofs.nodes.Node.new.Goals as goal
 
 pub invariant_of-result : goal.invariant_of-result
 invariant_of-result g c =
     let r = c.requires.run in
     let own = new_own g.J.Plan.setting c.args.node c.args.nodes c.args.actor c.requires.plan r.0 r.1 r.2 r.3 c.requires.actor.0 c.requires.actor.1 c.knows.ensures.own c.knows.ensures.legal in
-    subst (λ v. IsOwn g.J.Plan.setting (held v c.new.result c.args.actor)) (sym c.first_vote.ensures) (subst (λ l. IsOwn g.J.Plan.setting (held (blank_vote c.args.node c.args.nodes) l c.args.actor)) (sym c.new.ensures) own)
+    new_stored g.J.Plan.setting c.args.node c.args.nodes c.first_vote.result c.args.log c.args.actor _ c.requires.actor.0 c.requires.actor.1 c.knows.ensures.own c.first_vote.ensures c.requires.log.0 c.requires.log.1 own
