@@ -1,0 +1,4 @@
+pub mod Indexes
+pub mod Ledgers
+pub mod Asked
+pub mod Commits
