@@ -1,0 +1,5 @@
+pub mod CornerTerms
+pub mod OpeningFacts
+pub mod Refused
+pub mod RowTerms
+pub mod StoreLemmas
