@@ -193,7 +193,7 @@ unfolding IsDistinct
 distinct_apart [] apart = tt
 distinct_apart (x ∷ xs) apart = (off_each x xs apart.0, distinct_apart xs apart.1)
 
-few_apart : (xs : List ℕ) (limit : ℕ) → AreApart xs → ((n : ℕ) → IsIn n xs → n < limit) → length xs ≤ limit
+pub few_apart : (xs : List ℕ) (limit : ℕ) → AreApart xs → ((n : ℕ) → IsIn n xs → n < limit) → length xs ≤ limit
 few_apart xs limit apart below = length-le_from_distinct_below xs limit (distinct_apart xs apart) (λ q has. below q (in_any q xs has))
 
 pub deep_few : (pages : ℕ → Image) (root : ℕ) (key : Key) (page depth height : ℕ) → AreApart (pages_of pages height (top root))

@@ -1,5 +1,5 @@
 -- A page above the leaves that loses one of its children, seen from its level and from those above.
-use Rattle.std.proofs.Common.{◌≡◌, inl, inr, ℕ, zero, suc, ◌<◌, ◌≤◌, ◌^◌, Bool, true, false, List, [], ◌∷◌, ◌++◌, map, take, drop, length, Option, None, Some, refl, sym, ap, ◌∙◌, subst, append_assoc, append-nil, arith, lit≤}
+use Rattle.std.proofs.Common.{◌≡◌, ◌⊎◌, inl, inr, ℕ, zero, suc, ◌<◌, ◌≤◌, ◌^◌, Bool, true, false, List, [], ◌∷◌, ◌++◌, map, take, drop, length, Option, None, Some, refl, sym, ap, ◌∙◌, subst, append_assoc, append-nil, arith, lit≤}
 use Rattle.std.proofs.lemmas.Option.{none-some, same_Some, slice_get_within}
 use Rattle.std.specs.List.{AllByRecursion, slice_get, remove}
 use Rattle.page_store.specs.Image.{Image}
@@ -8,8 +8,8 @@ use Rattle.page_store.specs.declared.pages.PageKind.TheVariants.{Leaf, Inner}
 use Rattle.page_workspace.specs.Spare.{IsIn, AreApart, first_cell}
 use Rattle.btree_index.specs.Keys.{Key}
 use Rattle.btree_index.specs.Cells.{key_of, child_of, IsInnerCell}
-use Rattle.btree_index.specs.Trees.{Entry, page_of, entry_of, below, spread, leaves, pages_of, IsInnerPage, BeginsEmpty, Holds}
-use Rattle.btree_index.proofs.ApartLaws.{in_left, in_right, apart_left, apart_right, apart_cross}
+use Rattle.btree_index.specs.Trees.{Entry, page_of, entry_of, below, spread, leaves, pages_of, IsLeafPage, IsInnerPage, BeginsEmpty, Holds}
+use Rattle.btree_index.proofs.ApartLaws.{in_left, in_right, in_either, apart_left, apart_right, apart_cross}
 use Rattle.btree_index.proofs.CellLemmas.{child_of-cell, inner_key_is, inner_cell_is}
 use Rattle.btree_index.proofs.LevelLemmas.{SameOn, spread-same, each_same}
 use Rattle.btree_index.proofs.LeafLaws.{pages-append, beside, each_with, each_at}
@@ -24,7 +24,7 @@ use Rattle.btree_index.specs.declared.prunes.Found.{Found}
 use Rattle.btree_index.specs.declared.prunes.Fork.{Fork}
 use Rattle.btree_index.specs.declared.prunes.LoneLeaf.{LoneLeaf}
 use Rattle.btree_index.specs.declared.prunes.Found.TheVariants.{Full, Lone, Forked}
-use Rattle.btree_index.proofs.LoneLemmas.{lone_out, shrunk_up}
+use Rattle.btree_index.proofs.LoneLemmas.{last_in, lone_out, shrunk_up}
 
 relow_same : (low : Key) (level : List Entry) → relow false low level ≡ level
 relow_same low [] = refl
@@ -203,6 +203,28 @@ fork_cut old height front low others fork cell cells h c lone last is new u =
     (subst (λ (l : List Entry). Shrunk old new height (spread old level) l ids fork.left cells) (sym s2)
     (subst (λ (l : List Entry). Shrunk old new height l (a ++ relow c.first c.least b) ids fork.left cells) (sym s1) m))
 
+-- the leaves below a level are among its pages, and so are the pages below a front of it
+leaves_inside : (pages : ℕ → Image) (height : ℕ) (level : List Entry) (n : ℕ) → IsIn n (map page_of (leaves pages height level))
+    → IsIn n (pages_of pages height level)
+leaves_inside pages zero level n i = i
+leaves_inside pages (suc height) level n i =
+    in_right n (map page_of level) (pages_of pages height (spread pages level)) (leaves_inside pages height (spread pages level) n i)
+
+front_inside : (pages : ℕ → Image) (height : ℕ) (xs ys : List Entry) (n : ℕ) → IsIn n (pages_of pages height xs) → IsIn n (pages_of pages height (xs ++ ys))
+front_inside pages zero xs ys n i = subst (λ (l : List ℕ). IsIn n l) (sym (pages-append xs ys)) (in_left n (map page_of xs) (map page_of ys) i)
+front_inside pages (suc height) xs ys n i =
+    go (in_either n (map page_of xs) (pages_of pages height (spread pages xs)) i) (front_inside pages height (spread pages xs) (spread pages ys) n)
+  where
+    go : IsIn n (map page_of xs) ⊎ IsIn n (pages_of pages height (spread pages xs))
+        → (IsIn n (pages_of pages height (spread pages xs)) → IsIn n (pages_of pages height (spread pages xs ++ spread pages ys)))
+        → IsIn n (map page_of (xs ++ ys) ++ pages_of pages height (spread pages (xs ++ ys)))
+    go (inl j) deeper =
+        in_left n (map page_of (xs ++ ys)) (pages_of pages height (spread pages (xs ++ ys)))
+        (subst (λ (l : List ℕ). IsIn n l) (sym (pages-append xs ys)) (in_left n (map page_of xs) (map page_of ys) j))
+    go (inr j) deeper =
+        in_right n (map page_of (xs ++ ys)) (pages_of pages height (spread pages (xs ++ ys)))
+        (subst (λ (l : List Entry). IsIn n (pages_of pages height l)) (sym (spread-append pages xs ys)) (deeper j))
+
 pub fork_here : (pages : ℕ → Image) (height : ℕ) (front : List Entry) (low : Key) (others : List Entry) (fork : Fork) (cell : List ℕ) (cells : List (List ℕ))
     → Holds pages (suc height) (front ++ (record { low = low; page = fork.page } ∷ others)) cells
     → slice_get (pages fork.page).cells fork.at ≡ Some cell → 1 < length (pages fork.page).cells → fork.child ≡ child_of cell
@@ -216,6 +238,7 @@ fork_here pages height front low others fork cell cells h here several child lon
     let c : Cut low (pages fork.page).cells fork.at cell = cut_child low (pages fork.page).cells fork.at cell here several in
     let deep = pages_of pages height (spread pages level) in
     let s1 = spread_cut pages front low fork.page others fork.at cell (record { least = c.least; behind = c.behind; once = c.once }) in
+    let a = spread pages front ++ below low (take fork.at (pages fork.page).cells) in
     let lone' : IsLone pages height (child_of cell) = subst (λ (k : ℕ). IsLone pages height k) child lone in
     let in_deep : (n : ℕ) → IsIn n (lone_pages pages height (child_of cell)) → IsIn n deep =
     λ n i. subst (λ (l : List Entry). IsIn n (pages_of pages height l)) (sym s1)
@@ -231,6 +254,18 @@ fork_here pages height front low others fork cell cells h here several child lon
       inside = level_inside pages (suc height) front q others;
       off = λ i. apart_cross fork.page (map page_of level) deep h.apart (level_inside pages 0 front q others)
           (in_deep fork.page (subst (λ (k : ℕ). IsIn fork.page (lone_pages pages height k)) child i));
+      able = record {
+        loses = record {
+          height = suc height;
+          inner = each_at (λ x. IsInnerPage (suc height) (pages x.page)) front q others h.shaped.0;
+          there = slice_get_within (pages fork.page).cells fork.at cell here;
+          several = several;
+        };
+        off = λ k. apart_cross fork.page (map page_of level) deep h.apart (level_inside pages 0 front q others)
+            (subst (λ (l : List Entry). IsIn fork.page (pages_of pages height l)) (sym s1)
+            (front_inside pages height a (record { low = c.least; page = child_of cell } ∷ (c.behind ++ spread pages others)) fork.page
+            (leaves_inside pages height a fork.page (last_in (leaves pages height a) fork.page (last ∙ k)))));
+      };
       out = λ new u. subst (λ (k : ℕ). Shrunk pages new (suc height) level level (lone_pages pages height k) fork.left cells) (sym child)
           (fork_cut pages height front low others fork cell cells h c lone' last
           (is ∙ ap (λ (k : ℕ). (pages (lone_leaf pages height k)).head.right) child) new u);
@@ -249,6 +284,7 @@ fork_up old height level cells fork h f =
       apart = f.apart;
       inside = in_right fork.page here deep f.inside;
       off = f.off;
+      able = f.able;
       out = λ new u.
           (let s : Shrunk old new height (spread old level) (spread old level) ids fork.left cells = f.out new u in
           let same : SameOn old new here = λ n i. u.others n
@@ -333,10 +369,37 @@ pub found_leaf : (pages : ℕ → Image) (height : ℕ) (front : List Entry) (lo
 found_leaf pages zero front low page others cells left h last kind none = ((kind, none), last, refl)
 found_leaf pages (suc height) front low page others cells left h last kind none = absurd (not_inner pages page height low front others kind h.shaped.0)
 
+-- a page of a level is of its kind, and so is the one before it
+pub level_kind : (pages : ℕ → Image) (height : ℕ) (front : List Entry) (low : Key) (page : ℕ) (others : List Entry) (cells : List (List ℕ))
+    → Holds pages height (front ++ (record { low = low; page = page } ∷ others)) cells → ((pages page).head.kind ≡ Leaf) ⊎ ((pages page).head.kind ≡ Inner)
+level_kind pages zero front low page others cells h =
+    inl (each_at (λ x. IsLeafPage (pages x.page)) front (record { low = low; page = page }) others h.shaped).kind
+level_kind pages (suc height) front low page others cells h =
+    inr (each_at (λ x. IsInnerPage (suc height) (pages x.page)) front (record { low = low; page = page }) others h.shaped.0).kind
+
+pub level_inner : (pages : ℕ → Image) (height : ℕ) (front : List Entry) (low : Key) (page : ℕ) (others : List Entry) (cells : List (List ℕ))
+    → Holds pages height (front ++ (record { low = low; page = page } ∷ others)) cells → (pages page).head.kind ≡ Inner → IsInnerPage height (pages page)
+level_inner pages zero front low page others cells h kind = absurd (not_leaf pages page low front others kind h.shaped)
+level_inner pages (suc height) front low page others cells h kind =
+    each_at (λ x. IsInnerPage (suc height) (pages x.page)) front (record { low = low; page = page }) others h.shaped.0
+
+pub level_before : (pages : ℕ → Image) (height : ℕ) (front : List Entry) (low : Key) (page : ℕ) (others : List Entry) (cells : List (List ℕ)) (left : ℕ)
+    → Holds pages height (front ++ (record { low = low; page = page } ∷ others)) cells → (pages page).head.kind ≡ Inner → last_page front ≡ Some left
+    → IsInnerPage height (pages left)
+level_before pages zero front low page others cells left h kind last = absurd (not_leaf pages page low front others kind h.shaped)
+level_before pages (suc height) front low page others cells left h kind last =
+    let q : Entry = record { low = low; page = page } in
+    let end : LastOf front left = last_of front left last in
+    let e : Entry = record { low = end.low; page = left } in
+    let P : List Entry → Type 0 = λ l. AllByRecursion (λ x. IsInnerPage (suc height) (pages x.page)) l in
+    each_at (λ x. IsInnerPage (suc height) (pages x.page)) end.front e (q ∷ others)
+    (subst P (append_assoc end.front (e ∷ []) (q ∷ others)) (subst (λ (l : List Entry). P (l ++ (q ∷ others))) end.is h.shaped.0))
+
 -- what it came to at a page above the leaves, by what it came to at a child
 pub record UnderChild (pages : ℕ → Image) (height : ℕ) (front : List Entry) (low : Key) (page : ℕ) (others : List Entry) (cells : List (List ℕ)) (at child : ℕ)
     (beside : Option ℕ) : Type 0 where
   pub under : ℕ
+  pub tall : height ≡ suc under
   pub before : List Entry
   pub least : Key
   pub behind : List Entry
@@ -371,6 +434,7 @@ found_below pages (suc height) front low page others cells at child left next ce
     let behind = c.behind ++ spread pages others in
     let s : spread pages level ≡ before ++ (record { low = c.least; page = child } ∷ behind) =
     spread_cut pages front low page others at cell c ∙ ap (λ (n : ℕ). before ++ (record { low = c.least; page = n } ∷ behind)) (sym is) in
+    let inner : IsInnerPage (suc height) (pages page) = each_at (λ x. IsInnerPage (suc height) (pages x.page)) front q others h.shaped.0 in
     let down : Holds pages height (spread pages level) cells = record {
       shaped = h.shaped.1;
       fenced = h.fenced;
@@ -380,6 +444,7 @@ found_below pages (suc height) front low page others cells at child left next ce
     } in
     record {
       under = height;
+      tall = refl;
       before = before;
       least = c.least;
       behind = behind;
@@ -389,7 +454,7 @@ found_below pages (suc height) front low page others cells at child left next ce
       single = λ lone f one.
           (let o = one_cell (pages page).cells at cell here one in
           let first : child ≡ child_of (first_cell (pages page).cells) = is ∙ ap child_of o.2 in (
-            (kind, o.0, subst (λ (n : ℕ). IsLone pages height n) first f.0),
+            (kind, o.0, subst (λ (n : ℕ). IsLone pages height n) first f.0, (subst (λ (l : List (List ℕ)). AllByRecursion IsInnerCell l) o.0 inner.cells).0),
             ap (λ (l : List Entry). last_page (leaves pages height l))
                 (sym (append-nil (spread pages front))
                 ∙ ap (λ (l : List (List ℕ)). spread pages front ++ below low l) (sym (take_none (pages page).cells))

@@ -1,5 +1,5 @@
 -- The leaf to which the way to a key comes.
-use Rattle.std.proofs.Common.{◌≡◌, ◌⊎◌, inl, inr, ℕ, zero, suc, ◌<◌, Bool, true, false, List, [], ◌∷◌, ◌++◌, length, Option, None, Some, refl, sym, ap, ◌∙◌, subst, arith}
+use Rattle.std.proofs.Common.{◌≡◌, ◌⊎◌, inl, inr, ℕ, zero, suc, Bool, true, false, List, [], ◌∷◌, length, Option, Some, refl, sym, ap, ◌∙◌, subst, arith}
 use Rattle.std.proofs.lemmas.Option.{none-some}
 use Rattle.std.specs.List.{AllByRecursion, remove, slice_get}
 use Rattle.page_store.specs.Image.{Image}
@@ -116,7 +116,7 @@ hung_leads pages key page child found several kind is f = go found several f
     go (Lone lone) false f = tt
 
 -- a leaf that had several cells has some left
-left_over : (cells : List (List ℕ)) (at : ℕ) (cell : List ℕ) → slice_get cells at ≡ Some cell → (length cells ≡ 1 → ⊥) → remove cells at ≡ [] → ⊥
+pub left_over : (cells : List (List ℕ)) (at : ℕ) (cell : List ℕ) → slice_get cells at ≡ Some cell → (length cells ≡ 1 → ⊥) → remove cells at ≡ [] → ⊥
 left_over [] at cell here several none = none-some cell here
 left_over (c ∷ []) at cell here several none = several refl
 left_over (c ∷ d ∷ ds) zero cell here several none = let k = none in cc
@@ -142,9 +142,9 @@ taken_left old new root key count t several = record {
 }
 
 -- and with none
-pub taken_last : (old mid new : ℕ → Image) (root : ℕ) (key : Key) (count : ℕ) → Takes old mid root key count → count ≡ 1 → FreesEmpty mid new root key
-    → FreesEmptied old new root key
-taken_last old mid new root key count t one f = record { leaf = t.leaf; way = t.way; at = t.at; had = t.had; went = went f.went }
+pub last_went : (old mid new : ℕ → Image) (root : ℕ) (key : Key) (count : ℕ) → (t : Takes old mid root key count) → count ≡ 1 → FreesEmpty mid new root key
+    → ((new t.leaf).cells ≡ [] → ⊥) ⊎ (t.leaf ≡ root) ⊎ IsFreePage (new t.leaf)
+last_went old mid new root key count t one f = went f.went
   where
     same : f.leaf ≡ t.leaf
     same = same_leaf mid key root f.way.steps t.way.steps f.leaf t.leaf f.way.is
@@ -156,6 +156,11 @@ taken_last old mid new root key count t one f = record { leaf = t.leaf; way = t.
         (ap (λ (n : ℕ). (mid n).cells) same ∙ t.alters.is ∙ last_one (old t.leaf).cells t.at t.had.found t.had.here (sym t.all ∙ one)))
     went (inr (inl e)) = inr (inl (sym same ∙ e))
     went (inr (inr free)) = inr (inr (subst (λ (n : ℕ). IsFreePage (new n)) same free))
+
+pub taken_last : (old mid new : ℕ → Image) (root : ℕ) (key : Key) (count : ℕ) → Takes old mid root key count → count ≡ 1 → FreesEmpty mid new root key
+    → FreesEmptied old new root key
+taken_last old mid new root key count t one f =
+    record { leaf = t.leaf; way = t.way; at = t.at; had = t.had; went = last_went old mid new root key count t one f }
 
 -- the leaf on the way to the key: with cells, in a tree that has nothing else, or below a fork
 pub frees_none : (old new : ℕ → Image) (root : ℕ) (key : Key) → LeadsTo old key root Full → FreesEmpty old new root key

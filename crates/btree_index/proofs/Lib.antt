@@ -21,5 +21,7 @@ pub mod PlaceLemmas
 pub mod ChoiceLemmas
 pub mod LoneLemmas
 pub mod LeafWays
+pub mod FilledLemmas
 pub mod ForkLemmas
 pub mod PruneLemmas
+pub mod FreeFitLemmas

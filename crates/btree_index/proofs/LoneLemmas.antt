@@ -31,7 +31,7 @@ apart_off (x ∷ xs) n ys h (inl e) = h.0 (in_right x xs (n ∷ ys) (inl (sym e)
 apart_off (x ∷ xs) n ys h (inr i) = apart_off xs n ys h.1 i
 
 -- the last page of a level is one of its pages
-last_in : (level : List Entry) (n : ℕ) → last_page level ≡ Some n → IsIn n (map page_of level)
+pub last_in : (level : List Entry) (n : ℕ) → last_page level ≡ Some n → IsIn n (map page_of level)
 last_in [] n h = absurd (none-some n h)
 last_in (a ∷ []) n h = inl (sym (same_Some a.page n h))
 last_in (a ∷ b ∷ level) n h = inr (last_in (b ∷ level) n h)

@@ -11,14 +11,15 @@ use Rattle.page_workspace.specs.Spare.{IsIn, AreApart, IsChain, IsMeta, AreFree,
 use Rattle.page_workspace.specs.Takes.{FreesPage}
 use Rattle.page_workspace.proofs.ChainLaws.{chain_same, kept_same, free_more}
 use Rattle.btree_index.specs.Keys.{Key}
-use Rattle.btree_index.specs.Cells.{child_of, inner_cell, IsLeafCell}
+use Rattle.btree_index.specs.Cells.{child_of, inner_cell, IsLeafCell, IsInnerCell}
 use Rattle.btree_index.specs.Changes.{Stands, Becomes}
-use Rattle.btree_index.specs.Steps.{Alters}
+use Rattle.btree_index.specs.Steps.{Alters, TakesAt}
 use Rattle.btree_index.specs.Trees.{Entry, below, spread, leaves, cells_of, pages_of, IsLeafPage, IsFenced, top, pair_of}
-use Rattle.btree_index.specs.Prunes.{IsLone, lone_pages, rekeyed, Shrunk, Unlinks, IsFork, lone_leaf, AreStray, FreesAll, DropsChild, LosesLeaf, Rekeys, SetsRight}
+use Rattle.btree_index.specs.Prunes.{IsLone, lone_pages, rekeyed, Shrunk, Unlinks, IsFork, lone_leaf, AreStray, AreLoose, FreesAll, DropsChild, LosesLeaf, Rekeys, SetsRight}
 use Rattle.btree_index.specs.declared.prunes.Fork.{Fork}
 use Rattle.btree_index.proofs.ApartLaws.{in_left, in_right, in_either}
 use Rattle.btree_index.proofs.LevelLemmas.{SameOn}
+use Rattle.btree_index.proofs.FilledLemmas.{filled_after, filled_same, freed_filled, root_filled, unlinked_filled}
 use Rattle.btree_index.proofs.LeafLaws.{holds_same}
 use Rattle.btree_index.proofs.LeafWays.{free_page_in, lone_inside, lone_root}
 use Rattle.btree_index.proofs.RootLaws.{pages_same}
@@ -100,6 +101,7 @@ lone_same old new (suc height) page same lone =
         ap (λ (i : Image). i.head.kind) here ∙ lone.0,
         subst (λ (i : Image). i.cells ≡ first_cell i.cells ∷ []) (sym here) lone.1,
         subst (λ (k : ℕ). IsLone new height k) (sym child) rec.0,
+        subst (λ (i : Image). IsInnerCell (first_cell i.cells)) (sym here) lone.3,
       ),
       ap (λ (l : List ℕ). page ∷ l) (ap (λ (k : ℕ). lone_pages new height k) child ∙ rec.1),
     )
@@ -116,6 +118,42 @@ free_leaf old new zero id root own free list s lone kind stray f = record {
 }
 free_leaf old new (suc height) id root own free list s lone kind stray f = absurd (let e = sym kind ∙ lone.0 in cc)
 
+-- the pages below a loose one, when its cell was taken
+pub record LeftBelow (old mid : ℕ → Image) (child height root : ℕ) (own free : List ℕ) (list : List (Key × List ℕ)) : Type 0 where
+  pub loose : AreLoose mid child height root own free list
+  pub ids : lone_pages mid height child ≡ lone_pages old height child
+
+pub left_below : (old mid : ℕ → Image) (id child height root : ℕ) (own free : List ℕ) (list : List (Key × List ℕ))
+    → AreLoose old id (suc height) root own free list → child ≡ child_of (first_cell (old id).cells)
+    → Alters old mid id (old id).head (remove (old id).cells 0) → LeftBelow old mid child height root own free list
+left_below old mid id child height root own free list loose is a =
+    let stray = loose.stray in
+    let c = child_of (first_cell (old id).cells) in
+    let ids = lone_pages old height c in
+    let zeroth : mid 0 ≡ old 0 = a.others 0 (λ e. stray.some id (inl refl) (sym e)) in
+    let count : count_of mid ≡ count_of old = count_same old mid zeroth in
+    let stands : Stands mid root own free list =
+    stands_same old mid root own free list loose.stands zeroth
+    (λ n i. a.others n (λ e. stray.off_own id (inl refl) (subst (λ (k : ℕ). IsIn k own) e i)))
+    (λ n i. a.others n (λ e. stray.off_free id (inl refl) (subst (λ (k : ℕ). IsIn k free) e i)))
+    (λ n p. a.others n (λ e. past n p e)) in
+    let l = lone_same old mid height c (λ n i. a.others n (λ e. stray.apart.0 (subst (λ (k : ℕ). IsIn k ids) e i))) loose.lone.2 in
+    let left : AreStray mid own free ids = record {
+      apart = stray.apart.1;
+      some = λ n i. stray.some n (inr i);
+      off_own = λ n i. stray.off_own n (inr i);
+      off_free = λ n i. stray.off_free n (inr i);
+      below = λ n i. subst (λ (k : ℕ). n < k) (sym count) (stray.below n (inr i));
+    } in
+    subst (λ (k : ℕ). LeftBelow old mid k height root own free list) (sym is)
+    (record {
+      loose = record { stands = stands; lone = l.0; stray = subst (λ (x : List ℕ). AreStray mid own free x) (sym l.1) left };
+      ids = l.1;
+    })
+  where
+    past : (n : ℕ) → count_of old ≤ n → n ≡ id → ⊥
+    past n p e = let under : id < count_of old = loose.stray.below id (inl refl) in omega arith
+
 -- and so is a page above it, after those below
 pub free_inner : (old mid late new : ℕ → Image) (height id child root : ℕ) (own free : List ℕ) (list : List (Key × List ℕ)) → Stands old root own free list
     → IsLone old height id → (old id).head.kind ≡ Inner → child ≡ child_of (first_cell (old id).cells) → AreStray old own free (lone_pages old height id)
@@ -125,32 +163,16 @@ pub free_inner : (old mid late new : ℕ → Image) (height id child root : ℕ)
     → FreesPage late new id → FreesAll old new root own free list (lone_pages old height id)
 free_inner old mid late new zero id child root own free list s lone kind is stray a rec f = absurd (let e = sym kind ∙ lone.0 in cc)
 free_inner old mid late new (suc height) id child root own free list s lone kind is stray a rec f =
-    let c = child_of (first_cell (old id).cells) in
-    let ids = lone_pages old height c in
+    let ids = lone_pages old height (child_of (first_cell (old id).cells)) in
     let nonzero : id ≡ 0 → ⊥ = stray.some id (inl refl) in
     let under : id < count_of old = stray.below id (inl refl) in
     let zeroth : mid 0 ≡ old 0 = a.others 0 (λ e. nonzero (sym e)) in
     let count : count_of mid ≡ count_of old = count_same old mid zeroth in
-    let stands : Stands mid root own free list =
-    stands_same old mid root own free list s zeroth
-    (λ n i. a.others n (λ e. stray.off_own id (inl refl) (subst (λ (k : ℕ). IsIn k own) e i)))
-    (λ n i. a.others n (λ e. stray.off_free id (inl refl) (subst (λ (k : ℕ). IsIn k free) e i)))
-    (λ n p. a.others n (λ e. past n p e)) in
-    let l = lone_same old mid height c (λ n i. a.others n (λ e. stray.apart.0 (subst (λ (k : ℕ). IsIn k ids) e i))) lone.2 in
-    let left : AreStray mid own free ids = record {
-      apart = stray.apart.1;
-      some = λ n i. stray.some n (inr i);
-      off_own = λ n i. stray.off_own n (inr i);
-      off_free = λ n i. stray.off_free n (inr i);
-      below = λ n i. subst (λ (k : ℕ). n < k) (sym count) (stray.below n (inr i));
-    } in
-    let at : IsLone mid height c → Stands mid root own free list → AreStray mid own free (lone_pages mid height c)
-    → FreesAll mid late root own free list (lone_pages mid height c) =
-    subst (λ (k : ℕ). IsLone mid height k → Stands mid root own free list → AreStray mid own free (lone_pages mid height k)
-    → FreesAll mid late root own free list (lone_pages mid height k)) is (rec height) in
+    let b : LeftBelow old mid child height root own free list =
+    left_below old mid id child height root own free list (record { stands = s; lone = lone; stray = stray }) is a in
     let r : FreesAll mid late root own free list ids =
-    subst (λ (l : List ℕ). FreesAll mid late root own free list l) l.1
-    (at l.0 stands (subst (λ (l : List ℕ). AreStray mid own free l) (sym l.1) left)) in
+    subst (λ (l : List ℕ). FreesAll mid late root own free list l) (b.ids ∙ ap (λ (k : ℕ). lone_pages old height k) is)
+    (rec height b.loose.lone b.loose.stands b.loose.stray) in
     let none : (late id).cells ≡ [] =
     ap (λ (i : Image). i.cells) (r.others id nonzero stray.apart.0) ∙ a.is ∙ ap (λ (l : List (List ℕ)). remove l 0) lone.1 in
     record {
@@ -161,12 +183,67 @@ free_inner old mid late new (suc height) id child root own free list s lone kind
       others = λ n z b. f.others n z (λ e. b (inl e)) ∙ r.others n z (λ i. b (inr i)) ∙ a.others n (λ e. b (inl e));
     }
   where
-    past : (n : ℕ) → count_of old ≤ n → n ≡ id → ⊥
-    past n p e = let under : id < count_of old = stray.below id (inl refl) in omega arith
-
     off : IsIn id (lone_pages old height (child_of (first_cell (old id).cells))) ⊎ IsIn id free → ⊥
     off (inl i) = stray.apart.0 i
     off (inr i) = stray.off_free id (inl refl) i
+
+-- a tree that lost the pages down to an empty leaf, which are loose now
+pub record IsCutOff (old mid : ℕ → Image) (child height root : ℕ) (own mine free : List ℕ) (list : List (Key × List ℕ)) : Type 0 where
+  pub loose : AreLoose mid child height root mine free list
+  pub ids : lone_pages mid height child ≡ lone_pages old height child
+  pub from : (n : ℕ) → IsIn n mine → IsIn n own
+  pub gone : (n : ℕ) → IsIn n (lone_pages old height child) → IsIn n own
+  pub same : (n : ℕ) → (IsIn n own → ⊥) → mid n ≡ old n
+  pub count : count_of mid ≡ count_of old
+
+-- below a page that has another child
+pub cut_off : (old mid : ℕ → Image) (root : ℕ) (own free : List ℕ) (list : List (Key × List ℕ)) (fork : Fork) → (s : Stands old root own free list)
+    → (f : IsFork old s.height (top root) s.cells fork) → Unlinks old mid fork
+    → IsCutOff old mid fork.child f.depth root own (pages_of mid s.height (top root)) free list
+cut_off old mid root own free list fork s f u =
+    let ids = lone_pages old f.depth fork.child in
+    let k : Shrunk old mid s.height (top root) (top root) ids fork.left s.cells = f.out mid u in
+    let from : (n : ℕ) → IsIn n (pages_of mid s.height (top root)) → IsIn n own = λ n i. subst (λ (l : List ℕ). IsIn n l) s.own_is (k.from n i) in
+    let gone : (n : ℕ) → IsIn n ids → IsIn n own = λ n i. subst (λ (l : List ℕ). IsIn n l) s.own_is (k.went n i) in
+    let page_own : IsIn fork.page own = subst (λ (l : List ℕ). IsIn fork.page l) s.own_is f.inside in
+    let same : (n : ℕ) → (IsIn n own → ⊥) → mid n ≡ old n =
+    λ n off. u.others n (λ e. off (subst (λ (j : ℕ). IsIn j own) (sym e) page_own)) (λ e. off (from n (k.beside n e))) in
+    let zeroth : mid 0 ≡ old 0 = same 0 s.off_meta in
+    let count : count_of mid ≡ count_of old = count_same old mid zeroth in
+    let l = lone_same old mid f.depth fork.child
+    (λ n i. u.others n (λ e. f.off (subst (λ (j : ℕ). IsIn j ids) e i)) (λ e. k.off n (k.beside n e) i)) f.lone in
+    let stray : AreStray mid (pages_of mid s.height (top root)) free ids = record {
+      apart = f.apart;
+      some = λ n i e. s.off_meta (subst (λ (j : ℕ). IsIn j own) e (gone n i));
+      off_own = λ n i j. k.off n j i;
+      off_free = λ n i j. s.off_free n (gone n i) j;
+      below = λ n i. subst (λ (c : ℕ). n < c) (sym count) (s.below n (gone n i));
+    } in
+    record {
+      loose = record {
+        stands = record {
+          height = s.height;
+          cells = s.cells;
+          holds = k.holds;
+          own_is = refl;
+          pairs = s.pairs;
+          spare = free_same old mid free s.spare zeroth (λ n i. same n (λ j. s.off_free n j i)) (λ n p. same n (λ j. past n p (s.below n j)));
+          off_meta = λ i. s.off_meta (from 0 i);
+          off_free = λ n i j. s.off_free n (from n i) j;
+          below = λ n i. subst (λ (c : ℕ). n < c) (sym count) (s.below n (from n i));
+        };
+        lone = l.0;
+        stray = subst (λ (x : List ℕ). AreStray mid (pages_of mid s.height (top root)) free x) (sym l.1) stray;
+      };
+      ids = l.1;
+      from = from;
+      gone = gone;
+      same = same;
+      count = count;
+    }
+  where
+    past : (n : ℕ) {c : ℕ} → c ≤ n → n < c → ⊥
+    past n a b = omega arith
 
 -- a tree out of which an empty leaf was taken, and then freed
 pub pruned : (old mid new : ℕ → Image) (root : ℕ) (own free : List ℕ) (list : List (Key × List ℕ)) (fork : Fork) → (s : Stands old root own free list)
@@ -177,37 +254,11 @@ pruned old mid new root own free list fork s f u frees =
     let ids = lone_pages old f.depth fork.child in
     let mine = pages_of mid s.height (top root) in
     let k : Shrunk old mid s.height (top root) (top root) ids fork.left s.cells = f.out mid u in
-    let from : (n : ℕ) → IsIn n mine → IsIn n own = λ n i. subst (λ (l : List ℕ). IsIn n l) s.own_is (k.from n i) in
-    let gone : (n : ℕ) → IsIn n ids → IsIn n own = λ n i. subst (λ (l : List ℕ). IsIn n l) s.own_is (k.went n i) in
-    let page_own : IsIn fork.page own = subst (λ (l : List ℕ). IsIn fork.page l) s.own_is f.inside in
-    let same : (n : ℕ) → (IsIn n own → ⊥) → mid n ≡ old n =
-    λ n off. u.others n (λ e. off (subst (λ (j : ℕ). IsIn j own) (sym e) page_own)) (λ e. off (from n (k.beside n e))) in
-    let zeroth : mid 0 ≡ old 0 = same 0 s.off_meta in
-    let count : count_of mid ≡ count_of old = count_same old mid zeroth in
-    let stands : Stands mid root mine free list = record {
-      height = s.height;
-      cells = s.cells;
-      holds = k.holds;
-      own_is = refl;
-      pairs = s.pairs;
-      spare = free_same old mid free s.spare zeroth (λ n i. same n (λ j. s.off_free n j i)) (λ n p. same n (λ j. past n p (s.below n j)));
-      off_meta = λ i. s.off_meta (from 0 i);
-      off_free = λ n i j. s.off_free n (from n i) j;
-      below = λ n i. subst (λ (c : ℕ). n < c) (sym count) (s.below n (from n i));
-    } in
-    let l = lone_same old mid f.depth fork.child
-    (λ n i. u.others n (λ e. f.off (subst (λ (j : ℕ). IsIn j ids) e i)) (λ e. k.off n (k.beside n e) i)) f.lone in
-    let stray : AreStray mid mine free ids = record {
-      apart = f.apart;
-      some = λ n i e. s.off_meta (subst (λ (j : ℕ). IsIn j own) e (gone n i));
-      off_own = λ n i j. k.off n j i;
-      off_free = λ n i j. s.off_free n (gone n i) j;
-      below = λ n i. subst (λ (c : ℕ). n < c) (sym count) (s.below n (gone n i));
-    } in
+    let w : IsCutOff old mid fork.child f.depth root own mine free list = cut_off old mid root own free list fork s f u in
+    let zeroth : mid 0 ≡ old 0 = w.same 0 s.off_meta in
     let r : FreesAll mid new root mine free list ids =
-    subst (λ (l : List ℕ). FreesAll mid new root mine free list l) l.1
-    (frees f.depth mine l.0 stands (subst (λ (l : List ℕ). AreStray mid mine free l) (sym l.1) stray)) in
-    let all : count_of new ≡ count_of old = r.count ∙ count in
+    subst (λ (l : List ℕ). FreesAll mid new root mine free list l) w.ids (frees f.depth mine w.loose.lone w.loose.stands w.loose.stray) in
+    let all : count_of new ≡ count_of old = r.count ∙ w.count in
     record {
       becomes = record {
         more = mine;
@@ -217,9 +268,9 @@ pruned old mid new root own free list fork s f u frees =
           genid = r.genid ∙ genid_same old mid zeroth;
           count = omega arith;
           few = λ h. subst (λ (c : ℕ). c < 2 ^ 62) (sym all) h;
-          others = λ n h z off_own off_free. r.others n z (λ i. off_own (gone n i)) ∙ same n off_own;
-          tree = λ n i. inl (from n i);
-          unused = λ n i. was n gone (in_either n ids free i);
+          others = λ n h z off_own off_free. r.others n z (λ i. off_own (w.gone n i)) ∙ w.same n off_own;
+          tree = λ n i. inl (w.from n i);
+          unused = λ n i. was n w.gone (in_either n ids free i);
         };
         lost = record {
           tree = λ n i. still n (k.keeps n (subst (λ (l : List ℕ). IsIn n l) (sym s.own_is) i));
@@ -227,13 +278,11 @@ pruned old mid new root own free list fork s f u frees =
           taken = λ n a b. absurd (none n a b all);
         };
       };
+      filled = filled_after old mid new root (unlinked_filled old mid root fork u) (freed_filled mid new root mine free list ids r);
       went = inr (free_page_in new (lone_leaf old f.depth fork.child) (ids ++ free) r.stands.spare.kept
           (in_left (lone_leaf old f.depth fork.child) ids free (lone_inside old f.depth fork.child)));
     }
   where
-    past : (n : ℕ) {c : ℕ} → c ≤ n → n < c → ⊥
-    past n a b = omega arith
-
     none : (n : ℕ) → count_of old ≤ n → n < count_of new → count_of new ≡ count_of old → ⊥
     none n a b e = omega arith
 
@@ -259,25 +308,26 @@ lone_all pages (suc height) e lone =
       ap (λ (l : List Entry). cells_of pages (leaves pages height l)) s ∙ rec.1,
     )
 
--- its root becomes an empty leaf, and the other pages are freed
-flatten_from : (old mid new : ℕ → Image) (root child height : ℕ) (own free : List ℕ) (list : List (Key × List ℕ)) → (s : Stands old root own free list)
-    → s.height ≡ height → IsLone old height root → (old root).head.kind ≡ Inner → child ≡ child_of (first_cell (old root).cells)
+lone_own : (pages : ℕ → Image) (root height : ℕ) (own free : List ℕ) (list : List (Key × List ℕ)) → (s : Stands pages root own free list) → s.height ≡ suc height
+    → IsLone pages (suc height) root → own ≡ root ∷ lone_pages pages height (child_of (first_cell (pages root).cells))
+lone_own pages root height own free list s tall lone =
+    sym s.own_is ∙ ap (λ (h : ℕ). pages_of pages h (top root)) tall ∙ (lone_all pages (suc height) (record { low = []; page = root }) lone).0
+
+-- its root becomes an empty leaf
+pub flat_off : (old mid : ℕ → Image) (root child height : ℕ) (own free : List ℕ) (list : List (Key × List ℕ)) → (s : Stands old root own free list)
+    → s.height ≡ suc height → IsLone old (suc height) root → child ≡ child_of (first_cell (old root).cells)
     → Alters old mid root (record { kind = Leaf; level = 0; right = 0 }) (remove (old root).cells 0)
-    → ((h : ℕ) (mine : List ℕ) → IsLone mid h child → Stands mid root mine free list → AreStray mid mine free (lone_pages mid h child)
-    → FreesAll mid new root mine free list (lone_pages mid h child)) → LosesLeaf old new root own free list (lone_leaf old height root)
-flatten_from old mid new root child zero own free list s tall lone kind is a frees = absurd (let e = sym kind ∙ lone.0 in cc)
-flatten_from old mid new root child (suc height) own free list s tall lone kind is a frees =
+    → IsCutOff old mid child height root own (root ∷ []) free list
+flat_off old mid root child height own free list s tall lone is a =
     let c = child_of (first_cell (old root).cells) in
     let ids = lone_pages old height c in
-    let mine = root ∷ [] in
-    let whole = lone_all old (suc height) (record { low = []; page = root }) lone in
-    let own_is : own ≡ root ∷ ids = sym s.own_is ∙ ap (λ (h : ℕ). pages_of old h (top root)) tall ∙ whole.0 in
-    let apart : AreApart (root ∷ ids) =
-    subst AreApart (s.own_is ∙ own_is) s.holds.apart in
+    let own_is : own ≡ root ∷ ids = lone_own old root height own free list s tall lone in
+    let apart : AreApart (root ∷ ids) = subst AreApart (s.own_is ∙ own_is) s.holds.apart in
     let gone : (n : ℕ) → IsIn n ids → IsIn n own = λ n i. subst (λ (l : List ℕ). IsIn n l) (sym own_is) (inr i) in
     let root_own : IsIn root own = subst (λ (l : List ℕ). IsIn root l) (sym own_is) (inl refl) in
-    let from : (n : ℕ) → IsIn n mine → IsIn n own = λ n i. subst (λ (l : List ℕ). IsIn n l) (sym own_is) (in_left n mine ids i) in
-    let cells : s.cells ≡ [] = sym s.holds.is ∙ ap (λ (h : ℕ). cells_of old (leaves old h (top root))) tall ∙ whole.1 in
+    let from : (n : ℕ) → IsIn n (root ∷ []) → IsIn n own = λ n i. subst (λ (l : List ℕ). IsIn n l) (sym own_is) (in_left n (root ∷ []) ids i) in
+    let cells : s.cells ≡ [] =
+    sym s.holds.is ∙ ap (λ (h : ℕ). cells_of old (leaves old h (top root))) tall ∙ (lone_all old (suc height) (record { low = []; page = root }) lone).1 in
     let same : (n : ℕ) → (IsIn n own → ⊥) → mid n ≡ old n = λ n off. a.others n (λ e. off (subst (λ (j : ℕ). IsIn j own) (sym e) root_own)) in
     let zeroth : mid 0 ≡ old 0 = same 0 s.off_meta in
     let count : count_of mid ≡ count_of old = count_same old mid zeroth in
@@ -288,7 +338,7 @@ flatten_from old mid new root child (suc height) own free list s tall lone kind 
       cells = subst (λ (l : List (List ℕ)). AllByRecursion (λ (c : List ℕ). IsLeafCell c) l) (sym none) tt;
       fits = subst HasRoom (sym none) (omega arith);
     } in
-    let stands : Stands mid root mine free list = record {
+    let stands : Stands mid root (root ∷ []) free list = record {
       height = 0;
       cells = [];
       holds = record {
@@ -306,21 +356,53 @@ flatten_from old mid new root child (suc height) own free list s tall lone kind 
       below = λ n i. subst (λ (c : ℕ). n < c) (sym count) (s.below n (from n i));
     } in
     let l = lone_same old mid height c (λ n i. a.others n (λ e. apart.0 (subst (λ (j : ℕ). IsIn j ids) e i))) lone.2 in
-    let stray : AreStray mid mine free ids = record {
+    let stray : AreStray mid (root ∷ []) free ids = record {
       apart = apart.1;
       some = λ n i e. s.off_meta (subst (λ (j : ℕ). IsIn j own) e (gone n i));
       off_own = λ n i j. off n i j apart;
       off_free = λ n i j. s.off_free n (gone n i) j;
       below = λ n i. subst (λ (c : ℕ). n < c) (sym count) (s.below n (gone n i));
     } in
+    subst (λ (k : ℕ). IsCutOff old mid k height root own (root ∷ []) free list) (sym is)
+    (record {
+      loose = record { stands = stands; lone = l.0; stray = subst (λ (x : List ℕ). AreStray mid (root ∷ []) free x) (sym l.1) stray };
+      ids = l.1;
+      from = from;
+      gone = gone;
+      same = same;
+      count = count;
+    })
+  where
+    past : (n : ℕ) {c : ℕ} → c ≤ n → n < c → ⊥
+    past n a b = omega arith
+
+    off : (n : ℕ) → IsIn n (lone_pages old height (child_of (first_cell (old root).cells))) → IsIn n (root ∷ [])
+        → AreApart (root ∷ lone_pages old height (child_of (first_cell (old root).cells))) → ⊥
+    off n i (inl e) apart = apart.0 (subst (λ (j : ℕ). IsIn j (lone_pages old height (child_of (first_cell (old root).cells)))) e i)
+    off n i (inr k) apart = k
+
+-- and the other pages are freed
+flatten_from : (old mid new : ℕ → Image) (root child height : ℕ) (own free : List ℕ) (list : List (Key × List ℕ)) → (s : Stands old root own free list)
+    → s.height ≡ height → IsLone old height root → (old root).head.kind ≡ Inner → child ≡ child_of (first_cell (old root).cells)
+    → Alters old mid root (record { kind = Leaf; level = 0; right = 0 }) (remove (old root).cells 0)
+    → ((h : ℕ) (mine : List ℕ) → IsLone mid h child → Stands mid root mine free list → AreStray mid mine free (lone_pages mid h child)
+    → FreesAll mid new root mine free list (lone_pages mid h child)) → LosesLeaf old new root own free list (lone_leaf old height root)
+flatten_from old mid new root child zero own free list s tall lone kind is a frees = absurd (let e = sym kind ∙ lone.0 in cc)
+flatten_from old mid new root child (suc height) own free list s tall lone kind is a frees =
+    let c = child_of (first_cell (old root).cells) in
+    let ids = lone_pages old height c in
+    let mine = root ∷ [] in
+    let own_is : own ≡ root ∷ ids = lone_own old root height own free list s tall lone in
+    let w : IsCutOff old mid c height root own mine free list =
+    subst (λ (k : ℕ). IsCutOff old mid k height root own mine free list) is (flat_off old mid root child height own free list s tall lone is a) in
+    let zeroth : mid 0 ≡ old 0 = w.same 0 s.off_meta in
     let at : IsLone mid height c → Stands mid root mine free list → AreStray mid mine free (lone_pages mid height c)
     → FreesAll mid new root mine free list (lone_pages mid height c) =
     subst (λ (k : ℕ). IsLone mid height k → Stands mid root mine free list → AreStray mid mine free (lone_pages mid height k)
     → FreesAll mid new root mine free list (lone_pages mid height k)) is (frees height mine) in
     let r : FreesAll mid new root mine free list ids =
-    subst (λ (l : List ℕ). FreesAll mid new root mine free list l) l.1
-    (at l.0 stands (subst (λ (l : List ℕ). AreStray mid mine free l) (sym l.1) stray)) in
-    let all : count_of new ≡ count_of old = r.count ∙ count in
+    subst (λ (l : List ℕ). FreesAll mid new root mine free list l) w.ids (at w.loose.lone w.loose.stands w.loose.stray) in
+    let all : count_of new ≡ count_of old = r.count ∙ w.count in
     record {
       becomes = record {
         more = mine;
@@ -330,9 +412,9 @@ flatten_from old mid new root child (suc height) own free list s tall lone kind 
           genid = r.genid ∙ genid_same old mid zeroth;
           count = omega arith;
           few = λ h. subst (λ (c : ℕ). c < 2 ^ 62) (sym all) h;
-          others = λ n h z off_own off_free. r.others n z (λ i. off_own (gone n i)) ∙ same n off_own;
-          tree = λ n i. inl (from n i);
-          unused = λ n i. was n gone (in_either n ids free i);
+          others = λ n h z off_own off_free. r.others n z (λ i. off_own (w.gone n i)) ∙ w.same n off_own;
+          tree = λ n i. inl (w.from n i);
+          unused = λ n i. was n w.gone (in_either n ids free i);
         };
         lost = record {
           tree = λ n i. still n (subst (λ (l : List ℕ). IsIn n l) own_is i);
@@ -340,20 +422,13 @@ flatten_from old mid new root child (suc height) own free list s tall lone kind 
           taken = λ n a b. absurd (never n a b all);
         };
       };
+      filled = filled_after old mid new root (root_filled old mid root _ _ a) (freed_filled mid new root mine free list ids r);
       went = inr (free_page_in new (lone_leaf old height c) (ids ++ free) r.stands.spare.kept
           (in_left (lone_leaf old height c) ids free (lone_inside old height c)));
     }
   where
-    past : (n : ℕ) {c : ℕ} → c ≤ n → n < c → ⊥
-    past n a b = omega arith
-
     never : (n : ℕ) → count_of old ≤ n → n < count_of new → count_of new ≡ count_of old → ⊥
     never n a b e = omega arith
-
-    off : (n : ℕ) → IsIn n (lone_pages old height (child_of (first_cell (old root).cells))) → IsIn n (root ∷ [])
-        → AreApart (root ∷ lone_pages old height (child_of (first_cell (old root).cells))) → ⊥
-    off n i (inl e) apart = apart.0 (subst (λ (j : ℕ). IsIn j (lone_pages old height (child_of (first_cell (old root).cells)))) e i)
-    off n i (inr k) apart = k
 
     was : (n : ℕ) → ((n : ℕ) → IsIn n (lone_pages old height (child_of (first_cell (old root).cells))) → IsIn n own)
         → IsIn n (lone_pages old height (child_of (first_cell (old root).cells))) ⊎ IsIn n free → IsIn n own ⊎ IsIn n free ⊎ (count_of old ≤ n)
@@ -378,6 +453,7 @@ pub stays_leaf : (old new : ℕ → Image) (root : ℕ) (own free : List ℕ) (l
     → IsLone old s.height root → (old root).head.kind ≡ Leaf → LosesLeaf old new root own free list (lone_leaf old s.height root)
 stays_leaf old new root own free list same s lone kind = record {
   becomes = subst (λ (p : ℕ → Image). Becomes old p root own free list) (sym same) (becomes_none old root own free list s);
+  filled = filled_same old new root same;
   went = inl (lone_root old s.height root lone kind);
 }
 
@@ -390,10 +466,15 @@ drops_first old mid new page a r = record {
     is = r.alters.is ∙ first_set (mid page).cells r.cell r.here ∙ ap rekeyed a.is;
     others = λ n off. r.alters.others n off ∙ a.others n off;
   };
+  some = λ e. still (mid page).cells r.cell r.here (sym r.alters.is ∙ e);
   small = λ z next here. subst (λ (c : List ℕ). child_of c < 2 ^ 64)
       (same_Some r.cell next (sym r.here ∙ ap (λ (l : List (List ℕ)). slice_get l 0) a.is ∙ second (old page).cells ∙ here)) r.small;
 }
   where
+    still : (cells : List (List ℕ)) (cell : List ℕ) → slice_get cells 0 ≡ Some cell → slice_set cells 0 (inner_cell [] (child_of r.cell)) ≡ [] → ⊥
+    still [] cell here e = none-some cell here
+    still (c ∷ cs) cell here e = let k = e in cc
+
     first_set : (cells : List (List ℕ)) (cell : List ℕ) → slice_get cells 0 ≡ Some cell → slice_set cells 0 (inner_cell [] (child_of cell)) ≡ rekeyed cells
     first_set [] cell here = absurd (none-some cell here)
     first_set (c ∷ cs) cell here = ap (λ (x : List ℕ). inner_cell [] (child_of x) ∷ cs) (sym (same_Some c cell here))
@@ -402,6 +483,19 @@ drops_first old mid new page a r = record {
     second [] = refl
     second (c ∷ []) = refl
     second (c ∷ d ∷ cs) = refl
+
+-- a cell behind the first is taken from a page
+pub drops_later : (old new : ℕ → Image) (page at : ℕ) → 0 < at → TakesAt old new page at → DropsChild old new page at
+drops_later old new page zero after t = absurd (omega arith)
+drops_later old new page (suc at) after t = record {
+  alters = t.alters;
+  some = λ e. left (old page).cells t.cell t.here (sym t.alters.is ∙ e);
+  small = λ z next here. absurd (let k : suc at ≡ 0 = z in omega arith);
+}
+  where
+    left : (cells : List (List ℕ)) (cell : List ℕ) → slice_get cells (suc at) ≡ Some cell → remove cells (suc at) ≡ [] → ⊥
+    left [] cell here e = none-some cell here
+    left (c ∷ cs) cell here e = let k = e in cc
 
 -- the page that loses a child, and then the leaf before the one that goes
 pub unlinks : (old mid new : ℕ → Image) (fork : Fork) → DropsChild old mid fork.page fork.at → SetsRight mid new fork.page fork.left fork.right
@@ -412,6 +506,7 @@ unlinks old mid new fork d r room =
     λ n k. d.alters.others n (λ e. r.off (k ∙ ap (λ (j : ℕ). Some j) e)) in
     record {
       cells = ap (λ (i : Image). i.cells) here ∙ d.alters.is;
+      some = λ e. d.some (ap (λ (i : Image). i.cells) (sym here) ∙ e);
       head = ap (λ (i : Image). i.head) here ∙ d.alters.head_is;
       left_cells = λ n k. r.cells n k ∙ ap (λ (i : Image). i.cells) (beside n k);
       left_head = λ n k. r.head n k ∙ ap (λ (i : Image). record i.head { right = fork.right }) (beside n k);

@@ -10,7 +10,7 @@ below_some : (low : Key) (cells : List (List ℕ)) → BeginsEmpty cells → (x 
 below_some low [] h = absurd h
 below_some low (c ∷ cs) h = (record { low = low; page = child_of c }, map entry_of cs, refl)
 
-spread_some : (pages : ℕ → Image) (e : Entry) (es : List Entry) → BeginsEmpty (pages e.page).cells
+pub spread_some : (pages : ℕ → Image) (e : Entry) (es : List Entry) → BeginsEmpty (pages e.page).cells
     → (x : Entry) × (xs : List Entry) × (spread pages (e ∷ es) ≡ x ∷ xs)
 spread_some pages e es h =
     let some = below_some e.low (pages e.page).cells h in

@@ -1,8 +1,10 @@
 -- What the steps of a change need of the pages, so that each of their edits fits.
-use Rattle.std.specs.Prelude.{◌≡◌, ◌⊎◌, ℕ, ◌+◌, ◌<◌, ◌≤◌, [], Option, None, Some}
+use Rattle.std.specs.Prelude.{◌≡◌, ◌⊎◌, ℕ, ◌+◌, ◌<◌, ◌≤◌, [], ◌∷◌, length, Option, None, Some}
 use Rattle.page_store.specs.Image.{Image, taken, room}
-use Rattle.page_workspace.specs.Spare.{IsMeta, count_of, first_free}
+use Rattle.page_store.specs.declared.pages.PageKind.TheVariants.{Leaf, Inner}
+use Rattle.page_workspace.specs.Spare.{IsMeta, count_of, first_cell, first_free}
 use Rattle.btree_index.specs.Keys.{Key}
+use Rattle.btree_index.specs.Cells.{IsInnerCell}
 use Rattle.btree_index.specs.Pairs.{choice}
 use Rattle.btree_index.specs.Trees.{IsLeafPage, IsInnerPage}
 
@@ -66,3 +68,15 @@ IsFullUntil pages key (Some above) page = (choice key (pages above).cells ≡ pa
 abbrev pub IsFullUnder : (ℕ → Image) → Key → Option ℕ → Type 0
 IsFullUnder pages key None = Unit {0}
 IsFullUnder pages key (Some above) = IsFull (pages (choice key (pages above).cells))
+
+-- a leaf, or a page above the leaves with one child
+abbrev pub HasOneChild : Image → Type 0
+HasOneChild image =
+    (image.head.kind ≡ Leaf) ⊎ ((image.head.kind ≡ Inner) × (image.cells ≡ first_cell image.cells ∷ []) × IsInnerCell (first_cell image.cells))
+
+-- a page above the leaves that can lose the child at a place, since it has another one
+pub record CanLose (image : Image) (at : ℕ) : Type 0 where
+  pub height : ℕ
+  pub inner : IsInnerPage height image
+  pub there : at < length image.cells
+  pub several : 1 < length image.cells

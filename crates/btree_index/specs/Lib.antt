@@ -6,4 +6,5 @@ pub mod Ways
 pub mod Fits
 pub mod Changes
 pub mod Steps
+pub mod Filled
 pub mod Prunes

@@ -15,9 +15,11 @@ use Rattle.page_store.specs.Image.{Image, HasRoom}
 use Rattle.page_store.specs.declared.pages.PageKind.TheVariants.{Leaf, Inner}
 use Rattle.page_workspace.specs.Spare.{IsIn, AreApart, IsFreePage, first_cell, count_of, next_genid}
 use Rattle.btree_index.specs.Keys.{Key}
-use Rattle.btree_index.specs.Cells.{child_of, inner_cell}
+use Rattle.btree_index.specs.Cells.{child_of, inner_cell, IsInnerCell}
 use Rattle.btree_index.specs.Trees.{Entry, leaves, pages_of, Holds}
 use Rattle.btree_index.specs.Changes.{Stands, Becomes}
+use Rattle.btree_index.specs.Filled.{KeepsFilled}
+use Rattle.btree_index.specs.Fits.{CanLose}
 use Rattle.btree_index.specs.Pairs.{HasKeyAt, choice}
 use Rattle.btree_index.specs.Steps.{Alters}
 use Rattle.btree_index.specs.declared.finds.Below.{Below}
@@ -51,7 +53,7 @@ abbrev pub IsLone : (ℕ → Image) → ℕ → ℕ → Type 0
 IsLone pages zero page = ((pages page).head.kind ≡ Leaf) × ((pages page).cells ≡ [])
 IsLone pages (suc height) page =
     ((pages page).head.kind ≡ Inner) × ((pages page).cells ≡ first_cell (pages page).cells ∷ [])
-    × IsLone pages height (child_of (first_cell (pages page).cells))
+    × IsLone pages height (child_of (first_cell (pages page).cells)) × IsInnerCell (first_cell (pages page).cells)
 
 abbrev pub lone_pages : (ℕ → Image) → ℕ → ℕ → List ℕ
 lone_pages pages zero page = page ∷ []
@@ -76,15 +78,21 @@ pub record Shrunk (old new : ℕ → Image) (height : ℕ) (before level : List 
   pub went : (n : ℕ) → IsIn n gone → IsIn n (pages_of old height before)
   pub beside : (n : ℕ) → left ≡ Some n → IsIn n (pages_of new height level)
 
--- a page lost a child, and the leaf before it got the right link that the leaf below had
+-- a page lost a child and has others, and the leaf before it got the right link that the leaf below had
 pub record Unlinks (old new : ℕ → Image) (fork : Fork) : Type 0 where
   pub cells : (new fork.page).cells ≡ without_child fork.at (old fork.page).cells
+  pub some : (new fork.page).cells ≡ [] → ⊥
   pub head : (new fork.page).head ≡ (old fork.page).head
   pub left_cells : (n : ℕ) → fork.left ≡ Some n → (new n).cells ≡ (old n).cells
   pub left_head : (n : ℕ) → fork.left ≡ Some n → (new n).head ≡ record (old n).head { right = fork.right }
   pub small : fork.at ≡ 0 → (next : List ℕ) → slice_get (old fork.page).cells 1 ≡ Some next → child_of next < 2 ^ 64
   pub room : HasRoom (new fork.page).cells
   pub others : (n : ℕ) → (n ≡ fork.page → ⊥) → (fork.left ≡ Some n → ⊥) → new n ≡ old n
+
+-- a page can lose a child, and the leaf before that, where there is one, is another page
+pub record CanUnlink (pages : ℕ → Image) (fork : Fork) : Type 0 where
+  pub loses : CanLose (pages fork.page) fork.at
+  pub off : fork.left ≡ Some fork.page → ⊥
 
 -- where a page with a child more than one can lose one of them, since below that one no leaf has cells
 pub record IsFork (pages : ℕ → Image) (height : ℕ) (level : List Entry) (cells : List (List ℕ)) (fork : Fork) : Type 0 where
@@ -93,6 +101,7 @@ pub record IsFork (pages : ℕ → Image) (height : ℕ) (level : List Entry) (c
   pub apart : AreApart (lone_pages pages depth fork.child)
   pub inside : IsIn fork.page (pages_of pages height level)
   pub off : IsIn fork.page (lone_pages pages depth fork.child) → ⊥
+  pub able : CanUnlink pages fork
   pub out : (new : ℕ → Image) → Unlinks pages new fork → Shrunk pages new height level level (lone_pages pages depth fork.child) fork.left cells
 
 -- what the way to a leaf came to, seen from a page on it: the pages from there on have one empty leaf and nothing else, or
@@ -139,6 +148,22 @@ pub record AreStray (pages : ℕ → Image) (own free ids : List ℕ) : Type 0 w
   pub off_free : (n : ℕ) → IsIn n ids → IsIn n free → ⊥
   pub below : (n : ℕ) → IsIn n ids → n < count_of pages
 
+-- beside a tree, the pages from one down to a leaf without cells, which are of no tree
+pub record AreLoose (pages : ℕ → Image) (id height root : ℕ) (own free : List ℕ) (list : List (Key × List ℕ)) : Type 0 where
+  pub stands : Stands pages root own free list
+  pub lone : IsLone pages height id
+  pub stray : AreStray pages own free (lone_pages pages height id)
+
+-- such pages, of fewer levels than so many turns
+pub record CanFree (pages : ℕ → Image) (id turns : ℕ) : Type 0 where
+  pub height : ℕ
+  pub root : ℕ
+  pub own : List ℕ
+  pub free : List ℕ
+  pub list : List (Key × List ℕ)
+  pub loose : AreLoose pages id height root own free list
+  pub few : height < turns
+
 -- these pages were given back, in front of those that were free
 pub record FreesAll (old new : ℕ → Image) (root : ℕ) (own free : List ℕ) (list : List (Key × List ℕ)) (ids : List ℕ) : Type 0 where
   pub stands : Stands new root own (ids ++ free) list
@@ -151,9 +176,10 @@ abbrev pub IsOnly : Image → Option ℕ → Type 0
 IsOnly image None = image.head.kind ≡ Leaf
 IsOnly image (Some child) = (image.head.kind ≡ Inner) × (child ≡ child_of (first_cell image.cells))
 
--- a page lost a child, and nothing else changed
+-- a page lost a child and has others, and nothing else changed
 pub record DropsChild (old new : ℕ → Image) (page at : ℕ) : Type 0 where
   pub alters : Alters old new page (old page).head (without_child at (old page).cells)
+  pub some : (new page).cells ≡ [] → ⊥
   pub small : at ≡ 0 → (next : List ℕ) → slice_get (old page).cells 1 ≡ Some next → child_of next < 2 ^ 64
 
 -- the first cell of a page has the empty key now
@@ -193,9 +219,10 @@ LeadsTo pages key page Full = (leaf : ℕ) × HasLeaf pages key page leaf × ((p
 LeadsTo pages key page (Lone lone) = Unit {0}
 LeadsTo pages key page (Forked fork) = GoesOn pages key page fork.child
 
--- the tree of this list stands, and a leaf of it is its root, or is a free page now
+-- the tree of this list stands, and a leaf of it is its root, or is a free page now; and no other leaf is empty that was not
 pub record LosesLeaf (old new : ℕ → Image) (root : ℕ) (own free : List ℕ) (list : List (Key × List ℕ)) (leaf : ℕ) : Type 0 where
   pub becomes : Becomes old new root own free list
+  pub filled : KeepsFilled old new root
   pub went : (leaf ≡ root) ⊎ IsFreePage (new leaf)
 
 -- the leaf on the way to a key has cells, or is the root, or is a free page now

@@ -3,15 +3,18 @@
 //! With the leaf goes each page above it that has no other child. The last page on the way that has one loses a cell,
 //! and its next cell gets the empty key where that was the first; the leaf before gets the right link of the empty one.
 //! Where no page on the way has another child, the root becomes an empty leaf.
-ghost use Rattle.std.specs.Prelude.{ℕ, ◌≡◌, List, OnOk, Some};
+ghost use Rattle.std.specs.Prelude.{ℕ, ◌≡◌, ◌≤◌, ◌∷◌, [], List, OnOk, Some};
 ghost use Rattle.page_store.specs.Image.{Image};
-ghost use Rattle.page_workspace.specs.Drafts.{meant, IsExcused};
+ghost use Rattle.page_workspace.specs.Drafts.{meant, IsExcused, IsNotUnfit};
+ghost use Rattle.page_workspace.specs.Spare.{count_of};
 ghost use Rattle.btree_index.specs.Keys.{Key};
+ghost use Rattle.btree_index.specs.Cells.{IsInnerCell};
 ghost use Rattle.btree_index.specs.Changes.{Becomes, Stands};
-ghost use Rattle.btree_index.specs.Prunes.{lone_pages, AreStray, DropsChild, Empties, FreesAll, FreesEmpty, IsLone, lone_leaf, LosesLeaf, Rekeys, SetsRight, Unlinks};
+ghost use Rattle.btree_index.specs.Filled.{KeepsFilled};
+ghost use Rattle.btree_index.specs.Fits.{CanLose};
+ghost use Rattle.btree_index.specs.Prunes.{lone_pages, AreStray, CanFree, CanUnlink, DropsChild, Empties, FreesAll, FreesEmpty, IsLone, lone_leaf, LosesLeaf, Rekeys, SetsRight, Unlinks};
 
 use crate::cells::{child_in, make_inner_cell};
-use crate::finds::turns_from;
 use crate::prunes::{Fork, Found, look_below, only_child};
 use crate::steps::{alter, copied, take_at};
 use page_store::{Edit, Head, PageKind, PageSource};
@@ -19,8 +22,8 @@ use page_workspace::{EditFault, Workspace};
 use std::alloc::Global;
 
 /// Frees the leaf on the way to a key, where it has no cells and is no root, together with the pages above it that have
-/// no other child. The list stays. `Gone` comes only where the source lost its pages; the other errors are want of memory,
-/// where a tree stands at the root. After an error the workspace may only be dropped.
+/// no other child. The list stays. `Unfit` comes only where the pages hold no tree, `Gone` only where the source lost its
+/// pages. After an error the workspace may only be dropped.
 pub(crate) fn free_empty_leaf<P: PageSource>(
     alloc: Global,
     space: &mut Workspace<P>,
@@ -31,41 +34,55 @@ pub(crate) fn free_empty_leaf<P: PageSource>(
         OnOk result (Becomes (meant P.pages space.old) (meant P.pages space.new) root own free list) }
     ensures gone { (own free : List ℕ) (list : List (Key × List ℕ)) → Stands (meant P.pages space.old) root own free list →
         OnOk result (FreesEmpty (meant P.pages space.old) (meant P.pages space.new) root key.now) }
+    ensures filled { (own free : List ℕ) (list : List (Key × List ℕ)) → Stands (meant P.pages space.old) root own free list →
+        OnOk result (KeepsFilled (meant P.pages space.old) (meant P.pages space.new) root) }
+    ensures fit { (own free : List ℕ) (list : List (Key × List ℕ)) →
+        Stands (meant P.pages space.old) root own free list → IsNotUnfit result }
     ensures base { P.pages space.new.base ≡ P.pages space.old.base }
     ensures excused { IsExcused result (P.losses space.old.base) (P.losses space.new.base) }
 {
-    space.load_to_edit(root)?;
-    let turns = turns_from(space.page().head().level);
-    let found = look_below(space, root, None, key, turns)?;
+    // no tree has more levels than there are pages
+    let meta = space.meta()?;
+    let found = look_below(space, root, None, key, meta.count)?;
     match found {
         Found::Full => Ok(()),
-        Found::Lone(_) => flatten(alloc, space, root),
-        Found::Forked(fork) => cut(alloc, space, fork),
+        Found::Lone(_) => flatten(alloc, space, root, meta.count),
+        Found::Forked(fork) => cut(alloc, space, fork, meta.count),
     }
 }
 
-/// Takes the pages below a child out of the tree, and frees them.
-fn cut<P: PageSource>(alloc: Global, space: &mut Workspace<P>, fork: Fork) -> Result<(), EditFault>
+/// Takes the pages below a child out of the tree, and frees them, so many at most.
+fn cut<P: PageSource>(
+    alloc: Global,
+    space: &mut Workspace<P>,
+    fork: Fork,
+    turns: u64,
+) -> Result<(), EditFault>
     ensures cut { OnOk result ((mid : ℕ → Image) × Unlinks (meant P.pages space.old) mid fork
         × ((height root : ℕ) (own free : List ℕ) (list : List (Key × List ℕ)) → Stands mid root own free list → IsLone mid height fork.child →
         AreStray mid own free (lone_pages mid height fork.child) →
         FreesAll mid (meant P.pages space.new) root own free list (lone_pages mid height fork.child))) }
+    ensures fit { CanUnlink (meant P.pages space.old) fork →
+        ((mid : ℕ → Image) → Unlinks (meant P.pages space.old) mid fork → CanFree mid fork.child turns) → IsNotUnfit result }
     ensures base { P.pages space.new.base ≡ P.pages space.old.base }
     ensures excused { IsExcused result (P.losses space.old.base) (P.losses space.new.base) }
 {
     unlink(alloc, space, fork)?;
-    free_from(alloc, space, fork.child, u64::MAX)
+    free_from(alloc, space, fork.child, turns)
 }
 
-/// Makes a root an empty leaf, and frees the pages below it; a root that is a leaf stays.
+/// Makes a root an empty leaf, and frees the pages below it, so many at most; a root that is a leaf stays.
 fn flatten<P: PageSource>(
     alloc: Global,
     space: &mut Workspace<P>,
     root: u64,
+    turns: u64,
 ) -> Result<(), EditFault>
     ensures flattened { (own free : List ℕ) (list : List (Key × List ℕ)) (stands : Stands (meant P.pages space.old) root own free list) →
         IsLone (meant P.pages space.old) stands.height root →
         OnOk result (LosesLeaf (meant P.pages space.old) (meant P.pages space.new) root own free list (lone_leaf (meant P.pages space.old) stands.height root)) }
+    ensures fit { (own free : List ℕ) (list : List (Key × List ℕ)) (stands : Stands (meant P.pages space.old) root own free list) →
+        IsLone (meant P.pages space.old) stands.height root → count_of (meant P.pages space.old) ≤ turns → IsNotUnfit result }
     ensures base { P.pages space.new.base ≡ P.pages space.old.base }
     ensures excused { IsExcused result (P.losses space.old.base) (P.losses space.new.base) }
 {
@@ -75,7 +92,7 @@ fn flatten<P: PageSource>(
         None => Ok(()),
         Some(child) => {
             empty_root(alloc, space, root)?;
-            free_from(alloc, space, child, u64::MAX)
+            free_from(alloc, space, child, turns)
         }
     }
 }
@@ -87,6 +104,7 @@ fn empty_root<P: PageSource>(
     root: u64,
 ) -> Result<(), EditFault>
     ensures emptied { OnOk result (Empties (meant P.pages space.old) (meant P.pages space.new) root) }
+    ensures fit { (cell : List ℕ) → (meant P.pages space.old root).cells ≡ cell ∷ [] → IsNotUnfit result }
     ensures base { P.pages space.new.base ≡ P.pages space.old.base }
     ensures excused { IsExcused result (P.losses space.old.base) (P.losses space.new.base) }
 {
@@ -101,7 +119,7 @@ fn empty_root<P: PageSource>(
     alter(space, root, Edit::SetHead { before, after })
 }
 
-/// Frees a page, the one child of it, and so on down to the leaf; the leaf first.
+/// Frees a page, the one child of it, and so on down to the leaf, so many at most; the leaf first.
 fn free_from<P: PageSource>(
     alloc: Global,
     space: &mut Workspace<P>,
@@ -112,6 +130,7 @@ fn free_from<P: PageSource>(
         IsLone (meant P.pages space.old) height id → AreStray (meant P.pages space.old) own free (lone_pages (meant P.pages space.old) height id) →
         OnOk result (FreesAll (meant P.pages space.old) (meant P.pages space.new) root own free list
         (lone_pages (meant P.pages space.old) height id)) }
+    ensures fit { CanFree (meant P.pages space.old) id turns → IsNotUnfit result }
     ensures base { P.pages space.new.base ≡ P.pages space.old.base }
     ensures excused { IsExcused result (P.losses space.old.base) (P.losses space.new.base) }
 {
@@ -137,6 +156,7 @@ fn unlink<P: PageSource>(
     fork: Fork,
 ) -> Result<(), EditFault>
     ensures unlinked { OnOk result (Unlinks (meant P.pages space.old) (meant P.pages space.new) fork) }
+    ensures fit { CanUnlink (meant P.pages space.old) fork → IsNotUnfit result }
     ensures base { P.pages space.new.base ≡ P.pages space.old.base }
     ensures excused { IsExcused result (P.losses space.old.base) (P.losses space.new.base) }
 {
@@ -156,6 +176,7 @@ fn drop_child<P: PageSource>(
     at: u16,
 ) -> Result<(), EditFault>
     ensures dropped { OnOk result (DropsChild (meant P.pages space.old) (meant P.pages space.new) id at) }
+    ensures fit { CanLose (meant P.pages space.old id) at → IsNotUnfit result }
     ensures base { P.pages space.new.base ≡ P.pages space.old.base }
     ensures excused { IsExcused result (P.losses space.old.base) (P.losses space.new.base) }
 {
@@ -173,11 +194,16 @@ fn rekey_first<P: PageSource>(
     id: u64,
 ) -> Result<(), EditFault>
     ensures rekeyed { OnOk result (Rekeys (meant P.pages space.old) (meant P.pages space.new) id) }
+    ensures fit { (cell : List ℕ) (others : List (List ℕ)) → (meant P.pages space.old id).cells ≡ cell ∷ others →
+        IsInnerCell cell → IsNotUnfit result }
     ensures base { P.pages space.new.base ≡ P.pages space.old.base }
     ensures excused { IsExcused result (P.losses space.old.base) (P.losses space.new.base) }
 {
     space.load_to_edit(id)?;
-    let before = copied(alloc, space.page(), 0)?;
+    let page = space.page();
+    // a cell with the empty key takes no more room
+    let _space = page.space();
+    let before = copied(alloc, page, 0)?;
     let Some(child) = child_in(before.as_slice()) else {
         return Err(EditFault::Unfit);
     };
@@ -201,6 +227,7 @@ fn relink<P: PageSource>(
     right: u64,
 ) -> Result<(), EditFault>
     ensures relinked { OnOk result (SetsRight (meant P.pages space.old) (meant P.pages space.new) page left right) }
+    ensures fit { (left ≡ Some page → ⊥) → IsNotUnfit result }
     ensures base { P.pages space.new.base ≡ P.pages space.old.base }
     ensures excused { IsExcused result (P.losses space.old.base) (P.losses space.new.base) }
 {
@@ -218,6 +245,7 @@ fn set_right<P: PageSource>(
     right: u64,
 ) -> Result<(), EditFault>
     ensures relinked { OnOk result (SetsRight (meant P.pages space.old) (meant P.pages space.new) page (Some leaf) right) }
+    ensures fit { (leaf ≡ page → ⊥) → IsNotUnfit result }
     ensures base { P.pages space.new.base ≡ P.pages space.old.base }
     ensures excused { IsExcused result (P.losses space.old.base) (P.losses space.new.base) }
 {
@@ -225,7 +253,10 @@ fn set_right<P: PageSource>(
         return Err(EditFault::Unfit);
     }
     space.load_to_edit(leaf)?;
-    let before = space.page().head();
+    let page = space.page();
+    // the cells fit, since they stand on a page
+    let _space = page.space();
+    let before = page.head();
     let after = Head { right, ..before };
     alter(space, leaf, Edit::SetHead { before, after })
 }

@@ -6,6 +6,7 @@ ghost use Rattle.btree_index.specs.Keys.{Key};
 ghost use Rattle.btree_index.specs.Cells.{leaf_cell};
 ghost use Rattle.btree_index.specs.Steps.{Alters};
 ghost use Rattle.btree_index.specs.Pairs.{place_in, value_at, with_pair};
+ghost use Rattle.btree_index.specs.Filled.{IsEmptyLeaf, KeepsFilled};
 ghost use Rattle.btree_index.specs.Fits.{IsFullUnder};
 ghost use Rattle.btree_index.specs.Trees.{Ascends, TreeList};
 ghost use Rattle.btree_index.specs.Changes.{Stands, Becomes, LeadsOver, IsHeld, IsInserted, IsPlace, IsPutAbsent, IsWay, IsPassed, IsExcusedInsert};
@@ -61,6 +62,8 @@ pub fn insert<P: PageSource>(
     requires cell { 2 + length key.now + length value.now ≤ 1640 }
     ensures inserted { (own free : List ℕ) (list : List (Key × List ℕ)) → Stands (meant P.pages space.old) root own free list →
         IsInserted (meant P.pages space.old) (meant P.pages space.new) root own free key.now value.now list result }
+    ensures filled { (own free : List ℕ) (list : List (Key × List ℕ)) → Stands (meant P.pages space.old) root own free list →
+        OnOk result (KeepsFilled (meant P.pages space.old) (meant P.pages space.new) root) }
     ensures duplicate { IsErrOf result InsertFault.Duplicate → space.new.edits ≡ space.old.edits }
     ensures held { IsErrOf result InsertFault.Duplicate → IsHeld (meant P.pages space.old) root key.now }
     ensures base { P.pages space.new.base ≡ P.pages space.old.base }
@@ -96,6 +99,8 @@ fn put_absent<P: PageSource>(
         Stands (meant P.pages space.old) root own free list →
         IfOk result (IsPutAbsent (meant P.pages space.old) (meant P.pages space.new) root own free
         key.now value.now list) }
+    ensures filled { (own free : List ℕ) (list : List (Key × List ℕ)) → Stands (meant P.pages space.old) root own free list →
+        OnOk result (KeepsFilled (meant P.pages space.old) (meant P.pages space.new) root) }
     ensures fit { (own free : List ℕ) (list : List (Key × List ℕ)) →
         Stands (meant P.pages space.old) root own free list → IsNotUnfit result }
     ensures there { IfOk result (λ put. put ≡ false → space.new.edits ≡ space.old.edits) }
@@ -150,6 +155,9 @@ fn put_behind<P: PageSource>(
     ensures put { (own free : List ℕ) (list : List (Key × List ℕ)) → Stands (meant P.pages space.old) root own free list →
         value_at key.now list ≡ None → IsWay (meant P.pages space.old) root key.now way →
         OnOk result (Becomes (meant P.pages space.old) (meant P.pages space.new) root own free (with_pair key.now value.now list)) }
+    ensures filled { (own free : List ℕ) (list : List (Key × List ℕ)) → Stands (meant P.pages space.old) root own free list →
+        value_at key.now list ≡ None → IsWay (meant P.pages space.old) root key.now way →
+        OnOk result (KeepsFilled (meant P.pages space.old) (meant P.pages space.new) root) }
     ensures fit { (own free : List ℕ) (list : List (Key × List ℕ)) →
         Stands (meant P.pages space.old) root own free list → value_at key.now list ≡ None → IsNotUnfit result }
     ensures base { P.pages space.new.base ≡ P.pages space.old.base }
@@ -175,6 +183,8 @@ fn put_new<P: PageSource>(
     ensures put { (own free : List ℕ) (list : List (Key × List ℕ)) → Stands (meant P.pages space.old) root own free list →
         value_at key.now list ≡ None →
         OnOk result (Becomes (meant P.pages space.old) (meant P.pages space.new) root own free (with_pair key.now value.now list)) }
+    ensures filled { (own free : List ℕ) (list : List (Key × List ℕ)) → Stands (meant P.pages space.old) root own free list →
+        value_at key.now list ≡ None → OnOk result (KeepsFilled (meant P.pages space.old) (meant P.pages space.new) root) }
     ensures fit { (own free : List ℕ) (list : List (Key × List ℕ)) →
         Stands (meant P.pages space.old) root own free list → value_at key.now list ≡ None → IsNotUnfit result }
     ensures base { P.pages space.new.base ≡ P.pages space.old.base }
@@ -204,6 +214,8 @@ fn pass_once<P: PageSource>(
     requires cell { 2 + length key.now + length value.now ≤ 1640 }
     ensures passed { (own free : List ℕ) (list : List (Key × List ℕ)) → Stands (meant P.pages space.old) root own free list →
         value_at key.now list ≡ None → IfOk result (IsPassed (meant P.pages space.old) (meant P.pages space.new) root own free key.now value.now list) }
+    ensures filled { (own free : List ℕ) (list : List (Key × List ℕ)) → Stands (meant P.pages space.old) root own free list →
+        OnOk result (KeepsFilled (meant P.pages space.old) (meant P.pages space.new) root) }
     ensures fit { (own free : List ℕ) (list : List (Key × List ℕ)) →
         Stands (meant P.pages space.old) root own free list → IsNotUnfit result }
     ensures base { P.pages space.new.base ≡ P.pages space.old.base }
@@ -264,6 +276,9 @@ fn make_room<P: PageSource>(
     ensures room { LeadsOver (meant P.pages space.old) root key.now roomy → (own free : List ℕ) (list : List (Key × List ℕ)) →
         Stands (meant P.pages space.old) root own free list →
         OnOk result (Becomes (meant P.pages space.old) (meant P.pages space.new) root own free list) }
+    ensures filled { (own free : List ℕ) (list : List (Key × List ℕ)) → Stands (meant P.pages space.old) root own free list →
+        (IsEmptyLeaf (meant P.pages space.old root) → ⊥) →
+        OnOk result (KeepsFilled (meant P.pages space.old) (meant P.pages space.new) root) }
     ensures fit { LeadsOver (meant P.pages space.old) root key.now roomy →
         IsFullUnder (meant P.pages space.old) key.now roomy → (own free : List ℕ) (list : List (Key × List ℕ)) →
         Stands (meant P.pages space.old) root own free list → IsNotUnfit result }

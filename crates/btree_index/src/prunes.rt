@@ -1,10 +1,13 @@
 //! Empty leaves on the way to a key: what is found there.
-ghost use Rattle.std.specs.Prelude.{ℕ, ◌≡◌, ◌++◌, ◌∷◌, [], List, None, Some, IfOk, IfSome};
-ghost use Rattle.page_workspace.specs.Drafts.{meant, IsExcused};
+ghost use Rattle.std.specs.Prelude.{ℕ, ◌≡◌, ◌<◌, ◌++◌, ◌∷◌, [], List, None, Some, IfOk, IfSome, IsSome, length};
+ghost use Rattle.page_workspace.specs.Drafts.{meant, IsExcused, IsNotUnfit};
+ghost use Rattle.std.specs.List.{slice_get};
+ghost use Rattle.btree_index.specs.Cells.{IsInnerCell};
+ghost use Rattle.btree_index.specs.Fits.{HasOneChild};
 ghost use Rattle.btree_index.specs.Keys.{Key};
 ghost use Rattle.btree_index.specs.Prunes.{hung_found, last_page, IsBeside, IsChildAt, IsChildIn, IsFound, IsLastChild, IsOnly, LeadsTo};
 ghost use Rattle.btree_index.specs.declared.prunes.Found.TheVariants.{Full, Lone};
-ghost use Rattle.btree_index.specs.Trees.{Entry, Holds};
+ghost use Rattle.btree_index.specs.Trees.{Entry, Holds, IsInnerPage};
 
 use crate::cells::child_in;
 use crate::finds::{Below, child_below};
@@ -40,7 +43,8 @@ pub(crate) enum Found {
     Forked(Fork),
 }
 
-/// What the way to a key comes to from a page on, which stands behind `left` on its level.
+/// What the way to a key comes to from a page on, which stands behind `left` on its level. `Unfit` comes only where the
+/// pages hold no tree of so few levels.
 pub(crate) fn look_below<P: PageSource>(
     space: &mut Workspace<P>,
     id: u64,
@@ -52,6 +56,9 @@ pub(crate) fn look_below<P: PageSource>(
         Holds (meant P.pages space.old) height (front ++ (record { low = low; page = id } ∷ others)) cells → last_page front ≡ left →
         IfOk result (IsFound (meant P.pages space.old) height front low id others cells) }
     ensures way { IfOk result (LeadsTo (meant P.pages space.old) key.now id) }
+    ensures fit { (height : ℕ) (front others : List Entry) (low : Key) (cells : List (List ℕ)) →
+        Holds (meant P.pages space.old) height (front ++ (record { low = low; page = id } ∷ others)) cells → last_page front ≡ left →
+        height < turns → IsNotUnfit result }
     ensures edits { space.new.edits ≡ space.old.edits }
     ensures pages { meant P.pages space.new ≡ meant P.pages space.old }
     ensures base { P.pages space.new.base ≡ P.pages space.old.base }
@@ -116,6 +123,8 @@ fn beside<P: PageSource>(
     left: Option<u64>,
 ) -> Result<Option<u64>, EditFault>
     ensures found { IfOk result (IsBeside (meant P.pages space.old) id at left) }
+    ensures fit { (height : ℕ) → IsInnerPage height (meant P.pages space.old id) → at < length (meant P.pages space.old id).cells →
+        ((n : ℕ) → left ≡ Some n → IsInnerPage height (meant P.pages space.old n)) → IsNotUnfit result }
     ensures edits { space.new.edits ≡ space.old.edits }
     ensures pages { meant P.pages space.new ≡ meant P.pages space.old }
     ensures base { P.pages space.new.base ≡ P.pages space.old.base }
@@ -137,6 +146,8 @@ fn beside<P: PageSource>(
 /// The child at a place of a page.
 fn child_at<P: PageSource>(space: &mut Workspace<P>, id: u64, at: u16) -> Result<u64, EditFault>
     ensures child { IfOk result (IsChildAt (meant P.pages space.old) id at) }
+    ensures fit { (height : ℕ) → IsInnerPage height (meant P.pages space.old id) → at < length (meant P.pages space.old id).cells →
+        IsNotUnfit result }
     ensures edits { space.new.edits ≡ space.old.edits }
     ensures pages { meant P.pages space.new ≡ meant P.pages space.old }
     ensures base { P.pages space.new.base ≡ P.pages space.old.base }
@@ -152,6 +163,7 @@ fn child_at<P: PageSource>(space: &mut Workspace<P>, id: u64, at: u16) -> Result
 /// The last child of a page.
 fn last_child<P: PageSource>(space: &mut Workspace<P>, id: u64) -> Result<u64, EditFault>
     ensures child { IfOk result (IsLastChild (meant P.pages space.old) id) }
+    ensures fit { (height : ℕ) → IsInnerPage height (meant P.pages space.old id) → IsNotUnfit result }
     ensures edits { space.new.edits ≡ space.old.edits }
     ensures pages { meant P.pages space.new ≡ meant P.pages space.old }
     ensures base { P.pages space.new.base ≡ P.pages space.old.base }
@@ -171,7 +183,8 @@ fn last_child<P: PageSource>(space: &mut Workspace<P>, id: u64) -> Result<u64, E
 
 /// The child at a place of this page.
 fn child_of_place(page: &Page, at: u16) -> Option<u64>
-    ensures { IfSome result (IsChildIn page.now at) }
+    ensures child { IfSome result (IsChildIn page.now at) }
+    ensures some { (cell : List ℕ) → slice_get page.now.cells at ≡ Some cell → IsInnerCell cell → IsSome result }
 {
     let cell = page.cell(at)?;
     child_in(cell)
@@ -180,6 +193,7 @@ fn child_of_place(page: &Page, at: u16) -> Option<u64>
 /// The one child of a page above the leaves; `None` of a leaf.
 pub(crate) fn only_child(page: &Page) -> Result<Option<u64>, EditFault>
     ensures child { IfOk result (IsOnly page.now) }
+    ensures fit { HasOneChild page.now → IsNotUnfit result }
     ensures excused { (count : ℕ) → IsExcused result count count }
 {
     match page.head().kind {

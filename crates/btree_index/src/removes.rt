@@ -1,10 +1,11 @@
-ghost use Rattle.std.specs.Prelude.{ℕ, ◌≡◌, false, true, List, IfOk, None, OnErr, is_some};
+ghost use Rattle.std.specs.Prelude.{ℕ, ◌≡◌, false, true, List, IfOk, None, OnErr, OnOk, is_some};
 ghost use Rattle.page_store.specs.Sources.{IsExcused as IsLoadExcused};
 ghost use Rattle.page_workspace.specs.Drafts.{meant, IsExcused, IsNotUnfit};
 ghost use Rattle.btree_index.specs.Keys.{Key};
 ghost use Rattle.btree_index.specs.Pairs.{value_at, without_key};
 ghost use Rattle.btree_index.specs.Trees.{TreeList};
 ghost use Rattle.btree_index.specs.Changes.{Stands, Becomes};
+ghost use Rattle.btree_index.specs.Filled.{KeepsFilled};
 ghost use Rattle.btree_index.specs.Prunes.{FreesEmptied, IsTaken};
 
 use crate::frees::free_empty_leaf;
@@ -39,7 +40,8 @@ pub fn remove<P: PageSource>(
 }
 
 /// The same, and where the leaf that had the key becomes empty and is no root, it is freed, together with the pages above
-/// it that have no other child. After an error the workspace may only be dropped.
+/// it that have no other child. `Gone` comes only where the source lost its pages; the other error is want of memory, where
+/// a tree stands at the root. After an error the workspace may only be dropped.
 pub fn remove_and_free<P: PageSource>(
     alloc: Global,
     space: &mut Workspace<P>,
@@ -51,6 +53,8 @@ pub fn remove_and_free<P: PageSource>(
         × Becomes (meant P.pages space.old) (meant P.pages space.new) root own free (without_key key.now list)) }
     ensures gone { (own free : List ℕ) (list : List (Key × List ℕ)) → Stands (meant P.pages space.old) root own free list →
         IfOk result (λ was. was ≡ true → FreesEmptied (meant P.pages space.old) (meant P.pages space.new) root key.now) }
+    ensures filled { (own free : List ℕ) (list : List (Key × List ℕ)) → Stands (meant P.pages space.old) root own free list →
+        OnOk result (KeepsFilled (meant P.pages space.old) (meant P.pages space.new) root) }
     ensures absent { IfOk result (λ was. was ≡ false → space.new.edits ≡ space.old.edits) }
     ensures base { P.pages space.new.base ≡ P.pages space.old.base }
     ensures excused { IsLoadExcused result (P.losses space.old.base) (P.losses space.new.base) }
@@ -58,11 +62,12 @@ pub fn remove_and_free<P: PageSource>(
     match take_and_free(alloc, space, root, key) {
         Ok(was) => Ok(was),
         Err(EditFault::Gone) => Err(PageFault::Gone),
+        // an edit does not fit only where the pages hold no tree; then nothing is promised
         Err(EditFault::NoMemory | EditFault::Unfit) => Err(PageFault::NoMemory),
     }
 }
 
-/// The same, with the faults of an edit.
+/// The same, with the faults of an edit. `Unfit` comes only where the pages hold no tree.
 fn take_and_free<P: PageSource>(
     alloc: Global,
     space: &mut Workspace<P>,
@@ -74,7 +79,11 @@ fn take_and_free<P: PageSource>(
         × Becomes (meant P.pages space.old) (meant P.pages space.new) root own free (without_key key.now list)) }
     ensures gone { (own free : List ℕ) (list : List (Key × List ℕ)) → Stands (meant P.pages space.old) root own free list →
         IfOk result (λ was. was ≡ true → FreesEmptied (meant P.pages space.old) (meant P.pages space.new) root key.now) }
+    ensures filled { (own free : List ℕ) (list : List (Key × List ℕ)) → Stands (meant P.pages space.old) root own free list →
+        OnOk result (KeepsFilled (meant P.pages space.old) (meant P.pages space.new) root) }
     ensures absent { IfOk result (λ was. was ≡ false → space.new.edits ≡ space.old.edits) }
+    ensures fit { (own free : List ℕ) (list : List (Key × List ℕ)) →
+        Stands (meant P.pages space.old) root own free list → IsNotUnfit result }
     ensures base { P.pages space.new.base ≡ P.pages space.old.base }
     ensures excused { IsExcused result (P.losses space.old.base) (P.losses space.new.base) }
 {

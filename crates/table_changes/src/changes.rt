@@ -4,6 +4,7 @@ ghost use Rattle.std.specs.List.{AllByRecursion};
 ghost use Rattle.std.specs.Option.{option_copied};
 ghost use Rattle.page_workspace.specs.Drafts.{meant};
 ghost use Rattle.btree_index.specs.Changes.{Stands, IsExcusedInsert};
+ghost use Rattle.btree_index.specs.Filled.{KeepsFilled};
 ghost use Rattle.table_store.specs.Forests.{Pair};
 ghost use Rattle.table_store.specs.Operations.{born, gone, put_all as put_all_of, removed};
 ghost use Rattle.table_changes.specs.Changed.{IsPut, IsPuttable};
@@ -22,7 +23,8 @@ use std::alloc::Global;
 /// `root` is the tree's root, `table` the table's place in the schema, and `next` the next genid before the operations,
 /// which count on from there whatever tables they write to.
 ///
-/// A leaf that becomes empty by what goes is freed, unless it is the root.
+/// A leaf that becomes empty by what goes is freed, unless it is the root. So no leaf but the root is empty afterwards that
+/// was not empty before.
 ///
 /// `Duplicate` comes exactly where a pair that comes finds its key there, when all that goes is out. `Gone` comes only
 /// where the source lost its pages; `NoMemory` is want of memory. After a fault the workspace may only be dropped.
@@ -42,6 +44,8 @@ pub fn change_tree<P: PageSource>(
         (put_all_of (option_copied key.entry) (born table next ops.now) (removed (option_copied key.entry) (gone table ops.now) list)) result }
     ensures freed { OnOk result (TakesThenPuts (meant P.pages space.old) (meant P.pages space.new) root
         (option_copied key.entry) (gone table ops.now) (born table next ops.now)) }
+    ensures filled { (own free : Many ℕ) (list : Many Pair) → Stands (meant P.pages space.old) root own free list →
+        OnOk result (KeepsFilled (meant P.pages space.old) (meant P.pages space.new) root) }
     ensures base { P.pages space.new.base ≡ P.pages space.old.base }
     ensures excused { IsExcusedInsert result (P.losses space.old.base) (P.losses space.new.base) }
 {

@@ -1,9 +1,10 @@
 //! All that comes is put into a tree.
-ghost use Rattle.std.specs.Prelude.{ℕ, ◌≡◌, ◌+◌, ◌<◌, ◌^◌, ◌∷◌, [], List as Many, length};
+ghost use Rattle.std.specs.Prelude.{ℕ, ◌≡◌, ◌+◌, ◌<◌, ◌^◌, ◌∷◌, [], List as Many, OnOk, length};
 ghost use Rattle.std.specs.List.{AllByRecursion};
 ghost use Rattle.std.specs.Option.{option_copied};
 ghost use Rattle.page_workspace.specs.Drafts.{meant};
 ghost use Rattle.btree_index.specs.Changes.{Stands, IsExcusedInsert};
+ghost use Rattle.btree_index.specs.Filled.{KeepsFilled};
 ghost use Rattle.cdb_values.specs.Rows.{version};
 ghost use Rattle.table_store.specs.Forests.{Pair};
 ghost use Rattle.table_store.specs.Operations.{born, put_all as put_all_of};
@@ -31,6 +32,8 @@ pub(crate) fn put_all<P: PageSource>(
     ensures put { (own free : Many ℕ) (list : Many Pair) → Stands (meant P.pages space.old) root own free list →
         IsPut (meant P.pages space.old) (meant P.pages space.new) root own free
         (put_all_of (option_copied key.entry) (born table next ops.now) list) result }
+    ensures filled { (own free : Many ℕ) (list : Many Pair) → Stands (meant P.pages space.old) root own free list →
+        OnOk result (KeepsFilled (meant P.pages space.old) (meant P.pages space.new) root) }
     ensures base { P.pages space.new.base ≡ P.pages space.old.base }
     ensures excused { IsExcusedInsert result (P.losses space.old.base) (P.losses space.new.base) }
 {
@@ -86,6 +89,8 @@ fn put_one<P: PageSource>(
     ensures put { (own free : Many ℕ) (list : Many Pair) → Stands (meant P.pages space.old) root own free list →
         IsPut (meant P.pages space.old) (meant P.pages space.new) root own free
         (put_all_of (option_copied key.entry) (born table next (op.now ∷ [])) list) result }
+    ensures filled { (own free : Many ℕ) (list : Many Pair) → Stands (meant P.pages space.old) root own free list →
+        OnOk result (KeepsFilled (meant P.pages space.old) (meant P.pages space.new) root) }
     ensures base { P.pages space.new.base ≡ P.pages space.old.base }
     ensures excused { IsExcusedInsert result (P.losses space.old.base) (P.losses space.new.base) }
 {
@@ -118,6 +123,8 @@ fn put_updated<P: PageSource>(
     ensures put { (own free : Many ℕ) (list : Many Pair) → Stands (meant P.pages space.old) root own free list →
         IsPut (meant P.pages space.old) (meant P.pages space.new) root own free
         (put_all_of (option_copied key.entry) (born_by is_here next target.now row.now) list) result }
+    ensures filled { (own free : Many ℕ) (list : Many Pair) → Stands (meant P.pages space.old) root own free list →
+        OnOk result (KeepsFilled (meant P.pages space.old) (meant P.pages space.new) root) }
     ensures base { P.pages space.new.base ≡ P.pages space.old.base }
     ensures excused { IsExcusedInsert result (P.losses space.old.base) (P.losses space.new.base) }
 {
@@ -141,6 +148,8 @@ fn put_new<P: PageSource>(
     ensures put { (own free : Many ℕ) (list : Many Pair) → Stands (meant P.pages space.old) root own free list →
         IsPut (meant P.pages space.old) (meant P.pages space.new) root own free
         (put_all_of (option_copied key.entry) (born_if is_here genid row.now) list) result }
+    ensures filled { (own free : Many ℕ) (list : Many Pair) → Stands (meant P.pages space.old) root own free list →
+        OnOk result (KeepsFilled (meant P.pages space.old) (meant P.pages space.new) root) }
     ensures base { P.pages space.new.base ≡ P.pages space.old.base }
     ensures excused { IsExcusedInsert result (P.losses space.old.base) (P.losses space.new.base) }
 {
@@ -164,6 +173,8 @@ fn put_version<P: PageSource>(
     ensures put { (own free : Many ℕ) (list : Many Pair) → Stands (meant P.pages space.old) root own free list →
         IsPut (meant P.pages space.old) (meant P.pages space.new) root own free
         (put_all_of (option_copied key.entry) (version genid row.now ∷ []) list) result }
+    ensures filled { (own free : Many ℕ) (list : Many Pair) → Stands (meant P.pages space.old) root own free list →
+        OnOk result (KeepsFilled (meant P.pages space.old) (meant P.pages space.new) root) }
     ensures base { P.pages space.new.base ≡ P.pages space.old.base }
     ensures excused { IsExcusedInsert result (P.losses space.old.base) (P.losses space.new.base) }
 {

@@ -9,3 +9,4 @@ pub mod BrokenLemmas
 mod PassLemmas
 mod EndLemmas
 mod FreedLemmas
+mod FilledLemmas

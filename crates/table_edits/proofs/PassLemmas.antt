@@ -26,6 +26,7 @@ use Rattle.table_edits.specs.Fits.{names, AreAllDoable}
 use Rattle.table_edits.specs.Genids.{next_after, SetsGenid}
 use Rattle.table_edits.specs.Halfway.{planned, IsHalfway}
 use Rattle.table_edits.specs.Kept.{Store, store_of, IsNoneLost, Leaves}
+use Rattle.table_edits.proofs.FilledLemmas.{genid_filled}
 use Rattle.table_edits.proofs.ForestLemmas.{forest_kept}
 use Rattle.table_edits.proofs.GenidLemmas.{next_is}
 use Rattle.table_edits.proofs.KeptLemmas.{unnamed_none}
@@ -54,6 +55,7 @@ begins pages tables rows ops next s able e = record {
   changes = changes_none pages (joined s.owns) s.free;
   lost = loses_none pages (joined s.owns) s.free;
   freed = refl;
+  filled = λ n beyond e. e;
   unnamed = unnamed_none (store_of pages tables rows s) (plan_from 0 tables) ops;
 }
 
@@ -87,6 +89,7 @@ ends start pages new tables rows ops next root genid stands h s e small =
         genid = subst (λ (n : ℕ). n < 2 ^ 62) (sym s.genid) small;
         count = λ k. subst (λ (n : ℕ). n < 2 ^ 62) (sym s.count) (h.changes.few k);
       };
+      filled = genid_filled start pages new genid (length (plan_from 0 tables)) s h.filled;
       kept = record {
         tree = h.lost.tree;
         unused = h.lost.unused;

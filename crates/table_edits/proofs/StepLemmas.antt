@@ -3,6 +3,8 @@ use Rattle.std.proofs.Common.{◌≡◌, ℕ, suc, ◌+◌, ◌<◌, ◌==◌, B
 use Rattle.std.specs.Prelude.{Result, Ok, Err, OnOk}
 use Rattle.std.specs.List.{slice_get, slice_set, list_any}
 use Rattle.page_store.specs.Image.{Image}
+use Rattle.btree_index.specs.Filled.{KeepsFilled}
+use Rattle.btree_index.proofs.FilledLemmas.{filled_none}
 use Rattle.btree_index.specs.Changes.{Stands as StandsAlone, Changes, LosesNone, Becomes}
 use Rattle.btree_index.specs.declared.inserts.InsertFault.{InsertFault}
 use Rattle.btree_index.specs.declared.inserts.InsertFault.TheVariants.{Duplicate, Gone, NoMemory}
@@ -25,6 +27,7 @@ use Rattle.table_edits.specs.Fits.{names}
 use Rattle.table_edits.specs.Halfway.{IsHalfway}
 use Rattle.table_edits.specs.Kept.{Store, LeavesUnnamed}
 use Rattle.table_edits.proofs.FreedLemmas.{left_alone, trees_more}
+use Rattle.table_edits.proofs.FilledLemmas.{tree_filled}
 use Rattle.table_edits.proofs.KeptLemmas.{forest_changes, forest_loses, unnamed_beside, unnamed_after, unnamed_none}
 use Rattle.table_edits.proofs.ListLemmas.{get_middle, set_middle, set_none, get_some, or_false}
 use Rattle.table_edits.proofs.StateLemmas.{versions_at}
@@ -132,8 +135,9 @@ record IsAfter (old new : ℕ → Image) (first : List (List ℕ)) (unused : Lis
 advanced : (start : Store) (old new : ℕ → Image) (rows : Rows) (ops : List RowOp) (plan : List Planned) (next root later : ℕ) (p : Planned) (left : List Planned)
     → later ≡ root + 1 → (h : IsHalfway start old rows ops plan next root (p ∷ left)) → (rest : List (List Pair)) → AreLists rows left rest
     → (after : List Pair) → Lists p.key (versions_of (apply_all rows ops) p.table) after → IsAfter old new h.owns h.free plan ops h.before rest after
-    → TakesThenPuts old new root p.key (gone p.table ops) (born p.table next ops) → IsHalfway start new rows ops plan next later left
-advanced start old new rows ops plan next root later p left e h rest same after listed a freed =
+    → TakesThenPuts old new root p.key (gone p.table ops) (born p.table next ops) → KeepsFilled old new root
+    → IsHalfway start new rows ops plan next later left
+advanced start old new rows ops plan next root later p left e h rest same after listed a freed filled =
     let is : root ≡ 1 + length h.done = h.root_is in
     let both = length-append h.done (p ∷ []) in
     record {
@@ -154,6 +158,7 @@ advanced start old new rows ops plan next root later p left e h rest same after 
       changes = changes_after start.pages old new (joined start.owns) (joined h.owns) (joined a.owns) start.free h.free a.free h.changes a.changes;
       lost = loses_after start.pages old new (joined start.owns) (joined h.owns) (joined a.owns) start.free h.free a.free h.lost a.lost;
       freed = trees_more start.pages old new next ops 1 root h.done p h.root_is h.freed freed;
+      filled = tree_filled start.pages old new root plan h.done left p h.root_is h.whole h.filled filled;
       unnamed = unnamed_after start (record { pages = old; owns = h.owns; free = h.free }) (record { pages = new; owns = a.owns; free = a.free }) plan ops h.unnamed a.unnamed;
     }
 
@@ -182,9 +187,11 @@ pub stepped : Laws → (start : Store) (old new : ℕ → Image) (rows : Rows) (
     → ((own free : List ℕ) (list : List Pair) → StandsAlone old root own free list
     → IsPut old new root own free (put_all p.key (born p.table next ops) (removed p.key (gone p.table ops) list)) result)
     → OnOk result (TakesThenPuts old new root p.key (gone p.table ops) (born p.table next ops))
+    → ((own free : List ℕ) (list : List Pair) → StandsAlone old root own free list → OnOk result (KeepsFilled old new root))
     → TellsOne result (IsHalfway start new rows ops plan next later left) (breaks_in p.key (versions_of (apply_all rows ops) p.table))
-stepped laws start old new rows ops plan next root later p left e known named h result put freed =
+stepped laws start old new rows ops plan next root later p left e known named h result put freed filled =
     go (put_all p.key (born p.table next ops) (removed p.key (gone p.table ops) n.list)) refl result (put n.own h.free n.list n.alone) freed
+    (filled n.own h.free n.list n.alone)
   where
     n : IsNext old rows p left h.owns h.free h.before h.behind root
     n = next_tree laws start old rows ops plan next root p left h
@@ -214,18 +221,19 @@ stepped laws start old new rows ops plan next root later p left e known named h 
 
     go : (o : Option (List Pair)) → put_all p.key (born p.table next ops) (removed p.key (gone p.table ops) n.list) ≡ o → (r : Result (Unit {0}) InsertFault)
         → IsPut old new root n.own h.free o r → OnOk r (TakesThenPuts old new root p.key (gone p.table ops) (born p.table next ops))
+        → OnOk r (KeepsFilled old new root)
         → TellsOne r (IsHalfway start new rows ops plan next later left) (breaks_in p.key (versions_of (apply_all rows ops) p.table))
-    go (Some after) same (Ok x) b f = (
+    go (Some after) same (Ok x) b f k = (
       advanced start old new rows ops plan next root later p left e h n.rest n.same after
           (laws.listed old root p.table n.own n.list after p.key rows ops tree n.lists are known (h.able p.table known) (whole (Some after) same))
-          (became laws old new root h.owns h.free n.own h.before h.behind n.rest n.list after plan ops p root_is n.is n.own_at n.list_at h.forest here named b) f,
+          (became laws old new root h.owns h.free n.own h.before h.behind n.rest n.list after plan ops p root_is n.is n.own_at n.list_at h.forest here named b) f k,
       laws.kept old root p.table n.own n.list after p.key rows ops tree n.lists are known (h.able p.table known) (whole (Some after) same),
     )
-    go None same (Ok x) b f = absurd b
-    go (Some after) same (Err Duplicate) b f = absurd b
-    go None same (Err Duplicate) b f = laws.broken old root p.table n.own n.list p.key rows ops tree n.lists are known (h.able p.table known) (whole None same)
-    go o same (Err Gone) b f = tt
-    go o same (Err NoMemory) b f = tt
+    go None same (Ok x) b f k = absurd b
+    go (Some after) same (Err Duplicate) b f k = absurd b
+    go None same (Err Duplicate) b f k = laws.broken old root p.table n.own n.list p.key rows ops tree n.lists are known (h.able p.table known) (whole None same)
+    go o same (Err Gone) b f k = tt
+    go o same (Err NoMemory) b f k = tt
 
 -- operations that do not name a table take nothing from it, and write nothing to it
 pub record IsUntouched (table next : ℕ) (ops : List RowOp) : Type 0 where
@@ -284,6 +292,6 @@ skipped laws start pages rows ops plan next root later p left e known u h =
             lost = loses_none pages (joined h.owns) h.free;
             unnamed = unnamed_none (record { pages = pages; owns = h.owns; free = h.free }) plan ops;
           })
-          (left_alone pages root p.key (gone p.table ops) (born p.table next ops) u.gone_none u.born_none),
+          (left_alone pages root p.key (gone p.table ops) (born p.table next ops) u.gone_none u.born_none) (filled_none pages root),
       laws.kept pages root p.table n.own n.list n.list p.key rows ops tree n.lists are known (h.able p.table known) put,
     )

@@ -19,6 +19,7 @@ use Rattle.table_store.specs.Forests.{Pair, joined, Forest}
 use Rattle.table_store.specs.Listings.{AreLists}
 use Rattle.table_store.specs.Plans.{Planned}
 use Rattle.table_store.specs.States.{AreVersions}
+use Rattle.table_edits.specs.Filled.{KeepsLeavesFilled}
 use Rattle.table_edits.specs.Fits.{AreAllDoable}
 use Rattle.table_edits.specs.Freed.{DoesTrees}
 use Rattle.table_edits.specs.Kept.{Store, LeavesUnnamed}
@@ -47,4 +48,5 @@ pub record IsHalfway (start : Store) (pages : ℕ → Image) (rows : Rows) (ops 
   pub changes : Changes start.pages pages (joined start.owns) (joined owns) start.free free
   pub lost : LosesNone start.pages pages (joined start.owns) (joined owns) start.free free
   pub freed : DoesTrees start.pages pages next ops 1 done
+  pub filled : KeepsLeavesFilled start.pages pages (length plan)
   pub unnamed : LeavesUnnamed start (record { pages = pages; owns = owns; free = free }) plan ops

@@ -2,7 +2,7 @@
 --
 -- No page is lost: what a tree had, what was free, and what was taken from the end is of a tree or free afterwards. And a
 -- tree of a table that no operation names has the pages that it had, each as it was.
-use Rattle.std.specs.Prelude.{◌≡◌, ◌⊎◌, ℕ, ◌≤◌, ◌<◌, List, false, Some}
+use Rattle.std.specs.Prelude.{◌≡◌, ◌⊎◌, ℕ, ◌≤◌, ◌<◌, List, false, length, Some}
 use Rattle.std.specs.List.{slice_get, list_any}
 use Rattle.page_store.specs.Image.{Image}
 use Rattle.page_workspace.specs.Spare.{IsIn, count_of}
@@ -13,6 +13,7 @@ use Rattle.table_store.specs.Forests.{joined}
 use Rattle.table_store.specs.Plans.{Planned, plan_from}
 use Rattle.table_store.specs.Stored.{Stands}
 use Rattle.table_edits.specs.Answers.{AreWithin}
+use Rattle.table_edits.specs.Filled.{KeepsLeavesFilled}
 use Rattle.table_edits.specs.Fits.{names}
 
 -- pages, with those of each tree and the free ones
@@ -43,8 +44,9 @@ pub record KeepsPages (old new : Store) (plan : List Planned) (ops : List RowOp)
   pub others : (n : ℕ) → n < count_of old.pages → (n ≡ 0 → ⊥) → (IsIn n (joined old.owns) → ⊥) → (IsIn n old.free → ⊥) → new.pages n ≡ old.pages n
   pub unnamed : LeavesUnnamed old new plan ops
 
--- pages that stand for the state after operations, with what was kept
+-- pages that stand for the state after operations, with what was kept; and no leaf but a root is empty that was not before
 pub record Leaves (old new : ℕ → Image) (tables : List TableDef) (rows : Rows) (ops : List RowOp) (stands : Stands old tables rows) : Type 0 where
   pub after : Stands new tables (apply_all rows ops)
   pub within : AreWithin old new
+  pub filled : KeepsLeavesFilled old new (length (plan_from 0 tables))
   pub kept : KeepsPages (store_of old tables rows stands) (store_of new tables (apply_all rows ops) after) (plan_from 0 tables) ops

@@ -5,3 +5,4 @@ pub mod Halfway
 pub mod Answers
 pub mod Kept
 pub mod Freed
+pub mod Filled

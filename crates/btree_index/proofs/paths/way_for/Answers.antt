@@ -10,10 +10,10 @@ use Rattle.page_workspace.specs.Drafts.{meant}
 use Rattle.btree_index.specs.Pairs.{choice}
 use Rattle.btree_index.specs.Fits.{HasSpare, IsFull, IsFullUntil}
 use Rattle.btree_index.specs.Changes.{Leads}
-use Rattle.btree_index.specs.Prunes.{GoesOn, HasLeaf}
+use Rattle.btree_index.specs.Prunes.{GoesOn}
 use Rattle.btree_index.specs.Trees.{IsInnerPage}
 use Rattle.btree_index.proofs.DepthLemmas.{IsDeep, placed_page, inner_page, page_kind, deep_begins, deep_on, until_more, turns_enough}
-use Rattle.btree_index.proofs.LeafWays.{goes_on, leaf_itself}
+use Rattle.btree_index.proofs.LeafWays.{goes_on}
 use Rattle.btree_index.proofs.PathLemmas.{path_begins, path_on, leads_over}
 use Rattle.btree_index.proofs.paths.way_for.Goals as goal
 

@@ -4,6 +4,7 @@ use Rattle.std.proofs.lemmas.List.{nil_from_length}
 use Rattle.std.specs.List.{AllByRecursion}
 use Rattle.std.specs.Option.{option_copied}
 use Rattle.page_workspace.specs.Drafts.{meant}
+use Rattle.btree_index.proofs.FilledLemmas.{filled_after}
 use Rattle.cdb_values.specs.declared.rows.RowOp.{RowOp}
 use Rattle.table_store.specs.Operations as ops
 use Rattle.table_changes.specs.Changed.{BecomesSome, IsPuttable, next_of}
@@ -36,6 +37,11 @@ ops-preserved g c =
       few = omega arith;
       fit = subst (λ (n : ℕ). AllByRecursion (IsPuttable (option_copied c.args.key)) (ops.born c.args.table n others)) (sym next)
           (fit_rest (option_copied c.args.key) c.args.table c.ops.genid op others c.ops.rest.now c.in-Some.ensures.cases.0 c.ops.invariant.fit);
+      filled = λ own free list stands.
+          (let before = c.ops.invariant.becomes own free list stands in
+          filled_after (meant g.P.PageSource.pages c.args.space.now) (meant g.P.PageSource.pages c.ops.space) (meant g.P.PageSource.pages c.put_one.new.space) c.args.root
+          (c.ops.invariant.filled own free list stands)
+          (c.in-Ok.ensures.filled before.becomes.more before.becomes.spare before.list before.becomes.stands));
       base = c.in-Ok.ensures.base ∙ c.ops.invariant.base;
       losses = omega arith;
     }
@@ -44,3 +50,6 @@ pub returns-clause-put : goal.returns-clause-put
 returns-clause-put g c = λ own free list stands.
     put_ends (meant g.P.PageSource.pages c.args.space.now) (meant g.P.PageSource.pages c.ops.space) c.args.root c.args.table c.ops.genid own free (option_copied c.args.key)
     c.ops.rest.now _ (nil_from_length c.ops.rest.now c.in_default.ensures.cases) (c.ops.invariant.becomes own free list stands)
+
+pub returns-clause-filled : goal.returns-clause-filled
+returns-clause-filled g c = λ own free list stands. c.ops.invariant.filled own free list stands

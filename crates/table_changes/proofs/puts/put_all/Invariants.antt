@@ -4,6 +4,7 @@ use Rattle.std.specs.List.{AllByRecursion}
 use Rattle.std.specs.Option.{option_copied}
 use Rattle.page_workspace.specs.Drafts.{meant}
 use Rattle.btree_index.specs.Changes.{Stands}
+use Rattle.btree_index.specs.Filled.{KeepsFilled}
 use Rattle.table_store.specs.Forests.{Pair}
 use Rattle.table_store.specs.Operations as ops
 use Rattle.table_changes.specs.Changed.{BecomesSome, IsPuttable}
@@ -16,6 +17,8 @@ invariant-ops g l = record {
       (λ left. ops.put_all (option_copied l.key) (ops.born l.table l.genid l.rest) left ≡ ops.put_all (option_copied l.key) (ops.born l.table l.next l.ops) list);
   few : l.genid + length l.rest < 2 ^ 64;
   fit : AllByRecursion (IsPuttable (option_copied l.key)) (ops.born l.table l.genid l.rest);
+  filled : (own free : List ℕ) (list : List Pair) → Stands (meant g.P.PageSource.pages l.fn.space) l.root own free list
+      → KeepsFilled (meant g.P.PageSource.pages l.fn.space) (meant g.P.PageSource.pages l.space) l.root;
   base : g.P.PageSource.pages l.space.base ≡ g.P.PageSource.pages l.fn.space.base;
   losses : g.P.PageSource.losses l.fn.space.base ≤ g.P.PageSource.losses l.space.base;
 }

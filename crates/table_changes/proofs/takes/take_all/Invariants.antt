@@ -4,6 +4,7 @@ use Rattle.std.specs.Option.{option_copied}
 use Rattle.page_store.specs.Image.{Image}
 use Rattle.page_workspace.specs.Drafts.{meant}
 use Rattle.btree_index.specs.Changes.{Stands}
+use Rattle.btree_index.specs.Filled.{KeepsFilled}
 use Rattle.table_store.specs.Forests.{Pair}
 use Rattle.table_store.specs.Operations.{gone, removed}
 use Rattle.table_changes.specs.Changed.{BecomesSome}
@@ -17,6 +18,8 @@ invariant-ops g l = record {
       (λ left. removed (option_copied l.key) (gone l.table l.rest) left ≡ removed (option_copied l.key) (gone l.table l.ops) list);
   freed : (new : ℕ → Image) → TakesPairs (meant g.P.PageSource.pages l.space) new l.root (option_copied l.key) (gone l.table l.rest)
       → TakesPairs (meant g.P.PageSource.pages l.fn.space) new l.root (option_copied l.key) (gone l.table l.ops);
+  filled : (own free : List ℕ) (list : List Pair) → Stands (meant g.P.PageSource.pages l.fn.space) l.root own free list
+      → KeepsFilled (meant g.P.PageSource.pages l.fn.space) (meant g.P.PageSource.pages l.space) l.root;
   base : g.P.PageSource.pages l.space.base ≡ g.P.PageSource.pages l.fn.space.base;
   losses : g.P.PageSource.losses l.fn.space.base ≤ g.P.PageSource.losses l.space.base;
 }

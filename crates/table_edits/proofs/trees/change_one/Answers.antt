@@ -12,4 +12,5 @@ returns-clause-changed g c = λ start rows plan left known half.
     let tree = c.a_tree_after_operations.ensures in
     let laws : Laws = record { stands = forest.stands; keeps = forest.kept; listed = tree.listed; kept = tree.kept; broken = tree.broken } in
     stepped laws start (meant g.P.PageSource.pages c.args.space.now) (meant g.P.PageSource.pages c.change_tree.new.space) rows c.args.ops.now plan c.args.next c.args.root _
-    (planned c.args.place (option_copied c.args.key)) left refl known c.requires.named half c.change_tree.result c.change_tree.ensures.changed c.change_tree.ensures.freed
+    (planned c.args.place (option_copied c.args.key)) left refl known c.requires.named half c.change_tree.result c.change_tree.ensures.changed
+    c.change_tree.ensures.freed c.change_tree.ensures.filled
