@@ -12,8 +12,8 @@
 //! b meets the note, then does i     knows 0 .. 4                       so it knows all that a knew
 //! ```
 //!
-//! 1. [`Opened::new`] makes an empty history. A function that is generic over [`Naming`] and called at `Brand` picks the
-//!    run's name, and calls [`Opened::named`]: the [`Trace`], and an [`Actor`] for each number from 0 on. The name stands in
+//! 1. [`OpenedTrace::new`] makes an empty history. A function that is generic over [`Naming`] and called at `Brand` picks the
+//!    run's name, and calls [`OpenedTrace::named`]: the [`Trace`], and an [`Actor`] for each number from 0 on. The name stands in
 //!    the types, so an actor that comes out of a lock is known to be of that trace.
 //! 2. [`Actor::reserve`] takes the memory, then [`Actor::step`] does an event. It is one `fetch_add` on the trace's word, waits
 //!    for nobody, and the number that it finds is the event's ticket. The caller shows that the event is enabled after the
@@ -61,6 +61,6 @@ pub use history::{Closed, History};
 pub use machine::Machine;
 pub use naming::Naming;
 pub use note::Note;
-pub use open::Opened;
+pub use open::OpenedTrace;
 pub use trace::Trace;
 pub use view::View;

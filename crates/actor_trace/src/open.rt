@@ -15,13 +15,13 @@ use std::marker::{Model, PhantomData};
 
 /// An empty history that has no name yet. A name is picked for its table, at the call of a function that calls `named`.
 #[derive(Drop)]
-pub struct Opened<M: Machine> {
+pub struct OpenedTrace<M: Machine> {
     table: Board<M>,
     seat: Seat<(), View<M::Event>>,
     actors: u32,
 }
 
-impl<M: Machine> Model for Opened<M> {
+impl<M: Machine> Model for OpenedTrace<M> {
     ghost use Rattle.actor_trace.specs.Opening.{Opening, IsOpened};
 
     ghost Value = { Opening };
@@ -31,13 +31,13 @@ impl<M: Machine> Model for Opened<M> {
     ghost invariant = { λ o. IsOpened o.table.shared.table_id o.table.shared.key o.actors o.seat.table_id o.seat.me };
 }
 
-impl<M: Machine> Opened<M> {
+impl<M: Machine> OpenedTrace<M> {
     /// An empty history for that many actors.
-    pub fn new(alloc: Global, actors: u32) -> Result<Opened<M>, AllocError>
+    pub fn new(alloc: Global, actors: u32) -> Result<OpenedTrace<M>, AllocError>
         ensures { IfOk result (λ o. o.actors ≡ actors) }
     {
         let (table, seat) = Table::of_words(alloc, &[0], &actors)?;
-        Ok(Opened {
+        Ok(OpenedTrace {
             table,
             seat,
             actors,
@@ -53,7 +53,7 @@ impl<M: Machine> Opened<M> {
         ensures actors { IfOk result (λ r. r.1.items ≡ fresh J.actors) }
         ensures blank { IfOk result (λ r. IsBlank r.1.items) }
     {
-        let Opened {
+        let OpenedTrace {
             table,
             mut seat,
             actors: count,

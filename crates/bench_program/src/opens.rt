@@ -5,7 +5,7 @@ use cdb_outside::MemStore;
 use std::alloc::{AllocError, Global};
 use std::io;
 use std::time::{Clock, Instant};
-use store_log::{Opened, open_log};
+use store_log::{OpenedLog, open_log};
 
 /// The pages that the records change in turn.
 const PAGES: u64 = 1000;
@@ -55,7 +55,7 @@ fn entries_in(alloc: Global, bytes: Vec<u8>) -> u64 {
     let store = MemStore::new(bytes, Vec::new(alloc), None, 0);
     match open_log(alloc, store, 1, 7) {
         Ok(opened) => {
-            let Opened { held, entries, .. } = opened;
+            let OpenedLog { held, entries, .. } = opened;
             let _store = held.give_back();
             entries.entries().len() as u64
         }

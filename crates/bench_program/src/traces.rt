@@ -1,7 +1,7 @@
 //! Many actors in one trace.
 ghost use Rattle.std.specs.Prelude.{◌≡◌};
 
-use actor_trace::{Actor, Machine, Naming, Opened, Trace};
+use actor_trace::{Actor, Machine, Naming, OpenedTrace, Trace};
 use std::alloc::{AllocError, Global};
 use std::marker::Brand;
 use std::thread;
@@ -27,14 +27,14 @@ pub(crate) fn trace<R: Threads + Sync>(
 ) -> Result<u64, AllocError> {
     let threads = u32::try_from(threads).unwrap_or(0);
     let steps = u32::try_from(steps).unwrap_or(0);
-    let opened = Opened::<Free>::new(alloc, threads)?;
+    let opened = OpenedTrace::<Free>::new(alloc, threads)?;
     run::<Brand, R>(rt, alloc, opened, steps)
 }
 
 fn run<N: Naming + Send + Sync, R: Threads + Sync>(
     rt: &R,
     alloc: Global,
-    opened: Opened<Free>,
+    opened: OpenedTrace<Free>,
     steps: u32,
 ) -> Result<u64, AllocError>
     requires table { opened.table ≡ N.table }

@@ -10,7 +10,7 @@ use Rattle.cdb_values.specs.declared.rows.Level.TheVariants.{Snapshot, Serializa
 use Rattle.cdb_values.specs.declared.tables.TableDef.{TableDef}
 use Rattle.phys_log.specs.declared.entries.Entry.{Entry}
 use Rattle.range_validate.proofs.UsedLemmas.{item_of_used}
-use Rattle.range_validate.specs.Touches.{changes_in, first_touch_from, or_later as touch_or}
+use Rattle.range_validate.specs.Touches.{changes_in, first_touch_from, touch_or_later}
 use Rattle.range_validate.specs.Used.{item_of}
 use Rattle.range_validate.specs.declared.touches.Touch.{Touch}
 use Rattle.session_language.specs.Language.{Answered}
@@ -25,7 +25,7 @@ changed_behind (suc begin) (e ∷ es) = changed_behind begin es
 
 found_alike : (position place begin : ℕ) (here : Option Used) (later : Option Touch) (others : Option FirstUse) → begin + place ≡ position
     → found_behind begin later ≡ option_map found_of others
-    → found_behind begin (touch_or place (option_map item_of here) later) ≡ option_map found_of (or_use (position + 1) here others)
+    → found_behind begin (touch_or_later place (option_map item_of here) later) ≡ option_map found_of (or_use (position + 1) here others)
 found_alike position place begin None later others same more = more
 found_alike position place begin (Some item) later others same more = ap (λ (n : ℕ). Some (record { position = n + 1; item = item_of item })) same
 
@@ -38,7 +38,7 @@ module _ (tables : List TableDef) (genids : List GenidItem) (ranges : List Inter
   used_from position place begin [] same = refl
   used_from position place begin (e ∷ es) same =
       let next : begin + (place + 1) ≡ position + 1 = omega (arith, same) in
-      ap (λ (here : Option Item). found_behind begin (touch_or place here (first_touch_from tables (place + 1) es genids ranges))) (item_of_used tables (changes_in e) genids ranges)
+      ap (λ (here : Option Item). found_behind begin (touch_or_later place here (first_touch_from tables (place + 1) es genids ranges))) (item_of_used tables (changes_in e) genids ranges)
       ∙ found_alike position place begin (first_used tables (changes_in e) all_used) (first_touch_from tables (place + 1) es genids ranges)
       (first_use tables (position + 1) (changed_in es) all_used) same (used_from (position + 1) (place + 1) begin es next)
 

@@ -17,14 +17,14 @@ use Rattle.cdb_values.specs.declared.tables.TableDef.{TableDef}
 use Rattle.phys_log.specs.declared.entries.Entry.{Entry}
 use Rattle.phys_log.specs.declared.entries.Entry.TheVariants.{Setup, Commit}
 use Rattle.phys_log.specs.declared.requests.CommitRequest.{CommitRequest}
-use Rattle.range_validate.specs.Touches.{changes_in, first_item, first_range, first_touch_from, first_touch_of, or_range, or_later as touch_or}
+use Rattle.range_validate.specs.Touches.{changes_in, first_item, first_range, first_touch_from, first_touch_of, or_range, touch_or_later}
 use Rattle.range_validate.specs.declared.touches.Touch.{Touch}
 use Rattle.session_language.specs.Touched.{first_touched, is_same_item, is_touched, ranges_at}
 use Rattle.table_store.specs.Listings.{IsAmong}
 use Rattle.log_rows.specs.History.{takes_of, takes_in, tables_of, IsUntaken}
 use Rattle.log_rows.proofs.HistoryLemmas.{takes_behind}
 use Rattle.block_processor.specs.Conflicts.{conflict_of, conflict_since, found_behind, ranges_of}
-use Rattle.block_processor.specs.Versions.{Touched, first_conflict, found_by, or_later}
+use Rattle.block_processor.specs.Versions.{Touched, first_conflict, found_by, version_or_later}
 
 takes_changes : (e : Entry) → genids_taken (changes_in e) ≡ takes_of e
 takes_changes (Setup generation schema records) = refl
@@ -46,7 +46,7 @@ pub no_touch_is_none : (tables : List TableDef) (begin : ℕ) (entries : List En
 no_touch_is_none tables begin entries genids ranges is = ap (found_behind begin) is
 
 -- a touch stands among the entries that were looked at
-here_place : (place : ℕ) (item : Item) (later : Option Touch) (t : Touch) → touch_or place (Some item) later ≡ Some t → place ≡ t.place
+here_place : (place : ℕ) (item : Item) (later : Option Touch) (t : Touch) → touch_or_later place (Some item) later ≡ Some t → place ≡ t.place
 here_place place item later t is = cc
 
 place_from : (tables : List TableDef) (place : ℕ) (entries : List Entry) (genids : List GenidItem) (ranges : List Interval) (t : Touch)
@@ -54,7 +54,7 @@ place_from : (tables : List TableDef) (place : ℕ) (entries : List Entry) (geni
 place_from tables place [] genids ranges t is = absurd (none-some _ is)
 place_from tables place (e ∷ es) genids ranges t is = pick (first_item tables (changes_in e) genids ranges) is (place_from tables (place + 1) es genids ranges t)
   where
-    pick : (here : Option Item) → touch_or place here (first_touch_from tables (place + 1) es genids ranges) ≡ Some t
+    pick : (here : Option Item) → touch_or_later place here (first_touch_from tables (place + 1) es genids ranges) ≡ Some t
         → (first_touch_from tables (place + 1) es genids ranges ≡ Some t → t.place < place + 1 + length es) → t.place < place + length (e ∷ es)
     pick None found more = omega (arith, more found)
     pick (Some item) found more = omega (arith, here_place place item (first_touch_from tables (place + 1) es genids ranges) t found)
@@ -66,10 +66,10 @@ touch_is_within tables entries genids ranges t is = omega (arith, place_from tab
 -- without intervals it is the conflict over versions alone
 item_alone : (tables : List TableDef) (position place begin : ℕ) (changes : List Change) (used : List GenidItem) (later : Option Touch) (others : Option Touched)
     → begin + place ≡ position → found_behind begin later ≡ found_by others
-    → found_behind begin (touch_or place (first_item tables changes used []) later) ≡ found_by (or_later (position + 1) (first_touched (genids_taken changes) used) others)
+    → found_behind begin (touch_or_later place (first_item tables changes used []) later) ≡ found_by (version_or_later (position + 1) (first_touched (genids_taken changes) used) others)
 item_alone tables position place begin changes used later others same more = pick (first_touched (genids_taken changes) used)
   where
-    pick : (found : Option GenidItem) → found_behind begin (touch_or place (or_range found None) later) ≡ found_by (or_later (position + 1) found others)
+    pick : (found : Option GenidItem) → found_behind begin (touch_or_later place (or_range found None) later) ≡ found_by (version_or_later (position + 1) found others)
     pick None = more
     pick (Some item) = ap (λ (n : ℕ). Some (record { position = n + 1; item = Genid item })) same
 
@@ -80,7 +80,7 @@ touch_alone tables position place begin (e ∷ es) used same =
     let next : begin + (place + 1) ≡ position + 1 = omega (arith, same) in
     item_alone tables position place begin (changes_in e) used (first_touch_from tables (place + 1) es used []) (first_conflict (position + 1) (takes_in es) used) same
     (touch_alone tables (position + 1) (place + 1) begin es used next)
-    ∙ ap (λ (l : List GenidItem). found_by (or_later (position + 1) (first_touched l used) (first_conflict (position + 1) (takes_in es) used))) (takes_changes e)
+    ∙ ap (λ (l : List GenidItem). found_by (version_or_later (position + 1) (first_touched l used) (first_conflict (position + 1) (takes_in es) used))) (takes_changes e)
 
 pub conflict_alone : (tables : List TableDef) (begin : ℕ) (entries : List Entry) (used : List GenidItem)
     → conflict_since tables begin entries used [] ≡ found_by (first_conflict begin (drop begin (takes_in entries)) used)
@@ -105,11 +105,11 @@ no_version : (found : Option GenidItem) (later : Option Item) → or_range found
 no_version None later is = refl
 no_version (Some item) later is = absurd (none-some _ (sym is))
 
-no_item : (place : ℕ) (here : Option Item) (later : Option Touch) → touch_or place here later ≡ None → here ≡ None
+no_item : (place : ℕ) (here : Option Item) (later : Option Touch) → touch_or_later place here later ≡ None → here ≡ None
 no_item place None later is = refl
 no_item place (Some item) later is = absurd (none-some _ (sym is))
 
-no_later : (place : ℕ) (here : Option Item) (later : Option Touch) → touch_or place here later ≡ None → later ≡ None
+no_later : (place : ℕ) (here : Option Item) (later : Option Touch) → touch_or_later place here later ≡ None → later ≡ None
 no_later place None later is = is
 no_later place (Some item) later is = absurd (none-some _ (sym is))
 
@@ -121,7 +121,7 @@ free_from : (tables : List TableDef) (position place : ℕ) (entries : List Entr
     → first_touch_from tables place entries genids ranges ≡ None → first_conflict position (takes_in entries) genids ≡ None
 free_from tables position place [] genids ranges none = refl
 free_from tables position place (e ∷ es) genids ranges none =
-    ap (λ (found : Option GenidItem). or_later (position + 1) found (first_conflict (position + 1) (takes_in es) genids)) here
+    ap (λ (found : Option GenidItem). version_or_later (position + 1) found (first_conflict (position + 1) (takes_in es) genids)) here
     ∙ free_from tables (position + 1) (place + 1) es genids ranges (no_later place (first_item tables (changes_in e) genids ranges) (first_touch_from tables (place + 1) es genids ranges) none)
   where
     here : first_touched (takes_of e) genids ≡ None
@@ -138,11 +138,11 @@ free_versions request entries none =
     (no_found request.begin (first_touch_of (tables_of entries) (drop request.begin entries) request.genids (ranges_of request)) none)
 
 -- a used version that entries do not touch is none of those that they take away
-or_none : (position : ℕ) (here : Option GenidItem) (later : Option Touched) → or_later position here later ≡ None → here ≡ None
+or_none : (position : ℕ) (here : Option GenidItem) (later : Option Touched) → version_or_later position here later ≡ None → here ≡ None
 or_none position None later is = refl
 or_none position (Some item) later is = absurd (none-some _ (sym is))
 
-or_later_none : (position : ℕ) (here : Option GenidItem) (later : Option Touched) → or_later position here later ≡ None → later ≡ None
+or_later_none : (position : ℕ) (here : Option GenidItem) (later : Option Touched) → version_or_later position here later ≡ None → later ≡ None
 or_later_none position None later is = is
 or_later_none position (Some item) later is = absurd (none-some _ (sym is))
 

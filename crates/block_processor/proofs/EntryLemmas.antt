@@ -20,7 +20,7 @@ use Rattle.log_rows.specs.History.{Ground, rows_over, tables_of}
 use Rattle.log_rows.proofs.HistoryLemmas.{rows_last}
 use Rattle.log_rows.proofs.RowLemmas.{changes_make}
 use Rattle.block_processor.specs.Conflicts.{conflict_of}
-use Rattle.block_processor.specs.Decided.{broken_by, IsDuplicate, IsNew, IsNextEntry}
+use Rattle.block_processor.specs.Decided.{broken_by, TellsDuplicate, IsNew, IsNextEntry}
 
 pub next_is : (footing : Ground) (request : CommitRequest) (entries : List Entry) (generation : ℕ) (changes : List Change) (records : List LogRecord)
     → footing.position ≤ length entries → IsNew request entries → conflict_of request entries ≡ None → broken_by footing request entries ≡ None → changes ≡ changes_of request.ops (rows_over footing entries).next
@@ -57,10 +57,10 @@ within_alike old new other like below = record {
 -- a duplicate, whose table and key are told by equal numbers
 pub duplicate_is : (footing : Ground) (request : CommitRequest) (entries : List Entry) (position table key place at : ℕ) → IsNew request entries → conflict_of request entries ≡ None
     → position ≡ length entries → broken_by footing request entries ≡ Some (record { table = place; key = at }) → table ≡ place → key ≡ at
-    → IsDuplicate footing request entries position table key
+    → TellsDuplicate footing request entries position table key
 duplicate_is footing request entries position table key place at fresh free now broken t k =
-    subst (λ (n : ℕ). IsDuplicate footing request entries position n key) (sym t)
-    (subst (λ (n : ℕ). IsDuplicate footing request entries position place n) (sym k) (record { fresh = fresh; free = free; now = now; broken = broken }))
+    subst (λ (n : ℕ). TellsDuplicate footing request entries position n key) (sym t)
+    (subst (λ (n : ℕ). TellsDuplicate footing request entries position place n) (sym k) (record { fresh = fresh; free = free; now = now; broken = broken }))
 
 -- pages that are those of the log stand for its rows, with its schema
 pub begun : (footing : Ground) (entries : List Entry) (schema : List TableDef) (pages : ℕ → Image) → schema ≡ tables_of entries → pages ≡ pages_of entries

@@ -34,12 +34,12 @@ abbrev pub broken_by : Ground → CommitRequest → List Entry → Option KeyPla
 broken_by footing request entries = broken_place (apply_all (rows_over footing entries) request.ops) 0 (tables_of entries)
 
 -- a conflict is told
-pub record IsConflict (request : CommitRequest) (entries : List Entry) (position : ℕ) (item : Item) : Type 0 where
+pub record TellsConflict (request : CommitRequest) (entries : List Entry) (position : ℕ) (item : Item) : Type 0 where
   pub fresh : IsNew request entries
   pub first : conflict_of request entries ≡ Some (record { position = position; item = item })
 
 -- a duplicate is told
-pub record IsDuplicate (footing : Ground) (request : CommitRequest) (entries : List Entry) (position table key : ℕ) : Type 0 where
+pub record TellsDuplicate (footing : Ground) (request : CommitRequest) (entries : List Entry) (position table key : ℕ) : Type 0 where
   pub fresh : IsNew request entries
   pub free : conflict_of request entries ≡ None
   pub now : position ≡ length entries
@@ -60,6 +60,6 @@ pub record IsNextEntry (footing : Ground) (request : CommitRequest) (entries : L
 -- a decision is the right one
 abbrev pub Decides : Ground → CommitRequest → List Entry → ℕ → Decision → Type 0
 Decides footing request entries generation (Repeat position) = HasId entries position request.id
-Decides footing request entries generation (Conflict position item) = IsConflict request entries position item
-Decides footing request entries generation (Duplicate position table key) = IsDuplicate footing request entries position table key
+Decides footing request entries generation (Conflict position item) = TellsConflict request entries position item
+Decides footing request entries generation (Duplicate position table key) = TellsDuplicate footing request entries position table key
 Decides footing request entries generation (Commit next) = IsNextEntry footing request entries generation next

@@ -15,14 +15,14 @@ pub record Touched : Type 0 where
   pub position : ℕ
   pub item : GenidItem
 
-abbrev pub or_later : ℕ → Option GenidItem → Option Touched → Option Touched
-or_later position (Some item) later = Some (record { position = position; item = item })
-or_later position None later = later
+abbrev pub version_or_later : ℕ → Option GenidItem → Option Touched → Option Touched
+version_or_later position (Some item) later = Some (record { position = position; item = item })
+version_or_later position None later = later
 
 -- the first entry that touches a used version; these are the versions that the entries after a position take away
 abbrev pub first_conflict : ℕ → List (List GenidItem) → List GenidItem → Option Touched
 first_conflict position [] used = None
-first_conflict position (taken ∷ later) used = or_later (position + 1) (first_touched taken used) (first_conflict (position + 1) later used)
+first_conflict position (taken ∷ later) used = version_or_later (position + 1) (first_touched taken used) (first_conflict (position + 1) later used)
 
 -- such a conflict as one over items
 abbrev pub found_by : Option Touched → Option Found

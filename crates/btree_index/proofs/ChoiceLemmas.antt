@@ -4,7 +4,7 @@ use Rattle.std.proofs.lemmas.Bool.{ltb-true, ltb-false}
 use Rattle.std.proofs.lemmas.Option.{none-some, same_Some}
 use Rattle.std.specs.List.{slice_get}
 use Rattle.btree_index.specs.Keys.{Key, before}
-use Rattle.btree_index.specs.Cells.{key_of, child_of}
+use Rattle.btree_index.specs.Cells.{key_of_cell, child_of}
 use Rattle.btree_index.specs.Trees.{BeginsEmpty}
 use Rattle.btree_index.specs.Pairs.{middle, is_above, halved, turn, child_from, choice}
 use Rattle.btree_index.proofs.FindLemmas.{cell_at}
@@ -12,15 +12,15 @@ use Rattle.btree_index.proofs.FindLemmas.{cell_at}
 -- a place among cells: the cell in front of it is not above the key, and the one there is
 pub record IsTurn (key : Key) (cells : List (List ℕ)) (at : ℕ) : Type 0 where
   pub within : at ≤ length cells
-  pub from : (i : ℕ) (c : List ℕ) → i + 1 ≡ at → slice_get cells i ≡ Some c → before key (key_of c) ≡ false
-  pub to : (c : List ℕ) → slice_get cells at ≡ Some c → before key (key_of c) ≡ true
+  pub from : (i : ℕ) (c : List ℕ) → i + 1 ≡ at → slice_get cells i ≡ Some c → before key (key_of_cell c) ≡ false
+  pub to : (c : List ℕ) → slice_get cells at ≡ Some c → before key (key_of_cell c) ≡ true
 
 -- the places between which such a one is sought
 record IsRange (key : Key) (cells : List (List ℕ)) (low high : ℕ) : Type 0 where
   order : low ≤ high
   within : high ≤ length cells
-  from : (i : ℕ) (c : List ℕ) → i + 1 ≡ low → slice_get cells i ≡ Some c → before key (key_of c) ≡ false
-  to : (c : List ℕ) → slice_get cells high ≡ Some c → before key (key_of c) ≡ true
+  from : (i : ℕ) (c : List ℕ) → i + 1 ≡ low → slice_get cells i ≡ Some c → before key (key_of_cell c) ≡ false
+  to : (c : List ℕ) → slice_get cells high ≡ Some c → before key (key_of_cell c) ≡ true
 
 range_end : (key : Key) (cells : List (List ℕ)) (low high : ℕ) → high ≤ low → IsRange key cells low high → IsTurn key cells low
 range_end key cells low high past r =
@@ -43,7 +43,7 @@ half_turn key cells turns low high few r down up true e false a =
     let some : low < high = ltb-true low high e in
     up (omega arith) (record { order = omega arith; within = r.within; from = λ i c next here. in_front i c next here; to = r.to })
   where
-    in_front : (i : ℕ) (c : List ℕ) → i + 1 ≡ middle low high + 1 → slice_get cells i ≡ Some c → before key (key_of c) ≡ false
+    in_front : (i : ℕ) (c : List ℕ) → i + 1 ≡ middle low high + 1 → slice_get cells i ≡ Some c → before key (key_of_cell c) ≡ false
     in_front i c next here =
         let same : i ≡ middle low high = omega arith in
         sym (ap (is_above key) here) ∙ ap (λ (n : ℕ). is_above key (slice_get cells n)) same ∙ a

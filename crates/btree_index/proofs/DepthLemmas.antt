@@ -13,10 +13,10 @@ use Rattle.page_store.specs.declared.pages.PageKind.TheVariants.{Leaf, Inner}
 use Rattle.page_workspace.specs.Spare.{IsIn, AreApart, IsChain, IsFreePage, count_of, first_free}
 use Rattle.btree_index.specs.Keys.{Key}
 use Rattle.btree_index.specs.Pairs.{choice}
-use Rattle.btree_index.specs.Trees.{Entry, page_of, leaves, pages_of, spread, IsShaped, IsLeafPage, IsInnerPage, top, TreeList}
+use Rattle.btree_index.specs.Trees.{Entry, page_of, leaves, tree_pages, spread, IsShaped, IsLeafPage, IsInnerPage, top, TreeList}
 use Rattle.btree_index.specs.Ways.{IsAt}
 use Rattle.btree_index.specs.Fits.{HasSpare, IsFull, IsTreePage, HasNext, Stays, IsRaisable, IsSplittable, IsFullUntil, IsFullUnder}
-use Rattle.btree_index.specs.Changes.{raise, Stands, IsPath, Leads}
+use Rattle.btree_index.specs.Changes.{raise, TreeStands, IsPath, Leads}
 use Rattle.btree_index.proofs.ApartLaws.{in_left, in_right, apart_cross}
 use Rattle.btree_index.proofs.KeyLaws.{none_before_empty}
 use Rattle.btree_index.proofs.LevelLemmas.{uppers, all_pages, shaped_down, level_down, raise_suc}
@@ -91,17 +91,17 @@ placed_here pages root key page depth height placed =
     (in_right page (map page_of placed.at.front) (page ∷ map page_of placed.at.others) (inl refl)))
 
 placed_lower : (pages : ℕ → Image) (root : ℕ) (key : Key) (page depth height : ℕ) (placed : IsPlaced pages root key page depth height)
-    → IsIn page (pages_of pages placed.rest (leaves pages depth (top root)))
+    → IsIn page (tree_pages pages placed.rest (leaves pages depth (top root)))
 placed_lower pages root key page depth height placed =
-    subst (λ (l : List Entry). IsIn page (pages_of pages placed.rest l)) (sym placed.at.is)
+    subst (λ (l : List Entry). IsIn page (tree_pages pages placed.rest l)) (sym placed.at.is)
     (level_inside pages placed.rest placed.at.front (record { low = placed.at.low; page = page }) placed.at.others)
 
 pub placed_in : (pages : ℕ → Image) (root : ℕ) (key : Key) (page depth height : ℕ) → IsPlaced pages root key page depth height
-    → IsIn page (pages_of pages height (top root))
+    → IsIn page (tree_pages pages height (top root))
 placed_in pages root key page depth height placed =
-    subst (λ (h : ℕ). IsIn page (pages_of pages h (top root))) placed.tall
+    subst (λ (h : ℕ). IsIn page (tree_pages pages h (top root))) placed.tall
     (subst (λ (l : List ℕ). IsIn page l) (sym (all_pages pages depth placed.rest (top root)))
-    (in_right page (uppers pages depth (top root)) (pages_of pages placed.rest (leaves pages depth (top root)))
+    (in_right page (uppers pages depth (top root)) (tree_pages pages placed.rest (leaves pages depth (top root)))
     (placed_lower pages root key page depth height placed)))
 
 -- the pages of one level more
@@ -113,24 +113,24 @@ uppers_more pages (suc depth) level =
     ∙ sym (append_assoc (map page_of level) (uppers pages depth (spread pages level)) (map page_of (leaves pages depth (spread pages level))))
 
 upper_in : (pages : ℕ → Image) (root : ℕ) (key : Key) (page depth height n : ℕ) → IsPlaced pages root key page depth height
-    → IsIn n (uppers pages depth (top root)) → IsIn n (pages_of pages height (top root))
+    → IsIn n (uppers pages depth (top root)) → IsIn n (tree_pages pages height (top root))
 upper_in pages root key page depth height n placed i =
-    subst (λ (h : ℕ). IsIn n (pages_of pages h (top root))) placed.tall
+    subst (λ (h : ℕ). IsIn n (tree_pages pages h (top root))) placed.tall
     (subst (λ (l : List ℕ). IsIn n l) (sym (all_pages pages depth placed.rest (top root)))
-    (in_left n (uppers pages depth (top root)) (pages_of pages placed.rest (leaves pages depth (top root))) i))
+    (in_left n (uppers pages depth (top root)) (tree_pages pages placed.rest (leaves pages depth (top root))) i))
 
 -- no page above it is the same
-upper_off : (pages : ℕ → Image) (root : ℕ) (key : Key) (page depth height n : ℕ) → AreApart (pages_of pages height (top root))
+upper_off : (pages : ℕ → Image) (root : ℕ) (key : Key) (page depth height n : ℕ) → AreApart (tree_pages pages height (top root))
     → IsPlaced pages root key page depth height → IsIn n (uppers pages depth (top root)) → n ≡ page → ⊥
 upper_off pages root key page depth height n apart placed i same =
     let upper = uppers pages depth (top root) in
-    let lower = pages_of pages placed.rest (leaves pages depth (top root)) in
+    let lower = tree_pages pages placed.rest (leaves pages depth (top root)) in
     let all : AreApart (upper ++ lower) =
     subst AreApart (all_pages pages depth placed.rest (top root))
-    (subst (λ (h : ℕ). AreApart (pages_of pages h (top root))) (sym placed.tall) apart) in
+    (subst (λ (h : ℕ). AreApart (tree_pages pages h (top root))) (sym placed.tall) apart) in
     apart_cross n upper lower all i (subst (λ (k : ℕ). IsIn k lower) (sym same) (placed_lower pages root key page depth height placed))
 
-pub parent_off : (pages : ℕ → Image) (root : ℕ) (key : Key) (parent child depth height : ℕ) → AreApart (pages_of pages height (top root))
+pub parent_off : (pages : ℕ → Image) (root : ℕ) (key : Key) (parent child depth height : ℕ) → AreApart (tree_pages pages height (top root))
     → IsPlaced pages root key parent depth height → IsPlaced pages root key child (suc depth) height → parent ≡ child → ⊥
 parent_off pages root key parent child depth height apart above below =
     upper_off pages root key child (suc depth) height parent apart below
@@ -157,7 +157,7 @@ deep_begins pages root key height = record {
   small = λ n i. absurd i;
 }
 
-pub deep_on : (pages : ℕ → Image) (root : ℕ) (key : Key) (page depth height : ℕ) → IsShaped pages height (top root) → AreApart (pages_of pages height (top root))
+pub deep_on : (pages : ℕ → Image) (root : ℕ) (key : Key) (page depth height : ℕ) → IsShaped pages height (top root) → AreApart (tree_pages pages height (top root))
     → (pages page).head.kind ≡ Inner → page < 2 ^ 64 → IsDeep pages root key page depth height
     → IsDeep pages root key (choice key (pages page).cells) (suc depth) height
 deep_on pages root key page depth height shaped apart inner small deep = record {
@@ -196,8 +196,8 @@ distinct_apart (x ∷ xs) apart = (off_each x xs apart.0, distinct_apart xs apar
 pub few_apart : (xs : List ℕ) (limit : ℕ) → AreApart xs → ((n : ℕ) → IsIn n xs → n < limit) → length xs ≤ limit
 few_apart xs limit apart below = length-le_from_distinct_below xs limit (distinct_apart xs apart) (λ q has. below q (in_any q xs has))
 
-pub deep_few : (pages : ℕ → Image) (root : ℕ) (key : Key) (page depth height : ℕ) → AreApart (pages_of pages height (top root))
-    → (IsIn 0 (pages_of pages height (top root)) → ⊥) → page < 2 ^ 64 → IsDeep pages root key page depth height → depth + 2 ≤ 2 ^ 64
+pub deep_few : (pages : ℕ → Image) (root : ℕ) (key : Key) (page depth height : ℕ) → AreApart (tree_pages pages height (top root))
+    → (IsIn 0 (tree_pages pages height (top root)) → ⊥) → page < 2 ^ 64 → IsDeep pages root key page depth height → depth + 2 ≤ 2 ^ 64
 deep_few pages root key page depth height apart off_meta small deep =
     let many : length deep.seen ≡ depth = deep.many in
     let all : length (0 ∷ page ∷ deep.seen) ≤ 2 ^ 64 =
@@ -208,7 +208,7 @@ deep_few pages root key page depth height apart off_meta small deep =
   where
     zeroth : IsIn 0 (page ∷ deep.seen) → ⊥
     zeroth (inl e) =
-        off_meta (subst (λ (k : ℕ). IsIn k (pages_of pages height (top root))) (sym e) (placed_in pages root key page depth height deep.placed))
+        off_meta (subst (λ (k : ℕ). IsIn k (tree_pages pages height (top root))) (sym e) (placed_in pages root key page depth height deep.placed))
     zeroth (inr i) = off_meta (upper_in pages root key page depth height 0 deep.placed (deep.above 0 i))
 
     below : (n : ℕ) → IsIn n (0 ∷ page ∷ deep.seen) → n < 2 ^ 64
@@ -257,7 +257,7 @@ until_under pages key (Some above) page (inl e) full = subst (λ (n : ℕ). IsFu
 until_under pages key (Some above) page (inr f) full = f
 
 -- where a tree stands, its pages stay when one is taken
-pub stands_next : (pages : ℕ → Image) (root : ℕ) (own free : List ℕ) (list : List (Key × List ℕ)) → Stands pages root own free list → HasNext pages
+pub stands_next : (pages : ℕ → Image) (root : ℕ) (own free : List ℕ) (list : List (Key × List ℕ)) → TreeStands pages root own free list → HasNext pages
 stands_next pages root own free list stands =
     let rooted : root < count_of pages = stands.below root (subst (λ (l : List ℕ). IsIn root l) stands.own_is (root_in pages stands.height root)) in
     record {
@@ -272,8 +272,8 @@ stands_next pages root own free list stands =
     first_kept pages next [] chain kept some = absurd (some chain)
     first_kept pages next (x ∷ xs) chain kept some = ap (λ (n : ℕ). (pages n).cells) chain.0 ∙ kept.0.cells
 
-stands_stays : (pages : ℕ → Image) (root : ℕ) (own free : List ℕ) (list : List (Key × List ℕ)) → (stands : Stands pages root own free list) (n : ℕ)
-    → IsIn n (pages_of pages stands.height (top root)) → Stays pages n
+stands_stays : (pages : ℕ → Image) (root : ℕ) (own free : List ℕ) (list : List (Key × List ℕ)) → (stands : TreeStands pages root own free list) (n : ℕ)
+    → IsIn n (tree_pages pages stands.height (top root)) → Stays pages n
 stands_stays pages root own free list stands n i =
     let own_in : IsIn n own = subst (λ (l : List ℕ). IsIn n l) stands.own_is i in
     let below : n < count_of pages = stands.below n own_in in
@@ -291,7 +291,7 @@ stands_stays pages root own free list stands n i =
     first_off (inl z) own_in e = stands.off_meta (subst (λ (k : ℕ). IsIn k own) (e ∙ z) own_in)
     first_off (inr j) own_in e = stands.off_free n own_in (subst (λ (k : ℕ). IsIn k free) (sym e) j)
 
-pub stands_tree : (pages : ℕ → Image) (root : ℕ) (own free : List ℕ) (list : List (Key × List ℕ)) → Stands pages root own free list → TreeList pages root list
+pub stands_tree : (pages : ℕ → Image) (root : ℕ) (own free : List ℕ) (list : List (Key × List ℕ)) → TreeStands pages root own free list → TreeList pages root list
 stands_tree pages root own free list stands = record {
   height = stands.height;
   cells = stands.cells;
@@ -300,7 +300,7 @@ stands_tree pages root own free list stands = record {
   pairs = stands.pairs;
 }
 
-pub raisable : (pages : ℕ → Image) (root : ℕ) (own free : List ℕ) (list : List (Key × List ℕ)) → Stands pages root own free list → IsRaisable pages root
+pub raisable : (pages : ℕ → Image) (root : ℕ) (own free : List ℕ) (list : List (Key × List ℕ)) → TreeStands pages root own free list → IsRaisable pages root
 raisable pages root own free list stands = record {
   next = stands_next pages root own free list stands;
   page = placed_page pages root [] root 0 stands.height stands.holds.shaped (placed_begins pages root [] stands.height);
@@ -309,7 +309,7 @@ raisable pages root own free list stands = record {
 
 pub splittable : (pages : ℕ → Image) (root : ℕ) (key : Key) (parent : ℕ) → Leads pages root key parent → (pages parent).head.kind ≡ Inner
     → HasSpare (pages parent) → IsFull (pages (choice key (pages parent).cells)) → (own free : List ℕ) (list : List (Key × List ℕ))
-    → Stands pages root own free list → IsSplittable pages parent key
+    → TreeStands pages root own free list → IsSplittable pages parent key
 splittable pages root key parent leads kind spare full own free list stands =
     let path : IsPath pages root key parent stands.height = leads stands.height stands.cells stands.holds in
     let above : IsPlaced pages root key parent path.depth stands.height = record { rest = path.rest; tall = path.tall; at = path.at } in

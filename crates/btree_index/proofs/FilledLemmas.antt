@@ -8,7 +8,7 @@ use Rattle.page_store.specs.declared.pages.PageKind.TheVariants.{Leaf}
 use Rattle.page_workspace.specs.Spare.{IsIn, IsMeta, IsFreePage}
 use Rattle.page_workspace.specs.Takes.{TakesPage}
 use Rattle.btree_index.specs.Cells.{child_of}
-use Rattle.btree_index.specs.Changes.{Stands}
+use Rattle.btree_index.specs.Changes.{TreeStands}
 use Rattle.btree_index.specs.Filled.{IsEmptyLeaf, KeepsFilled}
 use Rattle.btree_index.specs.Keys.{Key}
 use Rattle.btree_index.specs.Prunes.{FreesAll, FreesEmpty, HasLeaf, IsLeafBelow, Takes, Unlinks}
@@ -114,7 +114,7 @@ crown_filled old new root s meta nonzero some n off e = go (same_or_off n s.fres
     go (inr far) = take_filled old s.taken s.fresh n s.takes meta (subst IsEmptyLeaf (s.others n off far) e)
 
 -- the root of a tree is not the meta page
-pub root_off : (pages : ℕ → Image) (root : ℕ) (own free : List ℕ) (list : List (Key × List ℕ)) → Stands pages root own free list → root ≡ 0 → ⊥
+pub root_off : (pages : ℕ → Image) (root : ℕ) (own free : List ℕ) (list : List (Key × List ℕ)) → TreeStands pages root own free list → root ≡ 0 → ⊥
 root_off pages root own free list s e =
     s.off_meta (subst (λ (n : ℕ). IsIn n own) e (subst (λ (l : List ℕ). IsIn root l) s.own_is (root_in pages s.height root)))
 

@@ -11,10 +11,10 @@ use Rattle.page_store.specs.declared.pages.PageKind.TheVariants.{Leaf, Inner}
 use Rattle.page_store.proofs.RoomLaws.{slots_taken, taken_insert, taken_remove}
 use Rattle.page_workspace.specs.declared.workspaces.EditFault.{EditFault}
 use Rattle.page_workspace.specs.declared.workspaces.EditFault.TheVariants.{Unfit, Gone, NoMemory}
-use Rattle.page_workspace.specs.Drafts.{TellsFit, IsNotUnfit}
+use Rattle.page_workspace.specs.Drafts.{TellsEditFit, IsNotUnfit}
 use Rattle.page_workspace.specs.Takes.{TakesNew, TakesFree, TakesPage}
 use Rattle.btree_index.specs.Keys.{Key, before}
-use Rattle.btree_index.specs.Cells.{key_of, value_of, child_of, key_size, inner_cell, IsLeafCell, IsInnerCell}
+use Rattle.btree_index.specs.Cells.{key_of_cell, value_of_cell, child_of, key_size, inner_cell, IsLeafCell, IsInnerCell}
 use Rattle.btree_index.specs.Pairs.{place_in}
 use Rattle.btree_index.specs.Trees.{BeginsEmpty}
 use Rattle.btree_index.specs.Fits.{HasSpare, IsTreePage, IsHalvable, HasNext, Stays}
@@ -42,7 +42,7 @@ begins_some [] begins none = begins
 begins_some (c ∷ cs) begins none = none-some c (sym none)
 
 -- a cell above the leaves has a child
-pub child_some : (cell : List ℕ) → IsInnerCell cell → length (value_of cell) < 8 → ⊥
+pub child_some : (cell : List ℕ) → IsInnerCell cell → length (value_of_cell cell) < 8 → ⊥
 child_some cell is short =
     let long : length cell ≡ 2 + key_size cell + 8 = is.whole in
     omega (arith, length-drop (2 + key_size cell) cell)
@@ -83,7 +83,7 @@ pub first_kind : (image : Image) (at : ℕ) (middle : List ℕ) → IsTreePage i
 first_kind image at middle (inl leaf) h = inl leaf.kind
 first_kind image at middle (inr (height, inner)) h = inr (inner.kind, all_at IsInnerCell image.cells at middle inner.cells h)
 
-key_short : (cell : List ℕ) → key_size cell ≤ 1630 → length (key_of cell) ≤ 1630
+key_short : (cell : List ℕ) → key_size cell ≤ 1630 → length (key_of_cell cell) ≤ 1630
 key_short cell h = omega (arith, length-take (key_size cell) (drop 2 cell))
 
 -- the first cell of the fresh page is not longer than the one where the page was cut
@@ -145,7 +145,7 @@ put_fits image at cell within room = record { found = within; fits = omega (arit
 
 pub place_within : (key : Key) (cells : List (List ℕ)) → place_in key cells ≤ length cells
 place_within key [] = omega arith
-place_within key (c ∷ cs) = go (before (key_of c) key) (place_within key cs)
+place_within key (c ∷ cs) = go (before (key_of_cell c) key) (place_within key cs)
   where
     go : (t : Bool) → place_in key cs ≤ length cs → (if t then suc (place_in key cs) else zero) ≤ suc (length cs)
     go true rest = omega arith
@@ -201,8 +201,8 @@ half_head p0 p1 p2 p3 p4 image id fresh half after xs ys off is can said a1 a2 a
 -- the separator of a halved page
 pub separator_short : (old new : ℕ → Image) (page fresh : ℕ) (separator : Key) → IsTreePage (old page) → Halves old new page fresh separator → length separator ≤ 1630
 separator_short old new page fresh separator tree h =
-    let e : length separator ≡ length (key_of h.middle) = ap length h.separator_is in
-    let short : length (key_of h.middle) ≤ 1630 = key_short h.middle (go tree) in
+    let e : length separator ≡ length (key_of_cell h.middle) = ap length h.separator_is in
+    let short : length (key_of_cell h.middle) ≤ 1630 = key_short h.middle (go tree) in
     omega arith
   where
     go : IsTreePage (old page) → key_size h.middle ≤ 1630
@@ -289,7 +289,7 @@ filling_fits old now page to start at off room so_far within =
     }
 
 -- an edit that fits is not answered by `Unfit`
-pub not_unfit : {T : Type 0} (r : Result T EditFault) (fit : Type 0) → TellsFit r fit → fit → IsNotUnfit r
+pub not_unfit : {T : Type 0} (r : Result T EditFault) (fit : Type 0) → TellsEditFit r fit → fit → IsNotUnfit r
 not_unfit (Ok x) fit h k = tt
 not_unfit (Err Unfit) fit h k = absurd (h k)
 not_unfit (Err Gone) fit h k = tt

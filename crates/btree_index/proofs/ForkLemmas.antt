@@ -7,8 +7,8 @@ use Rattle.page_store.specs.declared.pages.Head.{Head}
 use Rattle.page_store.specs.declared.pages.PageKind.TheVariants.{Leaf, Inner}
 use Rattle.page_workspace.specs.Spare.{IsIn, AreApart, first_cell}
 use Rattle.btree_index.specs.Keys.{Key}
-use Rattle.btree_index.specs.Cells.{key_of, child_of, IsInnerCell}
-use Rattle.btree_index.specs.Trees.{Entry, page_of, entry_of, below, spread, leaves, pages_of, IsLeafPage, IsInnerPage, BeginsEmpty, Holds}
+use Rattle.btree_index.specs.Cells.{key_of_cell, child_of, IsInnerCell}
+use Rattle.btree_index.specs.Trees.{Entry, page_of, entry_of, below, spread, leaves, tree_pages, IsLeafPage, IsInnerPage, BeginsEmpty, Holds}
 use Rattle.btree_index.proofs.ApartLaws.{in_left, in_right, in_either, apart_left, apart_right, apart_cross}
 use Rattle.btree_index.proofs.CellLemmas.{child_of-cell, inner_key_is, inner_cell_is}
 use Rattle.btree_index.proofs.LevelLemmas.{SameOn, spread-same, each_same}
@@ -68,12 +68,12 @@ cut_child low (c ∷ cs) (suc at) cell here several =
     let behind = map entry_of (drop (suc at) cs) in
     record {
       first = false;
-      least = key_of cell;
+      least = key_of_cell cell;
       behind = behind;
       once = ap (λ (l : List Entry). e ∷ l) (ap (λ (l : List (List ℕ)). map entry_of l) (cut_at cs at cell here) ∙ entries-append (take at cs) (cell ∷ drop (suc at) cs));
       now = λ small more. ap (λ (l : List Entry). e ∷ (l ++ more)) (remove_cut cs at cell here)
           ∙ ap (λ (l : List Entry). e ∷ l) (append_assoc front behind more)
-          ∙ ap (λ (l : List Entry). (e ∷ front) ++ l) (sym (relow_same (key_of cell) (behind ++ more)));
+          ∙ ap (λ (l : List Entry). (e ∷ front) ++ l) (sym (relow_same (key_of_cell cell) (behind ++ more)));
       begins = λ h. h;
       inner = λ h. (h.0, all_remove IsInnerCell cs at h.1);
     }
@@ -92,7 +92,7 @@ once_at low (c ∷ cs) zero cell here = record {
   once = ap (λ (x : List ℕ). record { low = low; page = child_of x } ∷ map entry_of cs) (same_Some c cell here);
 }
 once_at low (c ∷ cs) (suc at) cell here = record {
-  least = key_of cell;
+  least = key_of_cell cell;
   behind = map entry_of (drop (suc at) cs);
   once = ap (λ (l : List Entry). record { low = low; page = child_of c } ∷ l)
       (ap (λ (l : List (List ℕ)). map entry_of l) (cut_at cs at cell here) ∙ entries-append (take at cs) (cell ∷ drop (suc at) cs));
@@ -114,32 +114,32 @@ spread_cut pages front low page others at cell c =
 
 -- the pages from a lone one on are pages of its level and below
 pub lone_in : (pages : ℕ → Image) (height : ℕ) (front : List Entry) (e : Entry) (others : List Entry) (n : ℕ) → IsLone pages height e.page
-    → IsIn n (lone_pages pages height e.page) → IsIn n (pages_of pages height (front ++ (e ∷ others)))
+    → IsIn n (lone_pages pages height e.page) → IsIn n (tree_pages pages height (front ++ (e ∷ others)))
 lone_in pages zero front e others n lone (inl k) =
-    subst (λ (j : ℕ). IsIn j (pages_of pages zero (front ++ (e ∷ others)))) (sym k) (level_inside pages 0 front e others)
+    subst (λ (j : ℕ). IsIn j (tree_pages pages zero (front ++ (e ∷ others)))) (sym k) (level_inside pages 0 front e others)
 lone_in pages zero front e others n lone (inr k) = absurd k
 lone_in pages (suc height) front e others n lone (inl k) =
-    subst (λ (j : ℕ). IsIn j (pages_of pages (suc height) (front ++ (e ∷ others)))) (sym k) (level_inside pages (suc height) front e others)
+    subst (λ (j : ℕ). IsIn j (tree_pages pages (suc height) (front ++ (e ∷ others)))) (sym k) (level_inside pages (suc height) front e others)
 lone_in pages (suc height) front e others n lone (inr i) =
     let e' : Entry = record { low = e.low; page = child_of (first_cell (pages e.page).cells) } in
     let s : spread pages (front ++ (e ∷ others)) ≡ spread pages front ++ (e' ∷ spread pages others) =
     spread-append pages front (e ∷ others) ∙ ap (λ (l : List (List ℕ)). spread pages front ++ (below e.low l ++ spread pages others)) lone.1 in
-    in_right n (map page_of (front ++ (e ∷ others))) (pages_of pages height (spread pages (front ++ (e ∷ others))))
-    (subst (λ (l : List Entry). IsIn n (pages_of pages height l)) (sym s) (lone_in pages height (spread pages front) e' (spread pages others) n lone.2 i))
+    in_right n (map page_of (front ++ (e ∷ others))) (tree_pages pages height (spread pages (front ++ (e ∷ others))))
+    (subst (λ (l : List Entry). IsIn n (tree_pages pages height l)) (sym s) (lone_in pages height (spread pages front) e' (spread pages others) n lone.2 i))
 
 lone_apart : (pages : ℕ → Image) (height : ℕ) (front : List Entry) (e : Entry) (others : List Entry) → IsLone pages height e.page
-    → AreApart (pages_of pages height (front ++ (e ∷ others))) → AreApart (lone_pages pages height e.page)
+    → AreApart (tree_pages pages height (front ++ (e ∷ others))) → AreApart (lone_pages pages height e.page)
 lone_apart pages zero front e others lone apart = (λ i. i, tt)
 lone_apart pages (suc height) front e others lone apart =
     let e' : Entry = record { low = e.low; page = child_of (first_cell (pages e.page).cells) } in
     let level = front ++ (e ∷ others) in
     let s : spread pages level ≡ spread pages front ++ (e' ∷ spread pages others) =
     spread-append pages front (e ∷ others) ∙ ap (λ (l : List (List ℕ)). spread pages front ++ (below e.low l ++ spread pages others)) lone.1 in
-    let deep = pages_of pages height (spread pages level) in (
+    let deep = tree_pages pages height (spread pages level) in (
       λ i. apart_cross e.page (map page_of level) deep apart (level_inside pages 0 front e others)
-          (subst (λ (l : List Entry). IsIn e.page (pages_of pages height l)) (sym s) (lone_in pages height (spread pages front) e' (spread pages others) e.page lone.2 i)),
+          (subst (λ (l : List Entry). IsIn e.page (tree_pages pages height l)) (sym s) (lone_in pages height (spread pages front) e' (spread pages others) e.page lone.2 i)),
       lone_apart pages height (spread pages front) e' (spread pages others) lone.2
-          (subst (λ (l : List Entry). AreApart (pages_of pages height l)) s (apart_right (map page_of level) deep apart)),
+          (subst (λ (l : List Entry). AreApart (tree_pages pages height l)) s (apart_right (map page_of level) deep apart)),
     )
 
 -- the page that loses a child
@@ -155,7 +155,7 @@ fork_cut old height front low others fork cell cells h c lone last is new u =
     let q : Entry = record { low = low; page = fork.page } in
     let level = front ++ (q ∷ others) in
     let here = map page_of level in
-    let deep = pages_of old height (spread old level) in
+    let deep = tree_pages old height (spread old level) in
     let mine = below low (take fork.at (old fork.page).cells) in
     let a = spread old front ++ mine in
     let e : Entry = record { low = c.least; page = child_of cell } in
@@ -171,12 +171,12 @@ fork_cut old height front low others fork cell cells h c lone last is new u =
     (record {
       others = λ n i k. u.others n
           (λ j. apart_cross fork.page here deep h.apart page_here
-          (subst (λ (n : ℕ). IsIn n deep) j (subst (λ (l : List Entry). IsIn n (pages_of old height l)) (sym s1) i))) k;
+          (subst (λ (n : ℕ). IsIn n deep) j (subst (λ (l : List Entry). IsIn n (tree_pages old height l)) (sym s1) i))) k;
       cells = u.left_cells;
       head = u.left_head;
     }) in
     let off_left : (n : ℕ) → IsIn n here → fork.left ≡ Some n → ⊥ =
-    λ n i k. apart_cross n here deep h.apart i (subst (λ (l : List Entry). IsIn n (pages_of old height l)) (sym s1) (m.from n (m.beside n k))) in
+    λ n i k. apart_cross n here deep h.apart i (subst (λ (l : List Entry). IsIn n (tree_pages old height l)) (sym s1) (m.from n (m.beside n k))) in
     let in_left_here : (n : ℕ) → IsIn n (map page_of front) → IsIn n here =
     λ n i. subst (λ (l : List ℕ). IsIn n l) (sym (pages-append front (q ∷ others))) (in_left n (map page_of front) (fork.page ∷ map page_of others) i) in
     let in_right_here : (n : ℕ) → IsIn n (map page_of others) → IsIn n here =
@@ -205,25 +205,25 @@ fork_cut old height front low others fork cell cells h c lone last is new u =
 
 -- the leaves below a level are among its pages, and so are the pages below a front of it
 leaves_inside : (pages : ℕ → Image) (height : ℕ) (level : List Entry) (n : ℕ) → IsIn n (map page_of (leaves pages height level))
-    → IsIn n (pages_of pages height level)
+    → IsIn n (tree_pages pages height level)
 leaves_inside pages zero level n i = i
 leaves_inside pages (suc height) level n i =
-    in_right n (map page_of level) (pages_of pages height (spread pages level)) (leaves_inside pages height (spread pages level) n i)
+    in_right n (map page_of level) (tree_pages pages height (spread pages level)) (leaves_inside pages height (spread pages level) n i)
 
-front_inside : (pages : ℕ → Image) (height : ℕ) (xs ys : List Entry) (n : ℕ) → IsIn n (pages_of pages height xs) → IsIn n (pages_of pages height (xs ++ ys))
+front_inside : (pages : ℕ → Image) (height : ℕ) (xs ys : List Entry) (n : ℕ) → IsIn n (tree_pages pages height xs) → IsIn n (tree_pages pages height (xs ++ ys))
 front_inside pages zero xs ys n i = subst (λ (l : List ℕ). IsIn n l) (sym (pages-append xs ys)) (in_left n (map page_of xs) (map page_of ys) i)
 front_inside pages (suc height) xs ys n i =
-    go (in_either n (map page_of xs) (pages_of pages height (spread pages xs)) i) (front_inside pages height (spread pages xs) (spread pages ys) n)
+    go (in_either n (map page_of xs) (tree_pages pages height (spread pages xs)) i) (front_inside pages height (spread pages xs) (spread pages ys) n)
   where
-    go : IsIn n (map page_of xs) ⊎ IsIn n (pages_of pages height (spread pages xs))
-        → (IsIn n (pages_of pages height (spread pages xs)) → IsIn n (pages_of pages height (spread pages xs ++ spread pages ys)))
-        → IsIn n (map page_of (xs ++ ys) ++ pages_of pages height (spread pages (xs ++ ys)))
+    go : IsIn n (map page_of xs) ⊎ IsIn n (tree_pages pages height (spread pages xs))
+        → (IsIn n (tree_pages pages height (spread pages xs)) → IsIn n (tree_pages pages height (spread pages xs ++ spread pages ys)))
+        → IsIn n (map page_of (xs ++ ys) ++ tree_pages pages height (spread pages (xs ++ ys)))
     go (inl j) deeper =
-        in_left n (map page_of (xs ++ ys)) (pages_of pages height (spread pages (xs ++ ys)))
+        in_left n (map page_of (xs ++ ys)) (tree_pages pages height (spread pages (xs ++ ys)))
         (subst (λ (l : List ℕ). IsIn n l) (sym (pages-append xs ys)) (in_left n (map page_of xs) (map page_of ys) j))
     go (inr j) deeper =
-        in_right n (map page_of (xs ++ ys)) (pages_of pages height (spread pages (xs ++ ys)))
-        (subst (λ (l : List Entry). IsIn n (pages_of pages height l)) (sym (spread-append pages xs ys)) (deeper j))
+        in_right n (map page_of (xs ++ ys)) (tree_pages pages height (spread pages (xs ++ ys)))
+        (subst (λ (l : List Entry). IsIn n (tree_pages pages height l)) (sym (spread-append pages xs ys)) (deeper j))
 
 pub fork_here : (pages : ℕ → Image) (height : ℕ) (front : List Entry) (low : Key) (others : List Entry) (fork : Fork) (cell : List ℕ) (cells : List (List ℕ))
     → Holds pages (suc height) (front ++ (record { low = low; page = fork.page } ∷ others)) cells
@@ -236,12 +236,12 @@ fork_here pages height front low others fork cell cells h here several child lon
     let q : Entry = record { low = low; page = fork.page } in
     let level = front ++ (q ∷ others) in
     let c : Cut low (pages fork.page).cells fork.at cell = cut_child low (pages fork.page).cells fork.at cell here several in
-    let deep = pages_of pages height (spread pages level) in
+    let deep = tree_pages pages height (spread pages level) in
     let s1 = spread_cut pages front low fork.page others fork.at cell (record { least = c.least; behind = c.behind; once = c.once }) in
     let a = spread pages front ++ below low (take fork.at (pages fork.page).cells) in
     let lone' : IsLone pages height (child_of cell) = subst (λ (k : ℕ). IsLone pages height k) child lone in
     let in_deep : (n : ℕ) → IsIn n (lone_pages pages height (child_of cell)) → IsIn n deep =
-    λ n i. subst (λ (l : List Entry). IsIn n (pages_of pages height l)) (sym s1)
+    λ n i. subst (λ (l : List Entry). IsIn n (tree_pages pages height l)) (sym s1)
     (lone_in pages height (spread pages front ++ below low (take fork.at (pages fork.page).cells)) (record { low = c.least; page = child_of cell })
     (c.behind ++ spread pages others) n lone' i) in
     record {
@@ -250,7 +250,7 @@ fork_here pages height front low others fork cell cells h here several child lon
       apart = subst (λ (k : ℕ). AreApart (lone_pages pages height k)) (sym child)
           (lone_apart pages height (spread pages front ++ below low (take fork.at (pages fork.page).cells)) (record { low = c.least; page = child_of cell })
           (c.behind ++ spread pages others) lone'
-          (subst (λ (l : List Entry). AreApart (pages_of pages height l)) s1 (apart_right (map page_of level) deep h.apart)));
+          (subst (λ (l : List Entry). AreApart (tree_pages pages height l)) s1 (apart_right (map page_of level) deep h.apart)));
       inside = level_inside pages (suc height) front q others;
       off = λ i. apart_cross fork.page (map page_of level) deep h.apart (level_inside pages 0 front q others)
           (in_deep fork.page (subst (λ (k : ℕ). IsIn fork.page (lone_pages pages height k)) child i));
@@ -262,7 +262,7 @@ fork_here pages height front low others fork cell cells h here several child lon
           several = several;
         };
         off = λ k. apart_cross fork.page (map page_of level) deep h.apart (level_inside pages 0 front q others)
-            (subst (λ (l : List Entry). IsIn fork.page (pages_of pages height l)) (sym s1)
+            (subst (λ (l : List Entry). IsIn fork.page (tree_pages pages height l)) (sym s1)
             (front_inside pages height a (record { low = c.least; page = child_of cell } ∷ (c.behind ++ spread pages others)) fork.page
             (leaves_inside pages height a fork.page (last_in (leaves pages height a) fork.page (last ∙ k)))));
       };
@@ -276,7 +276,7 @@ pub fork_up : (pages : ℕ → Image) (height : ℕ) (level : List Entry) (cells
     → IsFork pages height (spread pages level) cells fork → IsFork pages (suc height) level cells fork
 fork_up old height level cells fork h f =
     let here = map page_of level in
-    let deep = pages_of old height (spread old level) in
+    let deep = tree_pages old height (spread old level) in
     let ids = lone_pages old f.depth fork.child in
     record {
       depth = f.depth;
@@ -305,7 +305,7 @@ last_map : (c : List ℕ) (cells : List (List ℕ)) (low : Key) (at : ℕ) (cell
     → last_page (record { low = low; page = child_of c } ∷ map entry_of (take at cells)) ≡ Some (child_of cell)
 last_map c cells low zero cell here = ap (λ (x : List ℕ). Some (child_of x)) (same_Some c cell here)
 last_map c [] low (suc at) cell here = absurd (none-some cell here)
-last_map c (d ∷ ds) low (suc at) cell here = last_map d ds (key_of d) at cell here
+last_map c (d ∷ ds) low (suc at) cell here = last_map d ds (key_of_cell d) at cell here
 
 last_below : (xs : List Entry) (low : Key) (cells : List (List ℕ)) (at : ℕ) (cell : List ℕ) → slice_get cells at ≡ Some cell
     → last_page (xs ++ below low (take (suc at) cells)) ≡ Some (child_of cell)
@@ -439,7 +439,7 @@ found_below pages (suc height) front low page others cells at child left next ce
       shaped = h.shaped.1;
       fenced = h.fenced;
       linked = h.linked;
-      apart = apart_right (map page_of level) (pages_of pages height (spread pages level)) h.apart;
+      apart = apart_right (map page_of level) (tree_pages pages height (spread pages level)) h.apart;
       is = h.is;
     } in
     record {

@@ -6,8 +6,8 @@ use Rattle.page_store.specs.Image.{Image, HasRoom, taken, cell_size}
 use Rattle.page_store.specs.declared.pages.Head.{Head}
 use Rattle.page_workspace.specs.Spare.{IsIn, AreApart}
 use Rattle.btree_index.specs.Keys.{Key}
-use Rattle.btree_index.specs.Cells.{key_size, key_of, child_of, inner_cell, IsLeafCell, IsInnerCell}
-use Rattle.btree_index.specs.Trees.{Entry, page_of, below, spread, cells_of, pages_of, IsLeafPage, IsInnerPage, BeginsEmpty, IsFenced, Holds}
+use Rattle.btree_index.specs.Cells.{key_size, key_of_cell, child_of, inner_cell, IsLeafCell, IsInnerCell}
+use Rattle.btree_index.specs.Trees.{Entry, page_of, below, spread, cells_of, tree_pages, IsLeafPage, IsInnerPage, BeginsEmpty, IsFenced, Holds}
 use Rattle.btree_index.specs.Steps.{Halves}
 use Rattle.btree_index.proofs.ApartLaws.{in_left, in_right, in_either, in_more, apart_left, apart_right, apart_cross, apart_join, apart_more}
 use Rattle.btree_index.proofs.CellLemmas.{child_of-cell, inner_key_is, inner_cell_is, inner_length}
@@ -136,14 +136,14 @@ half_leaf old new front m others fresh separator cells halves off h =
 -- a page above the leaves halved: the level below stays
 half_inner : (old new : ℕ → Image) (height : ℕ) (front : List Entry) (m : Entry) (others : List Entry) (fresh : ℕ) (separator : Key) (cells : List (List ℕ))
     → Halves old new m.page fresh separator
-    → (IsIn fresh (pages_of old (suc height) (front ++ (m ∷ others))) → ⊥)
+    → (IsIn fresh (tree_pages old (suc height) (front ++ (m ∷ others))) → ⊥)
     → Holds old (suc height) (front ++ (m ∷ others)) cells
     → Grown old new (λ n. n ≡ fresh) (suc height) (front ++ (m ∷ others)) (front ++ (m ∷ (record { low = separator; page = fresh } ∷ others))) cells
 half_inner old new height front m others fresh separator cells halves off h =
     let x : Entry = record { low = separator; page = fresh } in
     let level = front ++ (m ∷ others) in
     let here_pages = map page_of level in
-    let deeper = pages_of old height (spread old level) in
+    let deeper = tree_pages old height (spread old level) in
     let apart : AreApart here_pages = apart_left here_pages deeper h.apart in
     let off_here : IsIn fresh here_pages → ⊥ = λ i. off (in_left fresh here_pages deeper i) in
     let same = beside_same old new front m others fresh separator halves apart off_here in
@@ -165,7 +165,7 @@ half_inner old new height front m others fresh separator cells halves off h =
     let there : IsInnerPage (suc height) (new fresh) = record {
       kind = ap (λ (h : Head). h.kind) halves.right_head ∙ inner.kind;
       level = ap (λ (h : Head). h.level) halves.right_head ∙ inner.level;
-      first = subst BeginsEmpty (sym halves.right_cells) (ap key_of first ∙ inner_key_is [] (child_of halves.middle) (lit≤ tt));
+      first = subst BeginsEmpty (sym halves.right_cells) (ap key_of_cell first ∙ inner_key_is [] (child_of halves.middle) (lit≤ tt));
       cells = subst (λ (l : List (List ℕ)). AllByRecursion IsInnerCell l) (sym halves.right_cells)
           (subst (λ (c : List ℕ). IsInnerCell c) (sym first) (inner_cell_is [] (child_of halves.middle) (lit≤ tt)), each.1.1);
       fits = subst HasRoom (sym halves.right_cells)
@@ -185,14 +185,14 @@ half_inner old new height front m others fresh separator cells halves off h =
     let kept : Grown old new (λ _. ⊥) height (spread old level) (spread old level) cells =
     holds_same old new height (spread old level) cells
     (λ n i. halves.others n (λ e. apart_cross n here_pages deeper h.apart (subst (λ (k : ℕ). IsIn k here_pages) (sym e) inside) i)
-    (λ e. off (subst (λ (k : ℕ). IsIn k (pages_of old (suc height) level)) e (in_right n here_pages deeper i))))
+    (λ e. off (subst (λ (k : ℕ). IsIn k (tree_pages old (suc height) level)) e (in_right n here_pages deeper i))))
     (record { shaped = h.shaped.1; fenced = h.fenced; linked = h.linked; apart = apart_right here_pages deeper h.apart; is = h.is }) in
     let next = spread new (front ++ (m ∷ (x ∷ others))) in
     let holds : Holds new height next cells = subst (λ (l : List Entry). Holds new height l cells) (sym below_is) kept.holds in
-    let from : (n : ℕ) → IsIn n (pages_of new height next) → IsIn n deeper ⊎ ⊥ =
-    subst (λ (l : List Entry). (n : ℕ) → IsIn n (pages_of new height l) → IsIn n deeper ⊎ ⊥) (sym below_is) kept.from in
-    let keeps : (n : ℕ) → IsIn n deeper → IsIn n (pages_of new height next) =
-    subst (λ (l : List Entry). (n : ℕ) → IsIn n deeper → IsIn n (pages_of new height l)) (sym below_is) kept.keeps in
+    let from : (n : ℕ) → IsIn n (tree_pages new height next) → IsIn n deeper ⊎ ⊥ =
+    subst (λ (l : List Entry). (n : ℕ) → IsIn n (tree_pages new height l) → IsIn n deeper ⊎ ⊥) (sym below_is) kept.from in
+    let keeps : (n : ℕ) → IsIn n deeper → IsIn n (tree_pages new height next) =
+    subst (λ (l : List Entry). (n : ℕ) → IsIn n deeper → IsIn n (tree_pages new height l)) (sym below_is) kept.keeps in
     record {
       holds = record {
         shaped = (
@@ -202,13 +202,13 @@ half_inner old new height front m others fresh separator cells halves off h =
         );
         fenced = holds.fenced;
         linked = holds.linked;
-        apart = apart_join (map page_of (front ++ (m ∷ (x ∷ others)))) (pages_of new height next) (level_apart front m x others apart off_here) holds.apart
+        apart = apart_join (map page_of (front ++ (m ∷ (x ∷ others)))) (tree_pages new height next) (level_apart front m x others apart off_here) holds.apart
             (λ n i j. clash n (level_in n front m x others i) (from n j));
         is = holds.is;
       };
-      from = λ n i. up n from (in_either n (map page_of (front ++ (m ∷ (x ∷ others)))) (pages_of new height next) i);
+      from = λ n i. up n from (in_either n (map page_of (front ++ (m ∷ (x ∷ others)))) (tree_pages new height next) i);
       keeps = λ n i. stay n keeps (in_either n here_pages deeper i);
-      has = λ n e. in_left n (map page_of (front ++ (m ∷ (x ∷ others)))) (pages_of new height next) (level_keeps n front m x others (inr e));
+      has = λ n e. in_left n (map page_of (front ++ (m ∷ (x ∷ others)))) (tree_pages new height next) (level_keeps n front m x others (inr e));
     }
   where
     shorter : halves.first ≡ inner_cell [] (child_of halves.middle) → IsInnerCell halves.middle → HasRoom (halves.middle ∷ halves.right) → HasRoom (halves.first ∷ halves.right)
@@ -219,46 +219,46 @@ half_inner old new height front m others fresh separator cells halves off h =
         let b : taken (halves.middle ∷ halves.right) ≡ (4 + length halves.middle) + taken halves.right = sum_by-cons cell_size halves.middle halves.right in
         omega arith
 
-    clash : (n : ℕ) → IsIn n (map page_of (front ++ (m ∷ others))) ⊎ (n ≡ fresh) → IsIn n (pages_of old height (spread old (front ++ (m ∷ others)))) ⊎ ⊥ → ⊥
-    clash n (inl i) (inl j) = apart_cross n (map page_of (front ++ (m ∷ others))) (pages_of old height (spread old (front ++ (m ∷ others)))) h.apart i j
+    clash : (n : ℕ) → IsIn n (map page_of (front ++ (m ∷ others))) ⊎ (n ≡ fresh) → IsIn n (tree_pages old height (spread old (front ++ (m ∷ others)))) ⊎ ⊥ → ⊥
+    clash n (inl i) (inl j) = apart_cross n (map page_of (front ++ (m ∷ others))) (tree_pages old height (spread old (front ++ (m ∷ others)))) h.apart i j
     clash n (inr e) (inl j) =
-        off (subst (λ (k : ℕ). IsIn k (pages_of old (suc height) (front ++ (m ∷ others)))) e
-        (in_right n (map page_of (front ++ (m ∷ others))) (pages_of old height (spread old (front ++ (m ∷ others)))) j))
+        off (subst (λ (k : ℕ). IsIn k (tree_pages old (suc height) (front ++ (m ∷ others)))) e
+        (in_right n (map page_of (front ++ (m ∷ others))) (tree_pages old height (spread old (front ++ (m ∷ others)))) j))
     clash n i (inr f) = f
 
     up : (n : ℕ)
-        → ((n : ℕ) → IsIn n (pages_of new height (spread new (front ++ (m ∷ (record { low = separator; page = fresh } ∷ others)))))
-        → IsIn n (pages_of old height (spread old (front ++ (m ∷ others)))) ⊎ ⊥)
+        → ((n : ℕ) → IsIn n (tree_pages new height (spread new (front ++ (m ∷ (record { low = separator; page = fresh } ∷ others)))))
+        → IsIn n (tree_pages old height (spread old (front ++ (m ∷ others)))) ⊎ ⊥)
         → IsIn n (map page_of (front ++ (m ∷ (record { low = separator; page = fresh } ∷ others))))
-        ⊎ IsIn n (pages_of new height (spread new (front ++ (m ∷ (record { low = separator; page = fresh } ∷ others)))))
-        → IsIn n (pages_of old (suc height) (front ++ (m ∷ others))) ⊎ (n ≡ fresh)
+        ⊎ IsIn n (tree_pages new height (spread new (front ++ (m ∷ (record { low = separator; page = fresh } ∷ others)))))
+        → IsIn n (tree_pages old (suc height) (front ++ (m ∷ others))) ⊎ (n ≡ fresh)
     up n from (inl i) = here (level_in n front m (record { low = separator; page = fresh }) others i)
       where
-        here : IsIn n (map page_of (front ++ (m ∷ others))) ⊎ (n ≡ fresh) → IsIn n (pages_of old (suc height) (front ++ (m ∷ others))) ⊎ (n ≡ fresh)
-        here (inl i) = inl (in_left n (map page_of (front ++ (m ∷ others))) (pages_of old height (spread old (front ++ (m ∷ others)))) i)
+        here : IsIn n (map page_of (front ++ (m ∷ others))) ⊎ (n ≡ fresh) → IsIn n (tree_pages old (suc height) (front ++ (m ∷ others))) ⊎ (n ≡ fresh)
+        here (inl i) = inl (in_left n (map page_of (front ++ (m ∷ others))) (tree_pages old height (spread old (front ++ (m ∷ others)))) i)
         here (inr e) = inr e
     up n from (inr i) = there (from n i)
       where
-        there : IsIn n (pages_of old height (spread old (front ++ (m ∷ others)))) ⊎ ⊥ → IsIn n (pages_of old (suc height) (front ++ (m ∷ others))) ⊎ (n ≡ fresh)
-        there (inl j) = inl (in_right n (map page_of (front ++ (m ∷ others))) (pages_of old height (spread old (front ++ (m ∷ others)))) j)
+        there : IsIn n (tree_pages old height (spread old (front ++ (m ∷ others)))) ⊎ ⊥ → IsIn n (tree_pages old (suc height) (front ++ (m ∷ others))) ⊎ (n ≡ fresh)
+        there (inl j) = inl (in_right n (map page_of (front ++ (m ∷ others))) (tree_pages old height (spread old (front ++ (m ∷ others)))) j)
         there (inr f) = absurd f
 
     stay : (n : ℕ)
-        → ((n : ℕ) → IsIn n (pages_of old height (spread old (front ++ (m ∷ others))))
-        → IsIn n (pages_of new height (spread new (front ++ (m ∷ (record { low = separator; page = fresh } ∷ others))))))
-        → IsIn n (map page_of (front ++ (m ∷ others))) ⊎ IsIn n (pages_of old height (spread old (front ++ (m ∷ others))))
-        → IsIn n (pages_of new (suc height) (front ++ (m ∷ (record { low = separator; page = fresh } ∷ others))))
+        → ((n : ℕ) → IsIn n (tree_pages old height (spread old (front ++ (m ∷ others))))
+        → IsIn n (tree_pages new height (spread new (front ++ (m ∷ (record { low = separator; page = fresh } ∷ others))))))
+        → IsIn n (map page_of (front ++ (m ∷ others))) ⊎ IsIn n (tree_pages old height (spread old (front ++ (m ∷ others))))
+        → IsIn n (tree_pages new (suc height) (front ++ (m ∷ (record { low = separator; page = fresh } ∷ others))))
     stay n keeps (inl i) =
         in_left n (map page_of (front ++ (m ∷ (record { low = separator; page = fresh } ∷ others))))
-        (pages_of new height (spread new (front ++ (m ∷ (record { low = separator; page = fresh } ∷ others)))))
+        (tree_pages new height (spread new (front ++ (m ∷ (record { low = separator; page = fresh } ∷ others)))))
         (level_keeps n front m (record { low = separator; page = fresh }) others (inl i))
     stay n keeps (inr i) =
         in_right n (map page_of (front ++ (m ∷ (record { low = separator; page = fresh } ∷ others))))
-        (pages_of new height (spread new (front ++ (m ∷ (record { low = separator; page = fresh } ∷ others))))) (keeps n i)
+        (tree_pages new height (spread new (front ++ (m ∷ (record { low = separator; page = fresh } ∷ others))))) (keeps n i)
 
 -- a page halved, at any height
 pub half_level : (old new : ℕ → Image) (height : ℕ) (front : List Entry) (m : Entry) (others : List Entry) (fresh : ℕ) (separator : Key) (cells : List (List ℕ))
-    → Halves old new m.page fresh separator → (IsIn fresh (pages_of old height (front ++ (m ∷ others))) → ⊥) → Holds old height (front ++ (m ∷ others)) cells
+    → Halves old new m.page fresh separator → (IsIn fresh (tree_pages old height (front ++ (m ∷ others))) → ⊥) → Holds old height (front ++ (m ∷ others)) cells
     → Grown old new (λ n. n ≡ fresh) height (front ++ (m ∷ others)) (front ++ (m ∷ (record { low = separator; page = fresh } ∷ others))) cells
 half_level old new zero front m others fresh separator cells halves off h = half_leaf old new front m others fresh separator cells halves off h
 half_level old new (suc height) front m others fresh separator cells halves off h = half_inner old new height front m others fresh separator cells halves off h

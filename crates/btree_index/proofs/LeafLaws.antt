@@ -10,7 +10,7 @@ use Rattle.page_store.specs.declared.pages.PageKind.TheVariants.{Leaf}
 use Rattle.page_workspace.specs.Spare.{IsIn, AreApart}
 use Rattle.btree_index.specs.Keys.{Key, before}
 use Rattle.btree_index.specs.Cells.{IsLeafCell}
-use Rattle.btree_index.specs.Trees.{Entry, page_of, spread, leaves, cells_of, pages_of, IsShaped, IsLeafPage, IsInnerPage, IsFenced, IsUnder, AreFenced, AreLinked, Holds, top}
+use Rattle.btree_index.specs.Trees.{Entry, page_of, spread, leaves, cells_of, tree_pages, IsShaped, IsLeafPage, IsInnerPage, IsFenced, IsUnder, AreFenced, AreLinked, Holds, top}
 use Rattle.btree_index.specs.Ways.{IsAt}
 use Rattle.btree_index.specs.Changes.{raise, IsPath}
 use Rattle.btree_index.proofs.ApartLaws.{in_left, in_right, apart_right, apart_cross}
@@ -46,7 +46,7 @@ linked_same old new (e ∷ []) same h = same e.page (inl refl) ∙ h
 linked_same old new (e ∷ f ∷ es) same h = (same e.page (inl refl) ∙ h.0, linked_same old new (f ∷ es) (λ n i. same n (inr i)) h.1)
 
 -- where no page of the tree changed, it holds the same
-pub holds_same : (old new : ℕ → Image) (height : ℕ) (level : List Entry) (cells : List (List ℕ)) → SameOn old new (pages_of old height level)
+pub holds_same : (old new : ℕ → Image) (height : ℕ) (level : List Entry) (cells : List (List ℕ)) → SameOn old new (tree_pages old height level)
     → Holds old height level cells → Grown old new (λ _. ⊥) height level level cells
 holds_same old new zero level cells same h = record {
   holds = record {
@@ -62,7 +62,7 @@ holds_same old new zero level cells same h = record {
 }
 holds_same old new (suc height) level cells same h =
     let here = map page_of level in
-    let more = pages_of old height (spread old level) in
+    let more = tree_pages old height (spread old level) in
     lift old new (λ _. ⊥) height level cells h.shaped.0 (λ n i. same n (in_left n here more i)) (λ n i f. f) h.apart
     (holds_same old new height (spread old level) cells (λ n i. same n (in_right n here more i))
     (record { shaped = h.shaped.1; fenced = h.fenced; linked = h.linked; apart = apart_right here more h.apart; is = h.is }))
@@ -176,7 +176,7 @@ pub record Replaces (old new : ℕ → Image) (root : ℕ) (key : Key) (page hei
   pub to : IsUnder key others
   pub fenced : AreFenced old (front ++ (record { low = low; page = page } ∷ others))
   pub is : all ≡ cells_of old front ++ ((old page).cells ++ cells_of old others)
-  pub inside : IsIn page (pages_of old height (top root))
+  pub inside : IsIn page (tree_pages old height (top root))
   pub leaf : IsLeafPage (old page)
   pub grown : HasRoom cells → AllByRecursion IsLeafCell cells → IsFenced low cells others
       → Grown old new (λ _. ⊥) height (top root) (top root) (cells_of old front ++ (cells ++ cells_of old others))
@@ -207,7 +207,7 @@ replaces old new root key page height all cells h path leaf changes =
       fenced = here.fenced;
       is = sym here.is ∙ cells-append old at.front (e ∷ at.others);
       leaf = each_at (λ x. IsLeafPage (old x.page)) at.front e at.others here.shaped;
-      inside = subst (λ (k : ℕ). IsIn page (pages_of old k (top root))) ends.tall
+      inside = subst (λ (k : ℕ). IsIn page (tree_pages old k (top root))) ends.tall
           (subst (λ (l : List ℕ). IsIn page l) (sym (all_pages old depth 0 (top root)))
           (in_right page (uppers old depth (top root)) (map page_of (leaves old depth (top root))) inside));
       grown = λ room each fence.

@@ -8,7 +8,7 @@ use Rattle.page_store.specs.declared.pages.PageKind.TheVariants.{Leaf, Inner}
 use Rattle.page_workspace.specs.Spare.{IsIn, IsFreePage, first_cell}
 use Rattle.btree_index.specs.Keys.{Key}
 use Rattle.btree_index.specs.Cells.{child_of}
-use Rattle.btree_index.specs.Changes.{Stands}
+use Rattle.btree_index.specs.Changes.{TreeStands}
 use Rattle.btree_index.specs.Pairs.{choice}
 use Rattle.btree_index.specs.Prunes.{IsLone, lone_leaf, lone_pages, hung_found, IsLeafBelow, HasLeaf, GoesOn, LeadsTo, IsFork, LosesLeaf, FreesEmpty, Takes, FreesEmptied}
 use Rattle.btree_index.specs.Steps.{Alters}
@@ -166,12 +166,12 @@ taken_last old mid new root key count t one f =
 pub frees_none : (old new : ℕ → Image) (root : ℕ) (key : Key) → LeadsTo old key root Full → FreesEmpty old new root key
 frees_none old new root key h = record { leaf = h.0; way = h.1; went = inl h.2 }
 
-pub frees_lone : (old new : ℕ → Image) (root : ℕ) (key : Key) (own free : List ℕ) (list : List (Key × List ℕ)) → (s : Stands old root own free list)
+pub frees_lone : (old new : ℕ → Image) (root : ℕ) (key : Key) (own free : List ℕ) (list : List (Key × List ℕ)) → (s : TreeStands old root own free list)
     → IsLone old s.height root → LosesLeaf old new root own free list (lone_leaf old s.height root) → FreesEmpty old new root key
 frees_lone old new root key own free list s lone l =
     record { leaf = lone_leaf old s.height root; way = lone_leads old key s.height root lone; went = inr l.went }
 
-pub frees_fork : (old new : ℕ → Image) (root : ℕ) (key : Key) (own free : List ℕ) (list : List (Key × List ℕ)) → (s : Stands old root own free list)
+pub frees_fork : (old new : ℕ → Image) (root : ℕ) (key : Key) (own free : List ℕ) (list : List (Key × List ℕ)) → (s : TreeStands old root own free list)
     → (fork : Fork) → (f : IsFork old s.height (top root) s.cells fork) → GoesOn old key root fork.child
     → LosesLeaf old new root own free list (lone_leaf old f.depth fork.child) → FreesEmpty old new root key
 frees_fork old new root key own free list s fork f on l = record {

@@ -6,8 +6,8 @@ use Rattle.page_store.specs.Image.{Image, HasRoom}
 use Rattle.page_store.specs.declared.pages.Head.{Head}
 use Rattle.page_workspace.specs.Spare.{IsIn, AreApart, first_cell}
 use Rattle.btree_index.specs.Keys.{Key, before}
-use Rattle.btree_index.specs.Cells.{key_of, child_of, IsLeafCell}
-use Rattle.btree_index.specs.Trees.{Entry, page_of, below, spread, leaves, cells_of, pages_of, IsLeafPage, IsInnerPage, BeginsEmpty, IsUnder, IsUpTo, IsFenced, AreFenced, AreLinked, Holds}
+use Rattle.btree_index.specs.Cells.{key_of_cell, child_of, IsLeafCell}
+use Rattle.btree_index.specs.Trees.{Entry, page_of, below, spread, leaves, cells_of, tree_pages, IsLeafPage, IsInnerPage, BeginsEmpty, IsUnder, IsUpTo, IsFenced, AreFenced, AreLinked, Holds}
 use Rattle.btree_index.proofs.ApartLaws.{in_left, in_right, in_either, in_more, apart_left, apart_right, apart_cross, apart_join}
 use Rattle.btree_index.proofs.KeyLaws.{atmost_atmost, before_atmost}
 use Rattle.btree_index.proofs.LevelLemmas.{SameOn, spread-same, each_same}
@@ -83,9 +83,9 @@ leaves_out old new right first low (a ∷ b ∷ front) e others re same h =
 fence_lower : (low least : Key) (cells : List (List ℕ)) (others : List Entry) → before low least ≡ false → IsFenced low cells others → IsFenced least cells others
 fence_lower low least cells others step h = record { from = go cells h.from; to = h.to; ascends = h.ascends; next = next others h.next }
   where
-    go : (cells : List (List ℕ)) → AllByRecursion (λ c. before (key_of c) low ≡ false) cells → AllByRecursion (λ c. before (key_of c) least ≡ false) cells
+    go : (cells : List (List ℕ)) → AllByRecursion (λ c. before (key_of_cell c) low ≡ false) cells → AllByRecursion (λ c. before (key_of_cell c) least ≡ false) cells
     go [] k = tt
-    go (c ∷ cs) k = (atmost_atmost least low (key_of c) step k.0, go cs k.1)
+    go (c ∷ cs) k = (atmost_atmost least low (key_of_cell c) step k.0, go cs k.1)
 
     next : (others : List Entry) → IsUpTo low others → IsUpTo least others
     next [] k = tt
@@ -95,7 +95,7 @@ fence_past : (first : Bool) (low : Key) (cells : List (List ℕ)) (e : Entry) (o
     → IsFenced low cells (relow first e.low others)
 fence_past first low cells e [] h next = record { from = h.from; to = go cells; ascends = h.ascends; next = tt }
   where
-    go : (cells : List (List ℕ)) → AllByRecursion (λ c. IsUnder (key_of c) []) cells
+    go : (cells : List (List ℕ)) → AllByRecursion (λ c. IsUnder (key_of_cell c) []) cells
     go [] = tt
     go (c ∷ cs) = (tt, go cs)
 fence_past true low cells e (o ∷ os) h next = record { from = h.from; to = h.to; ascends = h.ascends; next = h.next }
@@ -106,9 +106,9 @@ fence_past false low cells e (o ∷ os) h next = record {
   next = atmost_atmost low e.low o.low h.next next;
 }
   where
-    go : (cells : List (List ℕ)) → AllByRecursion (λ c. before (key_of c) e.low ≡ true) cells → AllByRecursion (λ c. before (key_of c) o.low ≡ true) cells
+    go : (cells : List (List ℕ)) → AllByRecursion (λ c. before (key_of_cell c) e.low ≡ true) cells → AllByRecursion (λ c. before (key_of_cell c) o.low ≡ true) cells
     go [] k = tt
-    go (c ∷ cs) k = (before_atmost (key_of c) e.low o.low k.0 next, go cs k.1)
+    go (c ∷ cs) k = (before_atmost (key_of_cell c) e.low o.low k.0 next, go cs k.1)
 
 fences_out : (old new : ℕ → Image) (right : ℕ) (first : Bool) (front : List Entry) (e : Entry) (others : List Entry)
     → IsRelinked old new right front → SameOn old new (map page_of others) → AreFenced old (front ++ (e ∷ others))
@@ -233,14 +233,14 @@ pub shrunk_up : (old new : ℕ → Image) (height : ℕ) (old_level new_level : 
     → ((n : ℕ) → IsIn n (map page_of new_level) → IsIn n gone → ⊥)
     → ((n : ℕ) → IsIn n (map page_of old_level) → IsIn n (map page_of new_level) ⊎ IsIn n gone)
     → ((n : ℕ) → IsIn n gone → IsIn n (map page_of old_level))
-    → AreApart (map page_of old_level ++ pages_of old height (spread old old_level))
+    → AreApart (map page_of old_level ++ tree_pages old height (spread old old_level))
     → Shrunk old new height (spread old old_level) (spread new new_level) lower left cells
     → Shrunk old new (suc height) old_level new_level (gone ++ lower) left cells
 shrunk_up old new height old_level new_level gone lower left cells inner apart from off keeps went all s =
     let here = map page_of old_level in
-    let deep = pages_of old height (spread old old_level) in
+    let deep = tree_pages old height (spread old old_level) in
     let here' = map page_of new_level in
-    let deep' = pages_of new height (spread new new_level) in
+    let deep' = tree_pages new height (spread new new_level) in
     record {
       holds = record {
         shaped = (inner, s.holds.shaped);
@@ -256,35 +256,35 @@ shrunk_up old new height old_level new_level gone lower left cells inner apart f
       beside = λ n k. in_right n here' deep' (s.beside n k);
     }
   where
-    up : (n : ℕ) → IsIn n (map page_of new_level) ⊎ IsIn n (pages_of new height (spread new new_level))
-        → IsIn n (map page_of old_level ++ pages_of old height (spread old old_level))
-    up n (inl i) = in_left n (map page_of old_level) (pages_of old height (spread old old_level)) (from n i)
-    up n (inr i) = in_right n (map page_of old_level) (pages_of old height (spread old old_level)) (s.from n i)
+    up : (n : ℕ) → IsIn n (map page_of new_level) ⊎ IsIn n (tree_pages new height (spread new new_level))
+        → IsIn n (map page_of old_level ++ tree_pages old height (spread old old_level))
+    up n (inl i) = in_left n (map page_of old_level) (tree_pages old height (spread old old_level)) (from n i)
+    up n (inr i) = in_right n (map page_of old_level) (tree_pages old height (spread old old_level)) (s.from n i)
 
-    away : (n : ℕ) → IsIn n (map page_of new_level) ⊎ IsIn n (pages_of new height (spread new new_level)) → IsIn n gone ⊎ IsIn n lower → ⊥
+    away : (n : ℕ) → IsIn n (map page_of new_level) ⊎ IsIn n (tree_pages new height (spread new new_level)) → IsIn n gone ⊎ IsIn n lower → ⊥
     away n (inl i) (inl g) = off n i g
-    away n (inl i) (inr g) = apart_cross n (map page_of old_level) (pages_of old height (spread old old_level)) all (from n i) (s.went n g)
-    away n (inr i) (inl g) = apart_cross n (map page_of old_level) (pages_of old height (spread old old_level)) all (went n g) (s.from n i)
+    away n (inl i) (inr g) = apart_cross n (map page_of old_level) (tree_pages old height (spread old old_level)) all (from n i) (s.went n g)
+    away n (inr i) (inl g) = apart_cross n (map page_of old_level) (tree_pages old height (spread old old_level)) all (went n g) (s.from n i)
     away n (inr i) (inr g) = s.off n i g
 
-    stay : (n : ℕ) → IsIn n (map page_of old_level) ⊎ IsIn n (pages_of old height (spread old old_level))
-        → IsIn n (map page_of new_level ++ pages_of new height (spread new new_level)) ⊎ IsIn n (gone ++ lower)
+    stay : (n : ℕ) → IsIn n (map page_of old_level) ⊎ IsIn n (tree_pages old height (spread old old_level))
+        → IsIn n (map page_of new_level ++ tree_pages new height (spread new new_level)) ⊎ IsIn n (gone ++ lower)
     stay n (inl i) = here n (keeps n i)
       where
         here : (n : ℕ) → IsIn n (map page_of new_level) ⊎ IsIn n gone
-            → IsIn n (map page_of new_level ++ pages_of new height (spread new new_level)) ⊎ IsIn n (gone ++ lower)
-        here n (inl j) = inl (in_left n (map page_of new_level) (pages_of new height (spread new new_level)) j)
+            → IsIn n (map page_of new_level ++ tree_pages new height (spread new new_level)) ⊎ IsIn n (gone ++ lower)
+        here n (inl j) = inl (in_left n (map page_of new_level) (tree_pages new height (spread new new_level)) j)
         here n (inr g) = inr (in_left n gone lower g)
     stay n (inr i) = deeper n (s.keeps n i)
       where
-        deeper : (n : ℕ) → IsIn n (pages_of new height (spread new new_level)) ⊎ IsIn n lower
-            → IsIn n (map page_of new_level ++ pages_of new height (spread new new_level)) ⊎ IsIn n (gone ++ lower)
-        deeper n (inl j) = inl (in_right n (map page_of new_level) (pages_of new height (spread new new_level)) j)
+        deeper : (n : ℕ) → IsIn n (tree_pages new height (spread new new_level)) ⊎ IsIn n lower
+            → IsIn n (map page_of new_level ++ tree_pages new height (spread new new_level)) ⊎ IsIn n (gone ++ lower)
+        deeper n (inl j) = inl (in_right n (map page_of new_level) (tree_pages new height (spread new new_level)) j)
         deeper n (inr g) = inr (in_right n gone lower g)
 
-    left_it : (n : ℕ) → IsIn n gone ⊎ IsIn n lower → IsIn n (map page_of old_level ++ pages_of old height (spread old old_level))
-    left_it n (inl g) = in_left n (map page_of old_level) (pages_of old height (spread old old_level)) (went n g)
-    left_it n (inr g) = in_right n (map page_of old_level) (pages_of old height (spread old old_level)) (s.went n g)
+    left_it : (n : ℕ) → IsIn n gone ⊎ IsIn n lower → IsIn n (map page_of old_level ++ tree_pages old height (spread old old_level))
+    left_it n (inl g) = in_left n (map page_of old_level) (tree_pages old height (spread old old_level)) (went n g)
+    left_it n (inr g) = in_right n (map page_of old_level) (tree_pages old height (spread old old_level)) (s.went n g)
 
 -- pages above the leaves, of which one goes
 each_out : (old new : ℕ → Image) (P : Image → Type 0) (first : Bool) (low : Key) (front : List Entry) (e : Entry) (others : List Entry)
@@ -316,7 +316,7 @@ each_behind P (f ∷ fs) e others h = each_behind P fs e others h.1
 -- a page with a leaf without cells below it, and with no other page there, taken out of its level
 pub lone_out : (old new : ℕ → Image) (height : ℕ) (first : Bool) (front : List Entry) (e : Entry) (others : List Entry) (left : Option ℕ) (right : ℕ)
     (cells : List (List ℕ)) → Holds old height (front ++ (e ∷ others)) cells → IsLone old height e.page → last_page (leaves old height front) ≡ left
-    → right ≡ (old (lone_leaf old height e.page)).head.right → Relinks old new (pages_of old height (front ++ (e ∷ others))) left right
+    → right ≡ (old (lone_leaf old height e.page)).head.right → Relinks old new (tree_pages old height (front ++ (e ∷ others))) left right
     → Shrunk old new height (front ++ (e ∷ others)) (front ++ relow first e.low others) (lone_pages old height e.page) left cells
 lone_out old new zero first front e others left right cells h lone last is r = leaf_out old new first front e others left right cells h lone.1 last is r
 lone_out old new (suc height) first front e others left right cells h lone last is r =
@@ -327,19 +327,19 @@ lone_out old new (suc height) first front e others left right cells h lone last 
     let e' : Entry = record { low = e.low; page = child_of (first_cell (old e.page).cells) } in
     let s1 : spread old level ≡ front' ++ (e' ∷ others') =
     spread-append old front (e ∷ others) ∙ ap (λ (l : List (List ℕ)). front' ++ (below e.low l ++ others')) lone.1 in
-    let deep = pages_of old height (spread old level) in
+    let deep = tree_pages old height (spread old level) in
     let down : Holds old height (spread old level) cells =
     record { shaped = h.shaped.1; fenced = h.fenced; linked = h.linked; apart = apart_right here deep h.apart; is = h.is } in
     let ih : Shrunk old new height (front' ++ (e' ∷ others')) (front' ++ relow first e.low others') (lone_pages old height e'.page) left cells =
     lone_out old new height first front' e' others' left right cells (subst (λ (l : List Entry). Holds old height l cells) s1 down) lone.2 last is
     (record {
-      others = λ n i k. r.others n (in_right n here deep (subst (λ (l : List Entry). IsIn n (pages_of old height l)) (sym s1) i)) k;
+      others = λ n i k. r.others n (in_right n here deep (subst (λ (l : List Entry). IsIn n (tree_pages old height l)) (sym s1) i)) k;
       cells = r.cells;
       head = r.head;
     }) in
     let same : SameOn old new here =
     λ n i. r.others n (in_left n here deep i)
-    (λ k. apart_cross n here deep h.apart i (subst (λ (l : List Entry). IsIn n (pages_of old height l)) (sym s1) (ih.from n (ih.beside n k)))) in
+    (λ k. apart_cross n here deep h.apart i (subst (λ (l : List Entry). IsIn n (tree_pages old height l)) (sym s1) (ih.from n (ih.beside n k)))) in
     let in_front : SameOn old new (map page_of front) =
     λ n i. same n (subst (λ (l : List ℕ). IsIn n l) (sym (pages-append front (e ∷ others))) (in_left n (map page_of front) (e.page ∷ map page_of others) i)) in
     let in_others : SameOn old new (map page_of others) =

@@ -6,8 +6,8 @@ use Rattle.page_store.specs.Image.{Image, HasRoom}
 use Rattle.page_store.specs.declared.pages.Head.{Head}
 use Rattle.page_workspace.specs.Spare.{IsIn, AreApart}
 use Rattle.btree_index.specs.Keys.{Key}
-use Rattle.btree_index.specs.Cells.{key_of, child_of, IsInnerCell}
-use Rattle.btree_index.specs.Trees.{Entry, page_of, entry_of, below, spread, pages_of, IsInnerPage, BeginsEmpty, Holds}
+use Rattle.btree_index.specs.Cells.{key_of_cell, child_of, IsInnerCell}
+use Rattle.btree_index.specs.Trees.{Entry, page_of, entry_of, below, spread, tree_pages, IsInnerPage, BeginsEmpty, Holds}
 use Rattle.btree_index.proofs.ApartLaws.{in_left, in_right, in_either, apart_left, apart_cross, apart_join}
 use Rattle.btree_index.proofs.LevelLemmas.{Grown, SameOn, spread-same}
 use Rattle.btree_index.proofs.LeafLaws.{pages-append, beside, each_with, each_at}
@@ -37,21 +37,21 @@ pub below_at : (low : Key) (front : List (List ℕ)) (cell : List ℕ) → Below
 below_at low [] cell = record { before = []; least = low; once = λ behind. refl; begins = λ some more h. h }
 below_at low (c ∷ cs) cell = record {
   before = record { low = low; page = child_of c } ∷ map entry_of cs;
-  least = key_of cell;
+  least = key_of_cell cell;
   once = λ behind. ap (λ (l : List Entry). record { low = low; page = child_of c } ∷ l) (entries-append cs (cell ∷ behind));
   begins = λ some more h. h;
 }
 
 -- a page of a level is among the pages from there down
-pub level_inside : (pages : ℕ → Image) (height : ℕ) (front : List Entry) (e : Entry) (others : List Entry) → IsIn e.page (pages_of pages height (front ++ (e ∷ others)))
+pub level_inside : (pages : ℕ → Image) (height : ℕ) (front : List Entry) (e : Entry) (others : List Entry) → IsIn e.page (tree_pages pages height (front ++ (e ∷ others)))
 level_inside pages zero front e others =
     subst (λ (l : List ℕ). IsIn e.page l) (sym (pages-append front (e ∷ others))) (in_right e.page (map page_of front) (e.page ∷ map page_of others) (inl refl))
 level_inside pages (suc height) front e others =
-    in_left e.page (map page_of (front ++ (e ∷ others))) (pages_of pages height (spread pages (front ++ (e ∷ others))))
+    in_left e.page (map page_of (front ++ (e ∷ others))) (tree_pages pages height (spread pages (front ++ (e ∷ others))))
     (subst (λ (l : List ℕ). IsIn e.page l) (sym (pages-append front (e ∷ others))) (in_right e.page (map page_of front) (e.page ∷ map page_of others) (inl refl)))
 
 pub child_inside : (pages : ℕ → Image) (height : ℕ) (front : List Entry) (e : Entry) (others : List Entry) (at : ℕ) (cell : List ℕ)
-    → slice_get (pages e.page).cells at ≡ Some cell → IsIn (child_of cell) (pages_of pages height (spread pages (front ++ (e ∷ others))))
+    → slice_get (pages e.page).cells at ≡ Some cell → IsIn (child_of cell) (tree_pages pages height (spread pages (front ++ (e ∷ others))))
 child_inside pages height front e others at cell here =
     let a = take at (pages e.page).cells in
     let b = drop (suc at) (pages e.page).cells in
@@ -63,15 +63,15 @@ child_inside pages height front e others at cell here =
     ∙ ap (λ (l : List Entry). spread pages front ++ (l ++ spread pages others)) (point.once b)
     ∙ ap (λ (l : List Entry). spread pages front ++ l) (append_assoc point.before (m ∷ map entry_of b) (spread pages others))
     ∙ sym (append_assoc (spread pages front) point.before (m ∷ (map entry_of b ++ spread pages others))) in
-    subst (λ (l : List Entry). IsIn (child_of cell) (pages_of pages height l)) (sym is)
+    subst (λ (l : List Entry). IsIn (child_of cell) (tree_pages pages height l)) (sym is)
     (level_inside pages height (spread pages front ++ point.before) m (map entry_of b ++ spread pages others))
 
 -- one level up from a halved page
 pub half_parent : (old new : ℕ → Image) (height : ℕ) (front : List Entry) (e : Entry) (others : List Entry) (at : ℕ) (cell : List ℕ) (fresh : ℕ)
     (separator : Key) (cells : List (List ℕ)) (more : List ℕ) → Holds old (suc height) (front ++ (e ∷ others)) cells → slice_get (old e.page).cells at ≡ Some cell
-    → key_of more ≡ separator → child_of more ≡ fresh → IsInnerCell more → HasRoom (new e.page).cells
+    → key_of_cell more ≡ separator → child_of more ≡ fresh → IsInnerCell more → HasRoom (new e.page).cells
     → (new e.page).head ≡ (old e.page).head → (new e.page).cells ≡ insert (old e.page).cells (suc at) more
-    → (IsIn fresh (pages_of old (suc height) (front ++ (e ∷ others))) → ⊥)
+    → (IsIn fresh (tree_pages old (suc height) (front ++ (e ∷ others))) → ⊥)
     → ((n : ℕ) → (n ≡ e.page → ⊥) → (n ≡ child_of cell → ⊥) → (n ≡ fresh → ⊥) → new n ≡ old n)
     → ((before : List Entry) (m : Entry) (behind : List Entry) → m.page ≡ child_of cell → spread old (front ++ (e ∷ others)) ≡ before ++ (m ∷ behind)
     → Grown old new (λ n. n ≡ fresh) height (spread old (front ++ (e ∷ others))) (before ++ (m ∷ (record { low = separator; page = fresh } ∷ behind))) cells)
@@ -79,7 +79,7 @@ pub half_parent : (old new : ℕ → Image) (height : ℕ) (front : List Entry) 
 half_parent old new height front e others at cell fresh separator cells more h here key child inner_more room head put off same below_grown =
     let level = front ++ (e ∷ others) in
     let here_pages = map page_of level in
-    let deeper = pages_of old height (spread old level) in
+    let deeper = tree_pages old height (spread old level) in
     let apart : AreApart here_pages = apart_left here_pages deeper h.apart in
     let x : Entry = record { low = separator; page = fresh } in
     let a = take at (old e.page).cells in
@@ -100,7 +100,7 @@ half_parent old new height front e others at cell fresh separator cells more h h
     let off_here : (n : ℕ) → IsIn n (map page_of front) ⊎ IsIn n (map page_of others) → new n ≡ old n =
     λ n i. same n (beside front e others apart n i)
     (λ k. apart_cross n here_pages deeper h.apart (up n i) (subst (λ (j : ℕ). IsIn j deeper) (sym k) child_in))
-    (λ k. off (subst (λ (j : ℕ). IsIn j (pages_of old (suc height) level)) k (in_left n here_pages deeper (up n i)))) in
+    (λ k. off (subst (λ (j : ℕ). IsIn j (tree_pages old (suc height) level)) k (in_left n here_pages deeper (up n i)))) in
     let left : SameOn old new (map page_of front) = λ n i. off_here n (inl i) in
     let right : SameOn old new (map page_of others) = λ n i. off_here n (inr i) in
     let more_entry : entry_of more ≡ x =
@@ -125,31 +125,31 @@ half_parent old new height front e others at cell fresh separator cells more h h
     } in
     let next = spread new level in
     let holds : Holds new height next cells = subst (λ (l : List Entry). Holds new height l cells) (sym new_is) grown.holds in
-    let from : (n : ℕ) → IsIn n (pages_of new height next) → IsIn n deeper ⊎ (n ≡ fresh) =
-    subst (λ (l : List Entry). (n : ℕ) → IsIn n (pages_of new height l) → IsIn n deeper ⊎ (n ≡ fresh)) (sym new_is) grown.from in
-    let keeps : (n : ℕ) → IsIn n deeper → IsIn n (pages_of new height next) =
-    subst (λ (l : List Entry). (n : ℕ) → IsIn n deeper → IsIn n (pages_of new height l)) (sym new_is) grown.keeps in
-    let has : (n : ℕ) → n ≡ fresh → IsIn n (pages_of new height next) =
-    subst (λ (l : List Entry). (n : ℕ) → n ≡ fresh → IsIn n (pages_of new height l)) (sym new_is) grown.has in
+    let from : (n : ℕ) → IsIn n (tree_pages new height next) → IsIn n deeper ⊎ (n ≡ fresh) =
+    subst (λ (l : List Entry). (n : ℕ) → IsIn n (tree_pages new height l) → IsIn n deeper ⊎ (n ≡ fresh)) (sym new_is) grown.from in
+    let keeps : (n : ℕ) → IsIn n deeper → IsIn n (tree_pages new height next) =
+    subst (λ (l : List Entry). (n : ℕ) → IsIn n deeper → IsIn n (tree_pages new height l)) (sym new_is) grown.keeps in
+    let has : (n : ℕ) → n ≡ fresh → IsIn n (tree_pages new height next) =
+    subst (λ (l : List Entry). (n : ℕ) → n ≡ fresh → IsIn n (tree_pages new height l)) (sym new_is) grown.has in
     record {
       holds = record {
         shaped = (each_with old new (λ i. IsInnerPage (suc height) i) front e others left right h.shaped.0 there, holds.shaped);
         fenced = holds.fenced;
         linked = holds.linked;
-        apart = apart_join here_pages (pages_of new height next) apart holds.apart (λ n i j. clash n i (from n j));
+        apart = apart_join here_pages (tree_pages new height next) apart holds.apart (λ n i j. clash n i (from n j));
         is = holds.is;
       };
-      from = λ n i. rise n from (in_either n here_pages (pages_of new height next) i);
+      from = λ n i. rise n from (in_either n here_pages (tree_pages new height next) i);
       keeps = λ n i. stay n keeps (in_either n here_pages deeper i);
-      has = λ n k. in_right n here_pages (pages_of new height next) (has n k);
+      has = λ n k. in_right n here_pages (tree_pages new height next) (has n k);
     }
   where
-    deep : (height : ℕ) (level before : List Entry) (m : Entry) (behind : List Entry) → level ≡ before ++ (m ∷ behind) → IsIn m.page (pages_of old height level)
+    deep : (height : ℕ) (level before : List Entry) (m : Entry) (behind : List Entry) → level ≡ before ++ (m ∷ behind) → IsIn m.page (tree_pages old height level)
     deep zero level before m behind is =
         subst (λ (l : List Entry). IsIn m.page (map page_of l)) (sym is)
         (subst (λ (l : List ℕ). IsIn m.page l) (sym (pages-append before (m ∷ behind))) (in_right m.page (map page_of before) (m.page ∷ map page_of behind) (inl refl)))
     deep (suc height) level before m behind is =
-        in_left m.page (map page_of level) (pages_of old height (spread old level))
+        in_left m.page (map page_of level) (tree_pages old height (spread old level))
         (subst (λ (l : List Entry). IsIn m.page (map page_of l)) (sym is)
         (subst (λ (l : List ℕ). IsIn m.page l) (sym (pages-append before (m ∷ behind))) (in_right m.page (map page_of before) (m.page ∷ map page_of behind) (inl refl))))
 
@@ -157,24 +157,24 @@ half_parent old new height front e others at cell fresh separator cells more h h
     up n (inl i) = subst (λ (l : List ℕ). IsIn n l) (sym (pages-append front (e ∷ others))) (in_left n (map page_of front) (e.page ∷ map page_of others) i)
     up n (inr i) = subst (λ (l : List ℕ). IsIn n l) (sym (pages-append front (e ∷ others))) (in_right n (map page_of front) (e.page ∷ map page_of others) (inr i))
 
-    clash : (n : ℕ) → IsIn n (map page_of (front ++ (e ∷ others))) → IsIn n (pages_of old height (spread old (front ++ (e ∷ others)))) ⊎ (n ≡ fresh) → ⊥
-    clash n i (inl j) = apart_cross n (map page_of (front ++ (e ∷ others))) (pages_of old height (spread old (front ++ (e ∷ others)))) h.apart i j
+    clash : (n : ℕ) → IsIn n (map page_of (front ++ (e ∷ others))) → IsIn n (tree_pages old height (spread old (front ++ (e ∷ others)))) ⊎ (n ≡ fresh) → ⊥
+    clash n i (inl j) = apart_cross n (map page_of (front ++ (e ∷ others))) (tree_pages old height (spread old (front ++ (e ∷ others)))) h.apart i j
     clash n i (inr k) =
-        off (subst (λ (j : ℕ). IsIn j (pages_of old (suc height) (front ++ (e ∷ others)))) k
-        (in_left n (map page_of (front ++ (e ∷ others))) (pages_of old height (spread old (front ++ (e ∷ others)))) i))
+        off (subst (λ (j : ℕ). IsIn j (tree_pages old (suc height) (front ++ (e ∷ others)))) k
+        (in_left n (map page_of (front ++ (e ∷ others))) (tree_pages old height (spread old (front ++ (e ∷ others)))) i))
 
-    rise : (n : ℕ) → ((n : ℕ) → IsIn n (pages_of new height (spread new (front ++ (e ∷ others)))) → IsIn n (pages_of old height (spread old (front ++ (e ∷ others)))) ⊎ (n ≡ fresh))
-        → IsIn n (map page_of (front ++ (e ∷ others))) ⊎ IsIn n (pages_of new height (spread new (front ++ (e ∷ others))))
-        → IsIn n (pages_of old (suc height) (front ++ (e ∷ others))) ⊎ (n ≡ fresh)
-    rise n from (inl i) = inl (in_left n (map page_of (front ++ (e ∷ others))) (pages_of old height (spread old (front ++ (e ∷ others)))) i)
+    rise : (n : ℕ) → ((n : ℕ) → IsIn n (tree_pages new height (spread new (front ++ (e ∷ others)))) → IsIn n (tree_pages old height (spread old (front ++ (e ∷ others)))) ⊎ (n ≡ fresh))
+        → IsIn n (map page_of (front ++ (e ∷ others))) ⊎ IsIn n (tree_pages new height (spread new (front ++ (e ∷ others))))
+        → IsIn n (tree_pages old (suc height) (front ++ (e ∷ others))) ⊎ (n ≡ fresh)
+    rise n from (inl i) = inl (in_left n (map page_of (front ++ (e ∷ others))) (tree_pages old height (spread old (front ++ (e ∷ others)))) i)
     rise n from (inr i) = deeper (from n i)
       where
-        deeper : IsIn n (pages_of old height (spread old (front ++ (e ∷ others)))) ⊎ (n ≡ fresh) → IsIn n (pages_of old (suc height) (front ++ (e ∷ others))) ⊎ (n ≡ fresh)
-        deeper (inl j) = inl (in_right n (map page_of (front ++ (e ∷ others))) (pages_of old height (spread old (front ++ (e ∷ others)))) j)
+        deeper : IsIn n (tree_pages old height (spread old (front ++ (e ∷ others)))) ⊎ (n ≡ fresh) → IsIn n (tree_pages old (suc height) (front ++ (e ∷ others))) ⊎ (n ≡ fresh)
+        deeper (inl j) = inl (in_right n (map page_of (front ++ (e ∷ others))) (tree_pages old height (spread old (front ++ (e ∷ others)))) j)
         deeper (inr k) = inr k
 
-    stay : (n : ℕ) → ((n : ℕ) → IsIn n (pages_of old height (spread old (front ++ (e ∷ others)))) → IsIn n (pages_of new height (spread new (front ++ (e ∷ others)))))
-        → IsIn n (map page_of (front ++ (e ∷ others))) ⊎ IsIn n (pages_of old height (spread old (front ++ (e ∷ others))))
-        → IsIn n (pages_of new (suc height) (front ++ (e ∷ others)))
-    stay n keeps (inl i) = in_left n (map page_of (front ++ (e ∷ others))) (pages_of new height (spread new (front ++ (e ∷ others)))) i
-    stay n keeps (inr i) = in_right n (map page_of (front ++ (e ∷ others))) (pages_of new height (spread new (front ++ (e ∷ others)))) (keeps n i)
+    stay : (n : ℕ) → ((n : ℕ) → IsIn n (tree_pages old height (spread old (front ++ (e ∷ others)))) → IsIn n (tree_pages new height (spread new (front ++ (e ∷ others)))))
+        → IsIn n (map page_of (front ++ (e ∷ others))) ⊎ IsIn n (tree_pages old height (spread old (front ++ (e ∷ others))))
+        → IsIn n (tree_pages new (suc height) (front ++ (e ∷ others)))
+    stay n keeps (inl i) = in_left n (map page_of (front ++ (e ∷ others))) (tree_pages new height (spread new (front ++ (e ∷ others)))) i
+    stay n keeps (inr i) = in_right n (map page_of (front ++ (e ∷ others))) (tree_pages new height (spread new (front ++ (e ∷ others)))) (keeps n i)

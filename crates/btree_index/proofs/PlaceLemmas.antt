@@ -7,11 +7,11 @@ use Rattle.std.specs.List.{AllByRecursion, slice_get}
 use Rattle.page_store.specs.Image.{Image}
 use Rattle.page_store.specs.declared.pages.PageKind.TheVariants.{Leaf}
 use Rattle.btree_index.specs.Keys.{Key, before, same_key}
-use Rattle.btree_index.specs.Cells.{key_of, value_of}
+use Rattle.btree_index.specs.Cells.{key_of_cell, value_of_cell}
 use Rattle.btree_index.specs.Pairs.{cell_value, place_in, between, is_below}
 use Rattle.btree_index.specs.Trees.{Entry, Ascends, AreFenced, pair_of}
 use Rattle.btree_index.specs.Ways.{OnWay}
-use Rattle.btree_index.specs.Changes.{Stands, Leads}
+use Rattle.btree_index.specs.Changes.{TreeStands, Leads}
 use Rattle.btree_index.proofs.FindLemmas.{cell_at, drop_here}
 use Rattle.btree_index.proofs.KeyLaws.{before_before, not_back, not_same_before, same_not_behind, else_before, atmost_atmost}
 use Rattle.btree_index.proofs.LeafLaws.{Replaces, replaces, fenced_at}
@@ -20,27 +20,27 @@ use Rattle.btree_index.proofs.RowLemmas.{none_high}
 use Rattle.btree_index.proofs.WayLemmas.{way_ends}
 
 -- a cell that comes before the key is below the place, and one that does not is not
-pub place_above : (key : Key) (cells : List (List ℕ)) (i : ℕ) (c : List ℕ) → Ascends cells → slice_get cells i ≡ Some c → before (key_of c) key ≡ true
+pub place_above : (key : Key) (cells : List (List ℕ)) (i : ℕ) (c : List ℕ) → Ascends cells → slice_get cells i ≡ Some c → before (key_of_cell c) key ≡ true
     → i < place_in key cells
 place_above key [] i c up here less = absurd (none-some c here)
 place_above key (d ∷ ds) zero c up here less =
-    let first : before (key_of d) key ≡ true = ap (λ (x : List ℕ). before (key_of x) key) (same_Some d c here) ∙ less in
+    let first : before (key_of_cell d) key ≡ true = ap (λ (x : List ℕ). before (key_of_cell x) key) (same_Some d c here) ∙ less in
     let is : place_in key (d ∷ ds) ≡ suc (place_in key ds) = ap (λ (t : Bool). if t then suc (place_in key ds) else zero) first in
     omega (arith, is)
 place_above key (d ∷ ds) (suc i) c up here less =
-    let first : before (key_of d) key ≡ true = before_before (key_of d) (key_of c) key (ascends_to ds i d c up here) less in
+    let first : before (key_of_cell d) key ≡ true = before_before (key_of_cell d) (key_of_cell c) key (ascends_to ds i d c up here) less in
     let is : place_in key (d ∷ ds) ≡ suc (place_in key ds) = ap (λ (t : Bool). if t then suc (place_in key ds) else zero) first in
     let rest : i < place_in key ds = place_above key ds i c (ascends_rest d ds up) here less in
     omega (arith, is, rest)
 
-pub place_up_to : (key : Key) (cells : List (List ℕ)) (i : ℕ) (c : List ℕ) → slice_get cells i ≡ Some c → before (key_of c) key ≡ false
+pub place_up_to : (key : Key) (cells : List (List ℕ)) (i : ℕ) (c : List ℕ) → slice_get cells i ≡ Some c → before (key_of_cell c) key ≡ false
     → place_in key cells ≤ i
 place_up_to key [] i c here less = absurd (none-some c here)
 place_up_to key (d ∷ ds) zero c here less =
-    let first : before (key_of d) key ≡ false = ap (λ (x : List ℕ). before (key_of x) key) (same_Some d c here) ∙ less in
+    let first : before (key_of_cell d) key ≡ false = ap (λ (x : List ℕ). before (key_of_cell x) key) (same_Some d c here) ∙ less in
     let is : place_in key (d ∷ ds) ≡ zero = ap (λ (t : Bool). if t then suc (place_in key ds) else zero) first in
     omega (arith, is)
-place_up_to key (d ∷ ds) (suc i) c here less = go (before (key_of d) key) (place_up_to key ds i c here less)
+place_up_to key (d ∷ ds) (suc i) c here less = go (before (key_of_cell d) key) (place_up_to key ds i c here less)
   where
     go : (t : Bool) → place_in key ds ≤ i → (if t then suc (place_in key ds) else zero) ≤ suc i
     go true rest = omega arith
@@ -48,10 +48,10 @@ place_up_to key (d ∷ ds) (suc i) c here less = go (before (key_of d) key) (pla
 
 -- from the place on, no cell comes before the key
 pub place_from : (key : Key) (cells : List (List ℕ)) (i : ℕ) (c : List ℕ) → Ascends cells → slice_get cells i ≡ Some c → place_in key cells ≤ i
-    → before (key_of c) key ≡ false
-place_from key cells i c up here from = go (before (key_of c) key) refl
+    → before (key_of_cell c) key ≡ false
+place_from key cells i c up here from = go (before (key_of_cell c) key) refl
   where
-    go : (t : Bool) → before (key_of c) key ≡ t → before (key_of c) key ≡ false
+    go : (t : Bool) → before (key_of_cell c) key ≡ t → before (key_of_cell c) key ≡ false
     go false e = e
     go true e = (let above : i < place_in key cells = place_above key cells i c up here e in absurd (past above))
       where
@@ -61,28 +61,28 @@ place_from key cells i c up here from = go (before (key_of c) key) refl
 -- the value of the cell at the place, where it has the key
 abbrev pub value_here : Key → Option (List ℕ) → Option (List ℕ)
 value_here key None = None
-value_here key (Some c) = if same_key key (key_of c) then Some (value_of c) else None
+value_here key (Some c) = if same_key key (key_of_cell c) then Some (value_of_cell c) else None
 
-none_later : (key : Key) (c : List ℕ) (cells : List (List ℕ)) → before key (key_of c) ≡ true → AllByRecursion (λ d. before (key_of c) (key_of d) ≡ true) cells
+none_later : (key : Key) (c : List ℕ) (cells : List (List ℕ)) → before key (key_of_cell c) ≡ true → AllByRecursion (λ d. before (key_of_cell c) (key_of_cell d) ≡ true) cells
     → cell_value key cells ≡ None
 none_later key c [] less above = refl
 none_later key c (d ∷ ds) less above =
-    ap (λ (t : Bool). if t then Some (value_of d) else cell_value key ds) (not_same_before key (key_of d) (before_before key (key_of c) (key_of d) less above.0))
+    ap (λ (t : Bool). if t then Some (value_of_cell d) else cell_value key ds) (not_same_before key (key_of_cell d) (before_before key (key_of_cell c) (key_of_cell d) less above.0))
     ∙ none_later key c ds less above.1
 
 place_value : (key : Key) (cells : List (List ℕ)) → Ascends cells → cell_value key cells ≡ value_here key (slice_get cells (place_in key cells))
 place_value key [] up = refl
-place_value key (c ∷ cs) up = go (before (key_of c) key) refl (same_key key (key_of c)) refl (place_value key cs (ascends_rest c cs up))
+place_value key (c ∷ cs) up = go (before (key_of_cell c) key) refl (same_key key (key_of_cell c)) refl (place_value key cs (ascends_rest c cs up))
   where
-    go : (t : Bool) → before (key_of c) key ≡ t → (s : Bool) → same_key key (key_of c) ≡ s
+    go : (t : Bool) → before (key_of_cell c) key ≡ t → (s : Bool) → same_key key (key_of_cell c) ≡ s
         → cell_value key cs ≡ value_here key (slice_get cs (place_in key cs))
-        → (if s then Some (value_of c) else cell_value key cs) ≡ value_here key (slice_get (c ∷ cs) (if t then suc (place_in key cs) else zero))
-    go true e true same rest = absurd (false≢true (sym (same_not_behind key (key_of c) same) ∙ e))
+        → (if s then Some (value_of_cell c) else cell_value key cs) ≡ value_here key (slice_get (c ∷ cs) (if t then suc (place_in key cs) else zero))
+    go true e true same rest = absurd (false≢true (sym (same_not_behind key (key_of_cell c) same) ∙ e))
     go true e false same rest = rest
-    go false e true same rest = sym (ap (λ (t : Bool). if t then Some (value_of c) else None) same)
+    go false e true same rest = sym (ap (λ (t : Bool). if t then Some (value_of_cell c) else None) same)
     go false e false same rest =
-        none_later key c cs (else_before key (key_of c) same e) (ascends_all c cs up)
-        ∙ sym (ap (λ (t : Bool). if t then Some (value_of c) else None) same)
+        none_later key c cs (else_before key (key_of_cell c) same e) (ascends_all c cs up)
+        ∙ sym (ap (λ (t : Bool). if t then Some (value_of_cell c) else None) same)
 
 -- so the cell at the place decides
 placed : (key : Key) (cells : List (List ℕ)) (at : ℕ) (found : Option (List ℕ)) → Ascends cells → at ≡ place_in key cells → slice_get cells at ≡ found
@@ -94,37 +94,37 @@ pub value_past : (key : Key) (cells : List (List ℕ)) (at : ℕ) → Ascends ce
 value_past key cells at up is here = placed key cells at None up is here
 
 pub value_same : (key : Key) (cells : List (List ℕ)) (at : ℕ) (c : List ℕ) → Ascends cells → at ≡ place_in key cells → slice_get cells at ≡ Some c
-    → same_key key (key_of c) ≡ true → cell_value key cells ≡ Some (value_of c)
+    → same_key key (key_of_cell c) ≡ true → cell_value key cells ≡ Some (value_of_cell c)
 value_same key cells at c up is here same =
-    placed key cells at (Some c) up is here ∙ ap (λ (t : Bool). if t then Some (value_of c) else None) same
+    placed key cells at (Some c) up is here ∙ ap (λ (t : Bool). if t then Some (value_of_cell c) else None) same
 
 pub value_other : (key : Key) (cells : List (List ℕ)) (at : ℕ) (c : List ℕ) → Ascends cells → at ≡ place_in key cells → slice_get cells at ≡ Some c
-    → same_key key (key_of c) ≡ false → cell_value key cells ≡ None
+    → same_key key (key_of_cell c) ≡ false → cell_value key cells ≡ None
 value_other key cells at c up is here off =
-    placed key cells at (Some c) up is here ∙ ap (λ (t : Bool). if t then Some (value_of c) else None) off
+    placed key cells at (Some c) up is here ∙ ap (λ (t : Bool). if t then Some (value_of_cell c) else None) off
 
 -- nothing in front of the place is between
 pub between_from : (low : Key) (high : Option Key) (cells : List (List ℕ))
     → between low high (map pair_of cells) ≡ between low high (map pair_of (drop (place_in low cells) cells))
 between_from low high [] = refl
-between_from low high (c ∷ cs) = go (before (key_of c) low) refl (between_from low high cs)
+between_from low high (c ∷ cs) = go (before (key_of_cell c) low) refl (between_from low high cs)
   where
-    go : (t : Bool) → before (key_of c) low ≡ t → between low high (map pair_of cs) ≡ between low high (map pair_of (drop (place_in low cs) cs))
-        → (if (not (before (key_of c) low) && is_below high (key_of c)) then pair_of c ∷ between low high (map pair_of cs) else between low high (map pair_of cs))
+    go : (t : Bool) → before (key_of_cell c) low ≡ t → between low high (map pair_of cs) ≡ between low high (map pair_of (drop (place_in low cs) cs))
+        → (if (not (before (key_of_cell c) low) && is_below high (key_of_cell c)) then pair_of c ∷ between low high (map pair_of cs) else between low high (map pair_of cs))
         ≡ between low high (map pair_of (drop (if t then suc (place_in low cs) else zero) (c ∷ cs)))
     go true e rest =
-        ap (λ (t : Bool). if (not t && is_below high (key_of c)) then pair_of c ∷ between low high (map pair_of cs) else between low high (map pair_of cs)) e ∙ rest
+        ap (λ (t : Bool). if (not t && is_below high (key_of_cell c)) then pair_of c ∷ between low high (map pair_of cs) else between low high (map pair_of cs)) e ∙ rest
     go false e rest = refl
 
 -- a cell that is between
 pub between_next : (low : Key) (high : Option Key) (cells : List (List ℕ)) (i : ℕ) (c : List ℕ) (out more all : List (Key × List ℕ)) → Ascends cells
-    → slice_get cells i ≡ Some c → place_in low cells ≤ i → is_below high (key_of c) ≡ true → more ≡ out ++ pair_of c ∷ []
+    → slice_get cells i ≡ Some c → place_in low cells ≤ i → is_below high (key_of_cell c) ≡ true → more ≡ out ++ pair_of c ∷ []
     → out ++ between low high (map pair_of (drop i cells)) ≡ all → more ++ between low high (map pair_of (drop (i + 1) cells)) ≡ all
 between_next low high cells i c out more all up here from below is so_far =
     let rest = between low high (map pair_of (drop (suc i) cells)) in
     let one : between low high (map pair_of (drop i cells)) ≡ pair_of c ∷ rest =
     ap (λ (l : List (List ℕ)). between low high (map pair_of l)) (drop_here cells i c here)
-    ∙ ap (λ (t : Bool). if (not t && is_below high (key_of c)) then pair_of c ∷ rest else rest) (place_from low cells i c up here from)
+    ∙ ap (λ (t : Bool). if (not t && is_below high (key_of_cell c)) then pair_of c ∷ rest else rest) (place_from low cells i c up here from)
     ∙ ap (λ (t : Bool). if t then pair_of c ∷ rest else rest) below in
     ap (λ (l : List (Key × List ℕ)). l ++ between low high (map pair_of (drop (i + 1) cells))) is
     ∙ ap (λ (n : ℕ). (out ++ pair_of c ∷ []) ++ between low high (map pair_of (drop n cells))) (add-one i)
@@ -137,15 +137,15 @@ ascends_drop [] (suc i) up = tt
 ascends_drop (c ∷ cs) zero up = up
 ascends_drop (c ∷ cs) (suc i) up = ascends_drop cs i (ascends_rest c cs up)
 
-past_all : (high : Option Key) (c : List ℕ) (cells : List (List ℕ)) → is_below high (key_of c) ≡ false
-    → AllByRecursion (λ d. before (key_of c) (key_of d) ≡ true) cells → AllByRecursion (λ d. is_below high (key_of d) ≡ false) cells
+past_all : (high : Option Key) (c : List ℕ) (cells : List (List ℕ)) → is_below high (key_of_cell c) ≡ false
+    → AllByRecursion (λ d. before (key_of_cell c) (key_of_cell d) ≡ true) cells → AllByRecursion (λ d. is_below high (key_of_cell d) ≡ false) cells
 past_all high c [] past above = tt
 past_all None c (d ∷ ds) past above = absurd (false≢true (sym past))
 past_all (Some high) c (d ∷ ds) past above =
-    (atmost_atmost high (key_of c) (key_of d) past (not_back (key_of c) (key_of d) above.0), past_all (Some high) c ds past above.1)
+    (atmost_atmost high (key_of_cell c) (key_of_cell d) past (not_back (key_of_cell c) (key_of_cell d) above.0), past_all (Some high) c ds past above.1)
 
 pub between_end : (low : Key) (high : Option Key) (cells : List (List ℕ)) (i : ℕ) (c : List ℕ) (out all : List (Key × List ℕ)) → Ascends cells
-    → slice_get cells i ≡ Some c → is_below high (key_of c) ≡ false → out ++ between low high (map pair_of (drop i cells)) ≡ all → out ≡ all
+    → slice_get cells i ≡ Some c → is_below high (key_of_cell c) ≡ false → out ++ between low high (map pair_of (drop i cells)) ≡ all → out ≡ all
 between_end low high cells i c out all up here past so_far =
     let e : drop i cells ≡ c ∷ drop (suc i) cells = drop_here cells i c here in
     let rises : Ascends (c ∷ drop (suc i) cells) = subst Ascends e (ascends_drop cells i up) in
@@ -176,7 +176,7 @@ way_rises pages key page list way leaf =
     (fenced_at pages there.at.front e there.at.others (subst F there.at.is there.fenced)).ascends
 
 pub leaf_rises : (old : ℕ → Image) (root : ℕ) (key : Key) (page : ℕ) → Leads old root key page → (old page).head.kind ≡ Leaf
-    → (own free : List ℕ) (list : List (Key × List ℕ)) → Stands old root own free list → Ascends (old page).cells
+    → (own free : List ℕ) (list : List (Key × List ℕ)) → TreeStands old root own free list → Ascends (old page).cells
 leaf_rises old root key page leads leaf own free list stands =
     let cells = (old page).cells in
     let r : Replaces old old root key page stands.height stands.cells cells =
@@ -186,7 +186,7 @@ leaf_rises old root key page leads leaf own free list stands =
 
 -- the cell in the middle of what is left tells on which side of it the place is
 pub half_above : (key : Key) (cells : List (List ℕ)) (low high : ℕ) (told : Bool) → low < high → high ≤ length cells
-    → ((c : List ℕ) → slice_get cells (low + (high - low) / 2) ≡ Some c → told ≡ before (key_of c) key) → told ≡ true → Ascends cells
+    → ((c : List ℕ) → slice_get cells (low + (high - low) / 2) ≡ Some c → told ≡ before (key_of_cell c) key) → told ≡ true → Ascends cells
     → low + (high - low) / 2 + 1 ≤ place_in key cells
 half_above key cells low high told some most tells is up =
     let middle : low + (high - low) / 2 < length cells = omega arith in
@@ -196,7 +196,7 @@ half_above key cells low high told some most tells is up =
     omega (arith, above)
 
 pub half_up_to : (key : Key) (cells : List (List ℕ)) (low high : ℕ) (told : Bool) → low < high → high ≤ length cells
-    → ((c : List ℕ) → slice_get cells (low + (high - low) / 2) ≡ Some c → told ≡ before (key_of c) key) → told ≡ false
+    → ((c : List ℕ) → slice_get cells (low + (high - low) / 2) ≡ Some c → told ≡ before (key_of_cell c) key) → told ≡ false
     → place_in key cells ≤ low + (high - low) / 2
 half_up_to key cells low high told some most tells off =
     let middle : low + (high - low) / 2 < length cells = omega arith in

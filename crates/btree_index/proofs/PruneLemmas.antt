@@ -12,9 +12,9 @@ use Rattle.page_workspace.specs.Takes.{FreesPage}
 use Rattle.page_workspace.proofs.ChainLaws.{chain_same, kept_same, free_more}
 use Rattle.btree_index.specs.Keys.{Key}
 use Rattle.btree_index.specs.Cells.{child_of, inner_cell, IsLeafCell, IsInnerCell}
-use Rattle.btree_index.specs.Changes.{Stands, Becomes}
+use Rattle.btree_index.specs.Changes.{TreeStands, Becomes}
 use Rattle.btree_index.specs.Steps.{Alters, TakesAt}
-use Rattle.btree_index.specs.Trees.{Entry, below, spread, leaves, cells_of, pages_of, IsLeafPage, IsFenced, top, pair_of}
+use Rattle.btree_index.specs.Trees.{Entry, below, spread, leaves, cells_of, tree_pages, IsLeafPage, IsFenced, top, pair_of}
 use Rattle.btree_index.specs.Prunes.{IsLone, lone_pages, rekeyed, Shrunk, Unlinks, IsFork, lone_leaf, AreStray, AreLoose, FreesAll, DropsChild, LosesLeaf, Rekeys, SetsRight}
 use Rattle.btree_index.specs.declared.prunes.Fork.{Fork}
 use Rattle.btree_index.proofs.ApartLaws.{in_left, in_right, in_either}
@@ -49,10 +49,10 @@ genid_same : (old new : ℕ → Image) → new 0 ≡ old 0 → next_genid new �
 genid_same old new zeroth = ap (λ (i : Image). big_number 8 (first_cell i.cells)) zeroth
 
 -- a tree where none of its pages changed
-stands_same : (old new : ℕ → Image) (root : ℕ) (own free : List ℕ) (list : List (Key × List ℕ)) → Stands old root own free list → new 0 ≡ old 0
-    → SameOn old new own → SameOn old new free → ((n : ℕ) → count_of old ≤ n → new n ≡ old n) → Stands new root own free list
+stands_same : (old new : ℕ → Image) (root : ℕ) (own free : List ℕ) (list : List (Key × List ℕ)) → TreeStands old root own free list → new 0 ≡ old 0
+    → SameOn old new own → SameOn old new free → ((n : ℕ) → count_of old ≤ n → new n ≡ old n) → TreeStands new root own free list
 stands_same old new root own free list s zeroth mine spare past =
-    let pages : SameOn old new (pages_of old s.height (top root)) = λ n i. mine n (subst (λ (l : List ℕ). IsIn n l) s.own_is i) in
+    let pages : SameOn old new (tree_pages old s.height (top root)) = λ n i. mine n (subst (λ (l : List ℕ). IsIn n l) s.own_is i) in
     record {
       height = s.height;
       cells = s.cells;
@@ -66,12 +66,12 @@ stands_same old new root own free list s zeroth mine spare past =
     }
 
 -- a page of no tree is given back
-stands_freed : (old new : ℕ → Image) (id root : ℕ) (own free : List ℕ) (list : List (Key × List ℕ)) → Stands old root own free list → FreesPage old new id
-    → (old id).cells ≡ [] → (IsIn id own → ⊥) → (IsIn id free → ⊥) → id < count_of old → Stands new root own (id ∷ free) list
+stands_freed : (old new : ℕ → Image) (id root : ℕ) (own free : List ℕ) (list : List (Key × List ℕ)) → TreeStands old root own free list → FreesPage old new id
+    → (old id).cells ≡ [] → (IsIn id own → ⊥) → (IsIn id free → ⊥) → id < count_of old → TreeStands new root own (id ∷ free) list
 stands_freed old new id root own free list s f none off_own off_free under =
     let mine : SameOn old new own =
     λ n i. f.others n (λ e. s.off_meta (subst (λ (k : ℕ). IsIn k own) e i)) (λ e. off_own (subst (λ (k : ℕ). IsIn k own) e i)) in
-    let pages : SameOn old new (pages_of old s.height (top root)) = λ n i. mine n (subst (λ (l : List ℕ). IsIn n l) s.own_is i) in
+    let pages : SameOn old new (tree_pages old s.height (top root)) = λ n i. mine n (subst (λ (l : List ℕ). IsIn n l) s.own_is i) in
     record {
       height = s.height;
       cells = s.cells;
@@ -107,7 +107,7 @@ lone_same old new (suc height) page same lone =
     )
 
 -- the empty leaf is given back
-pub free_leaf : (old new : ℕ → Image) (height id root : ℕ) (own free : List ℕ) (list : List (Key × List ℕ)) → Stands old root own free list
+pub free_leaf : (old new : ℕ → Image) (height id root : ℕ) (own free : List ℕ) (list : List (Key × List ℕ)) → TreeStands old root own free list
     → IsLone old height id → (old id).head.kind ≡ Leaf → AreStray old own free (lone_pages old height id) → FreesPage old new id
     → FreesAll old new root own free list (lone_pages old height id)
 free_leaf old new zero id root own free list s lone kind stray f = record {
@@ -132,7 +132,7 @@ left_below old mid id child height root own free list loose is a =
     let ids = lone_pages old height c in
     let zeroth : mid 0 ≡ old 0 = a.others 0 (λ e. stray.some id (inl refl) (sym e)) in
     let count : count_of mid ≡ count_of old = count_same old mid zeroth in
-    let stands : Stands mid root own free list =
+    let stands : TreeStands mid root own free list =
     stands_same old mid root own free list loose.stands zeroth
     (λ n i. a.others n (λ e. stray.off_own id (inl refl) (subst (λ (k : ℕ). IsIn k own) e i)))
     (λ n i. a.others n (λ e. stray.off_free id (inl refl) (subst (λ (k : ℕ). IsIn k free) e i)))
@@ -155,10 +155,10 @@ left_below old mid id child height root own free list loose is a =
     past n p e = let under : id < count_of old = loose.stray.below id (inl refl) in omega arith
 
 -- and so is a page above it, after those below
-pub free_inner : (old mid late new : ℕ → Image) (height id child root : ℕ) (own free : List ℕ) (list : List (Key × List ℕ)) → Stands old root own free list
+pub free_inner : (old mid late new : ℕ → Image) (height id child root : ℕ) (own free : List ℕ) (list : List (Key × List ℕ)) → TreeStands old root own free list
     → IsLone old height id → (old id).head.kind ≡ Inner → child ≡ child_of (first_cell (old id).cells) → AreStray old own free (lone_pages old height id)
     → Alters old mid id (old id).head (remove (old id).cells 0)
-    → ((h : ℕ) → IsLone mid h child → Stands mid root own free list → AreStray mid own free (lone_pages mid h child)
+    → ((h : ℕ) → IsLone mid h child → TreeStands mid root own free list → AreStray mid own free (lone_pages mid h child)
     → FreesAll mid late root own free list (lone_pages mid h child))
     → FreesPage late new id → FreesAll old new root own free list (lone_pages old height id)
 free_inner old mid late new zero id child root own free list s lone kind is stray a rec f = absurd (let e = sym kind ∙ lone.0 in cc)
@@ -197,13 +197,13 @@ pub record IsCutOff (old mid : ℕ → Image) (child height root : ℕ) (own min
   pub count : count_of mid ≡ count_of old
 
 -- below a page that has another child
-pub cut_off : (old mid : ℕ → Image) (root : ℕ) (own free : List ℕ) (list : List (Key × List ℕ)) (fork : Fork) → (s : Stands old root own free list)
+pub cut_off : (old mid : ℕ → Image) (root : ℕ) (own free : List ℕ) (list : List (Key × List ℕ)) (fork : Fork) → (s : TreeStands old root own free list)
     → (f : IsFork old s.height (top root) s.cells fork) → Unlinks old mid fork
-    → IsCutOff old mid fork.child f.depth root own (pages_of mid s.height (top root)) free list
+    → IsCutOff old mid fork.child f.depth root own (tree_pages mid s.height (top root)) free list
 cut_off old mid root own free list fork s f u =
     let ids = lone_pages old f.depth fork.child in
     let k : Shrunk old mid s.height (top root) (top root) ids fork.left s.cells = f.out mid u in
-    let from : (n : ℕ) → IsIn n (pages_of mid s.height (top root)) → IsIn n own = λ n i. subst (λ (l : List ℕ). IsIn n l) s.own_is (k.from n i) in
+    let from : (n : ℕ) → IsIn n (tree_pages mid s.height (top root)) → IsIn n own = λ n i. subst (λ (l : List ℕ). IsIn n l) s.own_is (k.from n i) in
     let gone : (n : ℕ) → IsIn n ids → IsIn n own = λ n i. subst (λ (l : List ℕ). IsIn n l) s.own_is (k.went n i) in
     let page_own : IsIn fork.page own = subst (λ (l : List ℕ). IsIn fork.page l) s.own_is f.inside in
     let same : (n : ℕ) → (IsIn n own → ⊥) → mid n ≡ old n =
@@ -212,7 +212,7 @@ cut_off old mid root own free list fork s f u =
     let count : count_of mid ≡ count_of old = count_same old mid zeroth in
     let l = lone_same old mid f.depth fork.child
     (λ n i. u.others n (λ e. f.off (subst (λ (j : ℕ). IsIn j ids) e i)) (λ e. k.off n (k.beside n e) i)) f.lone in
-    let stray : AreStray mid (pages_of mid s.height (top root)) free ids = record {
+    let stray : AreStray mid (tree_pages mid s.height (top root)) free ids = record {
       apart = f.apart;
       some = λ n i e. s.off_meta (subst (λ (j : ℕ). IsIn j own) e (gone n i));
       off_own = λ n i j. k.off n j i;
@@ -233,7 +233,7 @@ cut_off old mid root own free list fork s f u =
           below = λ n i. subst (λ (c : ℕ). n < c) (sym count) (s.below n (from n i));
         };
         lone = l.0;
-        stray = subst (λ (x : List ℕ). AreStray mid (pages_of mid s.height (top root)) free x) (sym l.1) stray;
+        stray = subst (λ (x : List ℕ). AreStray mid (tree_pages mid s.height (top root)) free x) (sym l.1) stray;
       };
       ids = l.1;
       from = from;
@@ -246,13 +246,13 @@ cut_off old mid root own free list fork s f u =
     past n a b = omega arith
 
 -- a tree out of which an empty leaf was taken, and then freed
-pub pruned : (old mid new : ℕ → Image) (root : ℕ) (own free : List ℕ) (list : List (Key × List ℕ)) (fork : Fork) → (s : Stands old root own free list)
+pub pruned : (old mid new : ℕ → Image) (root : ℕ) (own free : List ℕ) (list : List (Key × List ℕ)) (fork : Fork) → (s : TreeStands old root own free list)
     → (f : IsFork old s.height (top root) s.cells fork) → Unlinks old mid fork
-    → ((h : ℕ) (mine : List ℕ) → IsLone mid h fork.child → Stands mid root mine free list → AreStray mid mine free (lone_pages mid h fork.child)
+    → ((h : ℕ) (mine : List ℕ) → IsLone mid h fork.child → TreeStands mid root mine free list → AreStray mid mine free (lone_pages mid h fork.child)
     → FreesAll mid new root mine free list (lone_pages mid h fork.child)) → LosesLeaf old new root own free list (lone_leaf old f.depth fork.child)
 pruned old mid new root own free list fork s f u frees =
     let ids = lone_pages old f.depth fork.child in
-    let mine = pages_of mid s.height (top root) in
+    let mine = tree_pages mid s.height (top root) in
     let k : Shrunk old mid s.height (top root) (top root) ids fork.left s.cells = f.out mid u in
     let w : IsCutOff old mid fork.child f.depth root own mine free list = cut_off old mid root own free list fork s f u in
     let zeroth : mid 0 ≡ old 0 = w.same 0 s.off_meta in
@@ -291,30 +291,30 @@ pruned old mid new root own free list fork s f u frees =
     was n gone (inl i) = inl (gone n i)
     was n gone (inr i) = inr (inl i)
 
-    still : (n : ℕ) → IsIn n (pages_of mid s.height (top root)) ⊎ IsIn n (lone_pages old f.depth fork.child)
-        → IsIn n (pages_of mid s.height (top root)) ⊎ IsIn n (lone_pages old f.depth fork.child ++ free)
+    still : (n : ℕ) → IsIn n (tree_pages mid s.height (top root)) ⊎ IsIn n (lone_pages old f.depth fork.child)
+        → IsIn n (tree_pages mid s.height (top root)) ⊎ IsIn n (lone_pages old f.depth fork.child ++ free)
     still n (inl i) = inl i
     still n (inr i) = inr (in_left n (lone_pages old f.depth fork.child) free i)
 
 -- a tree that is nothing but the way to an empty leaf
 lone_all : (pages : ℕ → Image) (height : ℕ) (e : Entry) → IsLone pages height e.page
-    → (pages_of pages height (e ∷ []) ≡ lone_pages pages height e.page) × (cells_of pages (leaves pages height (e ∷ [])) ≡ [])
+    → (tree_pages pages height (e ∷ []) ≡ lone_pages pages height e.page) × (cells_of pages (leaves pages height (e ∷ [])) ≡ [])
 lone_all pages zero e lone = (refl, ap (λ (l : List (List ℕ)). l ++ []) lone.1)
 lone_all pages (suc height) e lone =
     let e' : Entry = record { low = e.low; page = child_of (first_cell (pages e.page).cells) } in
     let s : spread pages (e ∷ []) ≡ e' ∷ [] = ap (λ (l : List (List ℕ)). below e.low l ++ []) lone.1 in
     let rec = lone_all pages height e' lone.2 in (
-      ap (λ (l : List Entry). e.page ∷ pages_of pages height l) s ∙ ap (λ (l : List ℕ). e.page ∷ l) rec.0,
+      ap (λ (l : List Entry). e.page ∷ tree_pages pages height l) s ∙ ap (λ (l : List ℕ). e.page ∷ l) rec.0,
       ap (λ (l : List Entry). cells_of pages (leaves pages height l)) s ∙ rec.1,
     )
 
-lone_own : (pages : ℕ → Image) (root height : ℕ) (own free : List ℕ) (list : List (Key × List ℕ)) → (s : Stands pages root own free list) → s.height ≡ suc height
+lone_own : (pages : ℕ → Image) (root height : ℕ) (own free : List ℕ) (list : List (Key × List ℕ)) → (s : TreeStands pages root own free list) → s.height ≡ suc height
     → IsLone pages (suc height) root → own ≡ root ∷ lone_pages pages height (child_of (first_cell (pages root).cells))
 lone_own pages root height own free list s tall lone =
-    sym s.own_is ∙ ap (λ (h : ℕ). pages_of pages h (top root)) tall ∙ (lone_all pages (suc height) (record { low = []; page = root }) lone).0
+    sym s.own_is ∙ ap (λ (h : ℕ). tree_pages pages h (top root)) tall ∙ (lone_all pages (suc height) (record { low = []; page = root }) lone).0
 
 -- its root becomes an empty leaf
-pub flat_off : (old mid : ℕ → Image) (root child height : ℕ) (own free : List ℕ) (list : List (Key × List ℕ)) → (s : Stands old root own free list)
+pub flat_off : (old mid : ℕ → Image) (root child height : ℕ) (own free : List ℕ) (list : List (Key × List ℕ)) → (s : TreeStands old root own free list)
     → s.height ≡ suc height → IsLone old (suc height) root → child ≡ child_of (first_cell (old root).cells)
     → Alters old mid root (record { kind = Leaf; level = 0; right = 0 }) (remove (old root).cells 0)
     → IsCutOff old mid child height root own (root ∷ []) free list
@@ -338,7 +338,7 @@ flat_off old mid root child height own free list s tall lone is a =
       cells = subst (λ (l : List (List ℕ)). AllByRecursion (λ (c : List ℕ). IsLeafCell c) l) (sym none) tt;
       fits = subst HasRoom (sym none) (omega arith);
     } in
-    let stands : Stands mid root (root ∷ []) free list = record {
+    let stands : TreeStands mid root (root ∷ []) free list = record {
       height = 0;
       cells = [];
       holds = record {
@@ -382,10 +382,10 @@ flat_off old mid root child height own free list s tall lone is a =
     off n i (inr k) apart = k
 
 -- and the other pages are freed
-flatten_from : (old mid new : ℕ → Image) (root child height : ℕ) (own free : List ℕ) (list : List (Key × List ℕ)) → (s : Stands old root own free list)
+flatten_from : (old mid new : ℕ → Image) (root child height : ℕ) (own free : List ℕ) (list : List (Key × List ℕ)) → (s : TreeStands old root own free list)
     → s.height ≡ height → IsLone old height root → (old root).head.kind ≡ Inner → child ≡ child_of (first_cell (old root).cells)
     → Alters old mid root (record { kind = Leaf; level = 0; right = 0 }) (remove (old root).cells 0)
-    → ((h : ℕ) (mine : List ℕ) → IsLone mid h child → Stands mid root mine free list → AreStray mid mine free (lone_pages mid h child)
+    → ((h : ℕ) (mine : List ℕ) → IsLone mid h child → TreeStands mid root mine free list → AreStray mid mine free (lone_pages mid h child)
     → FreesAll mid new root mine free list (lone_pages mid h child)) → LosesLeaf old new root own free list (lone_leaf old height root)
 flatten_from old mid new root child zero own free list s tall lone kind is a frees = absurd (let e = sym kind ∙ lone.0 in cc)
 flatten_from old mid new root child (suc height) own free list s tall lone kind is a frees =
@@ -396,9 +396,9 @@ flatten_from old mid new root child (suc height) own free list s tall lone kind 
     let w : IsCutOff old mid c height root own mine free list =
     subst (λ (k : ℕ). IsCutOff old mid k height root own mine free list) is (flat_off old mid root child height own free list s tall lone is a) in
     let zeroth : mid 0 ≡ old 0 = w.same 0 s.off_meta in
-    let at : IsLone mid height c → Stands mid root mine free list → AreStray mid mine free (lone_pages mid height c)
+    let at : IsLone mid height c → TreeStands mid root mine free list → AreStray mid mine free (lone_pages mid height c)
     → FreesAll mid new root mine free list (lone_pages mid height c) =
-    subst (λ (k : ℕ). IsLone mid height k → Stands mid root mine free list → AreStray mid mine free (lone_pages mid height k)
+    subst (λ (k : ℕ). IsLone mid height k → TreeStands mid root mine free list → AreStray mid mine free (lone_pages mid height k)
     → FreesAll mid new root mine free list (lone_pages mid height k)) is (frees height mine) in
     let r : FreesAll mid new root mine free list ids =
     subst (λ (l : List ℕ). FreesAll mid new root mine free list l) w.ids (at w.loose.lone w.loose.stands w.loose.stray) in
@@ -440,16 +440,16 @@ flatten_from old mid new root child (suc height) own free list s tall lone kind 
     still n (inl e) = inl (inl e)
     still n (inr i) = inr (in_left n (lone_pages old height (child_of (first_cell (old root).cells))) free i)
 
-pub flattened : (old mid new : ℕ → Image) (root child : ℕ) (own free : List ℕ) (list : List (Key × List ℕ)) → (s : Stands old root own free list)
+pub flattened : (old mid new : ℕ → Image) (root child : ℕ) (own free : List ℕ) (list : List (Key × List ℕ)) → (s : TreeStands old root own free list)
     → IsLone old s.height root → (old root).head.kind ≡ Inner → child ≡ child_of (first_cell (old root).cells)
     → Alters old mid root (record { kind = Leaf; level = 0; right = 0 }) (remove (old root).cells 0)
-    → ((h : ℕ) (mine : List ℕ) → IsLone mid h child → Stands mid root mine free list → AreStray mid mine free (lone_pages mid h child)
+    → ((h : ℕ) (mine : List ℕ) → IsLone mid h child → TreeStands mid root mine free list → AreStray mid mine free (lone_pages mid h child)
     → FreesAll mid new root mine free list (lone_pages mid h child)) → LosesLeaf old new root own free list (lone_leaf old s.height root)
 flattened old mid new root child own free list s lone kind is a frees =
     flatten_from old mid new root child s.height own free list s refl lone kind is a frees
 
 -- a root that is an empty leaf stays
-pub stays_leaf : (old new : ℕ → Image) (root : ℕ) (own free : List ℕ) (list : List (Key × List ℕ)) → new ≡ old → (s : Stands old root own free list)
+pub stays_leaf : (old new : ℕ → Image) (root : ℕ) (own free : List ℕ) (list : List (Key × List ℕ)) → new ≡ old → (s : TreeStands old root own free list)
     → IsLone old s.height root → (old root).head.kind ≡ Leaf → LosesLeaf old new root own free list (lone_leaf old s.height root)
 stays_leaf old new root own free list same s lone kind = record {
   becomes = subst (λ (p : ℕ → Image). Becomes old p root own free list) (sym same) (becomes_none old root own free list s);
@@ -517,8 +517,8 @@ unlinks old mid new fork d r room =
 
 -- the same from pages that were read before
 pub pruned_after : (old read new : ℕ → Image) (root : ℕ) (own free : List ℕ) (list : List (Key × List ℕ)) (fork : Fork) → read ≡ old
-    → (s : Stands old root own free list) → (f : IsFork old s.height (top root) s.cells fork)
-    → ((mid : ℕ → Image) × Unlinks read mid fork × ((height root : ℕ) (own free : List ℕ) (list : List (Key × List ℕ)) → Stands mid root own free list
+    → (s : TreeStands old root own free list) → (f : IsFork old s.height (top root) s.cells fork)
+    → ((mid : ℕ → Image) × Unlinks read mid fork × ((height root : ℕ) (own free : List ℕ) (list : List (Key × List ℕ)) → TreeStands mid root own free list
     → IsLone mid height fork.child → AreStray mid own free (lone_pages mid height fork.child)
     → FreesAll mid new root own free list (lone_pages mid height fork.child)))
     → LosesLeaf old new root own free list (lone_leaf old f.depth fork.child)

@@ -6,8 +6,8 @@ use Rattle.std.specs.List.{AllByRecursion, slice_get}
 use Rattle.page_store.specs.Image.{Image}
 use Rattle.page_store.specs.declared.pages.PageKind.TheVariants.{Leaf}
 use Rattle.btree_index.specs.Keys.{Key, before}
-use Rattle.btree_index.specs.Cells.{key_of}
-use Rattle.btree_index.specs.Pairs.{is_below, is_between, between, HasBeyond}
+use Rattle.btree_index.specs.Cells.{key_of_cell}
+use Rattle.btree_index.specs.Pairs.{is_below, is_key_between, between, HasBeyond}
 use Rattle.btree_index.specs.Trees.{Entry, cells_of, IsUnder, AreFenced, AreLinked, pair_of}
 use Rattle.btree_index.specs.Ways.{OnWay, OnRow}
 use Rattle.btree_index.proofs.KeyLaws.{atmost_atmost, before_atmost, not_back}
@@ -17,7 +17,7 @@ use Rattle.btree_index.proofs.WayLemmas.{BeginsBelow, begins_below, way_ends}
 -- what is between in joined lists
 pub between-append : (low : Key) (high : Option Key) (xs ys : List (Key × List ℕ)) → between low high (xs ++ ys) ≡ between low high xs ++ between low high ys
 between-append low high [] ys = refl
-between-append low high (x ∷ xs) ys = go (is_between low high x.0) (between-append low high xs ys)
+between-append low high (x ∷ xs) ys = go (is_key_between low high x.0) (between-append low high xs ys)
   where
     go : (t : Bool) → between low high (xs ++ ys) ≡ between low high xs ++ between low high ys
         → (if t then x ∷ between low high (xs ++ ys) else between low high (xs ++ ys))
@@ -36,32 +36,32 @@ cells-between low high xs ys =
     ap (between low high) (pairs-append xs ys) ∙ between-append low high (map pair_of xs) (map pair_of ys)
 
 -- cells before the low key
-none_low : (low : Key) (high : Option Key) (cells : List (List ℕ)) → AllByRecursion (λ c. before (key_of c) low ≡ true) cells
+none_low : (low : Key) (high : Option Key) (cells : List (List ℕ)) → AllByRecursion (λ c. before (key_of_cell c) low ≡ true) cells
     → between low high (map pair_of cells) ≡ []
 none_low low high [] h = refl
 none_low low high (c ∷ cs) h =
-    ap (λ (t : Bool). if (not t && is_below high (key_of c)) then pair_of c ∷ between low high (map pair_of cs) else between low high (map pair_of cs)) h.0
+    ap (λ (t : Bool). if (not t && is_below high (key_of_cell c)) then pair_of c ∷ between low high (map pair_of cs) else between low high (map pair_of cs)) h.0
     ∙ none_low low high cs h.1
 
 -- cells that are not below the high key
-pub none_high : (low : Key) (high : Option Key) (cells : List (List ℕ)) → AllByRecursion (λ c. is_below high (key_of c) ≡ false) cells
+pub none_high : (low : Key) (high : Option Key) (cells : List (List ℕ)) → AllByRecursion (λ c. is_below high (key_of_cell c) ≡ false) cells
     → between low high (map pair_of cells) ≡ []
 none_high low high [] h = refl
 none_high low high (c ∷ cs) h =
-    ap (λ (t : Bool). if (not (before (key_of c) low) && t) then pair_of c ∷ between low high (map pair_of cs) else between low high (map pair_of cs)) h.0
-    ∙ off (not (before (key_of c) low)) ∙ none_high low high cs h.1
+    ap (λ (t : Bool). if (not (before (key_of_cell c) low) && t) then pair_of c ∷ between low high (map pair_of cs) else between low high (map pair_of cs)) h.0
+    ∙ off (not (before (key_of_cell c) low)) ∙ none_high low high cs h.1
   where
     off : (t : Bool) → (if (t && false) then pair_of c ∷ between low high (map pair_of cs) else between low high (map pair_of cs)) ≡ between low high (map pair_of cs)
     off true = refl
     off false = refl
 
 -- cells under leaves that begin at most at the low key are before it
-pub front_low : (low : Key) (cells : List (List ℕ)) (level : List Entry) → AllByRecursion (λ c. IsUnder (key_of c) level) cells
-    → BeginsBelow low level → AllByRecursion (λ c. before (key_of c) low ≡ true) cells
+pub front_low : (low : Key) (cells : List (List ℕ)) (level : List Entry) → AllByRecursion (λ c. IsUnder (key_of_cell c) level) cells
+    → BeginsBelow low level → AllByRecursion (λ c. before (key_of_cell c) low ≡ true) cells
 front_low low [] level to begins = tt
 front_low low (c ∷ cs) [] to begins = absurd begins
 front_low low (c ∷ cs) (e ∷ es) to begins =
-    (before_atmost (key_of c) e.low low to.0 begins, front_low low cs (e ∷ es) to.1 begins)
+    (before_atmost (key_of_cell c) e.low low to.0 begins, front_low low cs (e ∷ es) to.1 begins)
 
 -- so nothing before the leaf that was found is between
 front_none : (pages : ℕ → Image) (key low : Key) (high : Option Key) (page : ℕ) (front others : List Entry)
@@ -113,10 +113,10 @@ row_end pages low high page out all row last = go row.others row.linked row.past
 
 -- keys from a least one on that is beyond the high one are not below it
 beyond_all : (high : Option Key) (low : Key) (cells : List (List ℕ)) → is_below high low ≡ false
-    → AllByRecursion (λ c. before (key_of c) low ≡ false) cells → AllByRecursion (λ c. is_below high (key_of c) ≡ false) cells
+    → AllByRecursion (λ c. before (key_of_cell c) low ≡ false) cells → AllByRecursion (λ c. is_below high (key_of_cell c) ≡ false) cells
 beyond_all high low [] h from = tt
 beyond_all None low (c ∷ cs) h from = absurd (false≢true (sym h))
-beyond_all (Some high) low (c ∷ cs) h from = (atmost_atmost high low (key_of c) h from.0, beyond_all (Some high) low cs h from.1)
+beyond_all (Some high) low (c ∷ cs) h from = (atmost_atmost high low (key_of_cell c) h from.0, beyond_all (Some high) low cs h from.1)
 
 beyond_leaves : (pages : ℕ → Image) (low : Key) (high : Option Key) (e : Entry) (es : List Entry) → AreFenced pages (e ∷ es)
     → is_below high e.low ≡ false → between low high (map pair_of (cells_of pages (e ∷ es))) ≡ []
@@ -137,14 +137,14 @@ pub row_stop : (pages : ℕ → Image) (low : Key) (high : Option Key) (page : �
     → HasBeyond high (pages page).cells → out ++ between low high (map pair_of (pages page).cells) ≡ all
 row_stop pages low high page out all row beyond = go row.others row.fenced row.is
   where
-    next_low : (cells : List (List ℕ)) (f : Entry) (fs : List Entry) → AllByRecursion (λ c. IsUnder (key_of c) (f ∷ fs)) cells → HasBeyond high cells
+    next_low : (cells : List (List ℕ)) (f : Entry) (fs : List Entry) → AllByRecursion (λ c. IsUnder (key_of_cell c) (f ∷ fs)) cells → HasBeyond high cells
         → is_below high f.low ≡ false
     next_low [] f fs to beyond = absurd beyond
     next_low (c ∷ cs) f fs to (inl here) = one high here
       where
-        one : (high : Option Key) → is_below high (key_of c) ≡ false → is_below high f.low ≡ false
+        one : (high : Option Key) → is_below high (key_of_cell c) ≡ false → is_below high f.low ≡ false
         one None h = h
-        one (Some high) h = atmost_atmost high (key_of c) f.low h (not_back (key_of c) f.low to.0)
+        one (Some high) h = atmost_atmost high (key_of_cell c) f.low h (not_back (key_of_cell c) f.low to.0)
     next_low (c ∷ cs) f fs to (inr later) = next_low cs f fs to.1 later
 
     go : (others : List Entry) → AreFenced pages (record { low = row.least; page = page } ∷ others)
@@ -195,10 +195,10 @@ row_begins pages low high page list way leaf =
     }
 
 -- a cell that is beyond the high key
-pub beyond_here : (high : Option Key) (cells : List (List ℕ)) (i : ℕ) (c : List ℕ) → slice_get cells i ≡ Some c → is_below high (key_of c) ≡ false
+pub beyond_here : (high : Option Key) (cells : List (List ℕ)) (i : ℕ) (c : List ℕ) → slice_get cells i ≡ Some c → is_below high (key_of_cell c) ≡ false
     → HasBeyond high cells
 beyond_here high [] i c here h = let e : ◌≡◌ {A = Option (List ℕ)} None (Some c) = here in absurd (none-some c e)
-beyond_here high (x ∷ xs) zero c here h = inl (ap (λ (k : List ℕ). is_below high (key_of k)) (same_Some x c here) ∙ h)
+beyond_here high (x ∷ xs) zero c here h = inl (ap (λ (k : List ℕ). is_below high (key_of_cell k)) (same_Some x c here) ∙ h)
 beyond_here high (x ∷ xs) (suc i) c here h = inr (beyond_here high xs i c here h)
 
 -- the same steps, over the page that was read

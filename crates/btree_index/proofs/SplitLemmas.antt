@@ -4,7 +4,7 @@ use Rattle.std.specs.List.{AllByRecursion}
 use Rattle.page_store.specs.Image.{Image}
 use Rattle.page_workspace.specs.Spare.{IsIn}
 use Rattle.btree_index.specs.Keys.{Key, before}
-use Rattle.btree_index.specs.Cells.{key_of, child_of}
+use Rattle.btree_index.specs.Cells.{key_of_cell, child_of}
 use Rattle.btree_index.specs.Trees.{Entry, page_of, entry_of, below, spread, IsFenced, IsUnder, IsUpTo, Ascends, AreFenced, AreLinked}
 use Rattle.btree_index.proofs.KeyLaws.{atmost_before, before_before, irreflexive, not_back}
 use Rattle.btree_index.proofs.PairLemmas.{ascends_all}
@@ -49,10 +49,10 @@ fence_split low cells front m x others h = record {
   next = up_to_split low front m x others h.next;
 }
   where
-    go : (cells : List (List ℕ)) → AllByRecursion (λ c. IsUnder (key_of c) (front ++ (m ∷ others))) cells
-        → AllByRecursion (λ c. IsUnder (key_of c) (front ++ (m ∷ (x ∷ others)))) cells
+    go : (cells : List (List ℕ)) → AllByRecursion (λ c. IsUnder (key_of_cell c) (front ++ (m ∷ others))) cells
+        → AllByRecursion (λ c. IsUnder (key_of_cell c) (front ++ (m ∷ (x ∷ others)))) cells
     go [] h = tt
-    go (c ∷ cs) h = (under_split (key_of c) front m x others h.0, go cs h.1)
+    go (c ∷ cs) h = (under_split (key_of_cell c) front m x others h.0, go cs h.1)
 
 pub fenced_split : (old new : ℕ → Image) (front : List Entry) (m x : Entry) (others : List Entry) → SameOn old new (map page_of front)
     → SameOn old new (map page_of others) → AreFenced old (front ++ (m ∷ others)) → IsFenced m.low (new m.page).cells (x ∷ others)
@@ -83,40 +83,40 @@ all_append P [] ys h = (tt, h)
 all_append P (x ∷ xs) ys h = let more = all_append P xs ys h.1 in ((h.0, more.0), more.1)
 
 ascends_append : (c : List ℕ) (xs : List (List ℕ)) (d : List ℕ) (ys : List (List ℕ)) → Ascends (c ∷ (xs ++ (d ∷ ys)))
-    → Ascends (c ∷ xs) × Ascends (d ∷ ys) × AllByRecursion (λ x. before (key_of x) (key_of d) ≡ true) (c ∷ xs)
+    → Ascends (c ∷ xs) × Ascends (d ∷ ys) × AllByRecursion (λ x. before (key_of_cell x) (key_of_cell d) ≡ true) (c ∷ xs)
 ascends_append c [] d ys h = (tt, h.1, (h.0, tt))
 ascends_append c (x ∷ xs) d ys h =
     let more = ascends_append x xs d ys h.1 in
-    ((h.0, more.0), more.1, (before_before (key_of c) (key_of x) (key_of d) h.0 more.2.0, more.2))
+    ((h.0, more.0), more.1, (before_before (key_of_cell c) (key_of_cell x) (key_of_cell d) h.0 more.2.0, more.2))
 
 pub fence_halves : (low separator : Key) (start : List ℕ) (left : List (List ℕ)) (middle : List ℕ) (right : List (List ℕ)) (fresh : ℕ) (others : List Entry)
-    → separator ≡ key_of middle → IsFenced low ((start ∷ left) ++ (middle ∷ right)) others
+    → separator ≡ key_of_cell middle → IsFenced low ((start ∷ left) ++ (middle ∷ right)) others
     → IsFenced low (start ∷ left) (record { low = separator; page = fresh } ∷ others) × IsFenced separator (middle ∷ right) others
 fence_halves low separator start left middle right fresh others is h =
-    let from = all_append (λ c. before (key_of c) low ≡ false) (start ∷ left) (middle ∷ right) h.from in
-    let to = all_append (λ c. IsUnder (key_of c) others) (start ∷ left) (middle ∷ right) h.to in
+    let from = all_append (λ c. before (key_of_cell c) low ≡ false) (start ∷ left) (middle ∷ right) h.from in
+    let to = all_append (λ c. IsUnder (key_of_cell c) others) (start ∷ left) (middle ∷ right) h.to in
     let up = ascends_append start left middle right h.ascends in
-    let under : AllByRecursion (λ x. before (key_of x) separator ≡ true) (start ∷ left) =
-    subst (λ (k : Key). AllByRecursion (λ x. before (key_of x) k ≡ true) (start ∷ left)) (sym is) up.2 in
+    let under : AllByRecursion (λ x. before (key_of_cell x) separator ≡ true) (start ∷ left) =
+    subst (λ (k : Key). AllByRecursion (λ x. before (key_of_cell x) k ≡ true) (start ∷ left)) (sym is) up.2 in
     let P : Key → Type 0 = λ k. IsFenced k (middle ∷ right) others in (
       record {
         from = from.0;
         to = under;
         ascends = up.0;
-        next = not_back low separator (atmost_before low (key_of start) separator from.0.0 under.0);
+        next = not_back low separator (atmost_before low (key_of_cell start) separator from.0.0 under.0);
       },
       subst P (sym is) (record {
-        from = (irreflexive (key_of middle), at_least right (ascends_all middle right up.1));
+        from = (irreflexive (key_of_cell middle), at_least right (ascends_all middle right up.1));
         to = to.1;
         ascends = up.1;
-        next = under_up_to (key_of middle) others to.1.0;
+        next = under_up_to (key_of_cell middle) others to.1.0;
       }),
     )
   where
-    at_least : (cells : List (List ℕ)) → AllByRecursion (λ d. before (key_of middle) (key_of d) ≡ true) cells
-        → AllByRecursion (λ c. before (key_of c) (key_of middle) ≡ false) cells
+    at_least : (cells : List (List ℕ)) → AllByRecursion (λ d. before (key_of_cell middle) (key_of_cell d) ≡ true) cells
+        → AllByRecursion (λ c. before (key_of_cell c) (key_of_cell middle) ≡ false) cells
     at_least [] k = tt
-    at_least (c ∷ cs) k = (not_back (key_of middle) (key_of c) k.0, at_least cs k.1)
+    at_least (c ∷ cs) k = (not_back (key_of_cell middle) (key_of_cell c) k.0, at_least cs k.1)
 
 -- the entries below the two halves of a page above the leaves
 pub entries-append : (xs ys : List (List ℕ)) → map entry_of (xs ++ ys) ≡ map entry_of xs ++ map entry_of ys
@@ -124,12 +124,12 @@ entries-append [] ys = refl
 entries-append (x ∷ xs) ys = ap (λ (l : List Entry). entry_of x ∷ l) (entries-append xs ys)
 
 pub below_halves : (low separator : Key) (start : List ℕ) (left : List (List ℕ)) (middle first : List ℕ) (right : List (List ℕ))
-    → separator ≡ key_of middle → child_of first ≡ child_of middle
+    → separator ≡ key_of_cell middle → child_of first ≡ child_of middle
     → below low (start ∷ left) ++ below separator (first ∷ right) ≡ below low ((start ∷ left) ++ (middle ∷ right))
 below_halves low separator start left middle first right is child =
     let one : Entry = record { low = low; page = child_of start } in
     ap (λ (k : Key). (one ∷ map entry_of left) ++ (record { low = k; page = child_of first } ∷ map entry_of right)) is
-    ∙ ap (λ (n : ℕ). (one ∷ map entry_of left) ++ (record { low = key_of middle; page = n } ∷ map entry_of right)) child
+    ∙ ap (λ (n : ℕ). (one ∷ map entry_of left) ++ (record { low = key_of_cell middle; page = n } ∷ map entry_of right)) child
     ∙ ap (λ (l : List Entry). one ∷ l) (sym (entries-append left (middle ∷ right)))
 
 pub spread-append : (pages : ℕ → Image) (xs ys : List Entry) → spread pages (xs ++ ys) ≡ spread pages xs ++ spread pages ys

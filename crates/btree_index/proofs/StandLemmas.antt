@@ -15,10 +15,10 @@ use Rattle.page_workspace.proofs.ChainLaws.{chain_same, kept_same}
 use Rattle.page_workspace.proofs.DraftLaws.{edited_here, edited_other}
 use Rattle.page_workspace.specs.Spare.{IsIn, IsChain, IsMeta, next_genid, count_of, first_free, first_cell}
 use Rattle.btree_index.specs.Keys.{Key, same_key}
-use Rattle.btree_index.specs.Cells.{key_of, value_of, leaf_cell, IsLeafCell}
+use Rattle.btree_index.specs.Cells.{key_of_cell, value_of_cell, leaf_cell, IsLeafCell}
 use Rattle.btree_index.specs.Pairs.{value_at, cell_value, with_pair, place_in, without_key, HasKeyAt}
-use Rattle.btree_index.specs.Trees.{Entry, cells_of, pages_of, IsFenced, AreFenced, Holds, top, pair_of}
-use Rattle.btree_index.specs.Changes.{Stands, Changes, LosesNone, Becomes, Leads}
+use Rattle.btree_index.specs.Trees.{Entry, cells_of, tree_pages, IsFenced, AreFenced, Holds, top, pair_of}
+use Rattle.btree_index.specs.Changes.{TreeStands, Changes, LosesNone, Becomes, Leads}
 use Rattle.btree_index.proofs.LeafLaws.{ChangesCells, Replaces, replaces, cells-append, fenced_at}
 use Rattle.btree_index.proofs.CellLemmas.{key_of-cell, value_of-cell, leaf_cell_is}
 use Rattle.btree_index.proofs.PairLemmas.{with_pair-cells, fenced_insert, all_insert, front_before, behind_after, without-cells, without-absent, fenced_remove, all_remove}
@@ -44,11 +44,11 @@ pub record IsFresh (first old : ℕ → Image) (free spare : List ℕ) (n : ℕ)
 
 -- a change of the tree's pages and of fresh ones alone
 pub becomes : (first old new : ℕ → Image) (Fresh : ℕ → Type 0) (root : ℕ) (own free spare : List ℕ) (list after : List (Key × List ℕ))
-    → Stands old root own spare list → Changes first old own own free spare → ((n : ℕ) → Fresh n → IsFresh first old free spare n)
+    → TreeStands old root own spare list → Changes first old own own free spare → ((n : ℕ) → Fresh n → IsFresh first old free spare n)
     → ((n : ℕ) → IsIn n free → Fresh n ⊎ IsIn n spare)
     → (height : ℕ) (cells : List (List ℕ)) → Holds new height (top root) cells
-    → ((n : ℕ) → IsIn n (pages_of new height (top root)) → IsIn n own ⊎ Fresh n)
-    → ((n : ℕ) → IsIn n own → IsIn n (pages_of new height (top root))) → ((n : ℕ) → Fresh n → IsIn n (pages_of new height (top root)))
+    → ((n : ℕ) → IsIn n (tree_pages new height (top root)) → IsIn n own ⊎ Fresh n)
+    → ((n : ℕ) → IsIn n own → IsIn n (tree_pages new height (top root))) → ((n : ℕ) → Fresh n → IsIn n (tree_pages new height (top root)))
     → ((n : ℕ) → count_of first ≤ n → n < count_of old → Fresh n)
     → ((n : ℕ) → (IsIn n own → ⊥) → (Fresh n → ⊥) → new n ≡ old n) → map pair_of cells ≡ after
     → Becomes first new root own free after
@@ -59,7 +59,7 @@ becomes first old new Fresh root own free spare list after stands changes fresh 
     let free_is : first_free new ≡ first_free old = ap (λ (i : Image). big_number 8 (drop 16 (first_cell i.cells))) zeroth in
     let earlier : count_of first ≤ count_of old = changes.count in
     record {
-      more = pages_of new height (top root);
+      more = tree_pages new height (top root);
       spare = spare;
       stands = record {
         height = height;
@@ -109,7 +109,7 @@ becomes first old new Fresh root own free spare list after stands changes fresh 
     never n h off_free (inl i) = off_free i
     never n h off_free (inr p) = off n p h
 
-    stay : (n : ℕ) → Fresh n ⊎ IsIn n spare → IsIn n (pages_of new height (top root)) ⊎ IsIn n spare
+    stay : (n : ℕ) → Fresh n ⊎ IsIn n spare → IsIn n (tree_pages new height (top root)) ⊎ IsIn n spare
     stay n (inl f) = inl (has n f)
     stay n (inr i) = inr i
 
@@ -127,7 +127,7 @@ becomes first old new Fresh root own free spare list after stands changes fresh 
 
 -- a leaf with other cells
 pub leaf_becomes : (old new : ℕ → Image) (root : ℕ) (key : Key) (page : ℕ) (own free : List ℕ) (list after : List (Key × List ℕ)) (cells : List (List ℕ))
-    → (stands : Stands old root own free list) → ChangesCells old new page cells
+    → (stands : TreeStands old root own free list) → ChangesCells old new page cells
     → (r : Replaces old new root key page stands.height stands.cells cells) → HasRoom cells → AllByRecursion IsLeafCell cells → IsFenced r.low cells r.others
     → map pair_of (cells_of old r.front ++ (cells ++ cells_of old r.others)) ≡ after → Becomes old new root own free after
 leaf_becomes old new root key page own free list after cells stands changes r room each fence pairs =
@@ -145,22 +145,22 @@ leaf_has old new root key page height all cells r =
     ap (cell_value key) (r.is ∙ sym (cells-append old r.front (record { low = r.low; page = page } ∷ r.others)))
     ∙ here_from old key r.low page r.front r.others r.fenced r.from r.to
 
-value_some : (key : Key) (cells : List (List ℕ)) (at : ℕ) (found : List ℕ) → slice_get cells at ≡ Some found → same_key key (key_of found) ≡ true
+value_some : (key : Key) (cells : List (List ℕ)) (at : ℕ) (found : List ℕ) → slice_get cells at ≡ Some found → same_key key (key_of_cell found) ≡ true
     → is_some (cell_value key cells) ≡ true
 value_some key [] at found h same = absurd (none-some found h)
 value_some key (c ∷ cs) zero found h same =
-    let here : same_key key (key_of c) ≡ true = ap (λ (x : List ℕ). same_key key (key_of x)) (same_Some c found h) ∙ same in
-    ap (λ (t : Bool). is_some (if t then Some (value_of c) else cell_value key cs)) here
-value_some key (c ∷ cs) (suc at) found h same = go (same_key key (key_of c)) (value_some key cs at found h same)
+    let here : same_key key (key_of_cell c) ≡ true = ap (λ (x : List ℕ). same_key key (key_of_cell x)) (same_Some c found h) ∙ same in
+    ap (λ (t : Bool). is_some (if t then Some (value_of_cell c) else cell_value key cs)) here
+value_some key (c ∷ cs) (suc at) found h same = go (same_key key (key_of_cell c)) (value_some key cs at found h same)
   where
-    go : (t : Bool) → is_some (cell_value key cs) ≡ true → is_some (if t then Some (value_of c) else cell_value key cs) ≡ true
+    go : (t : Bool) → is_some (cell_value key cs) ≡ true → is_some (if t then Some (value_of_cell c) else cell_value key cs) ≡ true
     go true k = refl
     go false k = k
 
 -- the cell of the key is taken out of its leaf
 pub removes : (old new : ℕ → Image) (root : ℕ) (key : Key) (page at : ℕ) → Leads old root key page → (old page).head.kind ≡ Leaf
     → HasKeyAt key (old page).cells at → ChangesCells old new page (remove (old page).cells at) → HasRoom (remove (old page).cells at)
-    → (own free : List ℕ) (list : List (Key × List ℕ)) → Stands old root own free list
+    → (own free : List ℕ) (list : List (Key × List ℕ)) → TreeStands old root own free list
     → (true ≡ is_some (value_at key list)) × Becomes old new root own free (without_key key list)
 removes old new root key page at leads leaf has changes room own free list stands =
     let cells = remove (old page).cells at in
@@ -188,7 +188,7 @@ removes old new root key page at leads leaf has changes room own free list stand
 
 -- where no cell has the key, nothing is to be taken
 pub removes_none : (old new : ℕ → Image) (root : ℕ) (key : Key) (page : ℕ) → new ≡ old → Leads old root key page → (old page).head.kind ≡ Leaf
-    → cell_value key (old page).cells ≡ None → (own free : List ℕ) (list : List (Key × List ℕ)) → Stands old root own free list
+    → cell_value key (old page).cells ≡ None → (own free : List ℕ) (list : List (Key × List ℕ)) → TreeStands old root own free list
     → (false ≡ is_some (value_at key list)) × Becomes old new root own free (without_key key list)
 removes_none old new root key page same leads leaf none own free list stands =
     let cells = (old page).cells in
@@ -225,7 +225,7 @@ puts_cell old new id at cell is =
     }
 
 -- a tree as it is
-pub becomes_none : (pages : ℕ → Image) (root : ℕ) (own free : List ℕ) (list : List (Key × List ℕ)) → Stands pages root own free list
+pub becomes_none : (pages : ℕ → Image) (root : ℕ) (own free : List ℕ) (list : List (Key × List ℕ)) → TreeStands pages root own free list
     → Becomes pages pages root own free list
 becomes_none pages root own free list stands =
     becomes pages pages pages (λ _. ⊥) root own free free list list stands (changes_none pages own free) (λ n f. absurd f) (λ n i. inr i) stands.height stands.cells stands.holds
@@ -294,7 +294,7 @@ becomes_after a b c root own free one two first second = record {
 
 -- what the leaf of the way has of a key is what the list has
 pub value_there : (old : ℕ → Image) (root : ℕ) (key : Key) (page : ℕ) → Leads old root key page → (old page).head.kind ≡ Leaf
-    → (own free : List ℕ) (list : List (Key × List ℕ)) → Stands old root own free list → value_at key list ≡ cell_value key (old page).cells
+    → (own free : List ℕ) (list : List (Key × List ℕ)) → TreeStands old root own free list → value_at key list ≡ cell_value key (old page).cells
 value_there old root key page leads leaf own free list stands =
     let cells = (old page).cells in
     let r : Replaces old old root key page stands.height stands.cells cells =
@@ -304,7 +304,7 @@ value_there old root key page leads leaf own free list stands =
 
 -- where the leaf has the key, so has the list
 pub found_there : (old : ℕ → Image) (root : ℕ) (key : Key) (page at : ℕ) → Leads old root key page → (old page).head.kind ≡ Leaf
-    → HasKeyAt key (old page).cells at → (own free : List ℕ) (list : List (Key × List ℕ)) → Stands old root own free list
+    → HasKeyAt key (old page).cells at → (own free : List ℕ) (list : List (Key × List ℕ)) → TreeStands old root own free list
     → is_some (value_at key list) ≡ true
 found_there old root key page at leads leaf has own free list stands =
     ap is_some (value_there old root key page leads leaf own free list stands) ∙ value_some key (old page).cells at has.found has.here has.same
@@ -314,15 +314,15 @@ pub puts : (old new : ℕ → Image) (root : ℕ) (key : Key) (value : List ℕ)
     → cell_value key (old page).cells ≡ None → length key ≤ 1630 → 2 + length key + length value ≤ 1640
     → ChangesCells old new page (insert (old page).cells (place_in key (old page).cells) (leaf_cell key value))
     → HasRoom (insert (old page).cells (place_in key (old page).cells) (leaf_cell key value))
-    → (own free : List ℕ) (list : List (Key × List ℕ)) → Stands old root own free list
+    → (own free : List ℕ) (list : List (Key × List ℕ)) → TreeStands old root own free list
     → (value_at key list ≡ None) × Becomes old new root own free (with_pair key value list)
 puts old new root key value page leads leaf none short small changes room own free list stands =
     let cell = leaf_cell key value in
     let cells = insert (old page).cells (place_in key (old page).cells) cell in
     let fits : length key < 2 ^ 16 = omega arith in
-    let key_is : key_of cell ≡ key = key_of-cell key value fits in
-    let value_is : value_of cell ≡ value = value_of-cell key value fits in
-    let pair_is : pair_of cell ≡ (key, value) = ap (λ (k : List ℕ). (k, value_of cell)) key_is ∙ ap (λ (v : List ℕ). (key, v)) value_is in
+    let key_is : key_of_cell cell ≡ key = key_of-cell key value fits in
+    let value_is : value_of_cell cell ≡ value = value_of-cell key value fits in
+    let pair_is : pair_of cell ≡ (key, value) = ap (λ (k : List ℕ). (k, value_of_cell cell)) key_is ∙ ap (λ (v : List ℕ). (key, v)) value_is in
     let r : Replaces old new root key page stands.height stands.cells cells =
     replaces old new root key page stands.height stands.cells cells stands.holds (leads stands.height stands.cells stands.holds) leaf changes in
     let e : Entry = record { low = r.low; page = page } in

@@ -5,9 +5,9 @@ use Rattle.page_store.specs.Image.{Image}
 use Rattle.page_store.specs.declared.pages.PageKind.TheVariants.{Leaf, Inner}
 use Rattle.page_workspace.specs.Spare.{IsIn}
 use Rattle.btree_index.specs.Keys.{Key, before, same_key}
-use Rattle.btree_index.specs.Cells.{key_of, value_of, child_of}
+use Rattle.btree_index.specs.Cells.{key_of_cell, value_of_cell, child_of}
 use Rattle.btree_index.specs.Pairs.{value_at, cell_value, turn, child_from, choice}
-use Rattle.btree_index.specs.Trees.{AreLinked, page_of, pages_of, Entry, entry_of, below, spread, leaves, cells_of, IsShaped, IsLeafPage, IsInnerPage, BeginsEmpty, IsUnder, IsUpTo, AreFenced, top, pair_of, TreeList}
+use Rattle.btree_index.specs.Trees.{AreLinked, page_of, tree_pages, Entry, entry_of, below, spread, leaves, cells_of, IsShaped, IsLeafPage, IsInnerPage, BeginsEmpty, IsUnder, IsUpTo, AreFenced, top, pair_of, TreeList}
 use Rattle.btree_index.specs.Ways.{IsAt, OnWay}
 use Rattle.btree_index.proofs.ApartLaws.{in_right}
 use Rattle.btree_index.proofs.ChoiceLemmas.{IsTurn, is_turn, turn_later}
@@ -35,7 +35,7 @@ child_at (c ∷ cs) key low child others zero turn from to =
     record { front = []; low = low; others = map entry_of (c ∷ cs) ++ others; is = refl; from = from refl; to = turn.to c refl }
 child_at (c ∷ cs) key low child others (suc at) turn from to =
     at_more (record { low = low; page = child } ∷ []) (map entry_of (c ∷ cs) ++ others) key (child_from (child_of c) cs at)
-    (child_at cs key (key_of c) (child_of c) others at (turn_later key c cs at turn) (λ z. turn.from 0 c (ap (λ (n : ℕ). suc n) (sym z)) refl) to)
+    (child_at cs key (key_of_cell c) (child_of c) others at (turn_later key c cs at turn) (λ z. turn.from 0 c (ap (λ (n : ℕ). suc n) (sym z)) refl) to)
 
 choice_at : (cells : List (List ℕ)) (key low : Key) (others : List Entry) → BeginsEmpty cells → before key low ≡ false
     → IsUnder key others → IsAt (below low cells ++ others) key (choice key cells)
@@ -72,25 +72,25 @@ descend pages h level key page shaped at =
     subst Q (sym at.is) (descend_from pages h key at.front at.low page at.others (subst P at.is shaped) at.from at.to)
 
 -- cells none of which has the key
-no_cell : (key : Key) (cells : List (List ℕ)) → AllByRecursion (λ c. same_key key (key_of c) ≡ false) cells → cell_value key cells ≡ None
+no_cell : (key : Key) (cells : List (List ℕ)) → AllByRecursion (λ c. same_key key (key_of_cell c) ≡ false) cells → cell_value key cells ≡ None
 no_cell key [] h = refl
 no_cell key (c ∷ cs) h = let e = h.0 in rw e (no_cell key cs h.1)
 
 value-append : (key : Key) (xs ys : List (List ℕ)) → cell_value key ys ≡ None → cell_value key (xs ++ ys) ≡ cell_value key xs
 value-append key [] ys h = h
 value-append key (x ∷ xs) ys h =
-    ap (λ (o : Option (List ℕ)). if same_key key (key_of x) then Some (value_of x) else o) (value-append key xs ys h)
+    ap (λ (o : Option (List ℕ)). if same_key key (key_of_cell x) then Some (value_of_cell x) else o) (value-append key xs ys h)
 
-value-append_none : (key : Key) (xs ys : List (List ℕ)) → cell_value key xs ≡ None → AllByRecursion (λ c. same_key key (key_of c) ≡ false) xs
+value-append_none : (key : Key) (xs ys : List (List ℕ)) → cell_value key xs ≡ None → AllByRecursion (λ c. same_key key (key_of_cell c) ≡ false) xs
     → cell_value key (xs ++ ys) ≡ cell_value key ys
 value-append_none key [] ys h none = refl
 value-append_none key (x ∷ xs) ys h none = let e = none.0 in rw e (value-append_none key xs ys (no_cell key xs none.1) none.1)
 
 -- cells from a least key that is above the key
-pub above : (key low : Key) (cells : List (List ℕ)) → before key low ≡ true → AllByRecursion (λ c. before (key_of c) low ≡ false) cells
-    → AllByRecursion (λ c. same_key key (key_of c) ≡ false) cells
+pub above : (key low : Key) (cells : List (List ℕ)) → before key low ≡ true → AllByRecursion (λ c. before (key_of_cell c) low ≡ false) cells
+    → AllByRecursion (λ c. same_key key (key_of_cell c) ≡ false) cells
 above key low [] h from = tt
-above key low (c ∷ cs) h from = (not_same_before key (key_of c) (before_atmost key low (key_of c) h from.0), above key low cs h from.1)
+above key low (c ∷ cs) h from = (not_same_before key (key_of_cell c) (before_atmost key low (key_of_cell c) h from.0), above key low cs h from.1)
 
 -- no leaf behind the key has it
 pub none_behind : (pages : ℕ → Image) (key : Key) (level : List Entry) → AreFenced pages level → IsUnder key level
@@ -122,12 +122,12 @@ begins_below pages key low page (f ∷ fs) others fenced from =
     step (g ∷ gs) up begins = atmost_atmost f.low g.low key up begins
 
 -- cells under a level that begins at most at the key
-pub under_all : (key : Key) (cells : List (List ℕ)) (level : List Entry) → AllByRecursion (λ c. IsUnder (key_of c) level) cells
-    → BeginsBelow key level → AllByRecursion (λ c. same_key key (key_of c) ≡ false) cells
+pub under_all : (key : Key) (cells : List (List ℕ)) (level : List Entry) → AllByRecursion (λ c. IsUnder (key_of_cell c) level) cells
+    → BeginsBelow key level → AllByRecursion (λ c. same_key key (key_of_cell c) ≡ false) cells
 under_all key [] level to begins = tt
 under_all key (c ∷ cs) [] to begins = absurd begins
 under_all key (c ∷ cs) (e ∷ es) to begins =
-    (not_same_behind key (key_of c) (before_atmost (key_of c) e.low key to.0 begins), under_all key cs (e ∷ es) to.1 begins)
+    (not_same_behind key (key_of_cell c) (before_atmost (key_of_cell c) e.low key to.0 begins), under_all key cs (e ∷ es) to.1 begins)
 
 -- the leaf that was found has the key's value, if there is one
 pub here_from : (pages : ℕ → Image) (key low : Key) (page : ℕ) (front others : List Entry)
@@ -151,18 +151,18 @@ here pages level key page fenced at =
 -- the value in cells is that in their pairs
 pub value-pairs : (key : Key) (cells : List (List ℕ)) → value_at key (map pair_of cells) ≡ cell_value key cells
 value-pairs key [] = refl
-value-pairs key (c ∷ cs) = ap (λ (o : Option (List ℕ)). if same_key key (key_of c) then Some (value_of c) else o) (value-pairs key cs)
+value-pairs key (c ∷ cs) = ap (λ (o : Option (List ℕ)). if same_key key (key_of_cell c) then Some (value_of_cell c) else o) (value-pairs key cs)
 
 all_off : (level : List Entry) → (IsIn 0 (map page_of level) → ⊥) → AllByRecursion (λ e. e.page ≡ 0 → ⊥) level
 all_off [] off = tt
 all_off (e ∷ es) off = (λ h. off (inl (sym h)), all_off es (λ i. off (inr i)))
 
 -- no leaf is page 0
-past_leaves : (pages : ℕ → Image) (height : ℕ) (level : List Entry) → (IsIn 0 (pages_of pages height level) → ⊥)
+past_leaves : (pages : ℕ → Image) (height : ℕ) (level : List Entry) → (IsIn 0 (tree_pages pages height level) → ⊥)
     → AllByRecursion (λ e. e.page ≡ 0 → ⊥) (leaves pages height level)
 past_leaves pages zero level off = all_off level off
 past_leaves pages (suc h) level off =
-    past_leaves pages h (spread pages level) (λ i. off (in_right 0 (map page_of level) (pages_of pages h (spread pages level)) i))
+    past_leaves pages h (spread pages level) (λ i. off (in_right 0 (map page_of level) (tree_pages pages h (spread pages level)) i))
 
 pub way_begins : (pages : ℕ → Image) (key : Key) (root : ℕ) (list : List (Key × List ℕ)) → TreeList pages root list → OnWay pages key root list
 way_begins pages key root list tree = record {

@@ -8,16 +8,16 @@ use Rattle.btree_index.specs.Keys.{Key}
 abbrev pub key_size : List ℕ → ℕ
 key_size cell = big_number 2 cell
 
-abbrev pub key_of : List ℕ → Key
-key_of cell = take (key_size cell) (drop 2 cell)
+abbrev pub key_of_cell : List ℕ → Key
+key_of_cell cell = take (key_size cell) (drop 2 cell)
 
 -- what a cell has for its key
-abbrev pub value_of : List ℕ → List ℕ
-value_of cell = drop (2 + key_size cell) cell
+abbrev pub value_of_cell : List ℕ → List ℕ
+value_of_cell cell = drop (2 + key_size cell) cell
 
 -- the page below a cell above the leaves
 abbrev pub child_of : List ℕ → ℕ
-child_of cell = big_number 8 (value_of cell)
+child_of cell = big_number 8 (value_of_cell cell)
 
 -- the cell of a key with its value, and with its child
 abbrev pub leaf_cell : Key → List ℕ → List ℕ

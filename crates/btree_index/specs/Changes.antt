@@ -5,7 +5,7 @@ use Rattle.page_store.specs.Sources.{Rose}
 use Rattle.page_store.specs.declared.pages.PageKind.TheVariants.{Leaf, Inner}
 use Rattle.page_workspace.specs.Spare.{IsIn, AreFree, next_genid, count_of}
 use Rattle.btree_index.specs.Keys.{Key}
-use Rattle.btree_index.specs.Trees.{Holds, top, pages_of, leaves, pair_of}
+use Rattle.btree_index.specs.Trees.{Holds, top, tree_pages, leaves, pair_of}
 use Rattle.btree_index.specs.Ways.{IsAt}
 use Rattle.btree_index.specs.Pairs.{HasKeyAt, choice, value_at, with_pair}
 use Rattle.btree_index.specs.Fits.{HasSpare, IsFullUntil}
@@ -17,11 +17,11 @@ use Rattle.btree_index.specs.declared.inserts.Pass.TheVariants.{Done, Again}
 
 -- the tree of this list stands below the root, on its own pages; these, the meta page and the free pages are apart and
 -- below the number of pages, and the pages from there on are blank
-pub record Stands (pages : ℕ → Image) (root : ℕ) (own free : List ℕ) (list : List (Key × List ℕ)) : Type 0 where
+pub record TreeStands (pages : ℕ → Image) (root : ℕ) (own free : List ℕ) (list : List (Key × List ℕ)) : Type 0 where
   pub height : ℕ
   pub cells : List (List ℕ)
   pub holds : Holds pages height (top root) cells
-  pub own_is : pages_of pages height (top root) ≡ own
+  pub own_is : tree_pages pages height (top root) ≡ own
   pub pairs : map pair_of cells ≡ list
   pub spare : AreFree pages free
   pub off_meta : IsIn 0 own → ⊥
@@ -50,7 +50,7 @@ pub record LosesNone (old new : ℕ → Image) (own more free spare : List ℕ) 
 pub record Becomes (old new : ℕ → Image) (root : ℕ) (own free : List ℕ) (list : List (Key × List ℕ)) : Type 0 where
   pub more : List ℕ
   pub spare : List ℕ
-  pub stands : Stands new root more spare list
+  pub stands : TreeStands new root more spare list
   pub changes : Changes old new own more free spare
   pub lost : LosesNone old new own more free spare
 

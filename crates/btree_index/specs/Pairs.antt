@@ -2,7 +2,7 @@
 use Rattle.std.specs.Prelude.{ℕ, zero, suc, ◌+◌, ◌-◌, ◌/◌, nat_lt, length, Bool, List, [], ◌∷◌, ◌⊎◌, not, true, false, ◌≡◌, ◌&&◌, if◌then◌else◌, Option, Some, None}
 use Rattle.std.specs.List.{filter, slice_get}
 use Rattle.btree_index.specs.Keys.{Key, before, same_key}
-use Rattle.btree_index.specs.Cells.{key_of, value_of, child_of}
+use Rattle.btree_index.specs.Cells.{key_of_cell, value_of_cell, child_of}
 
 -- the value of a key
 abbrev pub value_at : Key → List (Key × List ℕ) → Option (List ℕ)
@@ -25,24 +25,25 @@ is_below None key = true
 is_below (Some high) key = before key high
 
 -- a key is not before the low one, and below the high one
-abbrev pub is_between : Key → Option Key → Key → Bool
-is_between low high key = not (before key low) && is_below high key
+abbrev pub is_key_between : Key → Option Key → Key → Bool
+is_key_between low high key = not (before key low) && is_below high key
 
 -- the pairs whose keys are between
 abbrev pub between : Key → Option Key → List (Key × List ℕ) → List (Key × List ℕ)
 between low high [] = []
 between low high (pair ∷ pairs) =
-    if is_between low high pair.0 then pair ∷ between low high pairs else between low high pairs
+    if is_key_between low high pair.0 then pair ∷ between low high pairs else between low high pairs
 
 -- the value of a key in the cells of a leaf
 abbrev pub cell_value : Key → List (List ℕ) → Option (List ℕ)
 cell_value key [] = None
-cell_value key (cell ∷ cells) = if same_key key (key_of cell) then Some (value_of cell) else cell_value key cells
+cell_value key (cell ∷ cells) = if same_key key (key_of_cell cell) then Some (value_of_cell cell)
+    else cell_value key cells
 
 -- a cell that is there is above the key
 abbrev pub is_above : Key → Option (List ℕ) → Bool
 is_above key None = false
-is_above key (Some cell) = before key (key_of cell)
+is_above key (Some cell) = before key (key_of_cell cell)
 
 -- the place in the middle between two
 abbrev pub middle : ℕ → ℕ → ℕ
@@ -77,15 +78,15 @@ choice key (cell ∷ cells) = child_from (child_of cell) cells (turn key cells)
 -- some cell has a key that is not below the high one
 abbrev pub HasBeyond : Option Key → List (List ℕ) → Type 0
 HasBeyond high [] = ⊥
-HasBeyond high (cell ∷ cells) = (is_below high (key_of cell) ≡ false) ⊎ HasBeyond high cells
+HasBeyond high (cell ∷ cells) = (is_below high (key_of_cell cell) ≡ false) ⊎ HasBeyond high cells
 
 -- how many cells of a leaf come before a key
 abbrev pub place_in : Key → List (List ℕ) → ℕ
 place_in key [] = zero
-place_in key (cell ∷ cells) = if before (key_of cell) key then suc (place_in key cells) else zero
+place_in key (cell ∷ cells) = if before (key_of_cell cell) key then suc (place_in key cells) else zero
 
 -- the cell at a place has the key
 pub record HasKeyAt (key : Key) (cells : List (List ℕ)) (at : ℕ) : Type 0 where
   pub found : List ℕ
   pub here : slice_get cells at ≡ Some found
-  pub same : same_key key (key_of found) ≡ true
+  pub same : same_key key (key_of_cell found) ≡ true

@@ -16,8 +16,8 @@ use Rattle.page_store.specs.declared.pages.PageKind.TheVariants.{Leaf, Inner}
 use Rattle.page_workspace.specs.Spare.{IsIn, AreApart, IsFreePage, first_cell, count_of, next_genid}
 use Rattle.btree_index.specs.Keys.{Key}
 use Rattle.btree_index.specs.Cells.{child_of, inner_cell, IsInnerCell}
-use Rattle.btree_index.specs.Trees.{Entry, leaves, pages_of, Holds}
-use Rattle.btree_index.specs.Changes.{Stands, Becomes}
+use Rattle.btree_index.specs.Trees.{Entry, leaves, tree_pages, Holds}
+use Rattle.btree_index.specs.Changes.{TreeStands, Becomes}
 use Rattle.btree_index.specs.Filled.{KeepsFilled}
 use Rattle.btree_index.specs.Fits.{CanLose}
 use Rattle.btree_index.specs.Pairs.{HasKeyAt, choice}
@@ -72,11 +72,11 @@ pub record Relinks (old new : ℕ → Image) (pages : List ℕ) (left : Option �
 -- a level that holds the same cells after these pages left the tree; the leaf before them is still there
 pub record Shrunk (old new : ℕ → Image) (height : ℕ) (before level : List Entry) (gone : List ℕ) (left : Option ℕ) (cells : List (List ℕ)) : Type 0 where
   pub holds : Holds new height level cells
-  pub from : (n : ℕ) → IsIn n (pages_of new height level) → IsIn n (pages_of old height before)
-  pub off : (n : ℕ) → IsIn n (pages_of new height level) → IsIn n gone → ⊥
-  pub keeps : (n : ℕ) → IsIn n (pages_of old height before) → IsIn n (pages_of new height level) ⊎ IsIn n gone
-  pub went : (n : ℕ) → IsIn n gone → IsIn n (pages_of old height before)
-  pub beside : (n : ℕ) → left ≡ Some n → IsIn n (pages_of new height level)
+  pub from : (n : ℕ) → IsIn n (tree_pages new height level) → IsIn n (tree_pages old height before)
+  pub off : (n : ℕ) → IsIn n (tree_pages new height level) → IsIn n gone → ⊥
+  pub keeps : (n : ℕ) → IsIn n (tree_pages old height before) → IsIn n (tree_pages new height level) ⊎ IsIn n gone
+  pub went : (n : ℕ) → IsIn n gone → IsIn n (tree_pages old height before)
+  pub beside : (n : ℕ) → left ≡ Some n → IsIn n (tree_pages new height level)
 
 -- a page lost a child and has others, and the leaf before it got the right link that the leaf below had
 pub record Unlinks (old new : ℕ → Image) (fork : Fork) : Type 0 where
@@ -99,7 +99,7 @@ pub record IsFork (pages : ℕ → Image) (height : ℕ) (level : List Entry) (c
   pub depth : ℕ
   pub lone : IsLone pages depth fork.child
   pub apart : AreApart (lone_pages pages depth fork.child)
-  pub inside : IsIn fork.page (pages_of pages height level)
+  pub inside : IsIn fork.page (tree_pages pages height level)
   pub off : IsIn fork.page (lone_pages pages depth fork.child) → ⊥
   pub able : CanUnlink pages fork
   pub out : (new : ℕ → Image) → Unlinks pages new fork → Shrunk pages new height level level (lone_pages pages depth fork.child) fork.left cells
@@ -150,7 +150,7 @@ pub record AreStray (pages : ℕ → Image) (own free ids : List ℕ) : Type 0 w
 
 -- beside a tree, the pages from one down to a leaf without cells, which are of no tree
 pub record AreLoose (pages : ℕ → Image) (id height root : ℕ) (own free : List ℕ) (list : List (Key × List ℕ)) : Type 0 where
-  pub stands : Stands pages root own free list
+  pub stands : TreeStands pages root own free list
   pub lone : IsLone pages height id
   pub stray : AreStray pages own free (lone_pages pages height id)
 
@@ -166,7 +166,7 @@ pub record CanFree (pages : ℕ → Image) (id turns : ℕ) : Type 0 where
 
 -- these pages were given back, in front of those that were free
 pub record FreesAll (old new : ℕ → Image) (root : ℕ) (own free : List ℕ) (list : List (Key × List ℕ)) (ids : List ℕ) : Type 0 where
-  pub stands : Stands new root own (ids ++ free) list
+  pub stands : TreeStands new root own (ids ++ free) list
   pub count : count_of new ≡ count_of old
   pub genid : next_genid new ≡ next_genid old
   pub others : (n : ℕ) → (n ≡ 0 → ⊥) → (IsIn n ids → ⊥) → new n ≡ old n

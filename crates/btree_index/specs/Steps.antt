@@ -10,7 +10,7 @@ use Rattle.btree_index.specs.declared.halves.Half.{Half}
 use Rattle.btree_index.specs.declared.finds.Below.{Below}
 use Rattle.page_workspace.specs.Takes.{TakesPage}
 use Rattle.btree_index.specs.Keys.{Key}
-use Rattle.btree_index.specs.Cells.{key_of, child_of, inner_cell}
+use Rattle.btree_index.specs.Cells.{key_of_cell, child_of, inner_cell}
 
 -- only this page changed, and has this head and these cells now
 pub record Alters (old new : ℕ → Image) (page : ℕ) (head : Head) (cells : List (List ℕ)) : Type 0 where
@@ -52,7 +52,7 @@ pub record IsHalf (image : Image) (half : Half) : Type 0 where
   pub middle : List ℕ
   pub some : 0 < half.at
   pub here : slice_get image.cells half.at ≡ Some middle
-  pub separator : half.separator ≡ key_of middle
+  pub separator : half.separator ≡ key_of_cell middle
   pub head : half.head ≡ image.head
   pub first : IsFirstFor image.head.kind middle half.first
 
@@ -71,7 +71,7 @@ pub record Halves (old new : ℕ → Image) (page fresh : ℕ) (separator : Key)
   pub first : List ℕ
   pub right : List (List ℕ)
   pub cells : (old page).cells ≡ (start ∷ left) ++ (middle ∷ right)
-  pub separator_is : separator ≡ key_of middle
+  pub separator_is : separator ≡ key_of_cell middle
   pub leaf : (old page).head.kind ≡ Leaf → first ≡ middle
   pub inner : (old page).head.kind ≡ Inner → first ≡ inner_cell [] (child_of middle)
   pub small : (old page).head.kind ≡ Inner → child_of middle < 2 ^ 64

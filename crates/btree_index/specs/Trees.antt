@@ -10,7 +10,7 @@ use Rattle.page_store.specs.Image.{Image, HasRoom}
 use Rattle.page_store.specs.declared.pages.PageKind.TheVariants.{Leaf, Inner}
 use Rattle.page_workspace.specs.Spare.{IsIn, AreApart}
 use Rattle.btree_index.specs.Keys.{Key, before}
-use Rattle.btree_index.specs.Cells.{key_of, value_of, child_of, IsLeafCell, IsInnerCell}
+use Rattle.btree_index.specs.Cells.{key_of_cell, value_of_cell, child_of, IsLeafCell, IsInnerCell}
 
 -- a page of a level, and the least key that may stand below it
 pub record Entry : Type 0 where
@@ -21,7 +21,7 @@ abbrev pub page_of : Entry → ℕ
 page_of entry = entry.page
 
 abbrev pub entry_of : List ℕ → Entry
-entry_of cell = record { low = key_of cell; page = child_of cell }
+entry_of cell = record { low = key_of_cell cell; page = child_of cell }
 
 -- the entries below a page of this least key with these cells
 abbrev pub below : Key → List (List ℕ) → List Entry
@@ -44,9 +44,9 @@ cells_of pages [] = []
 cells_of pages (e ∷ es) = (pages e.page).cells ++ cells_of pages es
 
 -- the numbers of all pages from a level down
-abbrev pub pages_of : (ℕ → Image) → ℕ → List Entry → List ℕ
-pages_of pages zero level = map page_of level
-pages_of pages (suc height) level = map page_of level ++ pages_of pages height (spread pages level)
+abbrev pub tree_pages : (ℕ → Image) → ℕ → List Entry → List ℕ
+tree_pages pages zero level = map page_of level
+tree_pages pages (suc height) level = map page_of level ++ tree_pages pages height (spread pages level)
 
 -- a leaf
 pub record IsLeafPage (image : Image) : Type 0 where
@@ -58,7 +58,7 @@ pub record IsLeafPage (image : Image) : Type 0 where
 -- the first cell of a page above the leaves is there, and its key is empty
 abbrev pub BeginsEmpty : List (List ℕ) → Type 0
 BeginsEmpty [] = ⊥
-BeginsEmpty (cell ∷ _) = key_of cell ≡ []
+BeginsEmpty (cell ∷ _) = key_of_cell cell ≡ []
 
 -- a page so far above the leaves; the page tells 255 for 255 and more
 pub record IsInnerPage (height : ℕ) (image : Image) : Type 0 where
@@ -83,7 +83,7 @@ IsUnder key (e ∷ _) = before key e.low ≡ true
 abbrev pub Ascends : List (List ℕ) → Type 0
 Ascends [] = Unit {0}
 Ascends (c ∷ []) = Unit {0}
-Ascends (c ∷ d ∷ cs) = (before (key_of c) (key_of d) ≡ true) × Ascends (d ∷ cs)
+Ascends (c ∷ d ∷ cs) = (before (key_of_cell c) (key_of_cell d) ≡ true) × Ascends (d ∷ cs)
 
 -- a key is not above the first of these entries
 abbrev pub IsUpTo : Key → List Entry → Type 0
@@ -93,8 +93,8 @@ IsUpTo key (e ∷ _) = before e.low key ≡ false
 -- the cells of a leaf stand in order between its least key and that of the next leaf. These least keys do not fall; where
 -- they are the same, there is no key between, so the leaf is empty.
 pub record IsFenced (low : Key) (cells : List (List ℕ)) (others : List Entry) : Type 0 where
-  pub from : AllByRecursion (λ c. before (key_of c) low ≡ false) cells
-  pub to : AllByRecursion (λ c. IsUnder (key_of c) others) cells
+  pub from : AllByRecursion (λ c. before (key_of_cell c) low ≡ false) cells
+  pub to : AllByRecursion (λ c. IsUnder (key_of_cell c) others) cells
   pub ascends : Ascends cells
   pub next : IsUpTo low others
 
@@ -113,7 +113,7 @@ pub record Holds (pages : ℕ → Image) (height : ℕ) (level : List Entry) (ce
   pub shaped : IsShaped pages height level
   pub fenced : AreFenced pages (leaves pages height level)
   pub linked : AreLinked pages (leaves pages height level)
-  pub apart : AreApart (pages_of pages height level)
+  pub apart : AreApart (tree_pages pages height level)
   pub is : cells_of pages (leaves pages height level) ≡ cells
 
 -- the root alone, below which every key may stand
@@ -122,12 +122,12 @@ top root = record { low = []; page = root } ∷ []
 
 -- a key and its value
 abbrev pub pair_of : List ℕ → Key × List ℕ
-pair_of cell = (key_of cell, value_of cell)
+pair_of cell = (key_of_cell cell, value_of_cell cell)
 
 -- the pages hold, below the root, the tree of this list of pairs; page 0 is none of its pages
 pub record TreeList (pages : ℕ → Image) (root : ℕ) (list : List (Key × List ℕ)) : Type 0 where
   pub height : ℕ
   pub cells : List (List ℕ)
   pub holds : Holds pages height (top root) cells
-  pub off_meta : IsIn 0 (pages_of pages height (top root)) → ⊥
+  pub off_meta : IsIn 0 (tree_pages pages height (top root)) → ⊥
   pub pairs : map pair_of cells ≡ list

@@ -1,5 +1,5 @@
 ghost use Rattle.std.specs.Prelude.{◌≡◌, ◌<◌, ◌^◌, MatchOption, IfOk, length};
-ghost use Rattle.btree_index.specs.Cells.{key_of, value_of, child_of, leaf_cell, inner_cell};
+ghost use Rattle.btree_index.specs.Cells.{key_of_cell, value_of_cell, child_of, leaf_cell, inner_cell};
 
 use byte_words::{put_u16, put_u64};
 use byteorder::{BigEndian, ByteOrder};
@@ -8,7 +8,7 @@ use std::alloc::{AllocError, Global};
 
 /// The key of a cell, as far as it is there: nothing of a cell that is too short to tell its key's length.
 pub fn key_in(cell: &[u8]) -> &[u8]
-    ensures { result.now ≡ key_of cell.now }
+    ensures { result.now ≡ key_of_cell cell.now }
 {
     if cell.len() < 2 {
         return &cell[..0];
@@ -24,7 +24,7 @@ pub fn key_in(cell: &[u8]) -> &[u8]
 
 /// What a cell has for its key, which is nothing in a cell that is too short.
 pub fn value_in(cell: &[u8]) -> &[u8]
-    ensures { result.now ≡ value_of cell.now }
+    ensures { result.now ≡ value_of_cell cell.now }
 {
     if cell.len() < 2 {
         return &cell[..0];
@@ -39,7 +39,7 @@ pub fn value_in(cell: &[u8]) -> &[u8]
 
 /// The child of a cell above the leaves; `None` where it has no room for one.
 pub(crate) fn child_in(cell: &[u8]) -> Option<u64>
-    ensures { MatchOption result (length (value_of cell.now) < 8) (λ n. n ≡ child_of cell.now) }
+    ensures { MatchOption result (length (value_of_cell cell.now) < 8) (λ n. n ≡ child_of cell.now) }
 {
     let value = value_in(cell);
     if value.len() < 8 {

@@ -5,11 +5,11 @@
 //! Where no page on the way has another child, the root becomes an empty leaf.
 ghost use Rattle.std.specs.Prelude.{ℕ, ◌≡◌, ◌≤◌, ◌∷◌, [], List, OnOk, Some};
 ghost use Rattle.page_store.specs.Image.{Image};
-ghost use Rattle.page_workspace.specs.Drafts.{meant, IsExcused, IsNotUnfit};
+ghost use Rattle.page_workspace.specs.Drafts.{meant, IsEditExcused, IsNotUnfit};
 ghost use Rattle.page_workspace.specs.Spare.{count_of};
 ghost use Rattle.btree_index.specs.Keys.{Key};
 ghost use Rattle.btree_index.specs.Cells.{IsInnerCell};
-ghost use Rattle.btree_index.specs.Changes.{Becomes, Stands};
+ghost use Rattle.btree_index.specs.Changes.{Becomes, TreeStands};
 ghost use Rattle.btree_index.specs.Filled.{KeepsFilled};
 ghost use Rattle.btree_index.specs.Fits.{CanLose};
 ghost use Rattle.btree_index.specs.Prunes.{lone_pages, AreStray, CanFree, CanUnlink, DropsChild, Empties, FreesAll, FreesEmpty, IsLone, lone_leaf, LosesLeaf, Rekeys, SetsRight, Unlinks};
@@ -30,16 +30,16 @@ pub(crate) fn free_empty_leaf<P: PageSource>(
     root: u64,
     key: &[u8],
 ) -> Result<(), EditFault>
-    ensures freed { (own free : List ℕ) (list : List (Key × List ℕ)) → Stands (meant P.pages space.old) root own free list →
+    ensures freed { (own free : List ℕ) (list : List (Key × List ℕ)) → TreeStands (meant P.pages space.old) root own free list →
         OnOk result (Becomes (meant P.pages space.old) (meant P.pages space.new) root own free list) }
-    ensures gone { (own free : List ℕ) (list : List (Key × List ℕ)) → Stands (meant P.pages space.old) root own free list →
+    ensures gone { (own free : List ℕ) (list : List (Key × List ℕ)) → TreeStands (meant P.pages space.old) root own free list →
         OnOk result (FreesEmpty (meant P.pages space.old) (meant P.pages space.new) root key.now) }
-    ensures filled { (own free : List ℕ) (list : List (Key × List ℕ)) → Stands (meant P.pages space.old) root own free list →
+    ensures filled { (own free : List ℕ) (list : List (Key × List ℕ)) → TreeStands (meant P.pages space.old) root own free list →
         OnOk result (KeepsFilled (meant P.pages space.old) (meant P.pages space.new) root) }
     ensures fit { (own free : List ℕ) (list : List (Key × List ℕ)) →
-        Stands (meant P.pages space.old) root own free list → IsNotUnfit result }
+        TreeStands (meant P.pages space.old) root own free list → IsNotUnfit result }
     ensures base { P.pages space.new.base ≡ P.pages space.old.base }
-    ensures excused { IsExcused result (P.losses space.old.base) (P.losses space.new.base) }
+    ensures excused { IsEditExcused result (P.losses space.old.base) (P.losses space.new.base) }
 {
     // no tree has more levels than there are pages
     let meta = space.meta()?;
@@ -59,13 +59,13 @@ fn cut<P: PageSource>(
     turns: u64,
 ) -> Result<(), EditFault>
     ensures cut { OnOk result ((mid : ℕ → Image) × Unlinks (meant P.pages space.old) mid fork
-        × ((height root : ℕ) (own free : List ℕ) (list : List (Key × List ℕ)) → Stands mid root own free list → IsLone mid height fork.child →
+        × ((height root : ℕ) (own free : List ℕ) (list : List (Key × List ℕ)) → TreeStands mid root own free list → IsLone mid height fork.child →
         AreStray mid own free (lone_pages mid height fork.child) →
         FreesAll mid (meant P.pages space.new) root own free list (lone_pages mid height fork.child))) }
     ensures fit { CanUnlink (meant P.pages space.old) fork →
         ((mid : ℕ → Image) → Unlinks (meant P.pages space.old) mid fork → CanFree mid fork.child turns) → IsNotUnfit result }
     ensures base { P.pages space.new.base ≡ P.pages space.old.base }
-    ensures excused { IsExcused result (P.losses space.old.base) (P.losses space.new.base) }
+    ensures excused { IsEditExcused result (P.losses space.old.base) (P.losses space.new.base) }
 {
     unlink(alloc, space, fork)?;
     free_from(alloc, space, fork.child, turns)
@@ -78,13 +78,13 @@ fn flatten<P: PageSource>(
     root: u64,
     turns: u64,
 ) -> Result<(), EditFault>
-    ensures flattened { (own free : List ℕ) (list : List (Key × List ℕ)) (stands : Stands (meant P.pages space.old) root own free list) →
+    ensures flattened { (own free : List ℕ) (list : List (Key × List ℕ)) (stands : TreeStands (meant P.pages space.old) root own free list) →
         IsLone (meant P.pages space.old) stands.height root →
         OnOk result (LosesLeaf (meant P.pages space.old) (meant P.pages space.new) root own free list (lone_leaf (meant P.pages space.old) stands.height root)) }
-    ensures fit { (own free : List ℕ) (list : List (Key × List ℕ)) (stands : Stands (meant P.pages space.old) root own free list) →
+    ensures fit { (own free : List ℕ) (list : List (Key × List ℕ)) (stands : TreeStands (meant P.pages space.old) root own free list) →
         IsLone (meant P.pages space.old) stands.height root → count_of (meant P.pages space.old) ≤ turns → IsNotUnfit result }
     ensures base { P.pages space.new.base ≡ P.pages space.old.base }
-    ensures excused { IsExcused result (P.losses space.old.base) (P.losses space.new.base) }
+    ensures excused { IsEditExcused result (P.losses space.old.base) (P.losses space.new.base) }
 {
     space.load_to_edit(root)?;
     let only = only_child(space.page())?;
@@ -106,7 +106,7 @@ fn empty_root<P: PageSource>(
     ensures emptied { OnOk result (Empties (meant P.pages space.old) (meant P.pages space.new) root) }
     ensures fit { (cell : List ℕ) → (meant P.pages space.old root).cells ≡ cell ∷ [] → IsNotUnfit result }
     ensures base { P.pages space.new.base ≡ P.pages space.old.base }
-    ensures excused { IsExcused result (P.losses space.old.base) (P.losses space.new.base) }
+    ensures excused { IsEditExcused result (P.losses space.old.base) (P.losses space.new.base) }
 {
     take_at(alloc, space, root, 0)?;
     space.load_to_edit(root)?;
@@ -126,13 +126,13 @@ fn free_from<P: PageSource>(
     id: u64,
     turns: u64,
 ) -> Result<(), EditFault>
-    ensures freed { (height root : ℕ) (own free : List ℕ) (list : List (Key × List ℕ)) → Stands (meant P.pages space.old) root own free list →
+    ensures freed { (height root : ℕ) (own free : List ℕ) (list : List (Key × List ℕ)) → TreeStands (meant P.pages space.old) root own free list →
         IsLone (meant P.pages space.old) height id → AreStray (meant P.pages space.old) own free (lone_pages (meant P.pages space.old) height id) →
         OnOk result (FreesAll (meant P.pages space.old) (meant P.pages space.new) root own free list
         (lone_pages (meant P.pages space.old) height id)) }
     ensures fit { CanFree (meant P.pages space.old) id turns → IsNotUnfit result }
     ensures base { P.pages space.new.base ≡ P.pages space.old.base }
-    ensures excused { IsExcused result (P.losses space.old.base) (P.losses space.new.base) }
+    ensures excused { IsEditExcused result (P.losses space.old.base) (P.losses space.new.base) }
 {
     if turns == 0 {
         return Err(EditFault::Unfit);
@@ -158,7 +158,7 @@ fn unlink<P: PageSource>(
     ensures unlinked { OnOk result (Unlinks (meant P.pages space.old) (meant P.pages space.new) fork) }
     ensures fit { CanUnlink (meant P.pages space.old) fork → IsNotUnfit result }
     ensures base { P.pages space.new.base ≡ P.pages space.old.base }
-    ensures excused { IsExcused result (P.losses space.old.base) (P.losses space.new.base) }
+    ensures excused { IsEditExcused result (P.losses space.old.base) (P.losses space.new.base) }
 {
     drop_child(alloc, space, fork.page, fork.at)?;
     relink(space, fork.page, fork.left, fork.right)?;
@@ -178,7 +178,7 @@ fn drop_child<P: PageSource>(
     ensures dropped { OnOk result (DropsChild (meant P.pages space.old) (meant P.pages space.new) id at) }
     ensures fit { CanLose (meant P.pages space.old id) at → IsNotUnfit result }
     ensures base { P.pages space.new.base ≡ P.pages space.old.base }
-    ensures excused { IsExcused result (P.losses space.old.base) (P.losses space.new.base) }
+    ensures excused { IsEditExcused result (P.losses space.old.base) (P.losses space.new.base) }
 {
     take_at(alloc, space, id, at)?;
     if at > 0 {
@@ -197,7 +197,7 @@ fn rekey_first<P: PageSource>(
     ensures fit { (cell : List ℕ) (others : List (List ℕ)) → (meant P.pages space.old id).cells ≡ cell ∷ others →
         IsInnerCell cell → IsNotUnfit result }
     ensures base { P.pages space.new.base ≡ P.pages space.old.base }
-    ensures excused { IsExcused result (P.losses space.old.base) (P.losses space.new.base) }
+    ensures excused { IsEditExcused result (P.losses space.old.base) (P.losses space.new.base) }
 {
     space.load_to_edit(id)?;
     let page = space.page();
@@ -229,7 +229,7 @@ fn relink<P: PageSource>(
     ensures relinked { OnOk result (SetsRight (meant P.pages space.old) (meant P.pages space.new) page left right) }
     ensures fit { (left ≡ Some page → ⊥) → IsNotUnfit result }
     ensures base { P.pages space.new.base ≡ P.pages space.old.base }
-    ensures excused { IsExcused result (P.losses space.old.base) (P.losses space.new.base) }
+    ensures excused { IsEditExcused result (P.losses space.old.base) (P.losses space.new.base) }
 {
     match left {
         None => Ok(()),
@@ -247,7 +247,7 @@ fn set_right<P: PageSource>(
     ensures relinked { OnOk result (SetsRight (meant P.pages space.old) (meant P.pages space.new) page (Some leaf) right) }
     ensures fit { (leaf ≡ page → ⊥) → IsNotUnfit result }
     ensures base { P.pages space.new.base ≡ P.pages space.old.base }
-    ensures excused { IsExcused result (P.losses space.old.base) (P.losses space.new.base) }
+    ensures excused { IsEditExcused result (P.losses space.old.base) (P.losses space.new.base) }
 {
     if leaf == page {
         return Err(EditFault::Unfit);

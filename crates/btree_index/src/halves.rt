@@ -1,6 +1,6 @@
 ghost use Rattle.std.specs.Prelude.{ℕ, ◌≡◌, ◌≢◌, ◌⊎◌, ◌<◌, [], Some, IfOk, IfSome, MatchOption, length};
 ghost use Rattle.page_store.specs.declared.pages.PageKind.TheVariants.{Leaf, Inner};
-ghost use Rattle.page_workspace.specs.Drafts.{meant, IsExcused, IsNotUnfit};
+ghost use Rattle.page_workspace.specs.Drafts.{meant, IsEditExcused, IsNotUnfit};
 ghost use Rattle.btree_index.specs.Cells.{IsInnerCell};
 ghost use Rattle.btree_index.specs.Fits.{IsHalvable};
 ghost use Rattle.btree_index.specs.Steps.{Halves, IsFirstFor, IsHalf};
@@ -37,7 +37,7 @@ pub(crate) fn halve<P: PageSource>(
     ensures fit { id ≢ fresh → IsHalvable (meant P.pages space.old id) → (meant P.pages space.old fresh).cells ≡ [] →
         IsNotUnfit result }
     ensures base { P.pages space.new.base ≡ P.pages space.old.base }
-    ensures excused { IsExcused result (P.losses space.old.base) (P.losses space.new.base) }
+    ensures excused { IsEditExcused result (P.losses space.old.base) (P.losses space.new.base) }
 {
     if id == fresh {
         return Err(EditFault::Unfit);
@@ -77,7 +77,7 @@ pub(crate) fn halve<P: PageSource>(
 fn read_half(alloc: Global, page: &Page) -> Result<Half, EditFault>
     ensures half { IfOk result (IsHalf page.now) }
     ensures fit { IsHalvable page.now → IsNotUnfit result }
-    ensures excused { (count : ℕ) → IsExcused result count count }
+    ensures excused { (count : ℕ) → IsEditExcused result count count }
 {
     let Some(at) = cut_place(page) else {
         return Err(EditFault::Unfit);
@@ -100,7 +100,7 @@ fn read_half(alloc: Global, page: &Page) -> Result<Half, EditFault>
 fn first_for(alloc: Global, kind: PageKind, middle: &[u8]) -> Result<Cell, EditFault>
     ensures first { IfOk result (IsFirstFor kind middle.now) }
     ensures fit { (kind ≡ Leaf) ⊎ ((kind ≡ Inner) × IsInnerCell middle.now) → IsNotUnfit result }
-    ensures excused { (count : ℕ) → IsExcused result count count }
+    ensures excused { (count : ℕ) → IsEditExcused result count count }
 {
     match kind {
         PageKind::Leaf => Cell::from_slice(alloc, middle).map_err(|_| EditFault::NoMemory),

@@ -1,5 +1,5 @@
 ghost use Rattle.std.specs.Prelude.{ℕ, ◌≡◌, ◌↔◌, ◌+◌, ◌≤◌, false, true, List, None, IfOk, IsErrOf, IsTrue, OnOk, length};
-ghost use Rattle.page_workspace.specs.Drafts.{meant, IsExcused, IsNotUnfit};
+ghost use Rattle.page_workspace.specs.Drafts.{meant, IsEditExcused, IsNotUnfit};
 ghost use Rattle.std.specs.List.{insert};
 ghost use Rattle.page_store.specs.Image.{HasRoom, room, taken};
 ghost use Rattle.btree_index.specs.Keys.{Key};
@@ -9,7 +9,7 @@ ghost use Rattle.btree_index.specs.Pairs.{place_in, value_at, with_pair};
 ghost use Rattle.btree_index.specs.Filled.{IsEmptyLeaf, KeepsFilled};
 ghost use Rattle.btree_index.specs.Fits.{IsFullUnder};
 ghost use Rattle.btree_index.specs.Trees.{Ascends, TreeList};
-ghost use Rattle.btree_index.specs.Changes.{Stands, Becomes, LeadsOver, IsHeld, IsInserted, IsPlace, IsPutAbsent, IsWay, IsPassed, IsExcusedInsert};
+ghost use Rattle.btree_index.specs.Changes.{TreeStands, Becomes, LeadsOver, IsHeld, IsInserted, IsPlace, IsPutAbsent, IsWay, IsPassed, IsExcusedInsert};
 
 use crate::cells::make_leaf_cell;
 use crate::paths::{Way, key_place, way_for};
@@ -60,9 +60,9 @@ pub fn insert<P: PageSource>(
 ) -> Result<(), InsertFault>
     requires key { length key.now ≤ 1630 }
     requires cell { 2 + length key.now + length value.now ≤ 1640 }
-    ensures inserted { (own free : List ℕ) (list : List (Key × List ℕ)) → Stands (meant P.pages space.old) root own free list →
+    ensures inserted { (own free : List ℕ) (list : List (Key × List ℕ)) → TreeStands (meant P.pages space.old) root own free list →
         IsInserted (meant P.pages space.old) (meant P.pages space.new) root own free key.now value.now list result }
-    ensures filled { (own free : List ℕ) (list : List (Key × List ℕ)) → Stands (meant P.pages space.old) root own free list →
+    ensures filled { (own free : List ℕ) (list : List (Key × List ℕ)) → TreeStands (meant P.pages space.old) root own free list →
         OnOk result (KeepsFilled (meant P.pages space.old) (meant P.pages space.new) root) }
     ensures duplicate { IsErrOf result InsertFault.Duplicate → space.new.edits ≡ space.old.edits }
     ensures held { IsErrOf result InsertFault.Duplicate → IsHeld (meant P.pages space.old) root key.now }
@@ -96,17 +96,17 @@ fn put_absent<P: PageSource>(
     requires key { length key.now ≤ 1630 }
     requires cell { 2 + length key.now + length value.now ≤ 1640 }
     ensures put { (own free : List ℕ) (list : List (Key × List ℕ)) →
-        Stands (meant P.pages space.old) root own free list →
+        TreeStands (meant P.pages space.old) root own free list →
         IfOk result (IsPutAbsent (meant P.pages space.old) (meant P.pages space.new) root own free
         key.now value.now list) }
-    ensures filled { (own free : List ℕ) (list : List (Key × List ℕ)) → Stands (meant P.pages space.old) root own free list →
+    ensures filled { (own free : List ℕ) (list : List (Key × List ℕ)) → TreeStands (meant P.pages space.old) root own free list →
         OnOk result (KeepsFilled (meant P.pages space.old) (meant P.pages space.new) root) }
     ensures fit { (own free : List ℕ) (list : List (Key × List ℕ)) →
-        Stands (meant P.pages space.old) root own free list → IsNotUnfit result }
+        TreeStands (meant P.pages space.old) root own free list → IsNotUnfit result }
     ensures there { IfOk result (λ put. put ≡ false → space.new.edits ≡ space.old.edits) }
     ensures held { IfOk result (λ put. put ≡ false → IsHeld (meant P.pages space.old) root key.now) }
     ensures base { P.pages space.new.base ≡ P.pages space.old.base }
-    ensures excused { IsExcused result (P.losses space.old.base) (P.losses space.new.base) }
+    ensures excused { IsEditExcused result (P.losses space.old.base) (P.losses space.new.base) }
 {
     let found = way_of_absent(space, root, key)?;
     let Some(way) = found else {
@@ -124,14 +124,14 @@ fn way_of_absent<P: PageSource>(
     root: u64,
     key: &[u8],
 ) -> Result<Option<Way>, EditFault>
-    ensures there { (own free : List ℕ) (list : List (Key × List ℕ)) → Stands (meant P.pages space.old) root own free list →
+    ensures there { (own free : List ℕ) (list : List (Key × List ℕ)) → TreeStands (meant P.pages space.old) root own free list →
         IfOk result (IsPlace (meant P.pages space.old) root key.now list) }
     ensures held { IfOk result (λ way. way ≡ None → IsHeld (meant P.pages space.old) root key.now) }
     ensures fit { (list : List (Key × List ℕ)) → TreeList (meant P.pages space.old) root list → IsNotUnfit result }
     ensures edits { space.new.edits ≡ space.old.edits }
     ensures pages { meant P.pages space.new ≡ meant P.pages space.old }
     ensures base { P.pages space.new.base ≡ P.pages space.old.base }
-    ensures excused { IsExcused result (P.losses space.old.base) (P.losses space.new.base) }
+    ensures excused { IsEditExcused result (P.losses space.old.base) (P.losses space.new.base) }
 {
     let way = way_for(space, root, key)?;
     match key_place(space.page(), key) {
@@ -152,16 +152,16 @@ fn put_behind<P: PageSource>(
 ) -> Result<(), EditFault>
     requires key { length key.now ≤ 1630 }
     requires cell { 2 + length key.now + length value.now ≤ 1640 }
-    ensures put { (own free : List ℕ) (list : List (Key × List ℕ)) → Stands (meant P.pages space.old) root own free list →
+    ensures put { (own free : List ℕ) (list : List (Key × List ℕ)) → TreeStands (meant P.pages space.old) root own free list →
         value_at key.now list ≡ None → IsWay (meant P.pages space.old) root key.now way →
         OnOk result (Becomes (meant P.pages space.old) (meant P.pages space.new) root own free (with_pair key.now value.now list)) }
-    ensures filled { (own free : List ℕ) (list : List (Key × List ℕ)) → Stands (meant P.pages space.old) root own free list →
+    ensures filled { (own free : List ℕ) (list : List (Key × List ℕ)) → TreeStands (meant P.pages space.old) root own free list →
         value_at key.now list ≡ None → IsWay (meant P.pages space.old) root key.now way →
         OnOk result (KeepsFilled (meant P.pages space.old) (meant P.pages space.new) root) }
     ensures fit { (own free : List ℕ) (list : List (Key × List ℕ)) →
-        Stands (meant P.pages space.old) root own free list → value_at key.now list ≡ None → IsNotUnfit result }
+        TreeStands (meant P.pages space.old) root own free list → value_at key.now list ≡ None → IsNotUnfit result }
     ensures base { P.pages space.new.base ≡ P.pages space.old.base }
-    ensures excused { IsExcused result (P.losses space.old.base) (P.losses space.new.base) }
+    ensures excused { IsEditExcused result (P.losses space.old.base) (P.losses space.new.base) }
 {
     space.load_to_edit(way.leaf)?;
     if has_room(space.page(), key, value) {
@@ -180,15 +180,15 @@ fn put_new<P: PageSource>(
 ) -> Result<(), EditFault>
     requires key { length key.now ≤ 1630 }
     requires cell { 2 + length key.now + length value.now ≤ 1640 }
-    ensures put { (own free : List ℕ) (list : List (Key × List ℕ)) → Stands (meant P.pages space.old) root own free list →
+    ensures put { (own free : List ℕ) (list : List (Key × List ℕ)) → TreeStands (meant P.pages space.old) root own free list →
         value_at key.now list ≡ None →
         OnOk result (Becomes (meant P.pages space.old) (meant P.pages space.new) root own free (with_pair key.now value.now list)) }
-    ensures filled { (own free : List ℕ) (list : List (Key × List ℕ)) → Stands (meant P.pages space.old) root own free list →
+    ensures filled { (own free : List ℕ) (list : List (Key × List ℕ)) → TreeStands (meant P.pages space.old) root own free list →
         value_at key.now list ≡ None → OnOk result (KeepsFilled (meant P.pages space.old) (meant P.pages space.new) root) }
     ensures fit { (own free : List ℕ) (list : List (Key × List ℕ)) →
-        Stands (meant P.pages space.old) root own free list → value_at key.now list ≡ None → IsNotUnfit result }
+        TreeStands (meant P.pages space.old) root own free list → value_at key.now list ≡ None → IsNotUnfit result }
     ensures base { P.pages space.new.base ≡ P.pages space.old.base }
-    ensures excused { IsExcused result (P.losses space.old.base) (P.losses space.new.base) }
+    ensures excused { IsEditExcused result (P.losses space.old.base) (P.losses space.new.base) }
 {
     'passes: for _ in 0..u64::MAX {
         let came_to = pass_once(alloc, space, root, key, value)?;
@@ -212,14 +212,14 @@ fn pass_once<P: PageSource>(
 ) -> Result<Pass, EditFault>
     requires key { length key.now ≤ 1630 }
     requires cell { 2 + length key.now + length value.now ≤ 1640 }
-    ensures passed { (own free : List ℕ) (list : List (Key × List ℕ)) → Stands (meant P.pages space.old) root own free list →
+    ensures passed { (own free : List ℕ) (list : List (Key × List ℕ)) → TreeStands (meant P.pages space.old) root own free list →
         value_at key.now list ≡ None → IfOk result (IsPassed (meant P.pages space.old) (meant P.pages space.new) root own free key.now value.now list) }
-    ensures filled { (own free : List ℕ) (list : List (Key × List ℕ)) → Stands (meant P.pages space.old) root own free list →
+    ensures filled { (own free : List ℕ) (list : List (Key × List ℕ)) → TreeStands (meant P.pages space.old) root own free list →
         OnOk result (KeepsFilled (meant P.pages space.old) (meant P.pages space.new) root) }
     ensures fit { (own free : List ℕ) (list : List (Key × List ℕ)) →
-        Stands (meant P.pages space.old) root own free list → IsNotUnfit result }
+        TreeStands (meant P.pages space.old) root own free list → IsNotUnfit result }
     ensures base { P.pages space.new.base ≡ P.pages space.old.base }
-    ensures excused { IsExcused result (P.losses space.old.base) (P.losses space.new.base) }
+    ensures excused { IsEditExcused result (P.losses space.old.base) (P.losses space.new.base) }
 {
     let way = way_for(space, root, key)?;
     if has_room(space.page(), key, value) {
@@ -256,7 +256,7 @@ fn put_pair<P: PageSource>(
     ensures fit { taken (meant P.pages space.old leaf).cells + (6 + length key.now + length value.now) ≤ room →
         IsNotUnfit result }
     ensures base { P.pages space.new.base ≡ P.pages space.old.base }
-    ensures excused { IsExcused result (P.losses space.old.base) (P.losses space.new.base) }
+    ensures excused { IsEditExcused result (P.losses space.old.base) (P.losses space.new.base) }
 {
     space.load_to_edit(leaf)?;
     let at = count_before(space.page(), key);
@@ -274,16 +274,16 @@ fn make_room<P: PageSource>(
     key: &[u8],
 ) -> Result<(), EditFault>
     ensures room { LeadsOver (meant P.pages space.old) root key.now roomy → (own free : List ℕ) (list : List (Key × List ℕ)) →
-        Stands (meant P.pages space.old) root own free list →
+        TreeStands (meant P.pages space.old) root own free list →
         OnOk result (Becomes (meant P.pages space.old) (meant P.pages space.new) root own free list) }
-    ensures filled { (own free : List ℕ) (list : List (Key × List ℕ)) → Stands (meant P.pages space.old) root own free list →
+    ensures filled { (own free : List ℕ) (list : List (Key × List ℕ)) → TreeStands (meant P.pages space.old) root own free list →
         (IsEmptyLeaf (meant P.pages space.old root) → ⊥) →
         OnOk result (KeepsFilled (meant P.pages space.old) (meant P.pages space.new) root) }
     ensures fit { LeadsOver (meant P.pages space.old) root key.now roomy →
         IsFullUnder (meant P.pages space.old) key.now roomy → (own free : List ℕ) (list : List (Key × List ℕ)) →
-        Stands (meant P.pages space.old) root own free list → IsNotUnfit result }
+        TreeStands (meant P.pages space.old) root own free list → IsNotUnfit result }
     ensures base { P.pages space.new.base ≡ P.pages space.old.base }
-    ensures excused { IsExcused result (P.losses space.old.base) (P.losses space.new.base) }
+    ensures excused { IsEditExcused result (P.losses space.old.base) (P.losses space.new.base) }
 {
     match roomy {
         Some(parent) => split_below(alloc, space, parent, key),

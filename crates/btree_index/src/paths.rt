@@ -1,5 +1,5 @@
 ghost use Rattle.std.specs.Prelude.{ℕ, ◌≡◌, ◌⊎◌, List, Some, None, IfOk, MatchOption};
-ghost use Rattle.page_workspace.specs.Drafts.{meant, IsExcused, IsNotUnfit};
+ghost use Rattle.page_workspace.specs.Drafts.{meant, IsEditExcused, IsNotUnfit};
 ghost use Rattle.btree_index.specs.Keys.{Key};
 ghost use Rattle.btree_index.specs.Trees.{Ascends, TreeList};
 ghost use Rattle.btree_index.specs.Fits.{HasSpare, IsFull};
@@ -39,7 +39,7 @@ pub(crate) fn way_for<P: PageSource>(
     ensures loaded { IfOk result (λ way. space.new.loaded ≡ Some (meant P.pages space.old way.leaf)) }
     ensures pages { meant P.pages space.new ≡ meant P.pages space.old }
     ensures base { P.pages space.new.base ≡ P.pages space.old.base }
-    ensures excused { IsExcused result (P.losses space.old.base) (P.losses space.new.base) }
+    ensures excused { IsEditExcused result (P.losses space.old.base) (P.losses space.new.base) }
 {
     space.load_to_edit(root)?;
     let turns = turns_from(space.page().head().level);

@@ -1,7 +1,7 @@
 //! Places of keys among the cells of a page, found by halves.
 ghost use Rattle.std.specs.Prelude.{ℕ, ◌≡◌, ◌≤◌, List, Some, length, drop};
 ghost use Rattle.std.specs.List.{slice_get};
-ghost use Rattle.btree_index.specs.Cells.{key_of};
+ghost use Rattle.btree_index.specs.Cells.{key_of_cell};
 ghost use Rattle.btree_index.specs.Keys.{before};
 ghost use Rattle.btree_index.specs.Pairs.{place_in, is_above, turn};
 ghost use Rattle.btree_index.specs.Trees.{Ascends};
@@ -57,7 +57,7 @@ fn is_cell_above(page: &Page, at: u16, key: &[u8]) -> bool
 
 /// Whether the cell at a place comes before a key.
 fn is_cell_before(page: &Page, at: u16, key: &[u8]) -> bool
-    ensures { (cell : List ℕ) → slice_get page.now.cells at ≡ Some cell → result ≡ before (key_of cell) key.now }
+    ensures { (cell : List ℕ) → slice_get page.now.cells at ≡ Some cell → result ≡ before (key_of_cell cell) key.now }
 {
     match page.cell(at) {
         Some(cell) => is_before(key_in(cell), key),

@@ -1,6 +1,6 @@
 //! Empty leaves on the way to a key: what is found there.
 ghost use Rattle.std.specs.Prelude.{ℕ, ◌≡◌, ◌<◌, ◌++◌, ◌∷◌, [], List, None, Some, IfOk, IfSome, IsSome, length};
-ghost use Rattle.page_workspace.specs.Drafts.{meant, IsExcused, IsNotUnfit};
+ghost use Rattle.page_workspace.specs.Drafts.{meant, IsEditExcused, IsNotUnfit};
 ghost use Rattle.std.specs.List.{slice_get};
 ghost use Rattle.btree_index.specs.Cells.{IsInnerCell};
 ghost use Rattle.btree_index.specs.Fits.{HasOneChild};
@@ -62,7 +62,7 @@ pub(crate) fn look_below<P: PageSource>(
     ensures edits { space.new.edits ≡ space.old.edits }
     ensures pages { meant P.pages space.new ≡ meant P.pages space.old }
     ensures base { P.pages space.new.base ≡ P.pages space.old.base }
-    ensures excused { IsExcused result (P.losses space.old.base) (P.losses space.new.base) }
+    ensures excused { IsEditExcused result (P.losses space.old.base) (P.losses space.new.base) }
 {
     if turns == 0 {
         // no tree is higher than its root says
@@ -128,7 +128,7 @@ fn beside<P: PageSource>(
     ensures edits { space.new.edits ≡ space.old.edits }
     ensures pages { meant P.pages space.new ≡ meant P.pages space.old }
     ensures base { P.pages space.new.base ≡ P.pages space.old.base }
-    ensures excused { IsExcused result (P.losses space.old.base) (P.losses space.new.base) }
+    ensures excused { IsEditExcused result (P.losses space.old.base) (P.losses space.new.base) }
 {
     if at > 0 {
         let before = child_at(space, id, at - 1)?;
@@ -151,7 +151,7 @@ fn child_at<P: PageSource>(space: &mut Workspace<P>, id: u64, at: u16) -> Result
     ensures edits { space.new.edits ≡ space.old.edits }
     ensures pages { meant P.pages space.new ≡ meant P.pages space.old }
     ensures base { P.pages space.new.base ≡ P.pages space.old.base }
-    ensures excused { IsExcused result (P.losses space.old.base) (P.losses space.new.base) }
+    ensures excused { IsEditExcused result (P.losses space.old.base) (P.losses space.new.base) }
 {
     space.load_to_edit(id)?;
     match child_of_place(space.page(), at) {
@@ -167,7 +167,7 @@ fn last_child<P: PageSource>(space: &mut Workspace<P>, id: u64) -> Result<u64, E
     ensures edits { space.new.edits ≡ space.old.edits }
     ensures pages { meant P.pages space.new ≡ meant P.pages space.old }
     ensures base { P.pages space.new.base ≡ P.pages space.old.base }
-    ensures excused { IsExcused result (P.losses space.old.base) (P.losses space.new.base) }
+    ensures excused { IsEditExcused result (P.losses space.old.base) (P.losses space.new.base) }
 {
     space.load_to_edit(id)?;
     let page = space.page();
@@ -194,7 +194,7 @@ fn child_of_place(page: &Page, at: u16) -> Option<u64>
 pub(crate) fn only_child(page: &Page) -> Result<Option<u64>, EditFault>
     ensures child { IfOk result (IsOnly page.now) }
     ensures fit { HasOneChild page.now → IsNotUnfit result }
-    ensures excused { (count : ℕ) → IsExcused result count count }
+    ensures excused { (count : ℕ) → IsEditExcused result count count }
 {
     match page.head().kind {
         PageKind::Leaf => Ok(None),

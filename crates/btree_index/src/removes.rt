@@ -1,10 +1,10 @@
 ghost use Rattle.std.specs.Prelude.{ℕ, ◌≡◌, false, true, List, IfOk, None, OnErr, OnOk, is_some};
-ghost use Rattle.page_store.specs.Sources.{IsExcused as IsLoadExcused};
-ghost use Rattle.page_workspace.specs.Drafts.{meant, IsExcused, IsNotUnfit};
+ghost use Rattle.page_store.specs.Sources.{IsExcused};
+ghost use Rattle.page_workspace.specs.Drafts.{meant, IsEditExcused, IsNotUnfit};
 ghost use Rattle.btree_index.specs.Keys.{Key};
 ghost use Rattle.btree_index.specs.Pairs.{value_at, without_key};
 ghost use Rattle.btree_index.specs.Trees.{TreeList};
-ghost use Rattle.btree_index.specs.Changes.{Stands, Becomes};
+ghost use Rattle.btree_index.specs.Changes.{TreeStands, Becomes};
 ghost use Rattle.btree_index.specs.Filled.{KeepsFilled};
 ghost use Rattle.btree_index.specs.Prunes.{FreesEmptied, IsTaken};
 
@@ -23,13 +23,13 @@ pub fn remove<P: PageSource>(
     root: u64,
     key: &[u8],
 ) -> Result<bool, PageFault>
-    ensures removed { (own free : List ℕ) (list : List (Key × List ℕ)) → Stands (meant P.pages space.old) root own free list →
+    ensures removed { (own free : List ℕ) (list : List (Key × List ℕ)) → TreeStands (meant P.pages space.old) root own free list →
         IfOk result (λ was. (was ≡ is_some (value_at key.now list))
         × Becomes (meant P.pages space.old) (meant P.pages space.new) root own free (without_key key.now list)) }
     ensures absent { IfOk result (λ was. was ≡ false → space.new.edits ≡ space.old.edits) }
     ensures unchanged { OnErr result (space.new.edits ≡ space.old.edits) }
     ensures base { P.pages space.new.base ≡ P.pages space.old.base }
-    ensures excused { IsLoadExcused result (P.losses space.old.base) (P.losses space.new.base) }
+    ensures excused { IsExcused result (P.losses space.old.base) (P.losses space.new.base) }
 {
     match take_key(alloc, space, root, key) {
         Ok(taken) => Ok(taken.is_some()),
@@ -48,16 +48,16 @@ pub fn remove_and_free<P: PageSource>(
     root: u64,
     key: &[u8],
 ) -> Result<bool, PageFault>
-    ensures removed { (own free : List ℕ) (list : List (Key × List ℕ)) → Stands (meant P.pages space.old) root own free list →
+    ensures removed { (own free : List ℕ) (list : List (Key × List ℕ)) → TreeStands (meant P.pages space.old) root own free list →
         IfOk result (λ was. (was ≡ is_some (value_at key.now list))
         × Becomes (meant P.pages space.old) (meant P.pages space.new) root own free (without_key key.now list)) }
-    ensures gone { (own free : List ℕ) (list : List (Key × List ℕ)) → Stands (meant P.pages space.old) root own free list →
+    ensures gone { (own free : List ℕ) (list : List (Key × List ℕ)) → TreeStands (meant P.pages space.old) root own free list →
         IfOk result (λ was. was ≡ true → FreesEmptied (meant P.pages space.old) (meant P.pages space.new) root key.now) }
-    ensures filled { (own free : List ℕ) (list : List (Key × List ℕ)) → Stands (meant P.pages space.old) root own free list →
+    ensures filled { (own free : List ℕ) (list : List (Key × List ℕ)) → TreeStands (meant P.pages space.old) root own free list →
         OnOk result (KeepsFilled (meant P.pages space.old) (meant P.pages space.new) root) }
     ensures absent { IfOk result (λ was. was ≡ false → space.new.edits ≡ space.old.edits) }
     ensures base { P.pages space.new.base ≡ P.pages space.old.base }
-    ensures excused { IsLoadExcused result (P.losses space.old.base) (P.losses space.new.base) }
+    ensures excused { IsExcused result (P.losses space.old.base) (P.losses space.new.base) }
 {
     match take_and_free(alloc, space, root, key) {
         Ok(was) => Ok(was),
@@ -74,18 +74,18 @@ fn take_and_free<P: PageSource>(
     root: u64,
     key: &[u8],
 ) -> Result<bool, EditFault>
-    ensures removed { (own free : List ℕ) (list : List (Key × List ℕ)) → Stands (meant P.pages space.old) root own free list →
+    ensures removed { (own free : List ℕ) (list : List (Key × List ℕ)) → TreeStands (meant P.pages space.old) root own free list →
         IfOk result (λ was. (was ≡ is_some (value_at key.now list))
         × Becomes (meant P.pages space.old) (meant P.pages space.new) root own free (without_key key.now list)) }
-    ensures gone { (own free : List ℕ) (list : List (Key × List ℕ)) → Stands (meant P.pages space.old) root own free list →
+    ensures gone { (own free : List ℕ) (list : List (Key × List ℕ)) → TreeStands (meant P.pages space.old) root own free list →
         IfOk result (λ was. was ≡ true → FreesEmptied (meant P.pages space.old) (meant P.pages space.new) root key.now) }
-    ensures filled { (own free : List ℕ) (list : List (Key × List ℕ)) → Stands (meant P.pages space.old) root own free list →
+    ensures filled { (own free : List ℕ) (list : List (Key × List ℕ)) → TreeStands (meant P.pages space.old) root own free list →
         OnOk result (KeepsFilled (meant P.pages space.old) (meant P.pages space.new) root) }
     ensures absent { IfOk result (λ was. was ≡ false → space.new.edits ≡ space.old.edits) }
     ensures fit { (own free : List ℕ) (list : List (Key × List ℕ)) →
-        Stands (meant P.pages space.old) root own free list → IsNotUnfit result }
+        TreeStands (meant P.pages space.old) root own free list → IsNotUnfit result }
     ensures base { P.pages space.new.base ≡ P.pages space.old.base }
-    ensures excused { IsExcused result (P.losses space.old.base) (P.losses space.new.base) }
+    ensures excused { IsEditExcused result (P.losses space.old.base) (P.losses space.new.base) }
 {
     let taken = take_key(alloc, space, root, key)?;
     let Some(count) = taken else {
@@ -106,7 +106,7 @@ fn take_key<P: PageSource>(
     root: u64,
     key: &[u8],
 ) -> Result<Option<u16>, EditFault>
-    ensures removed { (own free : List ℕ) (list : List (Key × List ℕ)) → Stands (meant P.pages space.old) root own free list →
+    ensures removed { (own free : List ℕ) (list : List (Key × List ℕ)) → TreeStands (meant P.pages space.old) root own free list →
         IfOk result (λ taken. (is_some taken ≡ is_some (value_at key.now list))
         × Becomes (meant P.pages space.old) (meant P.pages space.new) root own free (without_key key.now list)) }
     ensures fit { (list : List (Key × List ℕ)) → TreeList (meant P.pages space.old) root list → IsNotUnfit result }
@@ -114,7 +114,7 @@ fn take_key<P: PageSource>(
     ensures absent { IfOk result (λ taken. taken ≡ None → space.new.edits ≡ space.old.edits) }
     ensures unchanged { OnErr result (space.new.edits ≡ space.old.edits) }
     ensures base { P.pages space.new.base ≡ P.pages space.old.base }
-    ensures excused { IsExcused result (P.losses space.old.base) (P.losses space.new.base) }
+    ensures excused { IsEditExcused result (P.losses space.old.base) (P.losses space.new.base) }
 {
     let way = way_for(space, root, key)?;
     let page = space.page();

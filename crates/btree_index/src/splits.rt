@@ -1,6 +1,6 @@
 ghost use Rattle.std.specs.Prelude.{ℕ, ◌≡◌, ◌+◌, ◌≤◌, OnOk, IfOk, min, length};
 ghost use Rattle.page_store.specs.declared.pages.PageKind.TheVariants.{Inner};
-ghost use Rattle.page_workspace.specs.Drafts.{meant, IsExcused, IsNotUnfit};
+ghost use Rattle.page_workspace.specs.Drafts.{meant, IsEditExcused, IsNotUnfit};
 ghost use Rattle.btree_index.specs.Cells.{inner_cell};
 ghost use Rattle.btree_index.specs.Fits.{IsSplittable, IsRaisable};
 ghost use Rattle.btree_index.specs.Steps.{Splits, Crowns};
@@ -26,7 +26,7 @@ pub(crate) fn split_below<P: PageSource>(
     ensures split { OnOk result (Splits (meant P.pages space.old) (meant P.pages space.new) parent) }
     ensures fit { IsSplittable (meant P.pages space.old) parent key.now → IsNotUnfit result }
     ensures base { P.pages space.new.base ≡ P.pages space.old.base }
-    ensures excused { IsExcused result (P.losses space.old.base) (P.losses space.new.base) }
+    ensures excused { IsEditExcused result (P.losses space.old.base) (P.losses space.new.base) }
 {
     let fresh = space.take_page(alloc)?;
     space.load_to_edit(parent)?;
@@ -47,7 +47,7 @@ fn separator_cell(alloc: Global, separator: &Cell, child: u64) -> Result<Cell, E
     ensures cell { IfOk result (λ c. c ≡ inner_cell separator.now child) }
     ensures short { OnOk result (length separator.now ≤ 1630) }
     ensures fit { length separator.now ≤ 1630 → IsNotUnfit result }
-    ensures excused { (count : ℕ) → IsExcused result count count }
+    ensures excused { (count : ℕ) → IsEditExcused result count count }
 {
     if separator.len() > KEY_SIZE {
         return Err(EditFault::Unfit);
@@ -64,7 +64,7 @@ pub(crate) fn crown<P: PageSource>(
     ensures crowned { OnOk result (Crowns (meant P.pages space.old) (meant P.pages space.new) root) }
     ensures fit { IsRaisable (meant P.pages space.old) root → IsNotUnfit result }
     ensures base { P.pages space.new.base ≡ P.pages space.old.base }
-    ensures excused { IsExcused result (P.losses space.old.base) (P.losses space.new.base) }
+    ensures excused { IsEditExcused result (P.losses space.old.base) (P.losses space.new.base) }
 {
     let fresh = space.take_page(alloc)?;
     if root == fresh {

@@ -2,7 +2,7 @@ ghost use Rattle.std.specs.Prelude.{ℕ, ◌≡◌, ◌≢◌, ◌<◌, ◌++◌
 ghost use Rattle.std.specs.List.{insert, slice_get};
 ghost use Rattle.page_store.specs.Image.{HasRoom};
 ghost use Rattle.page_store.specs.Edits.{head_after, cells_after, IsFit};
-ghost use Rattle.page_workspace.specs.Drafts.{meant, IsExcused, IsNotUnfit};
+ghost use Rattle.page_workspace.specs.Drafts.{meant, IsEditExcused, IsNotUnfit};
 ghost use Rattle.btree_index.specs.Steps.{Alters, CopiesCell, TakesAt};
 
 use page_store::{Cell, Edit, Head, Page, PageSource};
@@ -20,7 +20,7 @@ pub(crate) fn alter<P: PageSource>(
     ensures room { OnOk result (HasRoom (cells_after (meant P.pages space.old id).cells edit)) }
     ensures fit { IsFit (meant P.pages space.old id) edit → IsNotUnfit result }
     ensures base { P.pages space.new.base ≡ P.pages space.old.base }
-    ensures excused { IsExcused result (P.losses space.old.base) (P.losses space.new.base) }
+    ensures excused { IsEditExcused result (P.losses space.old.base) (P.losses space.new.base) }
 {
     space.edit(id, edit)
 }
@@ -34,7 +34,7 @@ pub(crate) fn claim<P: PageSource>(
     ensures claimed { OnOk result (Alters (meant P.pages space.old) (meant P.pages space.new) id head []) }
     ensures fit { (meant P.pages space.old id).cells ≡ [] → IsNotUnfit result }
     ensures base { P.pages space.new.base ≡ P.pages space.old.base }
-    ensures excused { IsExcused result (P.losses space.old.base) (P.losses space.new.base) }
+    ensures excused { IsEditExcused result (P.losses space.old.base) (P.losses space.new.base) }
 {
     space.load_to_edit(id)?;
     let page = space.page();
@@ -66,7 +66,7 @@ pub(crate) fn fill<P: PageSource>(
         HasRoom ((meant P.pages space.old to).cells ++ drop start (meant P.pages space.old from).cells) →
         IsNotUnfit result }
     ensures base { P.pages space.new.base ≡ P.pages space.old.base }
-    ensures excused { IsExcused result (P.losses space.old.base) (P.losses space.new.base) }
+    ensures excused { IsEditExcused result (P.losses space.old.base) (P.losses space.new.base) }
 {
     space.load_to_edit(from)?;
     let count = space.page().count();
@@ -88,7 +88,7 @@ fn copy_cell<P: PageSource>(
     ensures fit { (cell : List ℕ) → slice_get (meant P.pages space.old from).cells at ≡ Some cell →
         HasRoom ((meant P.pages space.old to).cells ++ cell ∷ []) → IsNotUnfit result }
     ensures base { P.pages space.new.base ≡ P.pages space.old.base }
-    ensures excused { IsExcused result (P.losses space.old.base) (P.losses space.new.base) }
+    ensures excused { IsEditExcused result (P.losses space.old.base) (P.losses space.new.base) }
 {
     space.load_to_edit(from)?;
     let cell = copied(alloc, space.page(), at)?;
@@ -101,7 +101,7 @@ fn copy_cell<P: PageSource>(
 pub(crate) fn copied(alloc: Global, page: &Page, at: u16) -> Result<Cell, EditFault>
     ensures cell { IfOk result (λ c. slice_get page.now.cells at ≡ Some c) }
     ensures fit { at < length page.now.cells → IsNotUnfit result }
-    ensures excused { (count : ℕ) → IsExcused result count count }
+    ensures excused { (count : ℕ) → IsEditExcused result count count }
 {
     let Some(cell) = page.cell(at) else {
         return Err(EditFault::Unfit);
@@ -120,7 +120,7 @@ pub(crate) fn trim<P: PageSource>(
         (meant P.pages space.old id).head (take at (meant P.pages space.old id).cells)) }
     ensures fit { IsNotUnfit result }
     ensures base { P.pages space.new.base ≡ P.pages space.old.base }
-    ensures excused { IsExcused result (P.losses space.old.base) (P.losses space.new.base) }
+    ensures excused { IsEditExcused result (P.losses space.old.base) (P.losses space.new.base) }
 {
     space.load_to_edit(id)?;
     let count = space.page().count();
@@ -140,7 +140,7 @@ pub(crate) fn take_at<P: PageSource>(
     ensures taken { OnOk result (TakesAt (meant P.pages space.old) (meant P.pages space.new) id at) }
     ensures fit { at < length (meant P.pages space.old id).cells → IsNotUnfit result }
     ensures base { P.pages space.new.base ≡ P.pages space.old.base }
-    ensures excused { IsExcused result (P.losses space.old.base) (P.losses space.new.base) }
+    ensures excused { IsEditExcused result (P.losses space.old.base) (P.losses space.new.base) }
 {
     space.load_to_edit(id)?;
     let page = space.page();

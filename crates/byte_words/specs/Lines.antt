@@ -12,9 +12,9 @@ in_front byte [] = (byte ∷ []) ∷ []
 in_front byte (line ∷ lines) = (byte ∷ line) ∷ lines
 
 -- the lines that bytes are, without their LF
-abbrev pub lines_of : List ℕ → List (List ℕ)
-lines_of [] = []
-lines_of (byte ∷ bytes) = if byte == 10 then [] ∷ lines_of bytes else in_front byte (lines_of bytes)
+abbrev pub lines_of_bytes : List ℕ → List (List ℕ)
+lines_of_bytes [] = []
+lines_of_bytes (byte ∷ bytes) = if byte == 10 then [] ∷ lines_of_bytes bytes else in_front byte (lines_of_bytes bytes)
 
 -- all of these lines but the last
 abbrev pub but_last : List (List ℕ) → List (List ℕ)

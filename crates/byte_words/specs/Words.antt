@@ -107,5 +107,5 @@ abbrev pub numeral_of : ℕ → List ℕ → Option ℕ
 numeral_of most digits = if is_numeral digits then at_most most (value_from 0 digits) else None
 
 -- the number that a piece is: digits of a value below 2^64, without a zero in front of others
-abbrev pub number_of : List ℕ → Option ℕ
-number_of piece = if list_all is_digit piece then numeral_of (2 ^ 64 - 1) piece else None
+abbrev pub number_of_piece : List ℕ → Option ℕ
+number_of_piece piece = if list_all is_digit piece then numeral_of (2 ^ 64 - 1) piece else None

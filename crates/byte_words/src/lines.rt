@@ -1,5 +1,5 @@
 ghost use Rattle.std.specs.Prelude.{◌≡◌, ◌<◌, ◌∷◌, [], length, MatchOption};
-ghost use Rattle.byte_words.specs.Lines.{lines_of, without_return, without_end, trimmed, text_of, is_skipped, but_last};
+ghost use Rattle.byte_words.specs.Lines.{lines_of_bytes, without_return, without_end, trimmed, text_of, is_skipped, but_last};
 
 use super::bytes::{Blank, InLine, Kind, skip_blanks, split_while};
 
@@ -7,7 +7,8 @@ use super::bytes::{Blank, InLine, Kind, skip_blanks, split_while};
 /// there is no line.
 #[tactic(auto, using(crate::proofs::LineLaws::line_ends, crate::proofs::LineLaws::line_goes_on, crate::proofs::LineLaws::behind_is_shorter))]
 pub fn next_line(bytes: &[u8]) -> Option<(&[u8], &[u8])>
-    ensures line { MatchOption result (lines_of bytes.now ≡ []) (λ x. lines_of bytes.now ≡ x.0.now ∷ lines_of x.1.now) }
+    ensures line { MatchOption result (lines_of_bytes bytes.now ≡ [])
+        (λ x. lines_of_bytes bytes.now ≡ x.0.now ∷ lines_of_bytes x.1.now) }
     ensures shorter { MatchOption result (length bytes.now ≡ 0) (λ x. length x.1.now < length bytes.now) }
 {
     if bytes.is_empty() {
@@ -73,7 +74,7 @@ pub fn is_comment(text: &[u8]) -> bool
 /// The bytes before the last line of these.
 #[tactic(auto, using(crate::proofs::LineLaws::last_byte, crate::proofs::LineLaws::one_byte_more, crate::proofs::LineLaws::front_lines, crate::proofs::LineLaws::no_lines))]
 pub fn before_last_line(bytes: &[u8]) -> &[u8]
-    ensures { lines_of result.now ≡ but_last (lines_of bytes.now) }
+    ensures { lines_of_bytes result.now ≡ but_last (lines_of_bytes bytes.now) }
 {
     let Some((_, others)) = bytes.split_last() else {
         return bytes;

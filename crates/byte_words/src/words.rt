@@ -1,7 +1,7 @@
 ghost use Rattle.std.specs.Prelude.{◌≡◌, ◌≤◌, IfSome, not};
 ghost use Rattle.std.specs.List.{list_any};
 ghost use Rattle.byte_words.specs.Answers.{Finds};
-ghost use Rattle.byte_words.specs.Words.{piece, after_piece, after_sign, is_end, is_name, fits_name, is_within, is_begun, is_upper, value_of, value_from, at_most, number_at, number_within, number_of, numeral_of, is_numeral};
+ghost use Rattle.byte_words.specs.Words.{piece, after_piece, after_sign, is_end, is_name, fits_name, is_within, is_begun, is_upper, value_of, value_from, at_most, number_at, number_within, number_of_piece, numeral_of, is_numeral};
 
 use super::bytes::{
     Digit, PieceByte, WordByte, is_lower_case, is_of_kind, is_upper_case, skip_blanks, split_while,
@@ -115,7 +115,7 @@ pub fn take_number(most: u64, bytes: &[u8]) -> Option<(u64, &[u8])>
 
 /// The number that a piece is: digits of a value below 2^64, without a zero in front of others.
 pub fn piece_number(found: &[u8]) -> Option<u64>
-    ensures { Finds (λ n. n) result (number_of found.now) }
+    ensures { Finds (λ n. n) result (number_of_piece found.now) }
 {
     if is_of_kind::<Digit>(found) {
         numeral_value(u64::MAX, found)

@@ -57,6 +57,6 @@ pub use mem_sink::MemSink;
 pub use mem_source::MemSource;
 pub use mem_store::MemStore;
 pub use sink::{Sink, write_whole};
-pub use source::{ReadStop, Source, read_up_to};
+pub use source::{Source, SourceStop, read_up_to};
 pub use statuses::Status;
 pub use store::LogStore;

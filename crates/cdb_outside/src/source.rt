@@ -28,7 +28,7 @@ pub trait Source {
 
 /// Why a source was not read to its end or to the limit.
 #[derive(Clone, Copy, Debug, PartialEq, Eq, Error)]
-pub enum ReadStop {
+pub enum SourceStop {
     /// A read of the source failed.
     #[error("a read of the source failed")]
     Fault,
@@ -46,29 +46,29 @@ pub fn read_up_to<S: Source>(
     alloc: Global,
     source: &mut S,
     limit: usize,
-) -> Result<Vec<u8>, ReadStop>
+) -> Result<Vec<u8>, SourceStop>
     ensures bytes { IfOk result (λ v. Consumes (S.left source.old) (S.left source.new) v.items) }
     ensures whole { IfOk result (λ v. length v.items ≤ limit → IsAtEnd (S.left source.new)) }
     ensures within { IfOk result (λ v. length v.items ≤ limit + 1) }
 
     ensures lost { OnErr result (ConsumesSome (S.left source.old) (S.left source.new)) }
     ensures calm { OnOk result (S.faults source.new ≡ S.faults source.old) }
-    ensures memory { IsErrOf result ReadStop.NoMemory → S.faults source.new ≡ S.faults source.old }
+    ensures memory { IsErrOf result SourceStop.NoMemory → S.faults source.new ≡ S.faults source.old }
     ensures later { S.faults source.old ≤ S.faults source.new }
-    ensures fault { IsErrOf result ReadStop.Fault → Rose (S.faults source.old) (S.faults source.new) }
+    ensures fault { IsErrOf result SourceStop.Fault → Rose (S.faults source.old) (S.faults source.new) }
 {
     let mut bytes = Vec::new(alloc);
     let mut piece = [0u8; PIECE];
     while bytes.len() <= limit {
         let room = (limit - bytes.len()).min(PIECE - 1) + 1;
         let Ok(count) = source.read(&mut piece[..room]) else {
-            return Err(ReadStop::Fault);
+            return Err(SourceStop::Fault);
         };
         if count == 0 {
             return Ok(bytes);
         }
         if bytes.extend_from_slice(&piece[..count]).is_err() {
-            return Err(ReadStop::NoMemory);
+            return Err(SourceStop::NoMemory);
         }
     }
     Ok(bytes)

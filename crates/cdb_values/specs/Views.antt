@@ -25,12 +25,12 @@ IsOnBase tables next (Update table target old row) = (table < tables) × IsBase 
 IsOnBase tables next (Delete table target old) = (table < tables) × IsBase next target
 
 -- the rows of a table, in the order of its versions
-abbrev pub rows_in : Rows → ℕ → List (List Value)
-rows_in rows table = map (λ v. v.row) (versions_of rows table)
+abbrev pub table_rows : Rows → ℕ → List (List Value)
+table_rows rows table = map (λ v. v.row) (versions_of rows table)
 
 -- what operations on a base show is what they make of it
 abbrev pub ViewIsApplied : Rows → List RowOp → ℕ → Type 0
-ViewIsApplied rows ops table = AllByRecursion (IsOnBase (length rows.tables) rows.next) ops → view rows ops table ≡ rows_in (apply_all rows ops) table
+ViewIsApplied rows ops table = AllByRecursion (IsOnBase (length rows.tables) rows.next) ops → view rows ops table ≡ table_rows (apply_all rows ops) table
 
 -- the law, on every base
 abbrev pub ViewsAreApplied : Type 0

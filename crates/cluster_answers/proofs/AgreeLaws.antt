@@ -10,7 +10,7 @@ use Rattle.cdb_values.specs.Rows.{Rows, apply_all}
 use Rattle.cdb_values.specs.declared.rows.RowOp.{RowOp}
 use Rattle.report_laws.specs.Told.{told}
 use Rattle.report_laws.specs.View.{View, touched_in, IsUntouched}
-use Rattle.report_laws.specs.Work.{Transaction, Item, Does, Lone, End}
+use Rattle.report_laws.specs.Work.{Transaction, WorkItem, Does, Lone, End}
 use Rattle.cdb_values.specs.declared.replies.Reply.{Reply}
 use Rattle.cdb_values.specs.declared.replies.Reply.TheVariants as reply
 use Rattle.session_language.specs.Touched.{Used, used_at}
@@ -205,7 +205,7 @@ cut_on G p q r s v w a all name t mine from c = go c.front refl
           says = c.says;
         }
 
-pub told_on : (G : Setting) (p q : ℕ) (r s : Rows) (v w : View) → Agree q v w → q ≤ v.last → (name : List ℕ) (i : Item) (mine : List Reply) → BeginsFrom q mine → IsToldAlong (basis_from G p r) v name i mine → IsToldAlong (basis_from G q s) w name i mine
+pub told_on : (G : Setting) (p q : ℕ) (r s : Rows) (v w : View) → Agree q v w → q ≤ v.last → (name : List ℕ) (i : WorkItem) (mine : List Reply) → BeginsFrom q mine → IsToldAlong (basis_from G p r) v name i mine → IsToldAlong (basis_from G q s) w name i mine
 told_on G p q r s v w a all name (Does t) mine from (inl x) =
     let lo : q ≤ x.begin = from x.begin _ x.says in
     let hi : x.begin ≤ v.last = x.within in

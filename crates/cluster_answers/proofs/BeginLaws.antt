@@ -6,10 +6,10 @@ use Rattle.core_lists.specs.Lists.{In, Each}
 use Rattle.core_lists.specs.Lists.In.{here, there}
 use Rattle.core_lists.proofs.Lists.{each_add, each_none, each_more, nothing}
 use Rattle.cluster_consensus.specs.Facts.{Claim}
-use Rattle.cluster_consensus.specs.Events.{Event as Step}
-use Rattle.cluster_consensus.specs.Events.Event.{Boot, Down, Back, BackLead, BackTake, BackGrow, BackAppend, Asks}
+use Rattle.cluster_consensus.specs.Events.{NodeEvent}
+use Rattle.cluster_consensus.specs.Events.NodeEvent.{Boot, Down, Back, BackLead, BackTake, BackGrow, BackAppend, Asks}
 use Rattle.cluster_consensus.specs.Histories.{Legal, after}
-use Rattle.cluster_begins.specs.Begins.{CanBegin, IsAnswered as IsAnsweredIn}
+use Rattle.cluster_begins.specs.Begins.{CanBegin, IsPositionAnswered}
 use Rattle.cluster_masters.specs.FirstMaster.{IsFirstMaster}
 use Rattle.cluster_requests.specs.Requests.{Field, field_after}
 use Rattle.phys_log.specs.declared.entries.CommitId.{CommitId}
@@ -17,7 +17,7 @@ use Rattle.cluster_requests.specs.KeptEntries.{KeptEntry}
 use Rattle.cdb_values.specs.Rows.{Rows}
 use Rattle.report_laws.specs.Nodes.{downs, is_up}
 use Rattle.report_laws.specs.Lawful.{positions, named_by, is_heard, IsFreshLine}
-use Rattle.report_laws.specs.Work.{Item, Lone}
+use Rattle.report_laws.specs.Work.{WorkItem, Lone}
 use Rattle.report_text.specs.declared.reports.Line.{Line}
 use Rattle.report_text.specs.declared.reports.Line.TheVariants as line
 use Rattle.cdb_values.specs.declared.replies.Reply.{Reply}
@@ -25,9 +25,9 @@ use Rattle.cdb_values.specs.declared.replies.Reply.TheVariants as reply
 use Rattle.session_language.specs.Each.{EachAfter}
 use Rattle.session_language.specs.Answers.{IsPlain}
 use Rattle.cluster_events.specs.Settings.{Setting, basis_from}
-use Rattle.cluster_events.specs.Parts.{Event, Part, head_number, lone_of, part, add_act, acts, field, up_line, lines_by, lines}
-use Rattle.cluster_events.specs.Parts.Event.{Node, Stop, Ask, Begun, Say, Note, Finish, Barrier, Fed, FedAgain}
-use Rattle.cluster_events.specs.Guards.{commit_id_of, IsRefused, IsKept, MayFinish, fed_from, MayDo, IsLegal, AreApart}
+use Rattle.cluster_events.specs.Parts.{ActorEvent, Part, head_number, lone_of, part, add_act, acts, field, up_line, lines_by, lines}
+use Rattle.cluster_events.specs.Parts.ActorEvent.{Node, Stop, Ask, Begun, Say, Note, Finish, Barrier, Fed, FedAgain}
+use Rattle.cluster_events.specs.Guards.{commit_id_of, IsRefused, IsKept, MayFinish, fed_from, MayDo, IsLegalHistory, AreNamedApart}
 use Rattle.cluster_masters.proofs.MasterLaws.{base_within}
 use Rattle.cluster_begins.proofs.Since.{answered_on, fresh_begin}
 use Rattle.cluster_events.proofs.LineLists.{append_nil, each_after_more}
@@ -36,7 +36,7 @@ use Rattle.cluster_answers.proofs.AskLaws.{each_append, hears, is_op, Asked, ask
 use Rattle.std.specs.List.{AllByRecursion}
 
 abbrev pub NamedOk : Field → ℕ → Type 0
-NamedOk f p = (p ≡ 0) ⊎ ((q : ℕ) × IsAnsweredIn f.core p q)
+NamedOk f p = (p ≡ 0) ⊎ ((q : ℕ) × IsPositionAnswered f.core p q)
 
 abbrev pub Named : Field → Line → Type 0
 Named f l = (p : ℕ) → In p (positions l) → NamedOk f p
@@ -46,7 +46,7 @@ one_of here = refl
 one_of (there m) = absurd (nothing m)
 
 pinged_named : (f : Field) (b g : ℕ) → Pinged f b g → (p : ℕ) → In p (b ∷ []) → NamedOk f p
-pinged_named f b g k p m = inr (g, subst (λ z. IsAnsweredIn f.core z g) (sym (one_of m)) (answered_ping f b g k))
+pinged_named f b g k p m = inr (g, subst (λ z. IsPositionAnswered f.core z g) (sym (one_of m)) (answered_ping f b g k))
 
 -- a reply that is plain names no position
 pub plain_names : (r : Reply) → IsPlain r → named_by r ≡ []
@@ -63,7 +63,7 @@ plain_named f name t r k p m = absurd (nothing (subst (λ z. In p z) (plain_name
 refused_named : (f : Field) (id : CommitId) (k : ℕ) (why : Reply) → IsRefused f id k why → (p : ℕ) → In p (k ∷ []) → NamedOk f p
 refused_named f id k why r p m = inr (r.settled.gen, inl (r.node, record { it = r.durable.it; mem = r.durable.mem; is = (r.durable.is.0, let e : p ≡ k = one_of m in let l : k ≤ length r.durable.it.log = r.durable.is.1 in omega arith) }))
 
-finish_named : (G : Setting) (h : List (ℕ × Event)) (i t : ℕ) (a : Reply) → IsLegal G h → MayFinish G h i a → Named (field h) (line.Session (G.names i) t a)
+finish_named : (G : Setting) (h : List (ℕ × ActorEvent)) (i t : ℕ) (a : Reply) → IsLegalHistory G h → MayFinish G h i a → Named (field h) (line.Session (G.names i) t a)
 finish_named G h i t reply.RolledBack legal may p m = absurd (nothing m)
 finish_named G h i t (reply.Committed k) legal may p m = go may.1
   where
@@ -94,7 +94,7 @@ boot_named : (f : Field) (i : ℕ) (b : Bool) → Each (Named f) (up_line b i)
 boot_named f i true = each_none
 boot_named f i false = silent f (line.Up i) refl
 
-node_named : (G : Setting) (f : Field) (i : ℕ) (before : List Line) (p : Part) (e : Step KeptEntry) → Each (Named f) (lines_by G before p i (Node e))
+node_named : (G : Setting) (f : Field) (i : ℕ) (before : List Line) (p : Part) (e : NodeEvent KeptEntry) → Each (Named f) (lines_by G before p i (Node e))
 node_named G f i before p Down = silent f _ refl
 node_named G f i before p (Boot q a l) = boot_named f i (is_up i before)
 node_named G f i before p (Back q) = silent f _ refl
@@ -113,10 +113,10 @@ last_in f d (line.Down c n b ∷ ls) k all = last_in f d ls k (record { at = λ 
 last_in f d (line.Up n ∷ ls) k all = last_in f d ls k (record { at = λ y m. all.at y (there m) })
 last_in f d (line.Barrier ∷ ls) k all = last_in f d ls k (record { at = λ y m. all.at y (there m) })
 
-lone_is : (is others : List Item) (r : Reply) → is ≡ Lone r ∷ others → lone_of is ≡ r
+lone_is : (is others : List WorkItem) (r : Reply) → is ≡ Lone r ∷ others → lone_of is ≡ r
 lone_is is others r e = ap (λ z. lone_of z) e
 
-new_named : (G : Setting) (h : List (ℕ × Event)) (i : ℕ) (e : Event) → IsLegal G h → MayDo G h i e → Each (Named (field h)) (lines G h) → Each (Named (field_after (add_act i e (acts h)))) (lines_by G (lines G h) (part G i h) i e)
+new_named : (G : Setting) (h : List (ℕ × ActorEvent)) (i : ℕ) (e : ActorEvent) → IsLegalHistory G h → MayDo G h i e → Each (Named (field h)) (lines G h) → Each (Named (field_after (add_act i e (acts h)))) (lines_by G (lines G h) (part G i h) i e)
 new_named G h i (Node e) legal may old = node_named G (field_after (add_act i (Node e) (acts h))) i (lines G h) (part G i h) e
 new_named G h i Stop legal may old = silent (field_after (add_act i Stop (acts h))) (line.Down (downs (lines G h) + 1) i false) refl
 new_named G h i (Begun b g) legal may old = each_add (pinged_named (field h) b g (pinged_by G.nodes (field h) may.0 b g may.5)) each_none
@@ -132,7 +132,7 @@ named_later : {f g : Field} → Later f g → (p : ℕ) → NamedOk f p → Name
 named_later {f} {g} on p (inl z) = inl z
 named_later {f} {g} on p (inr k) = inr (k.0, answered_on f.core g.core p k.0 on.told k.1)
 
-pub named_lines : (G : Setting) (h : List (ℕ × Event)) → IsLegal G h → Each (Named (field h)) (lines G h)
+pub named_lines : (G : Setting) (h : List (ℕ × ActorEvent)) → IsLegalHistory G h → Each (Named (field h)) (lines G h)
 named_lines G [] legal = each_none
 named_lines G (x ∷ h) legal =
     let on = later_event G h x.0 x.1 (good_of G h legal.1).inv legal.0 in
@@ -164,14 +164,14 @@ abbrev Heard : List Line → Line → Type 0
 Heard before (line.Session name t (reply.Begin b)) = (1 ≤ b) × Covers before name b
 Heard before _ = Unit {0}
 
-begun_heard : (G : Setting) → AreApart G → (h : List (ℕ × Event)) (s t b g : ℕ) → IsLegal G h → MayDo G h s (Begun b g) → Heard (lines G h) (line.Session (G.names s) t (reply.Begin b))
+begun_heard : (G : Setting) → AreNamedApart G → (h : List (ℕ × ActorEvent)) (s t b g : ℕ) → IsLegalHistory G h → MayDo G h s (Begun b g) → Heard (lines G h) (line.Session (G.names s) t (reply.Begin b))
 begun_heard G far h s t b g legal may = ((begins_of G h legal b g (pinged_by G.nodes (field h) may.0 b g may.5)).first, go)
   where
     a : Asked G s may.0 h
     a = asked_at G far s may.0 h legal may.1
 
-    legal' : IsLegal G (a.mid ++ (s, Ask may.0) ∷ a.before)
-    legal' = subst (λ z. IsLegal G z) a.is legal
+    legal' : IsLegalHistory G (a.mid ++ (s, Ask may.0) ∷ a.before)
+    legal' = subst (λ z. IsLegalHistory G z) a.is legal
 
     split : steps h ≡ steps a.mid ++ (s, Asks may.0) ∷ steps a.before
     split = ap (λ z. steps z) a.is ∙ steps_append a.mid ((s, Ask may.0) ∷ a.before)
@@ -184,7 +184,7 @@ begun_heard G far h s t b g legal may = ((begins_of G h legal b g (pinged_by G.n
 
     at_most : (p : ℕ) → NamedOk (field a.before) p → p ≤ b
     at_most p (inl z) = let z' : p ≡ 0 = z in omega arith
-    at_most p (inr n) = fresh_begin G.nodes s may.0 b g p n.0 (steps a.before) (steps a.mid) core can (subst (λ w. IsAnsweredIn w p n.0) (core_is a.before) n.1)
+    at_most p (inr n) = fresh_begin G.nodes s may.0 b g p n.0 (steps a.before) (steps a.mid) core can (subst (λ w. IsPositionAnswered w p n.0) (core_is a.before) n.1)
 
     go : Covers (lines G h) (G.names s) b
     go front mark back e m x k p q =
@@ -196,7 +196,7 @@ reply_heard : (ls : List Line) (name : List ℕ) (t : ℕ) (r : Reply) → IsPla
 reply_heard ls name t (reply.Begin b) k = absurd k
 reply_heard ls name t _ k = tt
 
-finish_heard : (G : Setting) (h : List (ℕ × Event)) (ls : List Line) (i t : ℕ) (a : Reply) → MayFinish G h i a → Heard ls (line.Session (G.names i) t a)
+finish_heard : (G : Setting) (h : List (ℕ × ActorEvent)) (ls : List Line) (i t : ℕ) (a : Reply) → MayFinish G h i a → Heard ls (line.Session (G.names i) t a)
 finish_heard G h ls i t (reply.Begin b) may = absurd may
 finish_heard G h ls i t _ may = tt
 
@@ -204,7 +204,7 @@ boot_heard : (ls : List Line) (i : ℕ) (b : Bool) → EachAfter Heard [] ls →
 boot_heard ls i false a = each_after_more Heard [] ls (line.Up i) a tt
 boot_heard ls i true a = subst (λ z. EachAfter Heard [] z) (sym (append_nil ls)) a
 
-step_heard : (G : Setting) → AreApart G → (h : List (ℕ × Event)) (i : ℕ) (e : Event) → IsLegal G h → MayDo G h i e → EachAfter Heard [] (lines G h) → EachAfter Heard [] (lines G h ++ lines_by G (lines G h) (part G i h) i e)
+step_heard : (G : Setting) → AreNamedApart G → (h : List (ℕ × ActorEvent)) (i : ℕ) (e : ActorEvent) → IsLegalHistory G h → MayDo G h i e → EachAfter Heard [] (lines G h) → EachAfter Heard [] (lines G h ++ lines_by G (lines G h) (part G i h) i e)
 step_heard G far h i (Begun b g) legal may a = each_after_more Heard [] (lines G h) _ a (begun_heard G far h i (head_number (part G i h).left) b g legal may)
 step_heard G far h i (Say r) legal may a = each_after_more Heard [] (lines G h) _ a (reply_heard (lines G h) (G.names i) (head_number (part G i h).left) r may.4)
 step_heard G far h i Note legal may a = each_after_more Heard [] (lines G h) _ a (subst (λ z. Heard (lines G h) (line.Session (G.names i) (head_number (part G i h).left) z)) (sym (lone_is (part G i h).left may.1 may.0 may.2)) (reply_heard (lines G h) (G.names i) (head_number (part G i h).left) may.0 may.3))
@@ -223,7 +223,7 @@ step_heard G far h i (Node (BackAppend e)) legal may a = each_after_more Heard [
 step_heard G far h i (Node _) legal may a = subst (λ z. EachAfter Heard [] z) (sym (append_nil (lines G h))) a
 step_heard G far h i _ legal may a = subst (λ z. EachAfter Heard [] z) (sym (append_nil (lines G h))) a
 
-heard_lines : (G : Setting) → AreApart G → (h : List (ℕ × Event)) → IsLegal G h → EachAfter Heard [] (lines G h)
+heard_lines : (G : Setting) → AreNamedApart G → (h : List (ℕ × ActorEvent)) → IsLegalHistory G h → EachAfter Heard [] (lines G h)
 heard_lines G far [] legal = tt
 heard_lines G far (x ∷ h) legal = step_heard G far h x.0 x.1 legal.1 legal.0 (heard_lines G far h legal.1)
 
@@ -244,7 +244,7 @@ reply_stated : (f : Field) (name : List ℕ) (t : ℕ) (r : Reply) → IsPlain r
 reply_stated f name t (reply.Begin b) k = absurd k
 reply_stated f name t _ k = tt
 
-finish_stated : (G : Setting) (h : List (ℕ × Event)) (i t : ℕ) (a : Reply) → MayFinish G h i a → Stated (field h) (line.Session (G.names i) t a)
+finish_stated : (G : Setting) (h : List (ℕ × ActorEvent)) (i t : ℕ) (a : Reply) → MayFinish G h i a → Stated (field h) (line.Session (G.names i) t a)
 finish_stated G h i t (reply.Begin b) may = absurd may
 finish_stated G h i t _ may = tt
 
@@ -252,7 +252,7 @@ boot_stated : (f : Field) (i : ℕ) (b : Bool) → Each (Stated f) (up_line b i)
 boot_stated f i false = each_add tt each_none
 boot_stated f i true = each_none
 
-node_stated : (G : Setting) (f : Field) (i : ℕ) (before : List Line) (p : Part) (e : Step KeptEntry) → Each (Stated f) (lines_by G before p i (Node e))
+node_stated : (G : Setting) (f : Field) (i : ℕ) (before : List Line) (p : Part) (e : NodeEvent KeptEntry) → Each (Stated f) (lines_by G before p i (Node e))
 node_stated G f i before p Down = each_add tt each_none
 node_stated G f i before p (Boot q a l) = boot_stated f i (is_up i before)
 node_stated G f i before p (Back q) = each_add tt each_none
@@ -262,7 +262,7 @@ node_stated G f i before p (BackGrow l) = each_add tt each_none
 node_stated G f i before p (BackAppend e) = each_add tt each_none
 node_stated G f i before p _ = each_none
 
-new_stated : (G : Setting) (h : List (ℕ × Event)) (i : ℕ) (e : Event) → MayDo G h i e → Each (Stated (field_after (add_act i e (acts h)))) (lines_by G (lines G h) (part G i h) i e)
+new_stated : (G : Setting) (h : List (ℕ × ActorEvent)) (i : ℕ) (e : ActorEvent) → MayDo G h i e → Each (Stated (field_after (add_act i e (acts h)))) (lines_by G (lines G h) (part G i h) i e)
 new_stated G h i (Node e) may = node_stated G (field_after (add_act i (Node e) (acts h))) i (lines G h) (part G i h) e
 new_stated G h i Stop may = each_add tt each_none
 new_stated G h i (Begun b g) may = each_add (g, pinged_by G.nodes (field h) may.0 b g may.5) each_none
@@ -274,14 +274,14 @@ new_stated G h i (Fed d g) may = each_add tt each_none
 new_stated G h i (FedAgain d) may = each_add tt each_none
 new_stated G h i _ may = each_none
 
-pub stated_lines : (G : Setting) (h : List (ℕ × Event)) → IsLegal G h → Each (Stated (field h)) (lines G h)
+pub stated_lines : (G : Setting) (h : List (ℕ × ActorEvent)) → IsLegalHistory G h → Each (Stated (field h)) (lines G h)
 stated_lines G [] legal = each_none
 stated_lines G (x ∷ h) legal =
     let on = later_event G h x.0 x.1 (good_of G h legal.1).inv legal.0 in
     each_append (lines G h) _ (each_more (λ l k. stated_later on l k) (stated_lines G h legal.1)) (new_stated G h x.0 x.1 legal.0)
 
 -- the base is not above a begin
-pub base_below : (G : Setting) (h : List (ℕ × Event)) → IsLegal G h → (m : ℕ) (a : Claim KeptEntry) → IsFirstMaster G.nodes (field h).core m a → (b g : ℕ) → Pinged (field h) b g → length a.log ≤ b
+pub base_below : (G : Setting) (h : List (ℕ × ActorEvent)) → IsLegalHistory G h → (m : ℕ) (a : Claim KeptEntry) → IsFirstMaster G.nodes (field h).core m a → (b g : ℕ) → Pinged (field h) b g → length a.log ≤ b
 base_below G h legal m a first b g p =
     let k = begins_of G h legal b g p in
     let e : k.led.it.gen ≡ g = k.led.is.0 in
@@ -298,13 +298,13 @@ all_of_in : {A : Type 0} (P : A → Type 0) (xs : List A) → ((x : A) → In x 
 all_of_in P [] f = tt
 all_of_in P (x ∷ xs) f = (f x here, all_of_in P xs (λ y m. f y (there m)))
 
-fresh_reply : (G : Setting) (h : List (ℕ × Event)) → IsLegal G h → (m : ℕ) (a : Claim KeptEntry) → IsFirstMaster G.nodes (field h).core m a → (rows : Rows) (before : List Line) (s : List ℕ) (t : ℕ) (r : Reply) → Heard before (line.Session s t r) → Stated (field h) (line.Session s t r) → IsFreshLine (basis_from G (length a.log) rows).origin before (line.Session s t r)
+fresh_reply : (G : Setting) (h : List (ℕ × ActorEvent)) → IsLegalHistory G h → (m : ℕ) (a : Claim KeptEntry) → IsFirstMaster G.nodes (field h).core m a → (rows : Rows) (before : List Line) (s : List ℕ) (t : ℕ) (r : Reply) → Heard before (line.Session s t r) → Stated (field h) (line.Session s t r) → IsFreshLine (basis_from G (length a.log) rows).origin before (line.Session s t r)
 fresh_reply G h legal m a first rows before s t (reply.Begin b) k q = record { first = k.0; base = base_below G h legal m a first b q.0 q.1; heard = λ front mark back e u. all_of_in _ front (λ x i. all_of_in _ (positions x) (λ p j. k.1 front mark back e u x i p j)) }
 fresh_reply G h legal m a first rows before s t _ k q = tt
 
-fresh_line : (G : Setting) (h : List (ℕ × Event)) → IsLegal G h → (m : ℕ) (a : Claim KeptEntry) → IsFirstMaster G.nodes (field h).core m a → (rows : Rows) (before : List Line) (l : Line) → Heard before l → Stated (field h) l → IsFreshLine (basis_from G (length a.log) rows).origin before l
+fresh_line : (G : Setting) (h : List (ℕ × ActorEvent)) → IsLegalHistory G h → (m : ℕ) (a : Claim KeptEntry) → IsFirstMaster G.nodes (field h).core m a → (rows : Rows) (before : List Line) (l : Line) → Heard before l → Stated (field h) l → IsFreshLine (basis_from G (length a.log) rows).origin before l
 fresh_line G h legal m a first rows before (line.Session s t r) k q = fresh_reply G h legal m a first rows before s t r k q
 fresh_line G h legal m a first rows before _ k q = tt
 
-pub begins_fresh : (G : Setting) → AreApart G → (h : List (ℕ × Event)) (m : ℕ) (a : Claim KeptEntry) (rows : Rows) → IsLegal G h → IsFirstMaster G.nodes (field h).core m a → EachAfter (IsFreshLine (basis_from G (length a.log) rows).origin) [] (lines G h)
+pub begins_fresh : (G : Setting) → AreNamedApart G → (h : List (ℕ × ActorEvent)) (m : ℕ) (a : Claim KeptEntry) (rows : Rows) → IsLegalHistory G h → IsFirstMaster G.nodes (field h).core m a → EachAfter (IsFreshLine (basis_from G (length a.log) rows).origin) [] (lines G h)
 begins_fresh G far h m a rows legal first = both_after Heard (IsFreshLine (basis_from G (length a.log) rows).origin) (Stated (field h)) [] (lines G h) (fresh_line G h legal m a first rows) (heard_lines G far h legal) (stated_lines G h legal)

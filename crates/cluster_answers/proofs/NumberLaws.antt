@@ -6,22 +6,22 @@ use Rattle.core_lists.specs.Lists.{In, Each}
 use Rattle.core_lists.specs.Lists.In.{here, there}
 use Rattle.core_lists.proofs.Lists.{each_add, each_none, each_more, nothing}
 use Rattle.cluster_consensus.proofs.Invariant.{Once}
-use Rattle.report_laws.specs.Work.{Transaction, Item, Does, Lone}
+use Rattle.report_laws.specs.Work.{Transaction, WorkItem, Does, Lone}
 use Rattle.cdb_values.specs.declared.replies.Reply.{Reply}
 use Rattle.cdb_values.specs.declared.replies.Reply.TheVariants as reply
 use Rattle.cluster_events.specs.Settings.{Setting, work_of}
-use Rattle.cluster_events.specs.Parts.{Event, Opened, Began, Part, head_number, rest_of, moves, part}
-use Rattle.cluster_events.specs.Parts.Event.{Ask, Begun, Say, Note, Finish, Barrier, Fed, FedAgain}
-use Rattle.cluster_events.specs.Guards.{IsAtTransaction, MayFinish, MayDo, IsLegal, Rising}
+use Rattle.cluster_events.specs.Parts.{ActorEvent, Opened, Began, Part, head_number, rest_of, moves, part}
+use Rattle.cluster_events.specs.Parts.ActorEvent.{Ask, Begun, Say, Note, Finish, Barrier, Fed, FedAgain}
+use Rattle.cluster_events.specs.Guards.{IsAtTransaction, MayFinish, MayDo, IsLegalHistory, Rising}
 use Rattle.cluster_answers.proofs.AskLaws.{none_some}
 
-pub rising_above : (k : ℕ) (is : List Item) (t : Transaction) → Rising k is → In (Does t) is → k < t.number
+pub rising_above : (k : ℕ) (is : List WorkItem) (t : Transaction) → Rising k is → In (Does t) is → k < t.number
 rising_above k [] t r m = absurd (nothing m)
 rising_above k (Lone a ∷ is) t r (there m) = rising_above k is t r m
 rising_above k (Does u ∷ is) t r here = r.0
 rising_above k (Does u ∷ is) t r (there m) = let a = rising_above u.number is t r.1 m in let b = r.0 in omega arith
 
-pub rising_once : (k : ℕ) (is : List Item) (t u : Transaction) → Rising k is → In (Does t) is → In (Does u) is → t.number ≡ u.number → t ≡ u
+pub rising_once : (k : ℕ) (is : List WorkItem) (t u : Transaction) → Rising k is → In (Does t) is → In (Does u) is → t.number ≡ u.number → t ≡ u
 rising_once k [] t u r m n e = absurd (nothing m)
 rising_once k (Lone a ∷ is) t u r (there m) (there n) e = rising_once k is t u r m n e
 rising_once k (Does x ∷ is) t u r here here e = refl
@@ -31,7 +31,7 @@ rising_once k (Does x ∷ is) t u r (there m) (there n) e = rising_once x.number
 
 pub record Headed (p : Part) (o : Opened) : Type 0 where
   pub txn : Transaction
-  pub others : List Item
+  pub others : List WorkItem
   pub is : p.left ≡ Does txn ∷ others
   pub most : Each (λ y. y.txn ≤ txn.number) p.begins
   pub rises : Rising txn.number others
@@ -51,7 +51,7 @@ once_add x xs o e = record { same = go }
     go a b (there m) here q = absurd (let l : a.txn < x.txn = e.at a m in let q' : a.txn ≡ x.txn = q in omega arith)
     go a b (there m) (there n) q = o.same a b m n q
 
-pub finish_at : (G : Setting) (h : List (ℕ × Event)) (s : ℕ) (a : Reply) → MayFinish G h s a → (t : Transaction) × IsAtTransaction (part G s h) t
+pub finish_at : (G : Setting) (h : List (ℕ × ActorEvent)) (s : ℕ) (a : Reply) → MayFinish G h s a → (t : Transaction) × IsAtTransaction (part G s h) t
 finish_at G h s reply.RolledBack may = (may.0, record { others = may.2.others; is = may.2.is })
 finish_at G h s (reply.Committed k) may = (may.0.txn, record { others = may.0.at.others; is = may.0.at.is })
 finish_at G h s (reply.ConflictGenid k i g) may = (may.0.txn, record { others = may.0.at.others; is = may.0.at.is })
@@ -63,10 +63,10 @@ finish_at G h s reply.NoMemory may = (may.0, may.1)
 finish_at G h s _ may = absurd may
 
 -- an item is over
-over_counted : (p : Part) (t : Transaction) (left : List Item) → IsAtTransaction p t → Counted p → (q : Part) → q.begins ≡ p.begins → q.left ≡ rest_of p.left → q.opened ≡ None → Counted q
+over_counted : (p : Part) (t : Transaction) (left : List WorkItem) → IsAtTransaction p t → Counted p → (q : Part) → q.begins ≡ p.begins → q.left ≡ rest_of p.left → q.opened ≡ None → Counted q
 over_counted p t left at c q eb el eo = go p.opened refl
   where
-    rest : {x : Transaction} {xs : List Item} → p.left ≡ Does x ∷ xs → q.left ≡ xs
+    rest : {x : Transaction} {xs : List WorkItem} → p.left ≡ Does x ∷ xs → q.left ≡ xs
     rest e = el ∙ ap (λ z. rest_of z) e
 
     done : (x : ℕ) → Each (λ y. y.txn ≤ x) p.begins × Rising x q.left → Counted q
@@ -81,7 +81,7 @@ over_counted p t left at c q eb el eo = go p.opened refl
         let b = c.busy o e in
         done b.txn.number (b.most, subst (λ z. Rising b.txn.number z) (sym (rest b.is)) b.rises)
 
-pub counted_row : (G : Setting) (h : List (ℕ × Event)) (s : ℕ) (e : Event) → MayDo G h s e → Counted (part G s h) → Counted (moves (part G s h) e)
+pub counted_row : (G : Setting) (h : List (ℕ × ActorEvent)) (s : ℕ) (e : ActorEvent) → MayDo G h s e → Counted (part G s h) → Counted (moves (part G s h) e)
 counted_row G h s (Begun b g) may c =
     let p = part G s h in
     let t = may.3 in
@@ -107,7 +107,7 @@ counted_row G h s Note may c = go (part G s h).opened refl
         record { once = c.once; low = c.low; idle = λ q. (r.0, subst (λ z. Rising c.low z) (sym (ap (λ z. rest_of z) may.2)) (subst (λ z. Rising c.low z) may.2 r.1)); busy = λ o q. none_some q }
     go (Some o) e = absurd (not_both (c.busy o e).is may.2)
       where
-        not_both : {x : Transaction} {xs ys : List Item} {r : Reply} → (part G s h).left ≡ Does x ∷ xs → (part G s h).left ≡ Lone r ∷ ys → ⊥
+        not_both : {x : Transaction} {xs ys : List WorkItem} {r : Reply} → (part G s h).left ≡ Does x ∷ xs → (part G s h).left ≡ Lone r ∷ ys → ⊥
         not_both a b = let q = sym a ∙ b in cc
 counted_row G h s (Ask t) may c = record { once = c.once; low = c.low; idle = c.idle; busy = λ o e. (let b = c.busy o e in record { txn = b.txn; others = b.others; is = b.is; most = b.most; rises = b.rises }) }
 counted_row G h s (Say r) may c = record { once = c.once; low = c.low; idle = c.idle; busy = λ o e. (let b = c.busy o e in record { txn = b.txn; others = b.others; is = b.is; most = b.most; rises = b.rises }) }
@@ -116,7 +116,7 @@ counted_row G h s (Fed d g) may c = record { once = c.once; low = c.low; idle = 
 counted_row G h s (FedAgain d) may c = record { once = c.once; low = c.low; idle = c.idle; busy = λ o e. (let b = c.busy o e in record { txn = b.txn; others = b.others; is = b.is; most = b.most; rises = b.rises }) }
 counted_row G h s _ may c = c
 
-pub counted : (G : Setting) (h : List (ℕ × Event)) (s : ℕ) → Rising 0 (work_of G s) → IsLegal G h → Counted (part G s h)
+pub counted : (G : Setting) (h : List (ℕ × ActorEvent)) (s : ℕ) → Rising 0 (work_of G s) → IsLegalHistory G h → Counted (part G s h)
 counted G [] s r legal = record { once = record { same = λ x y m n e. absurd (nothing m) }; low = 0; idle = λ e. (each_none, r); busy = λ o e. none_some e }
 counted G (x ∷ h) s r legal = go (counted G h s r legal.1) (s == x.0) refl
   where

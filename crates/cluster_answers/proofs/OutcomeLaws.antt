@@ -20,9 +20,9 @@ use Rattle.cdb_values.specs.declared.replies.Reply.{Reply}
 use Rattle.cdb_values.specs.declared.replies.Reply.TheVariants as reply
 use Rattle.session_language.specs.Language.{Answered}
 use Rattle.session_language.specs.Touched.{Used, used_at}
-use Rattle.cluster_events.specs.Settings.{Setting, basis, work_of, rows_at, run_alone, line_of, changes_in, log_view}
-use Rattle.cluster_events.specs.Parts.{Event, Opened, head_number, part, field}
-use Rattle.cluster_events.specs.Guards.{DurableNow, IsAnswered, IsInTransaction, commit_id_of, IsRightRefusal, IsRefused, IsKept, IsLegal, AreApart, Rising}
+use Rattle.cluster_events.specs.Settings.{Setting, basis, work_of, kept_rows_at, run_alone, line_of, changes_in, log_view}
+use Rattle.cluster_events.specs.Parts.{ActorEvent, Opened, head_number, part, field}
+use Rattle.cluster_events.specs.Guards.{DurableNow, AreRepliesTold, IsInTransaction, commit_id_of, IsRightRefusal, IsRefused, IsKept, IsLegalHistory, AreNamedApart, Rising}
 use Rattle.cdb_values.specs.Good.{IsGood, first_broken}
 use Rattle.cluster_consensus.proofs.Generations.{led_above}
 use Rattle.cluster_consensus.proofs.Commits.{committed}
@@ -43,7 +43,7 @@ use Rattle.cluster_events.proofs.OwnLines.{one_actor}
 pub some_same : {A : Type 0} {x y : A} → Some x ≡ Some y → x ≡ y
 some_same e = cc
 
-pub whole_of : (G : Setting) (f : Field) (s : ℕ) (t : Transaction) (b : ℕ) (mine : List Reply) (a : Answered) (o : Reply) (d : List KeptEntry) (ans : IsAnswered G f t b mine a) → Front ans.log d → Ends t.end (o ∷ []) → IsRight (basis G) (log_view G d) (G.names s) t b (used_at t.level a) a.ops o → IsToldAlong (basis G) (log_view G d) (G.names s) (Does t) (mine ++ o ∷ [])
+pub whole_of : (G : Setting) (f : Field) (s : ℕ) (t : Transaction) (b : ℕ) (mine : List Reply) (a : Answered) (o : Reply) (d : List KeptEntry) (ans : AreRepliesTold G f t b mine a) → Front ans.log d → Ends t.end (o ∷ []) → IsRight (basis G) (log_view G d) (G.names s) t b (used_at t.level a) a.ops o → IsToldAlong (basis G) (log_view G d) (G.names s) (Does t) (mine ++ o ∷ [])
 whole_of G f s t b mine a o d ans p ends r =
     let le = ans.within in
     let l = front_length p in
@@ -68,25 +68,25 @@ pub record SameSent (t : Transaction) (o : Opened) (a : Answered) (x : Sent) : T
   pub ops : x.ops ≡ a.ops
   pub used : x.used ≡ used_at t.level a
 
-pub sent_by : (G : Setting) → AreApart G → (h : List (ℕ × Event)) (s : ℕ) (t : Transaction) (o : Opened) (log : List KeptEntry) (x : Sent) → x.id ≡ commit_id_of G s t o → Request G h log x → x.by ≡ s
+pub sent_by : (G : Setting) → AreNamedApart G → (h : List (ℕ × ActorEvent)) (s : ℕ) (t : Transaction) (o : Opened) (log : List KeptEntry) (x : Sent) → x.id ≡ commit_id_of G s t o → Request G h log x → x.by ≡ s
 sent_by G far h s t o log x id q = one_actor G far x.by s (sym q.name ∙ ap (λ z. z.session) id)
 
-pub same_begin : (G : Setting) → AreApart G → (h : List (ℕ × Event)) (s : ℕ) → Rising 0 (work_of G s) → IsLegal G h → (t : Transaction) (o : Opened) → IsInTransaction (part G s h) t o → (log : List KeptEntry) (x : Sent) → x.id ≡ commit_id_of G s t o → Request G h log x → x.begin ≡ o.begin
+pub same_begin : (G : Setting) → AreNamedApart G → (h : List (ℕ × ActorEvent)) (s : ℕ) → Rising 0 (work_of G s) → IsLegalHistory G h → (t : Transaction) (o : Opened) → IsInTransaction (part G s h) t o → (log : List KeptEntry) (x : Sent) → x.id ≡ commit_id_of G s t o → Request G h log x → x.begin ≡ o.begin
 same_begin G far h s rising legal t o at log x id q =
     let p = part G s h in
     let m = subst (λ z. In (record { txn = z.txn; begin = x.begin; gen = z.began }) (part G s h).begins) id (subst (λ j. In (record { txn = x.id.txn; begin = x.begin; gen = x.id.began }) (part G j h).begins) (sent_by G far h s t o log x id q) q.began) in
     let n = subst (λ z. In (record { txn = z; begin = o.begin; gen = o.gen }) p.begins) (ap (λ z. head_number z) at.is) (open_in G s h o at.opened) in
     ap (λ z. z.begin) ((counted G h s rising legal).once.same _ _ m n refl)
 
-pub same_txn : (G : Setting) → AreApart G → (h : List (ℕ × Event)) (s : ℕ) → Rising 0 (work_of G s) → (t : Transaction) (o : Opened) → IsInTransaction (part G s h) t o → (log : List KeptEntry) (x : Sent) → x.id ≡ commit_id_of G s t o → (q : Request G h log x) → q.txn ≡ t
+pub same_txn : (G : Setting) → AreNamedApart G → (h : List (ℕ × ActorEvent)) (s : ℕ) → Rising 0 (work_of G s) → (t : Transaction) (o : Opened) → IsInTransaction (part G s h) t o → (log : List KeptEntry) (x : Sent) → x.id ≡ commit_id_of G s t o → (q : Request G h log x) → q.txn ≡ t
 same_txn G far h s rising t o at log x id q =
     rising_once 0 (work_of G s) q.txn t rising (subst (λ z. In (Does q.txn) (work_of G z)) (sent_by G far h s t o log x id q) q.in_work) (in_whole G s h t at.others at.is) (sym q.number ∙ ap (λ z. z.txn) id)
 
-pub same_sent : (G : Setting) → AreApart G → (h : List (ℕ × Event)) (s : ℕ) → Rising 0 (work_of G s) → IsLegal G h → (t : Transaction) (o : Opened) → IsInTransaction (part G s h) t o → (a : Answered) (rows : Rows) → a ≡ run_alone G rows t → (log : List KeptEntry) (x : Sent) → x.id ≡ commit_id_of G s t o → Request G h log x → (x.begin ≡ o.begin → rows_at G log o.begin ≡ rows) → SameSent t o a x
+pub same_sent : (G : Setting) → AreNamedApart G → (h : List (ℕ × ActorEvent)) (s : ℕ) → Rising 0 (work_of G s) → IsLegalHistory G h → (t : Transaction) (o : Opened) → IsInTransaction (part G s h) t o → (a : Answered) (rows : Rows) → a ≡ run_alone G rows t → (log : List KeptEntry) (x : Sent) → x.id ≡ commit_id_of G s t o → Request G h log x → (x.begin ≡ o.begin → kept_rows_at G log o.begin ≡ rows) → SameSent t o a x
 same_sent G far h s rising legal t o at a rows alone log x id q e =
     let b = same_begin G far h s rising legal t o at log x id q in
     let u = same_txn G far h s rising t o at log x id q in
-    let w = q.is_rows ∙ (ap (λ z. rows_at G log z) b ∙ e b) in
+    let w = q.is_rows ∙ (ap (λ z. kept_rows_at G log z) b ∙ e b) in
     let same = ap (λ (z : Rows). run_alone G z q.txn) w ∙ (ap (λ (z : Transaction). run_alone G rows z) u ∙ sym alone) in
     record { begin = b; level = q.level ∙ ap (λ (z : Transaction). z.level) u; ops = q.ops ∙ ap (λ z. z.ops) same; used = q.used ∙ (ap (λ z. used_at q.txn.level z) same ∙ ap (λ (z : Transaction). used_at z.level a) u) }
 
@@ -102,11 +102,11 @@ take_whole [] = refl
 take_whole (x ∷ a) = ap (λ z. x ∷ z) (take_whole a)
 
 -- the rows behind an entry of a log
-pub rows_last : (G : Setting) (xs : List KeptEntry) (e : KeptEntry) (d : List KeptEntry) (k : ℕ) → k ≡ length xs + 1 → Front (xs ++ e ∷ []) d → rows_at G d k ≡ state_of (xs ++ e ∷ [])
+pub rows_last : (G : Setting) (xs : List KeptEntry) (e : KeptEntry) (d : List KeptEntry) (k : ℕ) → k ≡ length xs + 1 → Front (xs ++ e ∷ []) d → kept_rows_at G d k ≡ state_of (xs ++ e ∷ [])
 rows_last G xs e d k q p =
     let l = length-append xs (e ∷ []) in
     let same : k ≡ length (xs ++ e ∷ []) = omega arith in
-    sym (same_rows G p k (omega arith)) ∙ (ap (λ z. rows_at G (xs ++ e ∷ []) z) same ∙ ap (λ z. state_of z) (take_whole (xs ++ e ∷ [])))
+    sym (same_rows G p k (omega arith)) ∙ (ap (λ z. kept_rows_at G (xs ++ e ∷ []) z) same ∙ ap (λ z. state_of z) (take_whole (xs ++ e ∷ [])))
 
 -- an entry of a log, as the laws see it
 pub entry_last : (G : Setting) (xs : List KeptEntry) (e : KeptEntry) (d : List KeptEntry) (k : ℕ) → k ≡ length xs + 1 → Front (xs ++ e ∷ []) d → (log_view G d).entry k ≡ Some (line_of k e)
@@ -115,12 +115,12 @@ entry_last G xs e d k q p =
     let at : k - 1 ≡ length xs = omega arith in
     ap (λ i. option_map (line_of k) (slice_get d i)) at ∙ ap (λ o. option_map (line_of k) o) (sym (get_of p (length xs) (omega arith)) ∙ get_last xs e)
 
-pub kept_entry : (G : Setting) (h : List (ℕ × Event)) → IsLegal G h → (id : CommitId) (k : ℕ) (r : IsKept (field h) id k) → Rule G h r.before r.entry
+pub kept_entry : (G : Setting) (h : List (ℕ × ActorEvent)) → IsLegalHistory G h → (id : CommitId) (k : ℕ) (r : IsKept (field h) id k) → Rule G h r.before r.entry
 kept_entry G h legal id k r =
     let s = r.kept.2 in
     (rules G h legal r.kept.0).accepts.at s.it (((good_of G h legal).inv.local r.kept.0).ships.at s.it s.mem).1 r.before r.entry s.is.1
 
-pub kept_right : (G : Setting) → AreApart G → (h : List (ℕ × Event)) (s : ℕ) → Rising 0 (work_of G s) → IsLegal G h → (t : Transaction) (o : Opened) → IsInTransaction (part G s h) t o → (k : ℕ) (a : Answered) (ans : IsAnswered G (field h) t o.begin (part G s h).mine a) → IsKept (field h) (commit_id_of G s t o) k → Entered G (field h) s t o.begin k a ans.log
+pub kept_right : (G : Setting) → AreNamedApart G → (h : List (ℕ × ActorEvent)) (s : ℕ) → Rising 0 (work_of G s) → IsLegalHistory G h → (t : Transaction) (o : Opened) → IsInTransaction (part G s h) t o → (k : ℕ) (a : Answered) (ans : AreRepliesTold G (field h) t o.begin (part G s h).mine a) → IsKept (field h) (commit_id_of G s t o) k → Entered G (field h) s t o.begin k a ans.log
 kept_right G far h s rising legal t o at k a ans r = go (kept_entry G h legal (commit_id_of G s t o) k r)
   where
     inv : Inv G.nodes (field h).core
@@ -148,7 +148,7 @@ kept_right G far h s rising legal t o at k a ans r = go (kept_entry G h legal (c
         let id : x.sent.id ≡ commit_id_of G s t o = some_same (sym x.its_id ∙ r.its_id) in
         let pd : Front r.before both.0 = front_trans (front_append r.before (r.entry ∷ [])) both.3 in
         let w = x.request.within in
-        let same = same_sent G far h s rising legal t o at a (rows_at G ans.log o.begin) ans.alone r.before x.sent id x.request (λ e. same_rows G pd o.begin (let e' : x.sent.begin ≡ o.begin = e in omega arith) ∙ sym (same_rows G both.2 o.begin ans.within)) in
+        let same = same_sent G far h s rising legal t o at a (kept_rows_at G ans.log o.begin) ans.alone r.before x.sent id x.request (λ e. same_rows G pd o.begin (let e' : x.sent.begin ≡ o.begin = e in omega arith) ∙ sym (same_rows G both.2 o.begin ans.within)) in
         let sb : x.sent.begin ≡ o.begin = same.begin in
         let pos : k ≡ length r.before + 1 = r.position in
         record {
@@ -174,7 +174,7 @@ pub record Fronted (G : Setting) (f : Field) (log : List KeptEntry) (z : Settled
   pub begins : Front log whole
   pub front : Front (take k z.log) whole
 
-fronted : (G : Setting) (h : List (ℕ × Event)) → IsLegal G h → (log : List KeptEntry) → DurableNow G.nodes (field h) log → (id : CommitId) (k : ℕ) (why : Reply) (r : IsRefused (field h) id k why) → SettledOk G h r.settled → Fronted G (field h) log r.settled k
+fronted : (G : Setting) (h : List (ℕ × ActorEvent)) → IsLegalHistory G h → (log : List KeptEntry) → DurableNow G.nodes (field h) log → (id : CommitId) (k : ℕ) (why : Reply) (r : IsRefused (field h) id k why) → SettledOk G h r.settled → Fronted G (field h) log r.settled k
 fronted G h legal log dur id k why r ok =
     let inv = (good_of G h legal).inv in
     let z = r.settled in
@@ -186,7 +186,7 @@ fronted G h legal log dur id k why r ok =
     let b = longer inv log (take k z.log) dur (z.gen, f) in
     record { whole = b.0; durable = b.1; begins = b.2; front = b.3 }
 
-front_rows : (G : Setting) (a d log : List KeptEntry) (k b : ℕ) → Front a d → Front (take k log) d → b ≤ length a → b ≤ k → k ≤ length log → rows_at G log b ≡ rows_at G a b
+front_rows : (G : Setting) (a d log : List KeptEntry) (k b : ℕ) → Front a d → Front (take k log) d → b ≤ length a → b ≤ k → k ≤ length log → kept_rows_at G log b ≡ kept_rows_at G a b
 front_rows G a d log k b p q la lk le =
     let l = take_length k log le in
     sym (same_rows G (front_take k log) b (omega arith)) ∙ (same_rows G q b (omega arith) ∙ sym (same_rows G p b la))
@@ -229,7 +229,7 @@ pub record RefusedOn (G : Setting) (f : Field) (s : ℕ) (t : Transaction) (b : 
   pub right : IsRight (basis G) (log_view G whole) (G.names s) t b (used_at t.level a) a.ops why
 
 -- the request of a refusal, and the log up to its position
-record Decided (G : Setting) (h : List (ℕ × Event)) (t : Transaction) (o : Opened) (a : Answered) (log : List KeptEntry) (k : ℕ) (why : Reply) : Type 0 where
+record Decided (G : Setting) (h : List (ℕ × ActorEvent)) (t : Transaction) (o : Opened) (a : Answered) (log : List KeptEntry) (k : ℕ) (why : Reply) : Type 0 where
   z : Settled
   sent : Sent
   is_right : IsRightRefusal G z.log sent why
@@ -237,7 +237,7 @@ record Decided (G : Setting) (h : List (ℕ × Event)) (t : Transaction) (o : Op
   same : o.begin ≤ k → k ≤ length z.log → SameSent t o a sent
   begin : sent.begin ≡ o.begin
 
-decided : (G : Setting) → AreApart G → (h : List (ℕ × Event)) (s : ℕ) → Rising 0 (work_of G s) → IsLegal G h → (t : Transaction) (o : Opened) → IsInTransaction (part G s h) t o → (k : ℕ) (why : Reply) (a : Answered) (ans : IsAnswered G (field h) t o.begin (part G s h).mine a) → IsRefused (field h) (commit_id_of G s t o) k why → Decided G h t o a ans.log k why
+decided : (G : Setting) → AreNamedApart G → (h : List (ℕ × ActorEvent)) (s : ℕ) → Rising 0 (work_of G s) → IsLegalHistory G h → (t : Transaction) (o : Opened) → IsInTransaction (part G s h) t o → (k : ℕ) (why : Reply) (a : Answered) (ans : AreRepliesTold G (field h) t o.begin (part G s h).mine a) → IsRefused (field h) (commit_id_of G s t o) k why → Decided G h t o a ans.log k why
 decided G far h s rising legal t o at k why a ans r =
     let ok = (settles_ok G h legal).at r.settled r.mem in
     let f = fronted G h legal ans.log ans.durable (commit_id_of G s t o) k why r ok in
@@ -247,11 +247,11 @@ decided G far h s rising legal t o at k why a ans r =
       sent = ok.sent;
       is_right = subst (λ y. IsRightRefusal G r.settled.log ok.sent y) r.its_refusal ok.why';
       fronted = f;
-      same = λ lo hi. same_sent G far h s rising legal t o at a (rows_at G ans.log o.begin) ans.alone r.settled.log ok.sent id ok.request (λ e. front_rows G ans.log f.whole r.settled.log k o.begin f.begins f.front ans.within lo hi);
+      same = λ lo hi. same_sent G far h s rising legal t o at a (kept_rows_at G ans.log o.begin) ans.alone r.settled.log ok.sent id ok.request (λ e. front_rows G ans.log f.whole r.settled.log k o.begin f.begins f.front ans.within lo hi);
       begin = same_begin G far h s rising legal t o at r.settled.log ok.sent id ok.request;
     }
 
-conflict_right : (G : Setting) (h : List (ℕ × Event)) (s : ℕ) (t : Transaction) (o : Opened) (a : Answered) (log : List KeptEntry) (k : ℕ) (why told : Reply) (x : Decided G h t o a log k why) → IsConflict (basis G) (log_view G x.z.log) x.sent.begin k x.sent.used x.sent.ops told → IsConflict (basis G) (log_view G x.fronted.whole) o.begin k (used_at t.level a) a.ops told
+conflict_right : (G : Setting) (h : List (ℕ × ActorEvent)) (s : ℕ) (t : Transaction) (o : Opened) (a : Answered) (log : List KeptEntry) (k : ℕ) (why told : Reply) (x : Decided G h t o a log k why) → IsConflict (basis G) (log_view G x.z.log) x.sent.begin k x.sent.used x.sent.ops told → IsConflict (basis G) (log_view G x.fronted.whole) o.begin k (used_at t.level a) a.ops told
 conflict_right G h s t o a log k why told x c =
     let later : x.sent.begin < k = c.later in
     let b : x.sent.begin ≡ o.begin = x.begin in
@@ -259,7 +259,7 @@ conflict_right G h s t o a log k why told x c =
     subst (λ z. IsConflict (basis G) (log_view G x.fronted.whole) o.begin k (used_at t.level a) z told) same.ops (subst (λ z. IsConflict (basis G) (log_view G x.fronted.whole) o.begin k z x.sent.ops told) same.used (subst (λ z. IsConflict (basis G) (log_view G x.fronted.whole) z k x.sent.used x.sent.ops told) same.begin
     (conflict_part G x.z.log x.fronted.whole k x.sent.begin x.sent.used x.sent.ops told x.fronted.front c)))
 
-duplicate_right : (G : Setting) (h : List (ℕ × Event)) (s : ℕ) (t : Transaction) (o : Opened) (a : Answered) (log : List KeptEntry) (k : ℕ) (why : Reply) (table key : List ℕ) (x : Decided G h t o a log k why) → IsDuplicate (basis G) (log_view G x.z.log) x.sent.begin k x.sent.used x.sent.ops table key → IsDuplicate (basis G) (log_view G x.fronted.whole) o.begin k (used_at t.level a) a.ops table key
+duplicate_right : (G : Setting) (h : List (ℕ × ActorEvent)) (s : ℕ) (t : Transaction) (o : Opened) (a : Answered) (log : List KeptEntry) (k : ℕ) (why : Reply) (table key : List ℕ) (x : Decided G h t o a log k why) → IsDuplicate (basis G) (log_view G x.z.log) x.sent.begin k x.sent.used x.sent.ops table key → IsDuplicate (basis G) (log_view G x.fronted.whole) o.begin k (used_at t.level a) a.ops table key
 duplicate_right G h s t o a log k why table key x c =
     let begun : x.sent.begin ≤ k = c.begun in
     let b : x.sent.begin ≡ o.begin = x.begin in
@@ -267,17 +267,17 @@ duplicate_right G h s t o a log k why table key x c =
     subst (λ z. IsDuplicate (basis G) (log_view G x.fronted.whole) o.begin k (used_at t.level a) z table key) same.ops (subst (λ z. IsDuplicate (basis G) (log_view G x.fronted.whole) o.begin k z x.sent.ops table key) same.used (subst (λ z. IsDuplicate (basis G) (log_view G x.fronted.whole) z k x.sent.used x.sent.ops table key) same.begin
     (duplicate_part G x.z.log x.fronted.whole k x.sent.begin x.sent.used x.sent.ops table key x.fronted.front c)))
 
-pub genid_right : (G : Setting) → AreApart G → (h : List (ℕ × Event)) (s : ℕ) → Rising 0 (work_of G s) → IsLegal G h → (t : Transaction) (o : Opened) → IsInTransaction (part G s h) t o → (k : ℕ) (table : List ℕ) (genid : ℕ) (a : Answered) (ans : IsAnswered G (field h) t o.begin (part G s h).mine a) → IsRefused (field h) (commit_id_of G s t o) k (reply.ConflictGenid k table genid) → RefusedOn G (field h) s t o.begin a ans.log (reply.ConflictGenid k table genid)
+pub genid_right : (G : Setting) → AreNamedApart G → (h : List (ℕ × ActorEvent)) (s : ℕ) → Rising 0 (work_of G s) → IsLegalHistory G h → (t : Transaction) (o : Opened) → IsInTransaction (part G s h) t o → (k : ℕ) (table : List ℕ) (genid : ℕ) (a : Answered) (ans : AreRepliesTold G (field h) t o.begin (part G s h).mine a) → IsRefused (field h) (commit_id_of G s t o) k (reply.ConflictGenid k table genid) → RefusedOn G (field h) s t o.begin a ans.log (reply.ConflictGenid k table genid)
 genid_right G far h s rising legal t o at k table genid a ans r =
     let x = decided G far h s rising legal t o at k (reply.ConflictGenid k table genid) a ans r in
     record { whole = x.fronted.whole; durable = x.fronted.durable; begins = x.fronted.begins; right = conflict_right G h s t o a ans.log k _ (reply.ConflictGenid k table genid) x x.is_right }
 
-pub range_right : (G : Setting) → AreApart G → (h : List (ℕ × Event)) (s : ℕ) → Rising 0 (work_of G s) → IsLegal G h → (t : Transaction) (o : Opened) → IsInTransaction (part G s h) t o → (k : ℕ) (table key : List ℕ) (a : Answered) (ans : IsAnswered G (field h) t o.begin (part G s h).mine a) → IsRefused (field h) (commit_id_of G s t o) k (reply.ConflictRange k table key) → RefusedOn G (field h) s t o.begin a ans.log (reply.ConflictRange k table key)
+pub range_right : (G : Setting) → AreNamedApart G → (h : List (ℕ × ActorEvent)) (s : ℕ) → Rising 0 (work_of G s) → IsLegalHistory G h → (t : Transaction) (o : Opened) → IsInTransaction (part G s h) t o → (k : ℕ) (table key : List ℕ) (a : Answered) (ans : AreRepliesTold G (field h) t o.begin (part G s h).mine a) → IsRefused (field h) (commit_id_of G s t o) k (reply.ConflictRange k table key) → RefusedOn G (field h) s t o.begin a ans.log (reply.ConflictRange k table key)
 range_right G far h s rising legal t o at k table key a ans r =
     let x = decided G far h s rising legal t o at k (reply.ConflictRange k table key) a ans r in
     record { whole = x.fronted.whole; durable = x.fronted.durable; begins = x.fronted.begins; right = conflict_right G h s t o a ans.log k _ (reply.ConflictRange k table key) x x.is_right }
 
-pub double_right : (G : Setting) → AreApart G → (h : List (ℕ × Event)) (s : ℕ) → Rising 0 (work_of G s) → IsLegal G h → (t : Transaction) (o : Opened) → IsInTransaction (part G s h) t o → (k : ℕ) (table key : List ℕ) (a : Answered) (ans : IsAnswered G (field h) t o.begin (part G s h).mine a) → IsRefused (field h) (commit_id_of G s t o) k (reply.Duplicate k table key) → RefusedOn G (field h) s t o.begin a ans.log (reply.Duplicate k table key)
+pub double_right : (G : Setting) → AreNamedApart G → (h : List (ℕ × ActorEvent)) (s : ℕ) → Rising 0 (work_of G s) → IsLegalHistory G h → (t : Transaction) (o : Opened) → IsInTransaction (part G s h) t o → (k : ℕ) (table key : List ℕ) (a : Answered) (ans : AreRepliesTold G (field h) t o.begin (part G s h).mine a) → IsRefused (field h) (commit_id_of G s t o) k (reply.Duplicate k table key) → RefusedOn G (field h) s t o.begin a ans.log (reply.Duplicate k table key)
 double_right G far h s rising legal t o at k table key a ans r =
     let x = decided G far h s rising legal t o at k (reply.Duplicate k table key) a ans r in
     record { whole = x.fronted.whole; durable = x.fronted.durable; begins = x.fronted.begins; right = duplicate_right G h s t o a ans.log k _ table key x x.is_right }

@@ -13,15 +13,15 @@ use Rattle.cluster_requests.specs.KeptEntries.{KeptEntry}
 use Rattle.cdb_values.specs.Rows.{Rows, no_rows}
 use Rattle.cdb_values.specs.declared.rows.RowOp.{RowOp}
 use Rattle.report_laws.specs.Told.{told, Numbered, numbered, Along, IsToCommit}
-use Rattle.report_laws.specs.Work.{Transaction, Item, Does, Lone, End, ByCommit, ByRollback, WithItsLine, Nowhere, number_of}
+use Rattle.report_laws.specs.Work.{Transaction, WorkItem, Does, Lone, End, ByCommit, ByRollback, WithItsLine, Nowhere, number_of}
 use Rattle.cdb_values.specs.declared.replies.Reply.{Reply}
 use Rattle.cdb_values.specs.declared.replies.Reply.TheVariants as reply
 use Rattle.session_language.specs.Language.{Answered}
 use Rattle.session_language.specs.Touched.{Used, used_at}
-use Rattle.cluster_events.specs.Settings.{Setting, basis, work_of, rows_at, run_alone, log_view}
-use Rattle.cluster_events.specs.Parts.{Event, Opened, Part, head_number, head_of, lone_of, said, ended, moves, part, field, lines}
-use Rattle.cluster_events.specs.Parts.Event.{Ask, Begun, Say, Note, Finish, Barrier, Fed, FedAgain}
-use Rattle.cluster_events.specs.Guards.{DurableNow, IsAnswered, IsFrontAnswered, IsAtTransaction, IsInTransaction, commit_id_of, IsKept, Commits, MayFinish, MayDo, IsLegal, AreApart, Rising, IsDone}
+use Rattle.cluster_events.specs.Settings.{Setting, basis, work_of, kept_rows_at, run_alone, log_view}
+use Rattle.cluster_events.specs.Parts.{ActorEvent, Opened, Part, head_number, head_of, lone_of, with_told, with_item_over, moves, part, field, lines}
+use Rattle.cluster_events.specs.Parts.ActorEvent.{Ask, Begun, Say, Note, Finish, Barrier, Fed, FedAgain}
+use Rattle.cluster_events.specs.Guards.{DurableNow, AreRepliesTold, IsFrontAnswered, IsAtTransaction, IsInTransaction, commit_id_of, IsKept, Commits, MayFinish, MayDo, IsLegalHistory, AreNamedApart, Rising, IsDone}
 use Rattle.report_laws.specs.Cut.{cuts}
 use Rattle.report_laws.specs.Outcome.{IsEntered, IsCommitted as IsCommittedAt, IsDecided, Ends}
 use Rattle.report_laws.specs.Places.{survives}
@@ -39,10 +39,10 @@ use Rattle.cluster_answers.proofs.OutcomeLaws.{whole_of, kept_right, genid_right
 abbrev pub Firm : ℕ → Field → List KeptEntry → Type 0
 Firm n f d = (d ≡ []) ⊎ DurableNow n f d
 
-abbrev pub Fine : Setting → ℕ → Field → Item → List Reply → Type 0
+abbrev pub Fine : Setting → ℕ → Field → WorkItem → List Reply → Type 0
 Fine G s f item mine = (d : List KeptEntry) × Firm G.nodes f d × IsToldAlong (basis G) (log_view G d) (G.names s) item mine
 
-fine_later : {f g : Field} (G : Setting) (s : ℕ) → Later f g → (i : Item) (m : List Reply) → Fine G s f i m → Fine G s g i m
+fine_later : {f g : Field} (G : Setting) (s : ℕ) → Later f g → (i : WorkItem) (m : List Reply) → Fine G s f i m → Fine G s g i m
 fine_later {f} {g} G s on i m k = (k.0, elim k.1 [ inl e ↦ inl e | inr d ↦ inr (durable_later G.nodes k.0 on d) ], k.2)
 
 part_later : {f g : Field} {t : Transaction} {b : ℕ} {m : List Reply} (G : Setting) → Later f g → IsFrontAnswered G f t b m → IsFrontAnswered G g t b m
@@ -68,11 +68,11 @@ pub said_lines : (p : Part) (closed : List Numbered) (a : Reply) → p.told ≡ 
 said_lines p closed a e = ap (λ (z : List Numbered). z ++ (head_number p.left, a) ∷ []) e ∙ (append_assoc closed (numbered (head_number p.left) p.mine) ((head_number p.left, a) ∷ []) ∙ ap (λ (z : List Numbered). closed ++ z) (sym (numbered_more (head_number p.left) p.mine a)))
 
 -- an item is over
-over_lines : (G : Setting) (s : ℕ) (f : Field) (p : Part) (a : Reply) (i : Item) (others : List Item) → p.left ≡ i ∷ others → OwnLines G s f p → Fine G s f i (p.mine ++ a ∷ []) → OwnLines G s f (ended (said p a))
+over_lines : (G : Setting) (s : ℕ) (f : Field) (p : Part) (a : Reply) (i : WorkItem) (others : List WorkItem) → p.left ≡ i ∷ others → OwnLines G s f p → Fine G s f i (p.mine ++ a ∷ []) → OwnLines G s f (with_item_over (with_told p a))
 over_lines G s f p a i others e k x = record {
   closed = k.closed ++ numbered (number_of i) (p.mine ++ a ∷ []);
   lines' = said_lines p k.closed a k.lines' ∙ (ap (λ z. k.closed ++ numbered z (p.mine ++ a ∷ [])) (ap (λ z. head_number z) e) ∙ sym (append_nil (k.closed ++ numbered (number_of i) (p.mine ++ a ∷ []))));
-  over' = subst (λ (z : List Item). Along (Fine G s f) (p.over ++ z) (k.closed ++ numbered (number_of i) (p.mine ++ a ∷ []))) (sym (ap (λ z. head_of z) e)) (along_more (Fine G s f) p.over k.closed i (p.mine ++ a ∷ []) k.over' x);
+  over' = subst (λ (z : List WorkItem). Along (Fine G s f) (p.over ++ z) (k.closed ++ numbered (number_of i) (p.mine ++ a ∷ []))) (sym (ap (λ z. head_of z) e)) (along_more (Fine G s f) p.over k.closed i (p.mine ++ a ∷ []) k.over' x);
   idle = λ q. refl;
   busy = λ o t q. none_some q;
   head = λ o q. none_some q;
@@ -82,10 +82,10 @@ over_lines G s f p a i others e k x = record {
 cut_part : (G : Setting) (s : ℕ) (f : Field) (t : Transaction) (b : ℕ) (mine : List Reply) (c : Reply) → cuts c ≡ true → ((ops : List RowOp) (rest : List Reply) → MayBeCut (survives G.script (G.names s)) t.end ops mine rest c) → IsFrontAnswered G f t b mine → Fine G s f (Does t) (mine ++ c ∷ [])
 cut_part G s f t b mine c is may k =
     let r = front_rest k.fits in
-    (k.log, inr k.durable, inr (record { begin = b; base = omega arith; within = k.within; ran = run_alone G (rows_at G k.log b) t; is_ran = refl; front = mine; rest = r.0; fits = r.1; cause = c; is_cause = is; may = may (run_alone G (rows_at G k.log b) t).ops r.0; says = refl }))
+    (k.log, inr k.durable, inr (record { begin = b; base = omega arith; within = k.within; ran = run_alone G (kept_rows_at G k.log b) t; is_ran = refl; front = mine; rest = r.0; fits = r.1; cause = c; is_cause = is; may = may (run_alone G (kept_rows_at G k.log b) t).ops r.0; says = refl }))
 
 cut_none : (G : Setting) (s : ℕ) (f : Field) (t : Transaction) (mine : List Reply) (c : Reply) → cuts c ≡ true → ((ops : List RowOp) (rest : List Reply) → MayBeCut (survives G.script (G.names s)) t.end ops [] rest c) → mine ≡ [] → Fine G s f (Does t) (mine ++ c ∷ [])
-cut_none G s f t mine c is may e = ([], inl refl, inr (record { begin = 0; base = omega arith; within = omega arith; ran = run_alone G (rows_at G [] 0) t; is_ran = refl; front = []; rest = reply.Begin 0 ∷ (run_alone G (rows_at G [] 0) t).replies; fits = refl; cause = c; is_cause = is; may = may _ _; says = ap (λ z. z ++ c ∷ []) e }))
+cut_none G s f t mine c is may e = ([], inl refl, inr (record { begin = 0; base = omega arith; within = omega arith; ran = run_alone G (kept_rows_at G [] 0) t; is_ran = refl; front = []; rest = reply.Begin 0 ∷ (run_alone G (kept_rows_at G [] 0) t).replies; fits = refl; cause = c; is_cause = is; may = may _ _; says = ap (λ z. z ++ c ∷ []) e }))
 
 cut_any : (G : Setting) (s : ℕ) (f : Field) (p : Part) (t : Transaction) (c : Reply) → cuts c ≡ true → ((mine : List Reply) (ops : List RowOp) (rest : List Reply) → MayBeCut (survives G.script (G.names s)) t.end ops mine rest c) → IsAtTransaction p t → OwnLines G s f p → Fine G s f (Does t) (p.mine ++ c ∷ [])
 cut_any G s f p t c is may at k = go p.opened refl
@@ -95,7 +95,7 @@ cut_any G s f p t c is may at k = go p.opened refl
     go (Some o) e = cut_part G s f t o.begin p.mine c is (may p.mine) (k.busy o t e at)
 
 -- at its commit
-cut_commit : (G : Setting) (s : ℕ) (f : Field) (t : Transaction) (b : ℕ) (mine : List Reply) (a : Answered) (up nodes : ℕ) → IsToCommit t.end → a.ops ≢ [] → IsAnswered G f t b mine a → Fine G s f (Does t) (mine ++ reply.NoMajority up nodes ∷ [])
+cut_commit : (G : Setting) (s : ℕ) (f : Field) (t : Transaction) (b : ℕ) (mine : List Reply) (a : Answered) (up nodes : ℕ) → IsToCommit t.end → a.ops ≢ [] → AreRepliesTold G f t b mine a → Fine G s f (Does t) (mine ++ reply.NoMajority up nodes ∷ [])
 cut_commit G s f t b mine a up nodes ends some k =
     (k.log, inr k.durable, inr (record { begin = b; base = omega arith; within = k.within; ran = a; is_ran = k.alone; front = mine; rest = []; fits = append_nil mine ∙ k.says; cause = reply.NoMajority up nodes; is_cause = refl; may = inl (inr (refl, some, ends)); says = refl }))
 
@@ -115,17 +115,17 @@ ends_by Nowhere o k d = absurd k
 pub some_eq : {A : Type 0} {x y : A} → Some x ≡ Some y → x ≡ y
 some_eq e = cc
 
-pub does_eq : {t u : Transaction} {xs ys : List Item} → Does t ∷ xs ≡ Does u ∷ ys → t ≡ u
+pub does_eq : {t u : Transaction} {xs ys : List WorkItem} → Does t ∷ xs ≡ Does u ∷ ys → t ≡ u
 does_eq e = cc
 
-pub lone_does : {A : Type 0} {t : Transaction} {r : Reply} {xs ys : List Item} → Lone r ∷ xs ≡ Does t ∷ ys → A
+pub lone_does : {A : Type 0} {t : Transaction} {r : Reply} {xs ys : List WorkItem} → Lone r ∷ xs ≡ Does t ∷ ys → A
 lone_does e = absurd (cc)
 
 -- what is finished, is finished rightly
-abbrev Finished : Setting → List (ℕ × Event) → ℕ → Reply → Type 0
+abbrev Finished : Setting → List (ℕ × ActorEvent) → ℕ → Reply → Type 0
 Finished G h s a = (t : Transaction) × IsAtTransaction (part G s h) t × Fine G s (field h) (Does t) ((part G s h).mine ++ a ∷ [])
 
-finish_fine : (G : Setting) → AreApart G → (h : List (ℕ × Event)) (s : ℕ) (a : Reply) → Rising 0 (work_of G s) → IsLegal G h → OwnLines G s (field h) (part G s h) → MayFinish G h s a → Finished G h s a
+finish_fine : (G : Setting) → AreNamedApart G → (h : List (ℕ × ActorEvent)) (s : ℕ) (a : Reply) → Rising 0 (work_of G s) → IsLegalHistory G h → OwnLines G s (field h) (part G s h) → MayFinish G h s a → Finished G h s a
 finish_fine G far h s reply.RolledBack rising legal k may =
     (may.0, at_of may.2, (may.5.log, inr may.5.durable, whole_of G (field h) s may.0 may.1.begin (part G s h).mine may.4 reply.RolledBack may.5.log may.5 (front_refl may.5.log) (subst (λ z. Ends z (reply.RolledBack ∷ [])) (sym may.3) refl) may.3))
 finish_fine G far h s (reply.Committed n) rising legal k may = (c.txn, at_of c.at, go may.1)
@@ -179,7 +179,7 @@ same_item {p} {q} G s f a b c d e k = record {
   some = λ o z y. k.some o (sym e ∙ z) (sym c ∙ y);
 }
 
-lines_row : (G : Setting) → AreApart G → (h : List (ℕ × Event)) (s : ℕ) (e : Event) → Rising 0 (work_of G s) → IsLegal G h → MayDo G h s e → OwnLines G s (field h) (part G s h) → OwnLines G s (field h) (moves (part G s h) e)
+lines_row : (G : Setting) → AreNamedApart G → (h : List (ℕ × ActorEvent)) (s : ℕ) (e : ActorEvent) → Rising 0 (work_of G s) → IsLegalHistory G h → MayDo G h s e → OwnLines G s (field h) (part G s h) → OwnLines G s (field h) (moves (part G s h) e)
 lines_row G far h s (Ask t) rising legal may k = same_item G s (field h) refl refl refl refl refl k
 lines_row G far h s Barrier rising legal may k = same_item G s (field h) refl refl refl refl refl k
 lines_row G far h s (Fed d g) rising legal may k = same_item G s (field h) refl refl refl refl refl k
@@ -218,7 +218,7 @@ lines_row G far h s Note rising legal may k = over_lines G s (field h) (part G s
 lines_row G far h s (Finish a) rising legal may k = let x = finish_fine G far h s a rising legal k may.0 in over_lines G s (field h) (part G s h) a (Does x.0) x.1.others x.1.is k x.2
 lines_row G far h s _ rising legal may k = k
 
-pub own_lines : (G : Setting) → AreApart G → (s : ℕ) → Rising 0 (work_of G s) → (h : List (ℕ × Event)) → IsLegal G h → OwnLines G s (field h) (part G s h)
+pub own_lines : (G : Setting) → AreNamedApart G → (s : ℕ) → Rising 0 (work_of G s) → (h : List (ℕ × ActorEvent)) → IsLegalHistory G h → OwnLines G s (field h) (part G s h)
 own_lines G far s rising [] legal = record { closed = []; lines' = nil (head_number (work_of G s)); over' = refl; idle = λ e. refl; busy = λ o t e. none_some e; head = λ o e. none_some e; some = λ o e. none_some e }
   where
     nil : (n : ℕ) → [] ≡ [] ++ numbered n []
@@ -235,16 +235,16 @@ firm_front n f inv r top d (inl e) = subst (λ z. Front z (f.core.nodes r).log) 
 firm_front n f inv r top d (inr k) = reported_has inv r top k.0 d k.1
 
 -- what is told over a log is told over a longer one
-longer_told : (G : Setting) {d e : List KeptEntry} → Front d e → (name : List ℕ) (i : Item) (mine : List Reply) → IsToldAlong (basis G) (log_view G d) name i mine → IsToldAlong (basis G) (log_view G e) name i mine
+longer_told : (G : Setting) {d e : List KeptEntry} → Front d e → (name : List ℕ) (i : WorkItem) (mine : List Reply) → IsToldAlong (basis G) (log_view G d) name i mine → IsToldAlong (basis G) (log_view G e) name i mine
 longer_told G {d} {e} p name i mine k = told_on G 0 0 (no_rows []) (no_rows []) (log_view G d) (log_view G e) (agree_front G p) (omega arith) name i mine (λ b rest q. omega arith) k
 
-pub replies_right : (G : Setting) → AreApart G → (h : List (ℕ × Event)) (r s : ℕ) → Rising 0 (work_of G s) → IsLegal G h → IsReported G.nodes (field h).core r → IsDone G h s → Along (IsToldAlong (basis G) (log_view G ((field h).core.nodes r).log) (G.names s)) (work_of G s) (told (G.names s) (lines G h))
+pub replies_right : (G : Setting) → AreNamedApart G → (h : List (ℕ × ActorEvent)) (r s : ℕ) → Rising 0 (work_of G s) → IsLegalHistory G h → IsReported G.nodes (field h).core r → IsDone G h s → Along (IsToldAlong (basis G) (log_view G ((field h).core.nodes r).log) (G.names s)) (work_of G s) (told (G.names s) (lines G h))
 replies_right G far h r s rising legal top done = subst (λ z. Along P (work_of G s) z) (sym (knows G far h s)) (go done)
   where
     R : List KeptEntry
     R = ((field h).core.nodes r).log
 
-    P : Item → List Reply → Type 0
+    P : WorkItem → List Reply → Type 0
     P = IsToldAlong (basis G) (log_view G ((field h).core.nodes r).log) (G.names s)
 
     p : Part

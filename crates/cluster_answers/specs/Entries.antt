@@ -6,8 +6,8 @@ use Rattle.std.specs.Prelude.{◌≡◌, ◌≢◌, ℕ, ◌+◌, ◌≤◌, Lis
 use Rattle.cdb_values.specs.Changes.{changes_of}
 use Rattle.cdb_values.specs.Good.{IsGood}
 use Rattle.cdb_values.specs.Rows.{Rows, no_rows, apply_all}
-use Rattle.cluster_events.specs.Parts.{Event, part, field}
-use Rattle.cluster_events.specs.Settings.{Setting, work_of, rows_at, run_alone, line_of, changes_in, log_view}
+use Rattle.cluster_events.specs.Parts.{ActorEvent, part, field}
+use Rattle.cluster_events.specs.Settings.{Setting, work_of, kept_rows_at, run_alone, line_of, changes_in, log_view}
 use Rattle.cluster_requests.specs.Identities.{identity_of, Lacks}
 use Rattle.cluster_requests.specs.KeptEntries.{KeptEntry, state_of}
 use Rattle.cluster_requests.specs.Requests.{Sent}
@@ -20,7 +20,7 @@ use Rattle.report_text.specs.declared.reports.EntryLine.TheVariants as entries
 use Rattle.session_language.specs.Touched.{used_at}
 
 -- a request, over a log that it fits
-pub record Request (G : Setting) (h : List (ℕ × Event)) (log : List KeptEntry) (x : Sent) : Type 0 where
+pub record Request (G : Setting) (h : List (ℕ × ActorEvent)) (log : List KeptEntry) (x : Sent) : Type 0 where
   pub txn : Transaction
   pub in_work : In (Does txn) (work_of G x.by)
   pub name : x.id.session ≡ G.names x.by
@@ -30,13 +30,13 @@ pub record Request (G : Setting) (h : List (ℕ × Event)) (log : List KeptEntry
   pub has_ops : x.ops ≢ []
   pub within : x.begin ≤ length log
   pub rows : Rows
-  pub is_rows : rows ≡ rows_at G log x.begin
+  pub is_rows : rows ≡ kept_rows_at G log x.begin
   pub ops : x.ops ≡ (run_alone G rows txn).ops
   pub used : x.used ≡ used_at txn.level (run_alone G rows txn)
   pub began : In (record { txn = x.id.txn; begin = x.begin; gen = x.id.began }) (part G x.by h).begins
 
 -- a commit of this run, over the entries before it
-pub record Appended (G : Setting) (h : List (ℕ × Event)) (xs : List KeptEntry) (e : KeptEntry) : Type 0 where
+pub record Appended (G : Setting) (h : List (ℕ × ActorEvent)) (xs : List KeptEntry) (e : KeptEntry) : Type 0 where
   pub sent : Sent
   pub mem : In sent (field h).sends
   pub its_id : identity_of e ≡ Some sent.id
@@ -57,13 +57,13 @@ pub record SetUp (G : Setting) (xs : List KeptEntry) (e : KeptEntry) : Type 0 wh
   pub rows' : state_of (xs ++ e ∷ []) ≡ no_rows G.tables
 
 -- an entry of this run
-abbrev pub New : Setting → List (ℕ × Event) → List KeptEntry → KeptEntry → Type 0
+abbrev pub New : Setting → List (ℕ × ActorEvent) → List KeptEntry → KeptEntry → Type 0
 New G h xs e = SetUp G xs e ⊎ Appended G h xs e
 
 -- of an earlier run
-abbrev pub Old : List (ℕ × Event) → KeptEntry → Type 0
+abbrev pub Old : List (ℕ × ActorEvent) → KeptEntry → Type 0
 Old h e = (id : CommitId) → identity_of e ≡ Some id → Has (λ a. id.began ≤ a.accepted) (field h).core.admits
 
 -- of an earlier run, or of this one
-abbrev pub Rule : Setting → List (ℕ × Event) → List KeptEntry → KeptEntry → Type 0
+abbrev pub Rule : Setting → List (ℕ × ActorEvent) → List KeptEntry → KeptEntry → Type 0
 Rule G h xs e = Old h e ⊎ New G h xs e

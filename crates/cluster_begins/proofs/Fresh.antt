@@ -8,8 +8,8 @@ use Rattle.cluster_consensus.proofs.Kept.{always, at_node, grows_row}
 use Rattle.cluster_consensus.proofs.Onward.{Onward, onward_row}
 use Rattle.cluster_consensus.specs.Durable.{DurableIn}
 use Rattle.cluster_consensus.specs.Enabled.{Enabled}
-use Rattle.cluster_consensus.specs.Events.{Event, change}
-use Rattle.cluster_consensus.specs.Events.Event.{Admits, Boot, Down, Back, BackLead, BackTake, BackGrow, BackAppend, Stand, Grants, Lead, Take, Grow, Append, LearnLead, LearnFollow, Asks, Probe, Confirm}
+use Rattle.cluster_consensus.specs.Events.{NodeEvent, change}
+use Rattle.cluster_consensus.specs.Events.NodeEvent.{Admits, Boot, Down, Back, BackLead, BackTake, BackGrow, BackAppend, Stand, Grants, Lead, Take, Grow, Append, LearnLead, LearnFollow, Asks, Probe, Confirm}
 use Rattle.cluster_consensus.specs.Facts.{Own, World}
 use Rattle.cluster_consensus.specs.Histories.{Legal, happens, after, asked}
 use Rattle.core_lists.proofs.Fronts.{length_take, take_length}
@@ -52,7 +52,7 @@ on_local on d p a = record {
   adopted = a;
 }
 
-pub fresh_row : {E : Type 0} {n : ℕ} {w : World E} → Inv n w → (i : ℕ) (e : Event E) → Enabled n w i (w.nodes i) e → FreshLocal (w.nodes i) → FreshLocal (change i (w.nodes i) e)
+pub fresh_row : {E : Type 0} {n : ℕ} {w : World E} → Inv n w → (i : ℕ) (e : NodeEvent E) → Enabled n w i (w.nodes i) e → FreshLocal (w.nodes i) → FreshLocal (change i (w.nodes i) e)
 fresh_row inv i (Admits k p a) en f = f
 fresh_row inv i (Boot p a l) en f = on_local (onward_row inv i (Boot p a l) en) f.durables f.pings (λ (t : false ≡ true). absurd (cc))
 fresh_row inv i Down en f = on_local (onward_row inv i Down en) f.durables f.pings f.adopted
@@ -92,11 +92,11 @@ pub record FreshRefs {E : Type 0} (n : ℕ) (w : World E) (o : Own E) : Type 0 w
   pub pings : Each (λ x. IsBacked n w x.gen x.durable × Has (λ s. s ≡ x.ask) w.asks) o.pings
   pub pongs : Each (λ x. Has (λ s. s ≡ x.ask) w.asks) o.pongs
 
-pub asks_row : {E : Type 0} (w : World E) (e : Event E) (t : ℕ) → Has (λ s. s ≡ t) w.asks → Has (λ s. s ≡ t) (asked w e)
+pub asks_row : {E : Type 0} (w : World E) (e : NodeEvent E) (t : ℕ) → Has (λ s. s ≡ t) w.asks → Has (λ s. s ≡ t) (asked w e)
 asks_row w (Asks u) t h = record { it = h.it; mem = there h.mem; is = h.is }
 asks_row w _ t h = h
 
-pub refs_on : {E : Type 0} (n : ℕ) (w : World E) (i : ℕ) (e : Event E) (o : Own E) → FreshRefs n w o → FreshRefs n (happens w i e) o
+pub refs_on : {E : Type 0} (n : ℕ) (w : World E) (i : ℕ) (e : NodeEvent E) (o : Own E) → FreshRefs n w o → FreshRefs n (happens w i e) o
 refs_on n w i e o r = record {
   pings = record { at = λ x h. (let t = r.pings.at x h in let b = t.0 in ((b.0, b.1, b.2, durable_grows (grows_row w i e) b.3, b.4), asks_row w e x.ask t.1)) };
   pongs = record { at = λ x h. asks_row w e x.ask (r.pongs.at x h) };
@@ -109,7 +109,7 @@ ping_backed {E} {n} {w} inv i pos = go (inv.refs i).known
     go (inl e) = absurd (omega arith)
     go (inr k) = (k.0, k.1, take (w.nodes i).durable (w.nodes i).log, k.2, take_length (w.nodes i).durable (w.nodes i).log (inv.refs i).fits)
 
-pub fresh_refs_row : {E : Type 0} {n : ℕ} {w : World E} → Inv n w → (i : ℕ) (e : Event E) → Enabled n w i (w.nodes i) e → ((k : ℕ) → FreshRefs n w (w.nodes k)) → FreshRefs n w (change i (w.nodes i) e)
+pub fresh_refs_row : {E : Type 0} {n : ℕ} {w : World E} → Inv n w → (i : ℕ) (e : NodeEvent E) → Enabled n w i (w.nodes i) e → ((k : ℕ) → FreshRefs n w (w.nodes k)) → FreshRefs n w (change i (w.nodes i) e)
 fresh_refs_row {w = w} inv i (Probe t) en all =
     let r = all i in
     record { pings = each_add (ping_backed inv i en.3, en.2) r.pings; pongs = r.pongs }
@@ -140,7 +140,7 @@ pub record FreshInv {E : Type 0} (n : ℕ) (w : World E) : Type 0 where
   pub local : (i : ℕ) → FreshLocal (w.nodes i)
   pub refs : (i : ℕ) → FreshRefs n w (w.nodes i)
 
-pub always_fresh : {E : Type 0} (n : ℕ) (h : List (ℕ × Event E)) → Legal n h → FreshInv n (after h)
+pub always_fresh : {E : Type 0} (n : ℕ) (h : List (ℕ × NodeEvent E)) → Legal n h → FreshInv n (after h)
 always_fresh n [] legal = record { inv = always n [] legal; local = λ i. record { durables = each_none; pings = each_none; adopted = λ (t : false ≡ true). absurd (cc) }; refs = λ i. record { pings = each_none; pongs = each_none } }
 always_fresh {E} n (x ∷ h) legal =
     let old = always_fresh n h legal.1 in
@@ -158,7 +158,7 @@ pub record Answering {E : Type 0} (o : Own E) : Type 0 where
 answering_on : {E : Type 0} {o p : Own E} → Onward o p → p.pings ≡ o.pings → Answering o → Answering p
 answering_on {E} {o} {p} on same a = record { pings = record { at = λ x h. (let l = a.pings.at x (subst (λ t. In x t) same h) in record { it = l.it; mem = on.leads l.it l.mem; is = l.is }) } }
 
-answering_row : {E : Type 0} {n : ℕ} {w : World E} → FreshInv n w → (i : ℕ) (e : Event E) → Enabled n w i (w.nodes i) e → Answering (w.nodes i) → Answering (change i (w.nodes i) e)
+answering_row : {E : Type 0} {n : ℕ} {w : World E} → FreshInv n w → (i : ℕ) (e : NodeEvent E) → Enabled n w i (w.nodes i) e → Answering (w.nodes i) → Answering (change i (w.nodes i) e)
 answering_row {w = w} v i (Probe t) en a =
     let l = (v.local i).adopted en.1 in
     let s : length l.it.log ≤ (w.nodes i).adopted = l.is.1 in
@@ -183,7 +183,7 @@ answering_row v i (LearnFollow l) en x = answering_on (onward_row v.inv i (Learn
 answering_row v i (Asks t) en x = x
 answering_row v i (Confirm t g) en x = answering_on (onward_row v.inv i (Confirm t g) en) refl x
 
-pub always_answering : {E : Type 0} (n : ℕ) (h : List (ℕ × Event E)) → Legal n h → (k : ℕ) → Answering ((after h).nodes k)
+pub always_answering : {E : Type 0} (n : ℕ) (h : List (ℕ × NodeEvent E)) → Legal n h → (k : ℕ) → Answering ((after h).nodes k)
 always_answering n [] legal k = record { pings = each_none }
 always_answering {E} n (x ∷ h) legal k =
     let w : World E = after h in

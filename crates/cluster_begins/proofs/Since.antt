@@ -3,15 +3,15 @@ use Rattle.std.proofs.Common.{◌≡◌, ℕ, ◌<◌, ◌≤◌, ◌≢◌, Lis
 use Rattle.std.specs.Prelude.{true}
 use mathlib.Core.Logic.{◌⊎◌, inl, inr}
 use Rattle.cluster_begins.proofs.Fresh.{Told, FreshInv, always_fresh}
-use Rattle.cluster_begins.specs.Begins.{CanBegin, IsAnswered}
+use Rattle.cluster_begins.specs.Begins.{CanBegin, IsPositionAnswered}
 use Rattle.cluster_consensus.proofs.Generations.{one_leader, adopts}
 use Rattle.cluster_consensus.proofs.Invariant.{Inv}
 use Rattle.cluster_consensus.proofs.Kept.{at_node}
 use Rattle.cluster_consensus.proofs.Laws.{legal_tail}
 use Rattle.cluster_consensus.specs.Durable.{DurableIn, DurableAt}
 use Rattle.cluster_consensus.specs.Enabled.{Enabled, IsGranted}
-use Rattle.cluster_consensus.specs.Events.{Event, change}
-use Rattle.cluster_consensus.specs.Events.Event.{Admits, Boot, Down, Back, BackLead, BackTake, BackGrow, BackAppend, Stand, Grants, Lead, Take, Grow, Append, LearnLead, LearnFollow, Asks, Probe, Confirm}
+use Rattle.cluster_consensus.specs.Events.{NodeEvent, change}
+use Rattle.cluster_consensus.specs.Events.NodeEvent.{Admits, Boot, Down, Back, BackLead, BackTake, BackGrow, BackAppend, Stand, Grants, Lead, Take, Grow, Append, LearnLead, LearnFollow, Asks, Probe, Confirm}
 use Rattle.cluster_consensus.specs.Facts.{Claim, Ping, Own, World}
 use Rattle.cluster_consensus.specs.Histories.{Legal, happens, after}
 use Rattle.core_lists.proofs.Fronts.{front_length}
@@ -29,7 +29,7 @@ pub record OnTold {E : Type 0} (o p : Own E) : Type 0 where
 pub told_same : {E : Type 0} (o p : Own E) → o.promised ≤ p.promised → p.durables ≡ o.durables → p.pings ≡ o.pings → OnTold o p
 told_same o p le d q = record { promised = le; durables = λ x h. subst (λ t. In x t) (sym d) h; pings = λ x h. subst (λ t. In x t) (sym q) h }
 
-pub on_told : {E : Type 0} {n : ℕ} {w : World E} → Inv n w → (i : ℕ) (e : Event E) → Enabled n w i (w.nodes i) e → OnTold (w.nodes i) (change i (w.nodes i) e)
+pub on_told : {E : Type 0} {n : ℕ} {w : World E} → Inv n w → (i : ℕ) (e : NodeEvent E) → Enabled n w i (w.nodes i) e → OnTold (w.nodes i) (change i (w.nodes i) e)
 on_told {w = w} inv i (Admits k p a) en = told_same (w.nodes i) (w.nodes i) (omega arith) refl refl
 on_told {w = w} inv i (Boot p a l) en = told_same (w.nodes i) (change i (w.nodes i) (Boot p a l)) (let z : (w.nodes i).promised ≡ 0 = ap (λ o. o.promised) ((inv.local i).fresh en.1) in omega arith) refl refl
 on_told {w = w} inv i Down en = told_same (w.nodes i) (change i (w.nodes i) Down) (omega arith) refl refl
@@ -51,7 +51,7 @@ on_told {w = w} inv i (Probe t) en = record { promised = omega arith; durables =
 on_told {w = w} inv i (Confirm t g) en = told_same (w.nodes i) (change i (w.nodes i) (Confirm t g)) (omega arith) refl refl
 
 -- a leader that knows its adopted log durable knows each position that was answered in a generation not above its own
-pub answered_known : {E : Type 0} {n : ℕ} {w : World E} → FreshInv n w → (i : ℕ) → (w.nodes i).leading ≡ true → (w.nodes i).adopted ≤ (w.nodes i).durable → (p g : ℕ) → IsAnswered w p g → g ≤ (w.nodes i).accepted → p ≤ (w.nodes i).durable
+pub answered_known : {E : Type 0} {n : ℕ} {w : World E} → FreshInv n w → (i : ℕ) → (w.nodes i).leading ≡ true → (w.nodes i).adopted ≤ (w.nodes i).durable → (p g : ℕ) → IsPositionAnswered w p g → g ≤ (w.nodes i).accepted → p ≤ (w.nodes i).durable
 answered_known {E} {n} {w} v i lead known p g ans le = go ans (lt_or_eq g (w.nodes i).accepted le)
   where
     head : Has (λ l. (l.gen ≡ (w.nodes i).accepted) × (length l.log ≤ (w.nodes i).adopted)) (w.nodes i).leads
@@ -71,7 +71,7 @@ answered_known {E} {n} {w} v i lead known p g ans le = go ans (lt_or_eq g (w.nod
         let q = front_length (adopts v.inv h d dur head.it.gen i head.it head.mem (omega arith) (omega arith)) in
         omega arith
 
-    go : IsAnswered w p g → (g < (w.nodes i).accepted) ⊎ (g ≡ (w.nodes i).accepted) → p ≤ (w.nodes i).durable
+    go : IsPositionAnswered w p g → (g < (w.nodes i).accepted) ⊎ (g ≡ (w.nodes i).accepted) → p ≤ (w.nodes i).durable
     go (inl c) (inl lt) =
         let x = c.1 in
         let e : x.it.gen ≡ g = x.is.0 in
@@ -100,7 +100,7 @@ answered_known {E} {n} {w} v i lead known p g ans le = go ans (lt_or_eq g (w.nod
 
 -- a ping of this ask is of a generation not below what the node had promised, and of a position not below what was answered up to that generation
 abbrev pub PingSince : {E : Type 0} → World E → ℕ → ℕ → Ping → Type 0
-PingSince w t k x = x.ask ≡ t → ((w.nodes k).promised ≤ x.gen) × ((p g : ℕ) → IsAnswered w p g → g ≤ x.gen → p ≤ x.durable)
+PingSince w t k x = x.ask ≡ t → ((w.nodes k).promised ≤ x.gen) × ((p g : ℕ) → IsPositionAnswered w p g → g ≤ x.gen → p ≤ x.durable)
 
 pub record PartSince {E : Type 0} (w : World E) (t k : ℕ) (o : Own E) : Type 0 where
   pub told : OnTold (w.nodes k) o
@@ -110,11 +110,11 @@ pub record PartSince {E : Type 0} (w : World E) (t k : ℕ) (o : Own E) : Type 0
 pub told_trans : {E : Type 0} {o p q : Own E} → OnTold o p → OnTold p q → OnTold o q
 told_trans a b = record { promised = let x = a.promised in let y = b.promised in omega arith; durables = λ x h. b.durables x (a.durables x h); pings = λ x h. b.pings x (a.pings x h) }
 
-pub answered_on : {E : Type 0} (w v : World E) (p g : ℕ) → ((k : ℕ) → OnTold (w.nodes k) (v.nodes k)) → IsAnswered w p g → IsAnswered v p g
+pub answered_on : {E : Type 0} (w v : World E) (p g : ℕ) → ((k : ℕ) → OnTold (w.nodes k) (v.nodes k)) → IsPositionAnswered w p g → IsPositionAnswered v p g
 answered_on w v p g on (inl c) = inl (c.0, record { it = c.1.it; mem = (on c.0).durables c.1.it c.1.mem; is = c.1.is })
 answered_on w v p g on (inr c) = inr (c.0, record { it = c.1.it; mem = (on c.0).pings c.1.it c.1.mem; is = c.1.is })
 
-pub since_row : {E : Type 0} {n : ℕ} {w : World E} → FreshInv n w → (z : World E) (t i : ℕ) (e : Event E) → Enabled n w i (w.nodes i) e → ((k : ℕ) → PartSince z t k (w.nodes k)) → PartSince z t i (change i (w.nodes i) e)
+pub since_row : {E : Type 0} {n : ℕ} {w : World E} → FreshInv n w → (z : World E) (t i : ℕ) (e : NodeEvent E) → Enabled n w i (w.nodes i) e → ((k : ℕ) → PartSince z t k (w.nodes k)) → PartSince z t i (change i (w.nodes i) e)
 since_row {w = w} v z t i (Probe u) en all =
     let s = all i in
     let on = told_trans s.told (on_told v.inv i (Probe u) en) in
@@ -159,18 +159,18 @@ first {E} {n} {z} v s t new k = at_node z s (Asks t) (λ j o. PartSince z t j o)
       pongs = record { at = λ x h e. (let u = (v.refs j).pongs.at x h in absurd (new.at u.it u.mem (u.is ∙ e))) };
     }
 
-pub since : {E : Type 0} (n s t : ℕ) (before later : List (ℕ × Event E)) → Legal n (later ++ (s, Asks t) ∷ before) → (k : ℕ) → PartSince (after before) t k ((after (later ++ (s, Asks t) ∷ before)).nodes k)
+pub since : {E : Type 0} (n s t : ℕ) (before later : List (ℕ × NodeEvent E)) → Legal n (later ++ (s, Asks t) ∷ before) → (k : ℕ) → PartSince (after before) t k ((after (later ++ (s, Asks t) ∷ before)).nodes k)
 since n s t before [] legal k = first (always_fresh n before legal.1) s t legal.0 k
 since n s t before (x ∷ later) legal k =
     let old = since n s t before later legal.1 in
     at_node (after (later ++ (s, Asks t) ∷ before)) x.0 x.1 (λ j o. PartSince (after before) t j o) k (since_row (always_fresh n (later ++ (s, Asks t) ∷ before) legal.1) (after before) t x.0 x.1 legal.0 old) (old k)
 
 -- what was answered before the ask was answered in a generation not above the begin's
-pub answered_led : {E : Type 0} {n : ℕ} {w : World E} → FreshInv n w → (p g : ℕ) → IsAnswered w p g → (m : ℕ) × Has (λ l. l.gen ≡ g) (w.nodes m).leads
+pub answered_led : {E : Type 0} {n : ℕ} {w : World E} → FreshInv n w → (p g : ℕ) → IsPositionAnswered w p g → (m : ℕ) × Has (λ l. l.gen ≡ g) (w.nodes m).leads
 answered_led v p g (inl c) = let t = ((v.local c.0).durables.at c.1.it c.1.mem).led in (c.0, record { it = t.it; mem = t.mem; is = t.is ∙ c.1.is.0 })
 answered_led v p g (inr c) = let t = ((v.local c.0).pings.at c.1.it c.1.mem).led in (c.0, record { it = t.it; mem = t.mem; is = t.is ∙ c.1.is.0 })
 
-pub led_before : {E : Type 0} (n s t b g m : ℕ) (before later : List (ℕ × Event E)) (l : Claim E) → Legal n (later ++ (s, Asks t) ∷ before) → CanBegin n (after (later ++ (s, Asks t) ∷ before)) t b g → In l ((after before).nodes m).leads → l.gen ≤ g
+pub led_before : {E : Type 0} (n s t b g m : ℕ) (before later : List (ℕ × NodeEvent E)) (l : Claim E) → Legal n (later ++ (s, Asks t) ∷ before) → CanBegin n (after (later ++ (s, Asks t) ∷ before)) t b g → In l ((after before).nodes m).leads → l.gen ≤ g
 led_before {E} n s t b g m before later l legal can hl =
     let inv = (always_fresh n before (legal_tail n later ((s, Asks t) ∷ before) legal).1).inv in
     let r = meet can.2 ((inv.refs m).led.at l hl) in
@@ -204,7 +204,7 @@ led_before {E} n s t b g m before later l legal can hl =
         let xg : x.it.gen ≡ l.gen = x.is.0 in
         omega arith
 
-pub fresh_begin : {E : Type 0} (n s t b g p q : ℕ) (before later : List (ℕ × Event E)) → Legal n (later ++ (s, Asks t) ∷ before) → CanBegin n (after (later ++ (s, Asks t) ∷ before)) t b g → IsAnswered (after before) p q → p ≤ b
+pub fresh_begin : {E : Type 0} (n s t b g p q : ℕ) (before later : List (ℕ × NodeEvent E)) → Legal n (later ++ (s, Asks t) ∷ before) → CanBegin n (after (later ++ (s, Asks t) ∷ before)) t b g → IsPositionAnswered (after before) p q → p ≤ b
 fresh_begin {E} n s t b g p q before later legal can ans =
     let v = always_fresh n before (legal_tail n later ((s, Asks t) ∷ before) legal).1 in
     let l = answered_led v p q ans in
@@ -217,7 +217,7 @@ fresh_begin {E} n s t b g p q before later legal can ans =
     omega arith
 
 -- the position of a begin is durable
-pub begin_durable : {E : Type 0} (n t b g : ℕ) (h : List (ℕ × Event E)) → Legal n h → CanBegin n (after h) t b g → (d : List E) × DurableAt n h d × (b ≤ length d)
+pub begin_durable : {E : Type 0} (n t b g : ℕ) (h : List (ℕ × NodeEvent E)) → Legal n h → CanBegin n (after h) t b g → (d : List E) × DurableAt n h d × (b ≤ length d)
 begin_durable n t b g h legal can =
     let x = can.1 in
     let r = (((always_fresh n h legal).refs can.0).pings.at x.it x.mem).0 in

@@ -10,5 +10,5 @@ abbrev pub CanBegin : {E : Type 0} → ℕ → World E → ℕ → ℕ → ℕ �
 CanBegin n w t b g = (m : ℕ) × Has (λ x. (x.ask ≡ t) × (x.gen ≡ g) × (x.durable ≡ b)) (w.nodes m).pings × Majority n (λ k. (k ≡ m) ⊎ Has (λ x. (x.ask ≡ t) × (x.gen ≡ g)) (w.nodes k).pongs)
 
 -- a position was answered in this generation: by an outcome, or by a begin
-abbrev pub IsAnswered : {E : Type 0} → World E → ℕ → ℕ → Type 0
-IsAnswered w p g = ((m : ℕ) × Has (λ c. (c.gen ≡ g) × (p ≤ length c.log)) (w.nodes m).durables) ⊎ ((m : ℕ) × Has (λ x. (x.gen ≡ g) × (p ≤ x.durable)) (w.nodes m).pings)
+abbrev pub IsPositionAnswered : {E : Type 0} → World E → ℕ → ℕ → Type 0
+IsPositionAnswered w p g = ((m : ℕ) × Has (λ c. (c.gen ≡ g) × (p ≤ length c.log)) (w.nodes m).durables) ⊎ ((m : ℕ) × Has (λ x. (x.gen ≡ g) × (p ≤ x.durable)) (w.nodes m).pings)

@@ -10,7 +10,7 @@
 //!
 //! A begin may be answered by a leader's position once a majority, with that leader, confirmed the very
 //! generation of its answer (`CanBegin`). A position counts as answered where somebody told it durable, or
-//! answered a begin by it (`IsAnswered`).
+//! answered a begin by it (`IsPositionAnswered`).
 //!
 //! Who confirms has promised no greater generation, so at the ask no greater one was led: the majority
 //! that granted it shares a node with the one that confirms. So all that was answered before the ask was
@@ -24,11 +24,11 @@
 ghost use Rattle.std.specs.Prelude.{ℕ, ◌≡◌, ◌≤◌, ◌++◌, ◌∷◌, List, length};
 ghost use Rattle.core_lists.specs.Lists.{In, Has};
 ghost use Rattle.cluster_consensus.specs.Facts.{Claim, Ping};
-ghost use Rattle.cluster_consensus.specs.Events.{Event};
-ghost use Rattle.cluster_consensus.specs.Events.Event.{Asks};
+ghost use Rattle.cluster_consensus.specs.Events.{NodeEvent};
+ghost use Rattle.cluster_consensus.specs.Events.NodeEvent.{Asks};
 ghost use Rattle.cluster_consensus.specs.Histories.{Legal, after};
 ghost use Rattle.cluster_consensus.specs.Durable.{DurableAt};
-ghost use Rattle.cluster_begins.specs.Begins.{CanBegin, IsAnswered};
+ghost use Rattle.cluster_begins.specs.Begins.{CanBegin, IsPositionAnswered};
 ghost use Rattle.cluster_consensus.specs.ThreeNodes.{grown_on};
 ghost use Rattle.cluster_begins.specs.AfterAFall.{begun};
 
@@ -36,11 +36,11 @@ ghost use Rattle.cluster_begins.specs.AfterAFall.{begun};
 /// at a later place. Then `b` is at least every position that had been answered, by whomever, when it was
 /// asked for; and `g` is at least every generation that had been led.
 pub fn begins_are_fresh<E>()
-    ensures fresh { (n s t b g p q : ℕ) (before later : List (ℕ × Event E))
+    ensures fresh { (n s t b g p q : ℕ) (before later : List (ℕ × NodeEvent E))
         → Legal n (later ++ (s, Asks t) ∷ before)
         → CanBegin n (after (later ++ (s, Asks t) ∷ before)) t b g
-        → IsAnswered (after before) p q → p ≤ b }
-    ensures led { (n s t b g m : ℕ) (before later : List (ℕ × Event E)) (l : Claim E)
+        → IsPositionAnswered (after before) p q → p ≤ b }
+    ensures led { (n s t b g m : ℕ) (before later : List (ℕ × NodeEvent E)) (l : Claim E)
         → Legal n (later ++ (s, Asks t) ∷ before)
         → CanBegin n (after (later ++ (s, Asks t) ∷ before)) t b g
         → In l ((after before).nodes m).leads → l.gen ≤ g }
@@ -48,14 +48,14 @@ pub fn begins_are_fresh<E>()
 
 /// The position of a begin is that of a durable log.
 pub fn begin_positions_are_durable<E>()
-    ensures { (n t b g : ℕ) (h : List (ℕ × Event E)) → Legal n h → CanBegin n (after h) t b g
+    ensures { (n t b g : ℕ) (h : List (ℕ × NodeEvent E)) → Legal n h → CanBegin n (after h) t b g
         → (d : List E) × DurableAt n h d × (b ≤ length d) }
 {}
 
 /// A leader that answers a begin led in the generation that it names, and knew all that it had adopted
 /// there as durable.
 pub fn answering_leaders_know_what_they_adopted<E>()
-    ensures { (n m : ℕ) (h : List (ℕ × Event E)) (x : Ping) → Legal n h → In x ((after h).nodes m).pings
+    ensures { (n m : ℕ) (h : List (ℕ × NodeEvent E)) (x : Ping) → Legal n h → In x ((after h).nodes m).pings
         → Has (λ l. (l.gen ≡ x.gen) × (length l.log ≤ x.durable)) ((after h).nodes m).leads }
 {}
 
@@ -63,6 +63,6 @@ pub fn answering_leaders_know_what_they_adopted<E>()
 /// a begin that is asked for then is answered by 2, by the word of two nodes.
 pub fn a_begin_after_a_fall()
     ensures legal { Legal 3 begun }
-    ensures before { IsAnswered (after grown_on) 1 1 }
+    ensures before { IsPositionAnswered (after grown_on) 1 1 }
     ensures begin { CanBegin 3 (after begun) 5 2 2 }
 {}

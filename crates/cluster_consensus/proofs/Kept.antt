@@ -7,8 +7,8 @@ use Rattle.cluster_consensus.proofs.FactSteps.{refs_grow, durable_grows, granted
 use Rattle.cluster_consensus.proofs.Invariant.{Local, Follows, Known, Refs, Inv, Grows}
 use Rattle.cluster_consensus.proofs.NodeRows.{local_row}
 use Rattle.cluster_consensus.specs.Enabled.{Below, IsGranted, CanTake, Enabled, Fit}
-use Rattle.cluster_consensus.specs.Events.{Event, change, took}
-use Rattle.cluster_consensus.specs.Events.Event.{Admits, Boot, Down, Back, BackLead, BackTake, BackGrow, BackAppend, Stand, Grants, Lead, Take, Grow, Append, LearnLead, LearnFollow, Asks, Probe, Confirm}
+use Rattle.cluster_consensus.specs.Events.{NodeEvent, change, took}
+use Rattle.cluster_consensus.specs.Events.NodeEvent.{Admits, Boot, Down, Back, BackLead, BackTake, BackGrow, BackAppend, Stand, Grants, Lead, Take, Grow, Append, LearnLead, LearnFollow, Asks, Probe, Confirm}
 use Rattle.cluster_consensus.specs.Facts.{Claim, Vote, Grant, Own, Admit, World, blank}
 use Rattle.cluster_consensus.specs.Histories.{Legal, happens, after, admitted}
 use Rattle.core_lists.proofs.Fronts.{front_refl, front_trans, front_append, front_take}
@@ -58,7 +58,7 @@ append_follows {E} {n} {w} inv i e lead v g h =
     let l = leads_log inv i lead in
     self_follows {v = v} i (record { gen = (w.nodes i).accepted; log = (w.nodes i).log ++ e ∷ [] }) l.it (g.leads i l.it l.mem) l.is.0 (front_trans l.is.1 (front_append (w.nodes i).log (e ∷ []))) h
 
-pub refs_row : {E : Type 0} {n : ℕ} {w : World E} → Inv n w → (i : ℕ) (e : Event E) → Enabled n w i (w.nodes i) e → (v : World E) → Grows w v → v.nodes i ≡ change i (w.nodes i) e → Refs n v i (change i (w.nodes i) e)
+pub refs_row : {E : Type 0} {n : ℕ} {w : World E} → Inv n w → (i : ℕ) (e : NodeEvent E) → Enabled n w i (w.nodes i) e → (v : World E) → Grows w v → v.nodes i ≡ change i (w.nodes i) e → Refs n v i (change i (w.nodes i) e)
 refs_row inv i (Admits k p a) en v g self = refs_grow g (inv.refs i)
 refs_row inv i (Boot p a l) en v g self =
     let r = refs_grow g (inv.refs i) in
@@ -157,7 +157,7 @@ own_same o = record { votes = λ x h. h; grants = λ x h. h; leads = λ x h. h; 
 pub own_took : {E : Type 0} (o : Own E) (c : Claim E) → OwnGrows o (record o { accepts = c ∷ o.accepts })
 own_took o c = record { votes = λ x h. h; grants = λ x h. h; leads = λ x h. h; accepts = λ x h. there h }
 
-pub own_row : {E : Type 0} (i : ℕ) (o : Own E) (e : Event E) → OwnGrows o (change i o e)
+pub own_row : {E : Type 0} (i : ℕ) (o : Own E) (e : NodeEvent E) → OwnGrows o (change i o e)
 own_row i o (Admits k p a) = own_same o
 own_row i o (Boot p a l) = record { votes = λ x h. h; grants = λ x h. h; leads = λ x h. h; accepts = λ x h. h }
 own_row i o Down = record { votes = λ x h. h; grants = λ x h. h; leads = λ x h. h; accepts = λ x h. h }
@@ -179,32 +179,32 @@ own_row i o (Probe t) = record { votes = λ x h. h; grants = λ x h. h; leads = 
 own_row i o (Confirm t g) = record { votes = λ x h. h; grants = λ x h. h; leads = λ x h. h; accepts = λ x h. h }
 
 -- what holds of the new part where k is the actor, and of the old one where it isn't, holds of the part of k
-pub at_node : {E : Type 0} (w : World E) (i : ℕ) (e : Event E) (P : ℕ → Own E → Type 0) (k : ℕ) → P i (change i (w.nodes i) e) → P k (w.nodes k) → P k ((happens w i e).nodes k)
+pub at_node : {E : Type 0} (w : World E) (i : ℕ) (e : NodeEvent E) (P : ℕ → Own E → Type 0) (k : ℕ) → P i (change i (w.nodes i) e) → P k (w.nodes k) → P k ((happens w i e).nodes k)
 at_node {E} w i e P k new old = go (k == i) refl
   where
     go : (b : Bool) → (k == i) ≡ b → P k (cond b (change i (w.nodes i) e) (w.nodes k))
     go true t = subst (λ j. P j (change i (w.nodes i) e)) (sym ((Decides-eqb k i).0 t)) new
     go false t = old
 
-pub admits_row : {E : Type 0} (w : World E) (e : Event E) (x : Admit) → In x w.admits → In x (admitted w e)
+pub admits_row : {E : Type 0} (w : World E) (e : NodeEvent E) (x : Admit) → In x w.admits → In x (admitted w e)
 admits_row w (Admits k p a) x h = there h
 admits_row w _ x h = h
 
-pub grows_row : {E : Type 0} (w : World E) (i : ℕ) (e : Event E) → Grows w (happens w i e)
+pub grows_row : {E : Type 0} (w : World E) (i : ℕ) (e : NodeEvent E) → Grows w (happens w i e)
 grows_row {E} w i e = record { votes = λ k. (at k).votes; grants = λ k. (at k).grants; leads = λ k. (at k).leads; accepts = λ k. (at k).accepts; admits = admits_row w e }
   where
     at : (k : ℕ) → OwnGrows (w.nodes k) ((happens w i e).nodes k)
     at k = at_node w i e (λ j o. OwnGrows (w.nodes j) o) k (own_row i (w.nodes i) e) (own_same (w.nodes k))
 
-pub self_row : {E : Type 0} (w : World E) (i : ℕ) (e : Event E) → (happens w i e).nodes i ≡ change i (w.nodes i) e
+pub self_row : {E : Type 0} (w : World E) (i : ℕ) (e : NodeEvent E) → (happens w i e).nodes i ≡ change i (w.nodes i) e
 self_row w i e = ap (λ b. cond b (change i (w.nodes i) e) (w.nodes i)) ((Decides-eqb i i).1 refl)
 
-pub fit_row : {E : Type 0} {n : ℕ} {w : World E} → Inv n w → (i : ℕ) (e : Event E) → Enabled n w i (w.nodes i) e → Fit n (admitted w e)
+pub fit_row : {E : Type 0} {n : ℕ} {w : World E} → Inv n w → (i : ℕ) (e : NodeEvent E) → Enabled n w i (w.nodes i) e → Fit n (admitted w e)
 fit_row inv i (Admits k p a) en = en.1
 fit_row inv i _ en = inv.fit
 
 -- an enabled event keeps the invariant
-pub kept : {E : Type 0} {n : ℕ} {w : World E} → Inv n w → (i : ℕ) (e : Event E) → Enabled n w i (w.nodes i) e → Inv n (happens w i e)
+pub kept : {E : Type 0} {n : ℕ} {w : World E} → Inv n w → (i : ℕ) (e : NodeEvent E) → Enabled n w i (w.nodes i) e → Inv n (happens w i e)
 kept {E} {n} {w} inv i e en =
     let g = grows_row w i e in
     record {
@@ -236,6 +236,6 @@ pub start_refs : {E : Type 0} (n i : ℕ) → Refs {E = E} n (after []) i blank
 start_refs n i = record { admitted = λ (e : false ≡ true). absurd (cc); granted = each_none; led = each_none; follows = each_none; durables = each_none; known = inl refl; fits = omega arith }
 
 -- it holds after each legal history
-pub always : {E : Type 0} (n : ℕ) (h : List (ℕ × Event E)) → Legal n h → Inv n (after h)
+pub always : {E : Type 0} (n : ℕ) (h : List (ℕ × NodeEvent E)) → Legal n h → Inv n (after h)
 always n [] legal = record { local = λ i. start_local; refs = λ i. start_refs n i; fit = each_none }
 always n (x ∷ h) legal = kept (always n h legal.1) x.0 x.1 legal.0

@@ -6,8 +6,8 @@ use Rattle.cluster_consensus.proofs.FactSteps.{grown}
 use Rattle.cluster_consensus.proofs.Invariant.{Local, Inv}
 use Rattle.cluster_consensus.proofs.NodeSteps.{quiet, raised, took_local, led_local, heads_local, told_local, grant_local, stand_local, not_fresh}
 use Rattle.cluster_consensus.specs.Enabled.{IsGranted, CanLead, CanTake, Enabled}
-use Rattle.cluster_consensus.specs.Events.{Event, change, took}
-use Rattle.cluster_consensus.specs.Events.Event.{Admits, Boot, Down, Back, BackLead, BackTake, BackGrow, BackAppend, Stand, Grants, Lead, Take, Grow, Append, LearnLead, LearnFollow, Asks, Probe, Confirm}
+use Rattle.cluster_consensus.specs.Events.{NodeEvent, change, took}
+use Rattle.cluster_consensus.specs.Events.NodeEvent.{Admits, Boot, Down, Back, BackLead, BackTake, BackGrow, BackAppend, Stand, Grants, Lead, Take, Grow, Append, LearnLead, LearnFollow, Asks, Probe, Confirm}
 use Rattle.cluster_consensus.specs.Facts.{Claim, Ping, Pong, Own, World, blank}
 use Rattle.core_lists.proofs.Fronts.{front_append}
 use Rattle.core_lists.proofs.Lists.{each_add, each_none, nothing}
@@ -105,7 +105,7 @@ down_row {E} {o} l false e =
     let same = l.fresh e in
     subst (λ (t : Own E). Local (record t { up = false })) (sym same) (subst Local same l)
 
-pub local_row : {E : Type 0} {n : ℕ} {w : World E} → Inv n w → (i : ℕ) (e : Event E) → Enabled n w i (w.nodes i) e → Local (change i (w.nodes i) e)
+pub local_row : {E : Type 0} {n : ℕ} {w : World E} → Inv n w → (i : ℕ) (e : NodeEvent E) → Enabled n w i (w.nodes i) e → Local (change i (w.nodes i) e)
 local_row inv i (Admits k p a) en = inv.local i
 local_row {w = w} inv i (Boot p a l) en = subst (λ o. Local (change 0 o (Boot p a l))) (sym ((inv.local i).fresh en.1)) (boot_local p a l en.2)
 local_row {w = w} inv i Down en = down_row (inv.local i) (w.nodes i).was_up refl

@@ -3,8 +3,8 @@ use Rattle.std.proofs.Common.{◌≡◌, ℕ, ◌<◌, ◌≤◌, arith, ap}
 use Rattle.std.specs.Prelude.{true, false}
 use Rattle.cluster_consensus.proofs.Invariant.{Inv}
 use Rattle.cluster_consensus.specs.Enabled.{Enabled}
-use Rattle.cluster_consensus.specs.Events.{Event, change}
-use Rattle.cluster_consensus.specs.Events.Event.{Admits, Boot, Down, Back, BackLead, BackTake, BackGrow, BackAppend, Stand, Grants, Lead, Take, Grow, Append, LearnLead, LearnFollow, Asks, Probe, Confirm}
+use Rattle.cluster_consensus.specs.Events.{NodeEvent, change}
+use Rattle.cluster_consensus.specs.Events.NodeEvent.{Admits, Boot, Down, Back, BackLead, BackTake, BackGrow, BackAppend, Stand, Grants, Lead, Take, Grow, Append, LearnLead, LearnFollow, Asks, Probe, Confirm}
 use Rattle.cluster_consensus.specs.Facts.{Claim, Own, World}
 use Rattle.core_lists.specs.Lists.{In}
 use Rattle.core_lists.specs.Lists.In.{there}
@@ -15,7 +15,7 @@ pub record Onward {E : Type 0} (o p : Own E) : Type 0 where
   pub leads : (x : Claim E) → In x o.leads → In x p.leads
   pub still : p.leading ≡ true → o.accepted ≡ p.accepted → (o.leading ≡ true) × (o.durable ≤ p.durable)
 
-pub onward_row : {E : Type 0} {n : ℕ} {w : World E} → Inv n w → (i : ℕ) (e : Event E) → Enabled n w i (w.nodes i) e → Onward (w.nodes i) (change i (w.nodes i) e)
+pub onward_row : {E : Type 0} {n : ℕ} {w : World E} → Inv n w → (i : ℕ) (e : NodeEvent E) → Enabled n w i (w.nodes i) e → Onward (w.nodes i) (change i (w.nodes i) e)
 onward_row inv i (Admits k p a) en = record { accepted = omega arith; leads = λ x h. h; still = λ l e. (l, omega arith) }
 onward_row {w = w} inv i (Boot p a l) en = record { accepted = let z = ap (λ o. o.accepted) ((inv.local i).fresh en.1) in let y : (w.nodes i).accepted ≡ 0 = z in omega arith; leads = λ x h. h; still = λ (l : false ≡ true). absurd (cc) }
 onward_row inv i Down en = record { accepted = omega arith; leads = λ x h. h; still = λ l e. (l, omega arith) }

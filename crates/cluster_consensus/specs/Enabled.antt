@@ -1,8 +1,8 @@
 -- Where each event may happen.
 use Rattle.std.specs.Prelude.{ℕ, ◌≡◌, ◌≢◌, ◌+◌, ◌<◌, ◌≤◌, true, false, List, ◌∷◌, length}
 use mathlib.Core.Logic.{◌⊎◌}
-use Rattle.cluster_consensus.specs.Events.{Event}
-use Rattle.cluster_consensus.specs.Events.Event.{Admits, Boot, Down, Back, BackLead, BackTake, BackGrow, BackAppend, Stand, Grants, Lead, Take, Grow, Append, LearnLead, LearnFollow, Asks, Probe, Confirm}
+use Rattle.cluster_consensus.specs.Events.{NodeEvent}
+use Rattle.cluster_consensus.specs.Events.NodeEvent.{Admits, Boot, Down, Back, BackLead, BackTake, BackGrow, BackAppend, Stand, Grants, Lead, Take, Grow, Append, LearnLead, LearnFollow, Asks, Probe, Confirm}
 use Rattle.cluster_consensus.specs.Facts.{Own, Admit, World}
 use Rattle.core_lists.specs.Fronts.{Front}
 use Rattle.core_lists.specs.Lists.{In, Each, Has}
@@ -35,7 +35,7 @@ CanGrow w o l =
 abbrev pub Fit : ℕ → List Admit → Type 0
 Fit n admits = Each (λ a. Majority n (λ k. Each (λ b. b.node ≡ k → a.accepted ≤ b.promised) admits)) admits
 
-abbrev pub Enabled : {E : Type 0} → ℕ → World E → ℕ → Own E → Event E → Type 0
+abbrev pub Enabled : {E : Type 0} → ℕ → World E → ℕ → Own E → NodeEvent E → Type 0
 Enabled n w i o (Admits k p a) = Each (λ b. b.node ≢ k) w.admits × Fit n (record { node = k; promised = p; accepted = a } ∷ w.admits)
 Enabled n w i o (Boot p a l) = (o.up ≡ false) × (o.was_up ≡ false) × (a ≤ p) × In (record { node = i; promised = p; accepted = a }) w.admits
 Enabled n w i o Down = Unit {0}

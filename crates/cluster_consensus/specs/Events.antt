@@ -2,26 +2,26 @@
 use Rattle.std.specs.Prelude.{ℕ, ◌+◌, true, false, List, [], ◌∷◌, ◌++◌, length, take}
 use Rattle.cluster_consensus.specs.Facts.{Own}
 
-pub data Event (E : Type 0) : Type 0 where
-  Admits : ℕ → ℕ → ℕ → Event E
-  Boot : ℕ → ℕ → List E → Event E
-  Down : Event E
-  Back : ℕ → Event E
-  BackLead : Event E
-  BackTake : ℕ → List E → Event E
-  BackGrow : List E → Event E
-  BackAppend : E → Event E
-  Stand : ℕ → Event E
-  Grants : ℕ → ℕ → Event E
-  Lead : Event E
-  Take : ℕ → List E → Event E
-  Grow : List E → Event E
-  Append : E → Event E
-  LearnLead : ℕ → Event E
-  LearnFollow : ℕ → Event E
-  Asks : ℕ → Event E
-  Probe : ℕ → Event E
-  Confirm : ℕ → ℕ → Event E
+pub data NodeEvent (E : Type 0) : Type 0 where
+  Admits : ℕ → ℕ → ℕ → NodeEvent E
+  Boot : ℕ → ℕ → List E → NodeEvent E
+  Down : NodeEvent E
+  Back : ℕ → NodeEvent E
+  BackLead : NodeEvent E
+  BackTake : ℕ → List E → NodeEvent E
+  BackGrow : List E → NodeEvent E
+  BackAppend : E → NodeEvent E
+  Stand : ℕ → NodeEvent E
+  Grants : ℕ → ℕ → NodeEvent E
+  Lead : NodeEvent E
+  Take : ℕ → List E → NodeEvent E
+  Grow : List E → NodeEvent E
+  Append : E → NodeEvent E
+  LearnLead : ℕ → NodeEvent E
+  LearnFollow : ℕ → NodeEvent E
+  Asks : ℕ → NodeEvent E
+  Probe : ℕ → NodeEvent E
+  Confirm : ℕ → ℕ → NodeEvent E
 
 -- the part takes this log in this generation
 abbrev pub took : {E : Type 0} → Own E → ℕ → List E → Own E
@@ -34,7 +34,7 @@ abbrev pub woken : {E : Type 0} → Own E → Own E
 woken o = record o { durable = 0; leading = false; up = true }
 
 -- what an event changes in its actor's part
-abbrev pub change : {E : Type 0} → ℕ → Own E → Event E → Own E
+abbrev pub change : {E : Type 0} → ℕ → Own E → NodeEvent E → Own E
 change i o (Admits k p a) = o
 change i o (Boot p a l) = record o { promised = p; accepted = a; log = l; durable = 0; leading = false; up = true; was_up = true; store_promised = p; store_accepted = a }
 change i o Down = record o { up = false }

@@ -16,7 +16,7 @@ use Rattle.cluster_events.proofs.HistoryLaws.{steps as core_steps}
 use Rattle.cluster_masters.proofs.BehindLaws.{behind_base}
 use Rattle.cluster_masters.proofs.WholeLogs.{wholes, fronts}
 use Rattle.cluster_requests.specs.KeptEntries.{KeptEntry, plain, rows_behind, state_from, state_of}
-use Rattle.cluster_steps.specs.Guards.{ArePages, PagesStand, Lawful}
+use Rattle.cluster_steps.specs.Guards.{ArePages, PagesStand, AreLegalSteps}
 use Rattle.cluster_steps.specs.Named.{steps, world}
 use Rattle.cluster_steps.specs.declared.events.Event.{Event}
 use Rattle.cluster_steps.proofs.StepLaws.{core_legal, world_is}
@@ -66,7 +66,7 @@ take_map f (suc k) [] = refl
 take_map f (suc k) (x ∷ xs) = ap (λ t. f x ∷ t) (take_map f k xs)
 
 -- what is behind an adopted log that is durable in its generation
-pub behind_it : (G : Setting) (h : List (ℕ × Event)) → Lawful G h → (m k : ℕ) (a c : Claim KeptEntry) → In a ((world G h).nodes m).leads → DurableIn G.nodes (world G h) a.gen a.log
+pub behind_it : (G : Setting) (h : List (ℕ × Event)) → AreLegalSteps G h → (m k : ℕ) (a c : Claim KeptEntry) → In a ((world G h).nodes m).leads → DurableIn G.nodes (world G h) a.gen a.log
     → In c ((world G h).nodes k).accepts → a.gen ≤ c.gen → Front a.log c.log × ((zs : List KeptEntry) (e : KeptEntry) → Front (zs ++ e ∷ []) c.log → length a.log ≤ length zs → IsMade 0 zs e)
 behind_it G h l m k a c ha dur hc low =
     let q = world_is G h in
@@ -88,7 +88,7 @@ stands_at l c xs j e one rows are =
     let s : Stands (pages_of (map plain xs)) (tables_of (map plain c)) (rows_over (ground_of l) (map plain xs)) = subst (λ r. Stands (pages_of (map plain xs)) (tables_of (map plain c)) r) (sym rows) (subst (λ z. Stands (pages_of (map plain xs)) z (state_of xs)) t are.stand) in
     subst (λ z. Stands (pages_of z) (tables_of (map plain c)) (rows_over (ground_of l) z)) q s
 
-pub stand_from : (G : Setting) (h : List (ℕ × Event)) → Lawful G h → (m k : ℕ) (a c : Claim KeptEntry) → In a ((world G h).nodes m).leads → DurableIn G.nodes (world G h) a.gen a.log
+pub stand_from : (G : Setting) (h : List (ℕ × Event)) → AreLegalSteps G h → (m k : ℕ) (a c : Claim KeptEntry) → In a ((world G h).nodes m).leads → DurableIn G.nodes (world G h) a.gen a.log
     → In c ((world G h).nodes k).accepts → a.gen ≤ c.gen → StandsOver (ground_of a.log) (tables_of (map plain c.log)) (map plain c.log)
 stand_from G h l m k a c ha dur hc low j from le = go pages
   where
@@ -118,6 +118,6 @@ stand_from G h l m k a c ha dur hc low j from le = go pages
     go (inr are) = stands_at a.log c.log (take j c.log) j refl from.0 rows are
 
 -- the pages of the log of each node
-pub node_stands : (G : Setting) (h : List (ℕ × Event)) → Lawful G h → (k : ℕ) → PagesStand ((world G h).nodes k).log
+pub node_stands : (G : Setting) (h : List (ℕ × Event)) → AreLegalSteps G h → (k : ℕ) → PagesStand ((world G h).nodes k).log
 node_stands G h l k =
     subst (λ (w : World KeptEntry). PagesStand (w.nodes k).log) (sym (world_is G h)) (wholes PagesStand G.nodes (core_steps (steps G h)) (inl refl) (core_legal G h l) (all_leave G h l) k).own

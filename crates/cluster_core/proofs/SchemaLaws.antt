@@ -4,19 +4,19 @@ use Rattle.std.specs.Prelude.{Some, None}
 use mathlib.Core.Logic.{◌⊎◌, inl, inr}
 use Rattle.cdb_values.specs.declared.tables.TableDef.{TableDef}
 use Rattle.cluster_consensus.specs.Durable.{DurableIn}
-use Rattle.cluster_consensus.specs.Events.{Event as Core}
+use Rattle.cluster_consensus.specs.Events.{NodeEvent}
 use Rattle.cluster_consensus.specs.Facts.{Claim, Own, World}
 use Rattle.cluster_consensus.specs.Histories.{after}
 use Rattle.cluster_core.proofs.PageLaws.{all_leave}
-use Rattle.cluster_events.specs.Parts.{Event as Step, field}
+use Rattle.cluster_events.specs.Parts.{ActorEvent, field}
 use Rattle.cluster_events.specs.Settings.{Setting}
 use Rattle.cluster_events.proofs.HistoryLaws.{steps as core_steps, add_step}
 use Rattle.cluster_masters.specs.Appended.{Appends, AllAppend}
 use Rattle.cluster_masters.proofs.BehindLaws.{IsBehind, behind_base}
 use Rattle.cluster_masters.proofs.WholeLogs.{wholes}
 use Rattle.cluster_requests.specs.KeptEntries.{KeptEntry, plain}
-use Rattle.cluster_requests.specs.KeptEntries.KeptEntry.{Setup as SetupKept, Commit as CommitKept}
-use Rattle.cluster_steps.specs.Guards.{ArePages, PagesStand, HasSchema, IsOfSchema, LeavesPages, Lawful}
+use Rattle.cluster_requests.specs.KeptEntries.KeptEntry.{SetupKept, CommitKept}
+use Rattle.cluster_steps.specs.Guards.{ArePages, PagesStand, HasSchema, IsOfSchema, LeavesPages, AreLegalSteps}
 use Rattle.cluster_steps.specs.Named.{named, steps, world}
 use Rattle.cluster_steps.specs.declared.events.Event.{Event}
 use Rattle.cluster_steps.proofs.StepLaws.{core_legal, world_is}
@@ -30,18 +30,18 @@ use Rattle.log_rows.specs.History.{tables_of}
 abbrev pub HasTables : List TableDef → ℕ → List KeptEntry → KeptEntry → Type 0
 HasTables tables gen xs e = IsOfSchema tables e
 
-schema_rule : (tables : List TableDef) (o : Own KeptEntry) (e : Core KeptEntry) → HasSchema tables e → Appends (HasTables tables) o e
-schema_rule tables o (Core.Append e) x = x
-schema_rule tables o (Core.BackAppend e) x = x
+schema_rule : (tables : List TableDef) (o : Own KeptEntry) (e : NodeEvent KeptEntry) → HasSchema tables e → Appends (HasTables tables) o e
+schema_rule tables o (NodeEvent.Append e) x = x
+schema_rule tables o (NodeEvent.BackAppend e) x = x
 schema_rule tables o _ x = tt
 
-schema_step : (G : Setting) (g : List (ℕ × Step)) (i : ℕ) (e : Step) → LeavesPages G g i e → AllAppend (HasTables G.tables) (core_steps g) → AllAppend (HasTables G.tables) (add_step i e (core_steps g))
-schema_step G g i (Step.Node e) x all = (schema_rule G.tables ((after (core_steps g)).nodes i) e x.1, all)
-schema_step G g i Step.Stop x all = (tt, all)
-schema_step G g i (Step.Ask t) x all = (tt, all)
+schema_step : (G : Setting) (g : List (ℕ × ActorEvent)) (i : ℕ) (e : ActorEvent) → LeavesPages G g i e → AllAppend (HasTables G.tables) (core_steps g) → AllAppend (HasTables G.tables) (add_step i e (core_steps g))
+schema_step G g i (ActorEvent.Node e) x all = (schema_rule G.tables ((after (core_steps g)).nodes i) e x.1, all)
+schema_step G g i ActorEvent.Stop x all = (tt, all)
+schema_step G g i (ActorEvent.Ask t) x all = (tt, all)
 schema_step G g i _ x all = all
 
-all_schema : (G : Setting) (h : List (ℕ × Event)) → Lawful G h → AllAppend (HasTables G.tables) (core_steps (steps G h))
+all_schema : (G : Setting) (h : List (ℕ × Event)) → AreLegalSteps G h → AllAppend (HasTables G.tables) (core_steps (steps G h))
 all_schema G [] l = tt
 all_schema G (x ∷ h) l = schema_step G (steps G h) x.0 (named G (steps G h) x.0 x.1) l.0.allowed.pages (all_schema G h l.1)
 
@@ -64,7 +64,7 @@ of_base tables a c b is pages = go a.log c.log b.0 (λ e p none. (b.1 [] e p non
     go (x ∷ xs) (e ∷ es) p rule (inl none) pages = absurd (cc)
     go (x ∷ xs) (e ∷ es) p rule (inr q) pages = inr (same_first p (λ none. absurd (cc)) ∙ q)
 
-pub scripts_tables : (G : Setting) (h : List (ℕ × Event)) → Lawful G h → (m k : ℕ) (a c : Claim KeptEntry) → In a ((world G h).nodes m).leads → DurableIn G.nodes (world G h) a.gen a.log
+pub scripts_tables : (G : Setting) (h : List (ℕ × Event)) → AreLegalSteps G h → (m k : ℕ) (a c : Claim KeptEntry) → In a ((world G h).nodes m).leads → DurableIn G.nodes (world G h) a.gen a.log
     → (a.log ≡ []) ⊎ (tables_of (map plain a.log) ≡ G.tables) → In c ((world G h).nodes k).accepts → a.gen ≤ c.gen → (c.log ≡ []) ⊎ (tables_of (map plain c.log) ≡ G.tables)
 scripts_tables G h l m k a c ha dur is hc low =
     let q = world_is G h in

@@ -24,12 +24,12 @@ pub struct Cluster<J: Plan> {
 }
 
 impl<J: Plan> Machine for Cluster<J> {
-    ghost use Rattle.cluster_steps.specs.Guards.{MayDo};
+    ghost use Rattle.cluster_steps.specs.Guards.{MayTakeStep};
     ghost use Rattle.cluster_core.specs.Known.{known};
 
     type Event = Event;
 
-    ghost enabled = { λ h i e. MayDo J.setting h i e };
+    ghost enabled = { λ h i e. MayTakeStep J.setting h i e };
 
     ghost known = { λ later h i e legal own may. known J.setting later h i e legal own may };
 }

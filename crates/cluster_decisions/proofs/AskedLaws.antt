@@ -21,7 +21,7 @@ use Rattle.cluster_decisions.proofs.LedLaws.{at_least_led}
 use Rattle.cluster_masters.proofs.Bases.{some_founded, at_least_one}
 use Rattle.cluster_requests.specs.KeptEntries.{KeptEntry, plain, state_of}
 use Rattle.cluster_requests.specs.Requests.{Sent}
-use Rattle.cluster_steps.specs.Guards.{ArePages, PagesStand, Lawful}
+use Rattle.cluster_steps.specs.Guards.{ArePages, PagesStand, AreLegalSteps}
 use Rattle.cluster_steps.specs.Named.{steps, world}
 use Rattle.cluster_steps.specs.declared.events.Event.{Event}
 use Rattle.cluster_steps.proofs.StepLaws.{legal_steps, core_legal, inv_of, world_is}
@@ -45,7 +45,7 @@ pub record IsFounded (G : Setting) (h : List (ℕ × Event)) (begin gen : ℕ) :
   pub within : length lead.log ≤ begin
   pub low : lead.gen ≤ gen
 
-founded : (G : Setting) (h : List (ℕ × Event)) → Lawful G h → (x : Sent) → In x (field (steps G h)).sends → IsFounded G h x.begin x.gen
+founded : (G : Setting) (h : List (ℕ × Event)) → AreLegalSteps G h → (x : Sent) → In x (field (steps G h)).sends → IsFounded G h x.begin x.gen
 founded G h l x mem =
     let k = (sends_ok G (steps G h) (legal_steps G h l)).at x mem in
     let p = k.pinged in
@@ -70,7 +70,7 @@ founded G h l x mem =
     }
 
 -- each entry behind a begin is kept with what it makes
-made_behind : (G : Setting) (h : List (ℕ × Event)) → Lawful G h → (i : ℕ) → ((world G h).nodes i).leading ≡ true → (begin : ℕ) → IsFounded G h begin ((world G h).nodes i).accepted
+made_behind : (G : Setting) (h : List (ℕ × Event)) → AreLegalSteps G h → (i : ℕ) → ((world G h).nodes i).leading ≡ true → (begin : ℕ) → IsFounded G h begin ((world G h).nodes i).accepted
     → AreMadeBehind begin ((world G h).nodes i).log
 made_behind G h l i lead begin f xs e p long =
     let inv = inv_of G h l in
@@ -97,7 +97,7 @@ standing log (inl none) one = absurd (let z : length log ≡ 0 = ap (λ t. lengt
 standing log (inr are) one = are
 
 -- it is asked so
-pub asked_at : (G : Setting) (h : List (ℕ × Event)) → Lawful G h → (i : ℕ) (x : Sent) (request : CommitRequest) → ((world G h).nodes i).leading ≡ true → In x (field (steps G h)).sends
+pub asked_at : (G : Setting) (h : List (ℕ × Event)) → AreLegalSteps G h → (i : ℕ) (x : Sent) (request : CommitRequest) → ((world G h).nodes i).leading ≡ true → In x (field (steps G h)).sends
     → x.gen ≡ ((world G h).nodes i).accepted → request.ops ≡ x.ops → request.begin ≡ x.begin
     → FitsRows (tables_of (stored_entries ((world G h).nodes i).log)) (state_of (take x.begin ((world G h).nodes i).log)) request
     → IsAsked (ground_at (state_of (take x.begin ((world G h).nodes i).log)) x.begin) request (stored_entries ((world G h).nodes i).log)
@@ -125,7 +125,7 @@ asked_at G h l i x request lead mem gen ops begin fits =
     }
 
 -- and it is the one that its session sent
-pub of_log : (G : Setting) (h : List (ℕ × Event)) → Lawful G h → (i : ℕ) (x : Sent) (request : CommitRequest) → ((world G h).nodes i).leading ≡ true → In x (field (steps G h)).sends
+pub of_log : (G : Setting) (h : List (ℕ × Event)) → AreLegalSteps G h → (i : ℕ) (x : Sent) (request : CommitRequest) → ((world G h).nodes i).leading ≡ true → In x (field (steps G h)).sends
     → x.gen ≡ ((world G h).nodes i).accepted → tables_of (stored_entries ((world G h).nodes i).log) ≡ G.tables → IsOfSent G x request
     → IsRequestOf G ((world G h).nodes i).log (ground_at (state_of (take x.begin ((world G h).nodes i).log)) x.begin) x request
 of_log G h l i x request lead mem gen tables is =

@@ -26,7 +26,7 @@ use Rattle.table_edits.proofs.BrokenLemmas.{first_is_named, first_is_told}
 use Rattle.range_validate.specs.Used.{item_of}
 use Rattle.block_processor.specs.Changed.{IsFirstUse, found_of, changed_in}
 use Rattle.block_processor.specs.Conflicts.{conflict_of, ranges_of}
-use Rattle.block_processor.specs.Decided.{Decides as IsDecided, IsNew}
+use Rattle.block_processor.specs.Decided.{Decides, IsNew}
 use Rattle.block_processor.proofs.ChangedLaws.{none_used, one_used}
 use Rattle.block_processor.proofs.ChangedLemmas.{conflict_changed}
 use Rattle.session_language.specs.Touched.{Used, TheVersion, TheRange, first_used, FirstUse, first_use, or_use}
@@ -36,10 +36,10 @@ use Rattle.cdb_values.specs.declared.replies.Reply.{Reply}
 use Rattle.cdb_values.specs.declared.replies.Reply.TheVariants as reply
 use Rattle.cluster_requests.specs.Identities.{identity_of, Lacks}
 use Rattle.cluster_requests.specs.KeptEntries.{KeptEntry, plain, state_of, state_from, rows_behind}
-use Rattle.cluster_requests.specs.KeptEntries.KeptEntry.{Setup as SetupKept, Commit as CommitKept}
+use Rattle.cluster_requests.specs.KeptEntries.KeptEntry.{SetupKept, CommitKept}
 use Rattle.cluster_requests.specs.Requests.{Sent, Field, MayAppend}
 use Rattle.cluster_events.specs.Settings.{Setting, basis, changes_in, log_view}
-use Rattle.cluster_events.specs.Guards.{Decides, IsRightRefusal}
+use Rattle.cluster_events.specs.Guards.{IsRightlyAppended, IsRightRefusal}
 use Rattle.cluster_answers.proofs.AgreeLaws.{get_of, get_last}
 use Rattle.cluster_core.proofs.BaseLaws.{over_ground, state_last}
 use Rattle.cluster_decisions.specs.Requested.{stored_entries, IsRequestOf, AreMadeBehind, ground_at}
@@ -131,8 +131,8 @@ module _ (G : Setting) (log : List KeptEntry) (footing : Ground) (sent : Sent) (
       ∙ ap (λ (z : Rows). plain_entry.Commit g i' b' l' (changes_of o' z.next) records) u)))
 
   pub appends_kept : (f : Field) (i generation : ℕ) (next : PlainEntry) → (f.core.nodes i).log ≡ log → generation ≡ (f.core.nodes i).accepted → In sent f.sends → sent.to ≡ i → sent.gen ≡ (f.core.nodes i).accepted
-      → Each (λ t. sent.id ≢ t) (f.settled i) → AllFit G.tables (apply_all (state_of log) sent.ops).tables → IsDecided footing request (stored_entries log) generation (decision.Commit next)
-      → (e : KeptEntry) × (plain e ≡ next) × (rows_behind e ≡ apply_all (state_of log) sent.ops) × MayAppend f i e × Decides G f i log e
+      → Each (λ t. sent.id ≢ t) (f.settled i) → AllFit G.tables (apply_all (state_of log) sent.ops).tables → Decides footing request (stored_entries log) generation (decision.Commit next)
+      → (e : KeptEntry) × (plain e ≡ next) × (rows_behind e ≡ apply_all (state_of log) sent.ops) × MayAppend f i e × IsRightlyAppended G f i log e
   appends_kept f i generation next own made mem to gen unsettled fit d = (
     e,
     is,
@@ -164,8 +164,8 @@ module _ (G : Setting) (log : List KeptEntry) (footing : Ground) (sent : Sent) (
       is = sym (d.made ∙ same_entry generation request.id sent.id request.begin sent.begin request.level sent.level request.ops sent.ops (rows_over footing (stored_entries log)) (state_of log) d.records k.its_id k.its_begin k.its_level k.its_ops k.rows)
 
   pub appends : (f : Field) (i generation : ℕ) (next : PlainEntry) → (f.core.nodes i).log ≡ log → generation ≡ (f.core.nodes i).accepted → In sent f.sends → sent.to ≡ i → sent.gen ≡ (f.core.nodes i).accepted
-      → Each (λ t. sent.id ≢ t) (f.settled i) → AllFit G.tables (apply_all (state_of log) sent.ops).tables → IsDecided footing request (stored_entries log) generation (decision.Commit next)
-      → (e : KeptEntry) × (plain e ≡ next) × MayAppend f i e × Decides G f i log e
+      → Each (λ t. sent.id ≢ t) (f.settled i) → AllFit G.tables (apply_all (state_of log) sent.ops).tables → Decides footing request (stored_entries log) generation (decision.Commit next)
+      → (e : KeptEntry) × (plain e ≡ next) × MayAppend f i e × IsRightlyAppended G f i log e
   appends f i generation next own made mem to gen unsettled fit d =
       let r = appends_kept f i generation next own made mem to gen unsettled fit d in
       (r.0, r.1, r.3, r.4)
@@ -176,7 +176,7 @@ module _ (G : Setting) (log : List KeptEntry) (footing : Ground) (sent : Sent) (
   told_key None is = absurd cc
   told_key (Some n) is = (n, refl)
 
-  pub duplicates : (generation position table key : ℕ) → IsDecided footing request (stored_entries log) generation (decision.Duplicate position table key)
+  pub duplicates : (generation position table key : ℕ) → Decides footing request (stored_entries log) generation (decision.Duplicate position table key)
       → (n : KeyName) × (named G.tables (Some (record { table = table; key = key })) ≡ Some n) × IsRightRefusal G log sent (reply.Duplicate position n.table n.key)
   duplicates generation position table key d = (
     n.0,
@@ -196,7 +196,7 @@ module _ (G : Setting) (log : List KeptEntry) (footing : Ground) (sent : Sent) (
       n : (n : KeyName) × (first_broken G.tables (apply_all (state_of log) sent.ops).tables ≡ Some n)
       n = told_key (first_broken G.tables (apply_all (state_of log) sent.ops).tables) (first_is_told G.tables (apply_all (state_of log) sent.ops) ∙ ap (λ z. is_some z) (sym (broken_at (rows_over footing (stored_entries log)) (state_of log) request.ops sent.ops (tables_of (stored_entries log)) G.tables k.rows k.its_ops k.tables) ∙ d.broken))
 
-  pub conflicts : (generation position : ℕ) (item : Item) → IsDecided footing request (stored_entries log) generation (decision.Conflict position item)
+  pub conflicts : (generation position : ℕ) (item : Item) → Decides footing request (stored_entries log) generation (decision.Conflict position item)
       → (u : Used) × (item_of u ≡ item) × ((told : Reply) → conflict_line G.tables position u ≡ Some told → IsConflict (basis G) (log_view G log) sent.begin position sent.used sent.ops told)
   conflicts generation position item d = (
     f.0.item,
@@ -242,7 +242,7 @@ from_last r [] e = refl
 from_last r (x ∷ l) e = from_last (rows_after r x) l e
 
 pub decided_made : (G : Setting) (log : List KeptEntry) (footing : Ground) (sent : Sent) (request : CommitRequest) (generation : ℕ) (next : PlainEntry) → IsRequestOf G log footing sent request
-    → IsDecided footing request (stored_entries log) generation (decision.Commit next) → apply_all (state_of log) sent.ops ≡ rows_after (state_of log) next
+    → Decides footing request (stored_entries log) generation (decision.Commit next) → apply_all (state_of log) sent.ops ≡ rows_after (state_of log) next
 decided_made G log footing sent request generation next k d =
     sym (ap (λ r. rows_after r next) (sym k.rows)
     ∙ (sym (from_last footing.rows (drop footing.position (stored_entries log)) next)

@@ -6,14 +6,14 @@ use Rattle.cluster_consensus.proofs.Generations.{one_leader, one_log, adopts}
 use Rattle.cluster_consensus.proofs.Invariant.{Inv}
 use Rattle.cluster_consensus.proofs.Kept.{always}
 use Rattle.cluster_consensus.specs.Durable.{DurableIn}
-use Rattle.cluster_consensus.specs.Events.{Event}
+use Rattle.cluster_consensus.specs.Events.{NodeEvent}
 use Rattle.cluster_consensus.specs.Facts.{Claim, Ping}
 use Rattle.cluster_consensus.specs.Histories.{Legal, after}
 use Rattle.core_lists.proofs.Fronts.{front_length}
 use Rattle.core_lists.proofs.Numbers.{lt_or_eq}
 use Rattle.core_lists.specs.Lists.{In, Has}
 
-pub at_least_led : {E : Type 0} (n m j : ℕ) (h : List (ℕ × Event E)) (x : Ping) (l : Claim E) → Legal n h → In x ((after h).nodes m).pings → In l ((after h).nodes j).leads → DurableIn n (after h) l.gen l.log → l.gen ≤ x.gen → length l.log ≤ x.durable
+pub at_least_led : {E : Type 0} (n m j : ℕ) (h : List (ℕ × NodeEvent E)) (x : Ping) (l : Claim E) → Legal n h → In x ((after h).nodes m).pings → In l ((after h).nodes j).leads → DurableIn n (after h) l.gen l.log → l.gen ≤ x.gen → length l.log ≤ x.durable
 at_least_led {E} n m j h x l legal hx mem durable low = go (lt_or_eq l.gen x.gen low)
   where
     inv : Inv n (after h)

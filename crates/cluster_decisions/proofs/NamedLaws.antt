@@ -2,17 +2,17 @@
 use Rattle.std.proofs.Common.{◌≡◌, ◌≢◌, ℕ, List, [], ◌∷◌, ◌++◌, map, refl, ap, sym, subst, ◌∙◌}
 use Rattle.std.specs.Prelude.{Some, unwrap_or}
 use mathlib.Core.Logic.{inr}
-use Rattle.block_processor.specs.Decided.{Decides as IsDecided}
+use Rattle.block_processor.specs.Decided.{Decides}
 use Rattle.cdb_values.specs.Good.{AllFit}
 use Rattle.cdb_values.specs.Rows.{Rows, no_rows, apply_all}
 use Rattle.cdb_values.specs.declared.tables.TableDef.{TableDef}
 use Rattle.cluster_core.proofs.BaseLaws.{state_last}
 use Rattle.cluster_decisions.specs.Requested.{stored_entries, IsRequestOf}
 use Rattle.cluster_decisions.proofs.DecisionLaws.{appends_kept, decided_made}
-use Rattle.cluster_events.specs.Guards.{Decides}
+use Rattle.cluster_events.specs.Guards.{IsRightlyAppended}
 use Rattle.cluster_events.specs.Settings.{Setting}
 use Rattle.cluster_requests.specs.KeptEntries.{KeptEntry, plain, state_of, rows_behind}
-use Rattle.cluster_requests.specs.KeptEntries.KeptEntry.{Setup as SetupKept, Commit as CommitKept}
+use Rattle.cluster_requests.specs.KeptEntries.KeptEntry.{SetupKept, CommitKept}
 use Rattle.cluster_requests.specs.Requests.{Sent, Field, MayAppend}
 use Rattle.cluster_steps.specs.Guards.{ArePages, PagesStand, IsOfSchema}
 use Rattle.cluster_steps.specs.Named.{kept_with, kept_over}
@@ -60,15 +60,15 @@ pages_behind log e next rows p r first stands =
     }
 
 -- it is no setup
-no_setup : (G : Setting) (f : Field) (i : ℕ) (log : List KeptEntry) (e : KeptEntry) (tables : List TableDef) → schema_of (stored_entries log) ≡ Some tables → Decides G f i log e → IsOfSchema G.tables e
+no_setup : (G : Setting) (f : Field) (i : ℕ) (log : List KeptEntry) (e : KeptEntry) (tables : List TableDef) → schema_of (stored_entries log) ≡ Some tables → IsRightlyAppended G f i log e → IsOfSchema G.tables e
 no_setup G f i log (SetupKept generation schema records reached) tables first d = absurd (let q : schema_of [] ≡ Some tables = ap (λ z. schema_of (stored_entries z)) (sym d.0) ∙ first in cc)
 no_setup G f i log (CommitKept generation id begin level changes records reached) tables first d = tt
 
 pub names : (G : Setting) (log : List KeptEntry) (footing : Ground) (sent : Sent) (request : CommitRequest) → IsRequestOf G log footing sent request → (f : Field) (i generation : ℕ) (next : PlainEntry)
     → (f.core.nodes i).log ≡ log → generation ≡ (f.core.nodes i).accepted → In sent f.sends → sent.to ≡ i → sent.gen ≡ (f.core.nodes i).accepted → Each (λ t. sent.id ≢ t) (f.settled i)
     → AllFit G.tables (apply_all (state_of log) sent.ops).tables → schema_of (stored_entries log) ≡ Some (tables_of (stored_entries log))
-    → IsDecided footing request (stored_entries log) generation (decision.Commit next)
-    → (plain (kept_over log next) ≡ next) × MayAppend f i (kept_over log next) × Decides G f i log (kept_over log next) × PagesStand (log ++ kept_over log next ∷ []) × IsOfSchema G.tables (kept_over log next)
+    → Decides footing request (stored_entries log) generation (decision.Commit next)
+    → (plain (kept_over log next) ≡ next) × MayAppend f i (kept_over log next) × IsRightlyAppended G f i log (kept_over log next) × PagesStand (log ++ kept_over log next ∷ []) × IsOfSchema G.tables (kept_over log next)
 names G log footing sent request k f i generation next own made mem to gen unsettled fit first d =
     let r = appends_kept G log footing sent request k f i generation next own made mem to gen unsettled fit d in
     let e = r.0 in
@@ -77,7 +77,7 @@ names G log footing sent request k f i generation next own made mem to gen unset
     let stands = subst (λ z. Stands (pages_of (stored_entries log ++ next ∷ [])) (tables_of (stored_entries log)) z) rows d.stands in (
       plain_over log e next r.1 q,
       subst (λ z. MayAppend f i z) q r.3,
-      subst (λ z. Decides G f i log z) q r.4,
+      subst (λ z. IsRightlyAppended G f i log z) q r.4,
       subst (λ z. PagesStand (log ++ z ∷ [])) q (inr (pages_behind log e next (apply_all (state_of log) sent.ops) r.1 r.2 first stands)),
       subst (λ z. IsOfSchema G.tables z) q (no_setup G f i log e (tables_of (stored_entries log)) first r.4),
     )

@@ -17,7 +17,7 @@ use Rattle.cluster_events.specs.Settings.{Setting, basis, log_view}
 use Rattle.cluster_requests.specs.Identities.{identity_of, HasAt}
 use Rattle.cluster_requests.specs.KeptEntries.{KeptEntry, plain}
 use Rattle.cluster_requests.specs.Requests.{Sent, Field, May}
-use Rattle.cluster_requests.specs.Requests.Act.{Repeat as ToRepeat}
+use Rattle.cluster_requests.specs.Requests.FieldAct.{ToRepeat}
 use Rattle.cluster_steps.specs.Named.{duplicate_line, refusal_line}
 use Rattle.core_lists.specs.Fronts.{Front}
 use Rattle.core_lists.specs.Fronts.Front.{front_nil, front_cons}

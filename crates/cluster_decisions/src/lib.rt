@@ -15,7 +15,7 @@
 ghost use Rattle.std.specs.Prelude.{ℕ, ◌≡◌, ◌≤◌, List, length, map, Some, take, true, ◌++◌, ◌∷◌, []};
 ghost use Rattle.actor_trace.specs.History.{IsLegal};
 ghost use Rattle.block_processor.specs.Asked.{IsAsked};
-ghost use Rattle.block_processor.specs.Decided.{Decides as IsDecided};
+ghost use Rattle.block_processor.specs.Decided.{Decides};
 ghost use Rattle.cdb_values.specs.Good.{AllFit, KeyName};
 ghost use Rattle.cdb_values.specs.Rows.{apply_all};
 ghost use Rattle.cdb_values.specs.declared.items.Item.{Item};
@@ -29,13 +29,13 @@ ghost use Rattle.cluster_decisions.specs.Requested.{
   AreMadeBehind,
   ground_at,
 };
-ghost use Rattle.cluster_events.specs.Guards.{Decides, IsRightRefusal, Refuses};
+ghost use Rattle.cluster_events.specs.Guards.{IsRightlyAppended, IsRightRefusal, Refuses};
 ghost use Rattle.cluster_events.specs.Parts.{field};
 ghost use Rattle.cluster_events.specs.Settings.{Setting, basis, log_view};
 ghost use Rattle.cluster_requests.specs.KeptEntries.{KeptEntry, plain, state_of};
 ghost use Rattle.cluster_requests.specs.Requests.{Sent, Field, May, MayAppend};
-ghost use Rattle.cluster_steps.specs.Guards.{MayDo, PagesStand, IsOfSchema};
-ghost use Rattle.cluster_requests.specs.Requests.Act.{Repeat};
+ghost use Rattle.cluster_steps.specs.Guards.{MayTakeStep, PagesStand, IsOfSchema};
+ghost use Rattle.cluster_requests.specs.Requests.FieldAct.{ToRepeat};
 ghost use Rattle.cluster_steps.specs.Named.{kept_over, refusal_line, steps, world};
 ghost use Rattle.cluster_steps.specs.declared.events.Event.{Event};
 ghost use Rattle.core_lists.specs.Lists.{Each, In};
@@ -58,11 +58,11 @@ pub fn decided_entries_may_be_appended()
         → (f.core.nodes i).log ≡ log → generation ≡ (f.core.nodes i).accepted
         → In sent f.sends → sent.to ≡ i → sent.gen ≡ (f.core.nodes i).accepted
         → Each (λ t. sent.id ≡ t → ⊥) (f.settled i) → AllFit G.tables (apply_all (state_of log) sent.ops).tables
-        → IsDecided footing request (stored_entries log) generation (decision.Commit next)
-        → (e : KeptEntry) × (plain e ≡ next) × MayAppend f i e × Decides G f i log e }
+        → Decides footing request (stored_entries log) generation (decision.Commit next)
+        → (e : KeptEntry) × (plain e ≡ next) × MayAppend f i e × IsRightlyAppended G f i log e }
     ensures made { (G : Setting) (log : List KeptEntry) (footing : Ground) (sent : Sent) (request : CommitRequest)
         (generation : ℕ) (next : Entry) → IsRequestOf G log footing sent request
-        → IsDecided footing request (stored_entries log) generation (decision.Commit next)
+        → Decides footing request (stored_entries log) generation (decision.Commit next)
         → apply_all (state_of log) sent.ops ≡ rows_after (state_of log) next }
 {}
 
@@ -74,8 +74,8 @@ pub fn decided_entries_are_named()
         → In sent f.sends → sent.to ≡ i → sent.gen ≡ (f.core.nodes i).accepted
         → Each (λ t. sent.id ≡ t → ⊥) (f.settled i) → AllFit G.tables (apply_all (state_of log) sent.ops).tables
         → schema_of (stored_entries log) ≡ Some (tables_of (stored_entries log))
-        → IsDecided footing request (stored_entries log) generation (decision.Commit next)
-        → (plain (kept_over log next) ≡ next) × MayAppend f i (kept_over log next) × Decides G f i log (kept_over log next)
+        → Decides footing request (stored_entries log) generation (decision.Commit next)
+        → (plain (kept_over log next) ≡ next) × MayAppend f i (kept_over log next) × IsRightlyAppended G f i log (kept_over log next)
         × PagesStand (log ++ kept_over log next ∷ []) × IsOfSchema G.tables (kept_over log next) }
 {}
 
@@ -84,7 +84,7 @@ pub fn decided_entries_are_named()
 /// over that ground, where the log has the script's tables.
 pub fn requests_are_asked()
     ensures asked { (G : Setting) (h : List (ℕ × Event)) (i : ℕ) (sent : Sent) (request : CommitRequest)
-        → IsLegal (λ g j e. MayDo G g j e) h → ((world G h).nodes i).leading ≡ true
+        → IsLegal (λ g j e. MayTakeStep G g j e) h → ((world G h).nodes i).leading ≡ true
         → In sent (field (steps G h)).sends → sent.gen ≡ ((world G h).nodes i).accepted
         → request.ops ≡ sent.ops → request.begin ≡ sent.begin
         → FitsRows (tables_of (stored_entries ((world G h).nodes i).log))
@@ -92,7 +92,7 @@ pub fn requests_are_asked()
         → IsAsked (ground_at (state_of (take sent.begin ((world G h).nodes i).log)) sent.begin) request
         (stored_entries ((world G h).nodes i).log) }
     ensures of_log { (G : Setting) (h : List (ℕ × Event)) (i : ℕ) (sent : Sent) (request : CommitRequest)
-        → IsLegal (λ g j e. MayDo G g j e) h → ((world G h).nodes i).leading ≡ true
+        → IsLegal (λ g j e. MayTakeStep G g j e) h → ((world G h).nodes i).leading ≡ true
         → In sent (field (steps G h)).sends → sent.gen ≡ ((world G h).nodes i).accepted
         → tables_of (stored_entries ((world G h).nodes i).log) ≡ G.tables → IsOfSent G sent request
         → IsRequestOf G ((world G h).nodes i).log
@@ -104,12 +104,12 @@ pub fn requests_are_asked()
 pub fn decided_refusals_are_right()
     ensures duplicates { (G : Setting) (log : List KeptEntry) (footing : Ground) (sent : Sent) (request : CommitRequest)
         → IsRequestOf G log footing sent request → (generation position table key : ℕ)
-        → IsDecided footing request (stored_entries log) generation (decision.Duplicate position table key)
+        → Decides footing request (stored_entries log) generation (decision.Duplicate position table key)
         → (n : KeyName) × (named G.tables (Some (record { table = table; key = key })) ≡ Some n)
         × IsRightRefusal G log sent (reply.Duplicate position n.table n.key) }
     ensures conflicts { (G : Setting) (log : List KeptEntry) (footing : Ground) (sent : Sent) (request : CommitRequest)
         → IsRequestOf G log footing sent request → (generation position : ℕ) (item : Item)
-        → IsDecided footing request (stored_entries log) generation (decision.Conflict position item)
+        → Decides footing request (stored_entries log) generation (decision.Conflict position item)
         → (u : Used) × (item_of u ≡ item) × ((told : Reply) → conflict_line G.tables position u ≡ Some told
         → IsConflict (basis G) (log_view G log) sent.begin position sent.used sent.ops told) }
 {}
@@ -119,14 +119,14 @@ pub fn decided_answers_are_named()
     ensures refusals { (G : Setting) (log : List KeptEntry) (footing : Ground) (sent : Sent) (request : CommitRequest)
         → IsRequestOf G log footing sent request → (f : Field) (i generation : ℕ) (d : Decision) (told : Reply)
         → In sent f.sends → sent.to ≡ i → sent.gen ≡ (f.core.nodes i).accepted
-        → IsDecided footing request (stored_entries log) generation d → refusal_line G.tables d ≡ Some told
+        → Decides footing request (stored_entries log) generation d → refusal_line G.tables d ≡ Some told
         → Refuses G f i log sent.id told }
     ensures repeats { (G : Setting) (log : List KeptEntry) (footing : Ground) (sent : Sent) (request : CommitRequest)
         → IsRequestOf G log footing sent request → (f : Field) (i generation position : ℕ)
         → (f.core.nodes i).log ≡ log → (f.core.nodes i).up ≡ true → (f.core.nodes i).leading ≡ true
         → In sent f.sends → sent.to ≡ i → sent.gen ≡ (f.core.nodes i).accepted
-        → IsDecided footing request (stored_entries log) generation (decision.Repeat position)
-        → May G.nodes f i (Repeat sent.id position) }
+        → Decides footing request (stored_entries log) generation (decision.Repeat position)
+        → May G.nodes f i (ToRepeat sent.id position) }
 {}
 
 /// Over the ground at a begin, with the rows there, the rows of a log are those that it keeps, where each entry behind

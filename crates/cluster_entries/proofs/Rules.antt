@@ -4,8 +4,8 @@ use mathlib.Core.Logic.{inl, inr}
 use Rattle.cluster_consensus.proofs.Invariant.{Inv}
 use Rattle.cluster_consensus.proofs.Kept.{always, at_node}
 use Rattle.cluster_consensus.specs.Enabled.{Enabled}
-use Rattle.cluster_consensus.specs.Events.{Event, change}
-use Rattle.cluster_consensus.specs.Events.Event.{Admits, Boot, Down, Back, BackLead, BackTake, BackGrow, BackAppend, Stand, Grants, Lead, Take, Grow, Append, LearnLead, LearnFollow, Asks, Probe, Confirm}
+use Rattle.cluster_consensus.specs.Events.{NodeEvent, change}
+use Rattle.cluster_consensus.specs.Events.NodeEvent.{Admits, Boot, Down, Back, BackLead, BackTake, BackGrow, BackAppend, Stand, Grants, Lead, Take, Grow, Append, LearnLead, LearnFollow, Asks, Probe, Confirm}
 use Rattle.cluster_consensus.specs.Facts.{Claim, Own, World}
 use Rattle.cluster_consensus.specs.Histories.{Legal, after}
 use Rattle.cluster_entries.specs.Rules.{EachEntry, Enters, AllEnter}
@@ -35,7 +35,7 @@ entries_took P o g l old new = each_add new old.accepts
 pub shipped_entries : {E : Type 0} {n : ℕ} {w : World E} (P : List E → E → Type 0) → Inv n w → ((k : ℕ) → Entries P (w.nodes k)) → (m : ℕ) (s : Claim E) (l : List E) → In s (w.nodes m).ships → Front l s.log → EachEntry P l
 shipped_entries {w = w} P inv all m s l hs p = each_front P l s.log p ((all m).accepts.at s ((inv.local m).ships.at s hs).1)
 
-pub entries_row : {E : Type 0} {n : ℕ} {w : World E} (P : List E → E → Type 0) → Inv n w → ((k : ℕ) → Entries P (w.nodes k)) → (i : ℕ) (e : Event E) → Enabled n w i (w.nodes i) e → Enters P (w.nodes i) e → Entries P (change i (w.nodes i) e)
+pub entries_row : {E : Type 0} {n : ℕ} {w : World E} (P : List E → E → Type 0) → Inv n w → ((k : ℕ) → Entries P (w.nodes k)) → (i : ℕ) (e : NodeEvent E) → Enabled n w i (w.nodes i) e → Enters P (w.nodes i) e → Entries P (change i (w.nodes i) e)
 entries_row P inv all i (Admits k p a) en new = all i
 entries_row P inv all i (Boot p a l) en new = record { log = new; accepts = (all i).accepts }
 entries_row P inv all i Down en new = record { log = (all i).log; accepts = (all i).accepts }
@@ -69,7 +69,7 @@ entries_row P inv all i (Probe t) en new = record { log = (all i).log; accepts =
 entries_row P inv all i (Confirm t g) en new = record { log = (all i).log; accepts = (all i).accepts }
 
 -- what holds of each appended entry, over the log before it, holds in each log that a node has or accepted
-pub entries : {E : Type 0} (P : List E → E → Type 0) (n : ℕ) (h : List (ℕ × Event E)) → Legal n h → AllEnter P h → (k : ℕ) → Entries P ((after h).nodes k)
+pub entries : {E : Type 0} (P : List E → E → Type 0) (n : ℕ) (h : List (ℕ × NodeEvent E)) → Legal n h → AllEnter P h → (k : ℕ) → Entries P ((after h).nodes k)
 entries P n [] legal new k = record { log = λ xs e p. absurd (no_more xs e p); accepts = each_none }
 entries {E} P n (x ∷ h) legal new k =
     let w : World E = after h in

@@ -13,7 +13,7 @@
 ghost use Rattle.std.specs.Prelude.{ℕ, List};
 ghost use Rattle.core_lists.specs.Lists.{In};
 ghost use Rattle.cluster_consensus.specs.Facts.{Claim};
-ghost use Rattle.cluster_consensus.specs.Events.{Event};
+ghost use Rattle.cluster_consensus.specs.Events.{NodeEvent};
 ghost use Rattle.cluster_consensus.specs.Histories.{Legal, after};
 ghost use Rattle.cluster_entries.specs.Rules.{EachEntry, AllEnter};
 
@@ -26,8 +26,8 @@ pub trait Rule<E> {
 /// A rule that each appended entry keeps over the log that it enters, and each entry of the stores of an
 /// earlier run, is kept by each entry of each log that a node has or had accepted.
 pub fn entries_keep_their_rule<E, R: Rule<E>>()
-    ensures held { (n k : ℕ) (h : List (ℕ × Event E)) → Legal n h → AllEnter R.holds h
+    ensures held { (n k : ℕ) (h : List (ℕ × NodeEvent E)) → Legal n h → AllEnter R.holds h
         → EachEntry R.holds ((after h).nodes k).log }
-    ensures accepted { (n k : ℕ) (h : List (ℕ × Event E)) (c : Claim E) → Legal n h → AllEnter R.holds h
+    ensures accepted { (n k : ℕ) (h : List (ℕ × NodeEvent E)) (c : Claim E) → Legal n h → AllEnter R.holds h
         → In c ((after h).nodes k).accepts → EachEntry R.holds c.log }
 {}

@@ -1,7 +1,7 @@
 -- Lists of lines.
 use Rattle.std.proofs.Common.{◌≡◌, ℕ, List, [], ◌∷◌, ◌++◌, refl, ap, sym, subst, ◌∙◌}
 use Rattle.report_laws.specs.Told.{told, told_by, Numbered, numbered, Along}
-use Rattle.report_laws.specs.Work.{Item, number_of}
+use Rattle.report_laws.specs.Work.{WorkItem, number_of}
 use Rattle.report_text.specs.declared.reports.Line.{Line}
 use Rattle.cdb_values.specs.declared.replies.Reply.{Reply}
 use Rattle.core_lists.specs.Lists.{In}
@@ -26,12 +26,12 @@ each_after_more P before [] x a p = (subst (λ t. P t x) (append_nil before) p, 
 each_after_more P before (y ∷ xs) x a p = (a.0, each_after_more P (before ++ y ∷ []) xs x a.1 (subst (λ t. P t x) (sym (append_assoc before (y ∷ []) xs)) p))
 
 -- one more item is over
-pub along_more : (P : Item → List Reply → Type 0) (items : List Item) (lines : List Numbered) (item : Item) (mine : List Reply) → Along P items lines → P item mine → Along P (items ++ item ∷ []) (lines ++ numbered (number_of item) mine)
+pub along_more : (P : WorkItem → List Reply → Type 0) (items : List WorkItem) (lines : List Numbered) (item : WorkItem) (mine : List Reply) → Along P items lines → P item mine → Along P (items ++ item ∷ []) (lines ++ numbered (number_of item) mine)
 along_more P [] lines item mine a p = (mine, [], ap (λ t. t ++ numbered (number_of item) mine) a ∙ sym (append_nil (numbered (number_of item) mine)), p, refl)
 along_more P (i ∷ items) lines item mine a p =
     (a.0, a.1 ++ numbered (number_of item) mine, ap (λ t. t ++ numbered (number_of item) mine) a.2 ∙ append_assoc (numbered (number_of i) a.0) a.1 (numbered (number_of item) mine), a.3, along_more P items a.1 item mine a.4 p)
 
-pub along_weaker : (P Q : Item → List Reply → Type 0) (items : List Item) (lines : List Numbered) → ((i : Item) (m : List Reply) → P i m → Q i m) → Along P items lines → Along Q items lines
+pub along_weaker : (P Q : WorkItem → List Reply → Type 0) (items : List WorkItem) (lines : List Numbered) → ((i : WorkItem) (m : List Reply) → P i m → Q i m) → Along P items lines → Along Q items lines
 along_weaker P Q [] lines f a = a
 along_weaker P Q (i ∷ items) lines f a = (a.0, a.1, a.2, f i a.0 a.3, along_weaker P Q items a.1 f a.4)
 

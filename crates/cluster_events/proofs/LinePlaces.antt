@@ -6,8 +6,8 @@ use Rattle.core_lists.specs.Lists.{Each}
 use Rattle.core_lists.specs.Lists.In.{here}
 use Rattle.core_lists.proofs.Lists.{each_add, each_none}
 use Rattle.cluster_consensus.specs.Facts.{Own}
-use Rattle.cluster_consensus.specs.Events.{Event as Step, change}
-use Rattle.cluster_consensus.specs.Events.Event.{Admits, Boot, Down, Back, BackLead, BackTake, BackGrow, BackAppend, Asks}
+use Rattle.cluster_consensus.specs.Events.{NodeEvent, change}
+use Rattle.cluster_consensus.specs.Events.NodeEvent.{Admits, Boot, Down, Back, BackLead, BackTake, BackGrow, BackAppend, Asks}
 use Rattle.cluster_requests.specs.KeptEntries.{KeptEntry}
 use Rattle.report_laws.specs.Nodes.{downs, is_up}
 use Rattle.report_text.specs.declared.reports.Line.{Line}
@@ -17,14 +17,14 @@ use Rattle.cdb_values.specs.declared.replies.Reply.TheVariants as reply
 use Rattle.session_language.specs.Each.{EachAfter}
 use Rattle.session_language.specs.Answers.{IsPlain}
 use Rattle.cluster_events.specs.Settings.{Setting}
-use Rattle.cluster_events.specs.Parts.{Event, Part, head_number, lone_of, part, field, up_line, lines_by, lines}
-use Rattle.cluster_events.specs.Parts.Event.{Node, Stop, Ask, Begun, Say, Note, Finish, Barrier, Fed, FedAgain}
-use Rattle.cluster_events.specs.Guards.{MayFinish, MayDo, IsLegal}
+use Rattle.cluster_events.specs.Parts.{ActorEvent, Part, head_number, lone_of, part, field, up_line, lines_by, lines}
+use Rattle.cluster_events.specs.Parts.ActorEvent.{Node, Stop, Ask, Begun, Say, Note, Finish, Barrier, Fed, FedAgain}
+use Rattle.cluster_events.specs.Guards.{MayFinish, MayDo, IsLegalHistory}
 use Rattle.std.specs.Prelude.{if◌then◌else◌}
 use Rattle.report_laws.specs.Nodes.{up_from}
 use Rattle.report_laws.specs.Places.{HasItsCause, IsLost}
 use Rattle.report_laws.proofs.NodesLaws.{up_append}
-use Rattle.cluster_events.specs.LinePlaces.{HasItsPlace, GoesDown}
+use Rattle.cluster_events.specs.LinePlaces.{HasPlaceAmongNodes, NodeGoesDown}
 use Rattle.cluster_events.proofs.LineLists.{append_nil, each_after_more}
 use Rattle.cluster_events.proofs.OwnLines.{eq_swap}
 
@@ -33,7 +33,7 @@ one_or_none : (i : ℕ) (b : Bool) → length (up_line b i) ≤ 1
 one_or_none i true = omega arith
 one_or_none i false = omega arith
 
-short : (G : Setting) (before : List Line) (p : Part) (i : ℕ) (e : Event) → length (lines_by G before p i e) ≤ 1
+short : (G : Setting) (before : List Line) (p : Part) (i : ℕ) (e : ActorEvent) → length (lines_by G before p i e) ≤ 1
 short G before p i (Node Down) = omega arith
 short G before p i (Node (Boot q a l)) = one_or_none i (is_up i before)
 short G before p i (Node (Back q)) = omega arith
@@ -50,7 +50,7 @@ after_one P ls (x ∷ []) n e a = each_after_more P [] ls x a (e.at x here)
 after_one P ls (x ∷ y ∷ new) n e a = absurd (omega arith)
 
 -- the one way to a law over lines: judge the line of each event, after the lines before it
-pub each_line : (G : Setting) (P : List Line → Line → Type 0) → ((h : List (ℕ × Event)) (i : ℕ) (e : Event) → IsLegal G h → MayDo G h i e → Each (P (lines G h)) (lines_by G (lines G h) (part G i h) i e)) → (h : List (ℕ × Event)) → IsLegal G h → EachAfter P [] (lines G h)
+pub each_line : (G : Setting) (P : List Line → Line → Type 0) → ((h : List (ℕ × ActorEvent)) (i : ℕ) (e : ActorEvent) → IsLegalHistory G h → MayDo G h i e → Each (P (lines G h)) (lines_by G (lines G h) (part G i h) i e)) → (h : List (ℕ × ActorEvent)) → IsLegalHistory G h → EachAfter P [] (lines G h)
 each_line G P f [] legal = tt
 each_line G P f (x ∷ h) legal = after_one P (lines G h) (lines_by G (lines G h) (part G x.0 h) x.0 x.1) (short G (lines G h) (part G x.0 h) x.0 x.1) (f h x.0 x.1 legal.1 legal.0) (each_line G P f h legal.1)
 
@@ -79,7 +79,7 @@ seen_down : (o : Own KeptEntry) (d : Bool) → o.up ≡ false → d ≡ false �
 seen_down o d u e = record { up = λ q. absurd (let z = sym u ∙ q in cc); down = λ q w. e }
 
 -- an event of the node itself
-seen_self : (G : Setting) (i : ℕ) (before : List Line) (p : Part) (o : Own KeptEntry) (e : Step KeptEntry) → Seen o (is_up i before) → Seen (change i o e) (up_from i (is_up i before) (lines_by G before p i (Node e)))
+seen_self : (G : Setting) (i : ℕ) (before : List Line) (p : Part) (o : Own KeptEntry) (e : NodeEvent KeptEntry) → Seen o (is_up i before) → Seen (change i o e) (up_from i (is_up i before) (lines_by G before p i (Node e)))
 seen_self G i before p o Down s = seen_down _ _ refl (went i (is_up i before) true (downs before + 1))
 seen_self G i before p o (Boot q a l) s = seen_up _ _ refl (boot_came i (is_up i before))
 seen_self G i before p o (Back q) s = seen_up _ _ refl (came i (is_up i before))
@@ -99,7 +99,7 @@ other_boot : (k i : ℕ) → (k == i) ≡ false → (b d : Bool) → up_from k b
 other_boot k i ne b false = other_node k i ne b true
 other_boot k i ne b true = refl
 
-pub other_lines : (G : Setting) (k i : ℕ) → (k == i) ≡ false → (b : Bool) (before : List Line) (p : Part) (e : Event) → up_from k b (lines_by G before p i e) ≡ b
+pub other_lines : (G : Setting) (k i : ℕ) → (k == i) ≡ false → (b : Bool) (before : List Line) (p : Part) (e : ActorEvent) → up_from k b (lines_by G before p i e) ≡ b
 other_lines G k i ne b before p (Node Down) = other_node k i ne b false
 other_lines G k i ne b before p (Node (Boot q a l)) = other_boot k i ne b (is_up i before)
 other_lines G k i ne b before p (Node (Back q)) = other_node k i ne b true
@@ -111,37 +111,37 @@ other_lines G k i ne b before p (Node _) = refl
 other_lines G k i ne b before p Stop = other_node k i ne b false
 other_lines G k i ne b before p _ = refl
 
-abbrev Sees : Setting → List (ℕ × Event) → ℕ → Type 0
+abbrev Sees : Setting → List (ℕ × ActorEvent) → ℕ → Type 0
 Sees G h k = Seen ((field h).core.nodes k) (is_up k (lines G h))
 
-node_seen : (G : Setting) (h : List (ℕ × Event)) (i k : ℕ) (e : Step KeptEntry) (p : Part) → Sees G h i → Sees G h k → Seen (cond (k == i) (change i ((field h).core.nodes i) e) ((field h).core.nodes k)) (up_from k (is_up k (lines G h)) (lines_by G (lines G h) p i (Node e)))
+node_seen : (G : Setting) (h : List (ℕ × ActorEvent)) (i k : ℕ) (e : NodeEvent KeptEntry) (p : Part) → Sees G h i → Sees G h k → Seen (cond (k == i) (change i ((field h).core.nodes i) e) ((field h).core.nodes k)) (up_from k (is_up k (lines G h)) (lines_by G (lines G h) p i (Node e)))
 node_seen G h i k e p si sk = go (k == i) refl
   where
     go : (b : Bool) → (k == i) ≡ b → Seen (cond b (change i ((field h).core.nodes i) e) ((field h).core.nodes k)) (up_from k (is_up k (lines G h)) (lines_by G (lines G h) p i (Node e)))
     go false ne = subst (λ z. Seen ((field h).core.nodes k) z) (sym (other_lines G k i ne (is_up k (lines G h)) (lines G h) p (Node e))) sk
     go true q = subst (λ j. Seen (change i ((field h).core.nodes i) e) (up_from j (is_up j (lines G h)) (lines_by G (lines G h) p i (Node e)))) (sym ((Decides-eqb k i).0 q)) (seen_self G i (lines G h) p ((field h).core.nodes i) e si)
 
-stop_seen : (G : Setting) (h : List (ℕ × Event)) (i k : ℕ) (p : Part) → Sees G h k → Seen (cond (k == i) (change i ((field h).core.nodes i) Down) ((field h).core.nodes k)) (up_from k (is_up k (lines G h)) (lines_by G (lines G h) p i Stop))
+stop_seen : (G : Setting) (h : List (ℕ × ActorEvent)) (i k : ℕ) (p : Part) → Sees G h k → Seen (cond (k == i) (change i ((field h).core.nodes i) Down) ((field h).core.nodes k)) (up_from k (is_up k (lines G h)) (lines_by G (lines G h) p i Stop))
 stop_seen G h i k p sk = go (k == i) refl
   where
     go : (b : Bool) → (k == i) ≡ b → Seen (cond b (change i ((field h).core.nodes i) Down) ((field h).core.nodes k)) (up_from k (is_up k (lines G h)) (lines_by G (lines G h) p i Stop))
     go false ne = subst (λ z. Seen ((field h).core.nodes k) z) (sym (other_lines G k i ne (is_up k (lines G h)) (lines G h) p Stop)) sk
     go true q = subst (λ j. Seen (change i ((field h).core.nodes i) Down) (up_from j (is_up j (lines G h)) (lines_by G (lines G h) p i Stop))) (sym ((Decides-eqb k i).0 q)) (seen_down _ _ refl (went i (is_up i (lines G h)) false (downs (lines G h) + 1)))
 
-ask_seen : (G : Setting) (h : List (ℕ × Event)) (i k t : ℕ) → Sees G h i → Sees G h k → Seen (cond (k == i) ((field h).core.nodes i) ((field h).core.nodes k)) (is_up k (lines G h))
+ask_seen : (G : Setting) (h : List (ℕ × ActorEvent)) (i k t : ℕ) → Sees G h i → Sees G h k → Seen (cond (k == i) ((field h).core.nodes i) ((field h).core.nodes k)) (is_up k (lines G h))
 ask_seen G h i k t si sk = go (k == i) refl
   where
     go : (b : Bool) → (k == i) ≡ b → Seen (cond b ((field h).core.nodes i) ((field h).core.nodes k)) (is_up k (lines G h))
     go false ne = sk
     go true q = subst (λ j. Seen ((field h).core.nodes i) (is_up j (lines G h))) (sym ((Decides-eqb k i).0 q)) si
 
-sees_row : (G : Setting) (h : List (ℕ × Event)) (i : ℕ) (e : Event) (k : ℕ) → Sees G h i → Sees G h k → Seen ((field ((i, e) ∷ h)).core.nodes k) (up_from k (is_up k (lines G h)) (lines_by G (lines G h) (part G i h) i e))
+sees_row : (G : Setting) (h : List (ℕ × ActorEvent)) (i : ℕ) (e : ActorEvent) (k : ℕ) → Sees G h i → Sees G h k → Seen ((field ((i, e) ∷ h)).core.nodes k) (up_from k (is_up k (lines G h)) (lines_by G (lines G h) (part G i h) i e))
 sees_row G h i (Node e) k si sk = node_seen G h i k e (part G i h) si sk
 sees_row G h i Stop k si sk = stop_seen G h i k (part G i h) sk
 sees_row G h i (Ask t) k si sk = ask_seen G h i k t si sk
 sees_row G h i _ k si sk = sk
 
-pub sees : (G : Setting) (h : List (ℕ × Event)) (k : ℕ) → Sees G h k
+pub sees : (G : Setting) (h : List (ℕ × ActorEvent)) (k : ℕ) → Sees G h k
 sees G [] k = record { up = λ q. absurd (cc); down = λ q w. absurd (cc) }
 sees G (x ∷ h) k = subst (λ z. Seen ((field (x ∷ h)).core.nodes k) z) (sym (up_append k true (lines G h) (lines_by G (lines G h) (part G x.0 h) x.0 x.1))) (sees_row G h x.0 x.1 k (sees G h x.0) (sees G h k))
 
@@ -153,7 +153,7 @@ plain_place G before name t (reply.Error c) k = tt
 plain_place G before name t (reply.Level l) k = tt
 plain_place G before name t _ k = absurd k
 
-finish_place : (G : Setting) (h : List (ℕ × Event)) (i : ℕ) (a : Reply) → MayFinish G h i a → HasItsCause G.script (lines G h) (G.names i) (head_number (part G i h).left) a
+finish_place : (G : Setting) (h : List (ℕ × ActorEvent)) (i : ℕ) (a : Reply) → MayFinish G h i a → HasItsCause G.script (lines G h) (G.names i) (head_number (part G i h).left) a
 finish_place G h i (reply.Lost n d) may =
     let e = ap (λ z. head_number z) may.2.is in
     (may.3, subst (λ z. IsLost (lines G h) (G.names i) z n d) (sym e) may.4)
@@ -166,17 +166,17 @@ finish_place G h i (reply.Duplicate k x g) may = tt
 finish_place G h i reply.NoMemory may = tt
 finish_place G h i _ may = absurd may
 
-down_place : (G : Setting) (h : List (ℕ × Event)) (i : ℕ) (fault : Bool) → G.nodes ≡ G.script.nodes → 1 ≤ i → i ≤ G.nodes → (fault ≡ false → is_up i (lines G h) ≡ true) → GoesDown G.script (lines G h) (downs (lines G h) + 1) i fault
+down_place : (G : Setting) (h : List (ℕ × ActorEvent)) (i : ℕ) (fault : Bool) → G.nodes ≡ G.script.nodes → 1 ≤ i → i ≤ G.nodes → (fault ≡ false → is_up i (lines G h) ≡ true) → NodeGoesDown G.script (lines G h) (downs (lines G h) + 1) i fault
 down_place G h i fault nodes lo hi up = record { counted = refl; of_script = (lo, subst (λ z. i ≤ z) nodes hi); was_up = up }
 
 not_true : {A : Type 0} → true ≡ false → A
 not_true e = absurd (cc)
 
-boot_place : (G : Setting) (before : List Line) (i : ℕ) (b : Bool) → is_up i before ≡ b → Each (HasItsPlace G.script before) (up_line b i)
+boot_place : (G : Setting) (before : List Line) (i : ℕ) (b : Bool) → is_up i before ≡ b → Each (HasPlaceAmongNodes G.script before) (up_line b i)
 boot_place G before i true e = each_none
 boot_place G before i false e = each_add e each_none
 
-line_place : (G : Setting) → G.nodes ≡ G.script.nodes → (h : List (ℕ × Event)) (i : ℕ) (e : Event) → IsLegal G h → MayDo G h i e → Each (HasItsPlace G.script (lines G h)) (lines_by G (lines G h) (part G i h) i e)
+line_place : (G : Setting) → G.nodes ≡ G.script.nodes → (h : List (ℕ × ActorEvent)) (i : ℕ) (e : ActorEvent) → IsLegalHistory G h → MayDo G h i e → Each (HasPlaceAmongNodes G.script (lines G h)) (lines_by G (lines G h) (part G i h) i e)
 line_place G nodes h i (Node Down) legal may = each_add (down_place G h i true nodes may.2.0 may.2.1 (λ q. not_true q)) each_none
 line_place G nodes h i (Node (Boot q a l)) legal may = boot_place G (lines G h) i (is_up i (lines G h)) refl
 line_place G nodes h i (Node (Back q)) legal may = each_add ((sees G h i).down may.0.0.0 may.0.0.1) each_none
@@ -195,5 +195,5 @@ line_place G nodes h i (Fed d g) legal may = each_add tt each_none
 line_place G nodes h i (FedAgain d) legal may = each_add tt each_none
 line_place G nodes h i _ legal may = each_none
 
-pub lines_placed : (G : Setting) → G.nodes ≡ G.script.nodes → (h : List (ℕ × Event)) → IsLegal G h → EachAfter (HasItsPlace G.script) [] (lines G h)
-lines_placed G nodes h legal = each_line G (HasItsPlace G.script) (line_place G nodes) h legal
+pub lines_placed : (G : Setting) → G.nodes ≡ G.script.nodes → (h : List (ℕ × ActorEvent)) → IsLegalHistory G h → EachAfter (HasPlaceAmongNodes G.script) [] (lines G h)
+lines_placed G nodes h legal = each_line G (HasPlaceAmongNodes G.script) (line_place G nodes) h legal

@@ -3,8 +3,8 @@ use Rattle.std.proofs.Common.{◌≡◌, ℕ, ◌+◌, ◌<◌, ◌≤◌, List,
 use mathlib.Core.Logic.{◌⊎◌, inl, inr}
 use Rattle.report_text.specs.declared.reports.Line.{Line}
 use Rattle.cluster_events.specs.Settings.{Setting}
-use Rattle.cluster_events.specs.Parts.{Event, part, lines_by, lines}
-use Rattle.cluster_events.specs.Parts.Event.{Order, Obeyed, Barrier, Fed, FedAgain}
+use Rattle.cluster_events.specs.Parts.{ActorEvent, part, lines_by, lines}
+use Rattle.cluster_events.specs.Parts.ActorEvent.{Order, Obeyed, Barrier, Fed, FedAgain}
 use Rattle.script_form.specs.declared.scripts.Act.{Act}
 use Rattle.script_form.specs.declared.scripts.Act.TheVariants as act
 use Rattle.script_form.specs.declared.scripts.BodyLine.{BodyLine}
@@ -28,7 +28,7 @@ have_places [] before rest more p = tt
 have_places (b ∷ as') before rest more p = (p.0, p.1 ++ more, ap (λ z. z ++ more) p.2 ∙ append_assoc p.0 p.1 more, p.3, have_places as' (before ++ p.0) p.1 more p.4)
 
 -- the lines of a beginning of a history are a front
-lines_front : (G : Setting) (v u : List (ℕ × Event)) → (more : List Line) × (lines G (v ++ u) ≡ lines G u ++ more)
+lines_front : (G : Setting) (v u : List (ℕ × ActorEvent)) → (more : List Line) × (lines G (v ++ u) ≡ lines G u ++ more)
 lines_front G [] u = ([], sym (append_nil (lines G u)))
 lines_front G (x ∷ v) u =
     let r = lines_front G v u in
@@ -49,7 +49,7 @@ fewer_fed ((n, act.Start node) ∷ xs) d = omega arith
 fewer_fed ((n, act.Say session text) ∷ xs) d = omega arith
 fewer_fed ((n, act.Arm session moment) ∷ xs) d = omega arith
 
-pub fewer : (d : Duty) (e : Event) → length (heed d e).left ≤ length d.left
+pub fewer : (d : Duty) (e : ActorEvent) → length (heed d e).left ≤ length d.left
 fewer d Order = omega arith
 fewer d Obeyed = fewer_next d.left
 fewer d Barrier = fewer_next d.left
@@ -57,7 +57,7 @@ fewer d (Fed p g) = fewer_fed d.left d
 fewer d (FedAgain p) = fewer_fed d.left d
 fewer d _ = omega arith
 
-shrinks : (body : List BodyLine) (w u : List (ℕ × Event)) → length (duty body (w ++ u)).left ≤ length (duty body u).left
+shrinks : (body : List BodyLine) (w u : List (ℕ × ActorEvent)) → length (duty body (w ++ u)).left ≤ length (duty body u).left
 shrinks body [] u = omega arith
 shrinks body (x ∷ w) u = let a = fewer (duty body (w ++ u)) x.1 in let b = shrinks body w u in omega arith
 
@@ -72,13 +72,13 @@ two_ends (m ∷ mid) last [] before e = inl (m ∷ mid, sym e)
 two_ends (m ∷ mid) last (x ∷ later) before e = two_ends mid last later before (tail_of e)
 
 -- the lines of the operator that are over have their places
-pub record Placed (G : Setting) (body : List BodyLine) (h : List (ℕ × Event)) (left : List (ℕ × Act)) : Type 0 where
+pub record Placed (G : Setting) (body : List BodyLine) (h : List (ℕ × ActorEvent)) (left : List (ℕ × Act)) : Type 0 where
   pub done : List (ℕ × Act)
   pub whole : done ++ left ≡ operators_from 0 body
-  pub mid : List (ℕ × Event)
-  pub last : List (ℕ × Event)
+  pub mid : List (ℕ × ActorEvent)
+  pub last : List (ℕ × ActorEvent)
   pub split : h ≡ mid ++ last
-  pub behind : (x : ℕ × Event) (w u : List (ℕ × Event)) → last ≡ x ∷ (w ++ u) → length left < length (duty body u).left
+  pub behind : (x : ℕ × ActorEvent) (w u : List (ℕ × ActorEvent)) → last ≡ x ∷ (w ++ u) → length left < length (duty body u).left
   pub places : PlacedTo (acts_of done) [] (lines G last)
 
 acts_more : (done : List (ℕ × Act)) (x : ℕ × Act) → acts_of (done ++ x ∷ []) ≡ acts_of done ++ x.1 ∷ []
@@ -86,7 +86,7 @@ acts_more [] x = refl
 acts_more (y ∷ done) x = ap (λ z. y.1 ∷ z) (acts_more done x)
 
 -- a line of the operator is over, heeded at this place
-next_place : (G : Setting) (body : List BodyLine) (h later before : List (ℕ × Event)) (e : ℕ × Event) (k : ℕ) (a : Act) (rest : List (ℕ × Act)) → h ≡ later ++ before → (duty body before).left ≡ (duty body h).left → (duty body h).left ≡ (k, a) ∷ rest → IsHeeded a (lines G before) → Placed G body h (duty body h).left → Placed G body (e ∷ h) rest
+next_place : (G : Setting) (body : List BodyLine) (h later before : List (ℕ × ActorEvent)) (e : ℕ × ActorEvent) (k : ℕ) (a : Act) (rest : List (ℕ × Act)) → h ≡ later ++ before → (duty body before).left ≡ (duty body h).left → (duty body h).left ≡ (k, a) ∷ rest → IsHeeded a (lines G before) → Placed G body h (duty body h).left → Placed G body (e ∷ h) rest
 next_place G body h later before e k a rest split same next heeded p = go (two_ends p.mid p.last later before (sym p.split ∙ split))
   where
     items : (p.done ++ (k, a) ∷ []) ++ rest ≡ operators_from 0 body
@@ -95,7 +95,7 @@ next_place G body h later before e k a rest split same next heeded p = go (two_e
     longer : length (duty body before).left ≡ length rest + 1
     longer = let q = ap (λ (z : List (ℕ × Act)). length z) (same ∙ next) in let q' : length (duty body before).left ≡ length ((k, a) ∷ rest) = q in omega arith
 
-    go : ((v : List (ℕ × Event)) × (before ≡ v ++ p.last)) ⊎ ((x : ℕ × Event) × (w : List (ℕ × Event)) × (p.last ≡ x ∷ (w ++ before))) → Placed G body (e ∷ h) rest
+    go : ((v : List (ℕ × ActorEvent)) × (before ≡ v ++ p.last)) ⊎ ((x : ℕ × ActorEvent) × (w : List (ℕ × ActorEvent)) × (p.last ≡ x ∷ (w ++ before))) → Placed G body (e ∷ h) rest
     go (inl v) =
         let f = lines_front G v.0 p.last in
         let ls = ap (λ z. lines G z) v.1 ∙ f.1 in
@@ -120,10 +120,10 @@ next_place G body h later before e k a rest split same next heeded p = go (two_e
         let b' : length (duty body h).left < length (duty body before).left = b in
         omega arith)
 
-keep_place : (G : Setting) (body : List BodyLine) (h : List (ℕ × Event)) (e : ℕ × Event) (left : List (ℕ × Act)) → Placed G body h left → Placed G body (e ∷ h) left
+keep_place : (G : Setting) (body : List BodyLine) (h : List (ℕ × ActorEvent)) (e : ℕ × ActorEvent) (left : List (ℕ × Act)) → Placed G body h left → Placed G body (e ∷ h) left
 keep_place G body h e left p = record { done = p.done; whole = p.whole; mid = e ∷ p.mid; last = p.last; split = ap (λ z. e ∷ z) p.split; behind = p.behind; places = p.places }
 
-fed_place : (G : Setting) (body : List BodyLine) (h : List (ℕ × Event)) (e : ℕ × Event) (xs : List (ℕ × Act)) → (duty body h).left ≡ xs → Placed G body h (duty body h).left → Placed G body (e ∷ h) (fed_over xs (duty body h)).left
+fed_place : (G : Setting) (body : List BodyLine) (h : List (ℕ × ActorEvent)) (e : ℕ × ActorEvent) (xs : List (ℕ × Act)) → (duty body h).left ≡ xs → Placed G body h (duty body h).left → Placed G body (e ∷ h) (fed_over xs (duty body h)).left
 fed_place G body h e [] q p = keep_place G body h e (duty body h).left p
 fed_place G body h e ((k, act.Feed) ∷ rest) q p = subst (λ z. Placed G body (e ∷ h) (next_left z)) (sym q) (next_place G body h [] h e k act.Feed rest refl refl q tt p)
 fed_place G body h e ((k, act.Barrier) ∷ rest) q p = keep_place G body h e (duty body h).left p
@@ -133,7 +133,7 @@ fed_place G body h e ((k, act.Say session text) ∷ rest) q p = keep_place G bod
 fed_place G body h e ((k, act.Arm session moment) ∷ rest) q p = keep_place G body h e (duty body h).left p
 
 -- what is heeded at a place is heeded behind the lines there
-heeded_there : (G : Setting) (body : List BodyLine) (h : List (ℕ × Event)) (a : Act) → IsHeededAt G body h a → IsHeeded a (lines G h)
+heeded_there : (G : Setting) (body : List BodyLine) (h : List (ℕ × ActorEvent)) (a : Act) → IsHeededAt G body h a → IsHeeded a (lines G h)
 heeded_there G body h (act.Stop node) k = k
 heeded_there G body h (act.Start node) (inl k) = inl k
 heeded_there G body h (act.Start node) (inr k) = inr (record { count = downs (lines G k.before) + 1; front = lines G k.before; stands = ap (λ z. lines G z) k.fell })
@@ -142,7 +142,7 @@ heeded_there G body h (act.Arm session moment) k = tt
 heeded_there G body h act.Barrier k = tt
 heeded_there G body h act.Feed k = tt
 
-place_row : (G : Setting) (body : List BodyLine) (h : List (ℕ × Event)) (i : ℕ) (e : Event) → Heeds G body h i e → Placed G body h (duty body h).left → Placed G body ((i, e) ∷ h) (heed (duty body h) e).left
+place_row : (G : Setting) (body : List BodyLine) (h : List (ℕ × ActorEvent)) (i : ℕ) (e : ActorEvent) → Heeds G body h i e → Placed G body h (duty body h).left → Placed G body ((i, e) ∷ h) (heed (duty body h) e).left
 place_row G body h i Obeyed may p = subst (λ z. Placed G body ((i, Obeyed) ∷ h) (next_left z)) (sym may.next) (next_place G body h may.later may.before (i, Obeyed) may.line may.act may.rest may.split may.same may.next (heeded_there G body may.before may.act may.heeded) p)
 place_row G body h i Barrier may p = subst (λ z. Placed G body ((i, Barrier) ∷ h) (next_left z)) (sym may.2) (next_place G body h [] h (i, Barrier) may.0 act.Barrier may.1 refl refl may.2 tt p)
 place_row G body h i (Fed d g) may p = fed_place G body h (i, Fed d g) (duty body h).left refl p
@@ -150,12 +150,12 @@ place_row G body h i (FedAgain d) may p = fed_place G body h (i, FedAgain d) (du
 place_row G body h i Order may p = keep_place G body h (i, Order) (duty body h).left p
 place_row G body h i e may p = keep_place G body h (i, e) (duty body h).left p
 
-pub placed : (G : Setting) (body : List BodyLine) (h : List (ℕ × Event)) → AllHeed G body h → Placed G body h (duty body h).left
+pub placed : (G : Setting) (body : List BodyLine) (h : List (ℕ × ActorEvent)) → AllHeed G body h → Placed G body h (duty body h).left
 placed G body [] all = record { done = []; whole = refl; mid = []; last = []; split = refl; behind = λ x w u q. absurd (cc); places = refl }
 placed G body (x ∷ h) all = place_row G body h x.0 x.1 all.0.heeds (placed G body h all.1)
 
 -- where the operator did all its lines, they have places in the report, in their order
-pub places_stand : (G : Setting) (body : List BodyLine) (h : List (ℕ × Event)) → AllHeed G body h → (duty body h).left ≡ [] → HavePlaces (acts_of (operators_from 0 body)) [] (lines G h)
+pub places_stand : (G : Setting) (body : List BodyLine) (h : List (ℕ × ActorEvent)) → AllHeed G body h → (duty body h).left ≡ [] → HavePlaces (acts_of (operators_from 0 body)) [] (lines G h)
 places_stand G body h all done =
     let p = placed G body h all in
     let f = lines_front G p.mid p.last in

@@ -1,11 +1,11 @@
 -- Histories that are by the script: its operator's lines, its arms, its feeds.
 use Rattle.std.specs.Prelude.{ℕ, ◌≡◌, ◌⊎◌, true, false, List, [], ◌∷◌, length}
-use Rattle.cluster_consensus.specs.Events.Event.{Boot, Back, BackLead, BackTake, BackGrow, BackAppend}
+use Rattle.cluster_consensus.specs.Events.NodeEvent.{Boot, Back, BackLead, BackTake, BackGrow, BackAppend}
 use Rattle.cluster_events.specs.Arms.{HasFallen, last_fired, MayFire, IsStopArmed}
 use Rattle.cluster_events.specs.Guards.{AllBeyond}
 use Rattle.cluster_events.specs.Operator.{count_of, duty, IsStopOrdered, IsStartOrdered, IsObeyed, IsOfNode}
-use Rattle.cluster_events.specs.Parts.{Event, lines}
-use Rattle.cluster_events.specs.Parts.Event.{Node, Stop, Ask, Order, Obeyed, Fire, Barrier, Fed, FedAgain}
+use Rattle.cluster_events.specs.Parts.{ActorEvent, lines}
+use Rattle.cluster_events.specs.Parts.ActorEvent.{Node, Stop, Ask, Order, Obeyed, Fire, Barrier, Fed, FedAgain}
 use Rattle.cluster_events.specs.Settings.{Setting}
 use Rattle.report_laws.specs.Nodes.{is_up}
 use Rattle.script_form.specs.declared.scripts.Act.{Act}
@@ -14,7 +14,7 @@ use Rattle.script_form.specs.declared.scripts.BodyLine.{BodyLine}
 
 -- what the script asks of each event
 -- the operator's next line is a stop or a start, and it is not ordered yet
-pub record IsOrderDue (body : List BodyLine) (h : List (ℕ × Event)) : Type 0 where
+pub record IsOrderDue (body : List BodyLine) (h : List (ℕ × ActorEvent)) : Type 0 where
   pub unordered : (duty body h).ordered ≡ false
   pub line : ℕ
   pub act : Act
@@ -23,13 +23,13 @@ pub record IsOrderDue (body : List BodyLine) (h : List (ℕ × Event)) : Type 0 
   pub of_node : IsOfNode act
 
 -- its next line is a feed; and the feed at the end comes behind all lines of the sessions
-abbrev pub IsFeedNext : List BodyLine → List (ℕ × Event) → Type 0
+abbrev pub IsFeedNext : List BodyLine → List (ℕ × ActorEvent) → Type 0
 IsFeedNext body h = (line : ℕ) × (rest : List (ℕ × Act)) × ((duty body h).left ≡ (line, act.Feed) ∷ rest)
 
-abbrev pub IsFeedDue : Setting → List BodyLine → List (ℕ × Event) → Type 0
+abbrev pub IsFeedDue : Setting → List BodyLine → List (ℕ × ActorEvent) → Type 0
 IsFeedDue G body h = (line : ℕ) × (rest : List (ℕ × Act)) × ((duty body h).left ≡ (line, act.Feed) ∷ rest) × (line ≡ length G.script.body → AllBeyond G h)
 
-abbrev pub Heeds : Setting → List BodyLine → List (ℕ × Event) → ℕ → Event → Type 0
+abbrev pub Heeds : Setting → List BodyLine → List (ℕ × ActorEvent) → ℕ → ActorEvent → Type 0
 Heeds G body h i (Node (Boot p a l)) = ((count_of i h).up ≡ false) × ((is_up i (lines G h) ≡ true) ⊎ IsStartOrdered body h i)
 Heeds G body h i (Node (Back p)) = ((count_of i h).up ≡ false) × IsStartOrdered body h i
 Heeds G body h i (Node BackLead) = ((count_of i h).up ≡ false) × IsStartOrdered body h i
@@ -47,10 +47,11 @@ Heeds G body h i (Fire line node) = MayFire G body h i line node
 Heeds G body h i _ = Unit {0}
 
 -- an event is by the script, and behind an arm that its actor let fire
-pub record IsByScript (G : Setting) (body : List BodyLine) (h : List (ℕ × Event)) (i : ℕ) (e : Event) : Type 0 where
+pub record IsByScript (G : Setting) (body : List BodyLine) (h : List (ℕ × ActorEvent)) (i : ℕ)
+    (e : ActorEvent) : Type 0 where
   pub heeds : Heeds G body h i e
   pub goes_on : HasFallen G h i (last_fired i h)
 
-abbrev pub AllHeed : Setting → List BodyLine → List (ℕ × Event) → Type 0
+abbrev pub AllHeed : Setting → List BodyLine → List (ℕ × ActorEvent) → Type 0
 AllHeed G body [] = Unit {0}
 AllHeed G body (x ∷ h) = IsByScript G body h x.0 x.1 × AllHeed G body h

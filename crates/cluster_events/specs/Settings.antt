@@ -8,11 +8,11 @@ use Rattle.cdb_values.specs.Rows.{Rows, no_rows}
 use Rattle.cdb_values.specs.declared.rows.Change.{Change}
 use Rattle.cdb_values.specs.declared.tables.TableDef.{TableDef}
 use Rattle.cluster_requests.specs.KeptEntries.{KeptEntry}
-use Rattle.cluster_requests.specs.KeptEntries.KeptEntry.{Setup as SetupKept, Commit as CommitKept}
+use Rattle.cluster_requests.specs.KeptEntries.KeptEntry.{SetupKept, CommitKept}
 use Rattle.report_laws.specs.History.{Basis}
 use Rattle.report_laws.specs.Told.{Numbered}
 use Rattle.report_laws.specs.View.{View}
-use Rattle.report_laws.specs.Work.{Item, Transaction, work}
+use Rattle.report_laws.specs.Work.{WorkItem, Transaction, work}
 use Rattle.report_text.specs.declared.reports.EntryLine.{EntryLine}
 use Rattle.report_text.specs.declared.reports.EntryLine.TheVariants.{Setup, Commit}
 use Rattle.script_form.specs.declared.scripts.Act.TheVariants as act
@@ -44,12 +44,12 @@ abbrev pub basis : Setting → Basis
 basis G = basis_from G 0 (no_rows [])
 
 -- the work of an actor that is a session
-abbrev pub work_of : Setting → ℕ → List Item
+abbrev pub work_of : Setting → ℕ → List WorkItem
 work_of G s = work G.language (G.names s) G.script.body
 
 -- the rows at a position of a log
-abbrev pub rows_at : Setting → List KeptEntry → ℕ → Rows
-rows_at G l k = state_of (take k l)
+abbrev pub kept_rows_at : Setting → List KeptEntry → ℕ → Rows
+kept_rows_at G l k = state_of (take k l)
 
 -- a transaction run alone on these rows
 abbrev pub run_alone : Setting → Rows → Transaction → Answered
@@ -65,12 +65,12 @@ changes_in (Some (SetupKept generation schema records reached)) = []
 changes_in (Some (CommitKept generation id begin level changes records reached)) = changes
 
 -- the entry at a position, from 1
-abbrev pub entry_at : List KeptEntry → ℕ → Option KeptEntry
-entry_at l k = slice_get l (k - 1)
+abbrev pub kept_entry_at : List KeptEntry → ℕ → Option KeptEntry
+kept_entry_at l k = slice_get l (k - 1)
 
 -- a log as the laws of reports see it
 abbrev pub log_view : Setting → List KeptEntry → View
-log_view G l = record { tables = G.tables; rows = rows_at G l; entry = λ k. option_map (line_of k) (entry_at l k); changes = λ k. changes_in (entry_at l k); last = length l }
+log_view G l = record { tables = G.tables; rows = kept_rows_at G l; entry = λ k. option_map (line_of k) (kept_entry_at l k); changes = λ k. changes_in (kept_entry_at l k); last = length l }
 
 -- the lines of the script, and behind them the feed at the end where a table is watched
 abbrev pub closing : {W : Type 0} → List W → List BodyLine

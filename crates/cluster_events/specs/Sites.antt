@@ -3,8 +3,8 @@
 -- A session begins at the node of its line of the script. Where this node went down since the session is there, it moves to the
 -- next node that is up, in cyclic order.
 use Rattle.std.specs.Prelude.{ℕ, zero, suc, ◌≡◌, ◌+◌, ◌==◌, cond, false, if◌then◌else◌, List, [], ◌∷◌, ◌++◌, Option, Some, None}
-use Rattle.cluster_events.specs.Parts.{Event, lines}
-use Rattle.cluster_events.specs.Parts.Event.{Move}
+use Rattle.cluster_events.specs.Parts.{ActorEvent, lines}
+use Rattle.cluster_events.specs.Parts.ActorEvent.{Move}
 use Rattle.cluster_events.specs.Settings.{Setting}
 use Rattle.report_laws.specs.Nodes.{is_up}
 use Rattle.report_laws.specs.Play.{node_of}
@@ -15,11 +15,11 @@ pub record Site : Type 0 where
   pub node : ℕ
   pub moves : ℕ
 
-abbrev pub moved : Site → Event → Site
+abbrev pub moved : Site → ActorEvent → Site
 moved p (Move node) = record { node = node; moves = p.moves + 1 }
 moved p _ = p
 
-abbrev pub site : Setting → ℕ → List (ℕ × Event) → Site
+abbrev pub site : Setting → ℕ → List (ℕ × ActorEvent) → Site
 site G s [] = record { node = node_of G.script (G.names s); moves = 0 }
 site G s (x ∷ h) = cond (s == x.0) (moved (site G s h) x.1) (site G s h)
 
@@ -33,10 +33,10 @@ next_up zero n ls k = None
 next_up (suc more) n ls k = if is_up (next_node n k) ls then Some (next_node n k) else next_up more n ls (next_node n k)
 
 -- a session's node went down at some place since the session is there; and at some place since then this node is the next one
-pub record CanMove (G : Setting) (h : List (ℕ × Event)) (s node : ℕ) : Type 0 where
-  pub later : List (ℕ × Event)
-  pub between : List (ℕ × Event)
-  pub before : List (ℕ × Event)
+pub record CanMove (G : Setting) (h : List (ℕ × ActorEvent)) (s node : ℕ) : Type 0 where
+  pub later : List (ℕ × ActorEvent)
+  pub between : List (ℕ × ActorEvent)
+  pub before : List (ℕ × ActorEvent)
   pub split : h ≡ later ++ (between ++ before)
   pub stays : site G s before ≡ site G s h
   pub down : is_up (site G s h).node (lines G before) ≡ false

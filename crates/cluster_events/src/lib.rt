@@ -2,12 +2,12 @@
 //! it prints.
 //!
 //! ```text
-//! History         a list of events with their actors, the newest first: 0 is the operator, 1 to n are the nodes
-//! part G s h      what a session is told, and where it is in its work
-//! field h         what the nodes are and were asked (`cluster_requests`)
-//! lines G h       the lines of the report
-//! IsLegal G h     each event might happen where it happened
-//! AllHeed G b h   and was by these lines of the script: stops, starts, arms, barriers, feeds
+//! History              a list of events with their actors, the newest first: 0 is the operator, 1 to n are the nodes
+//! part G s h           what a session is told, and where it is in its work
+//! field h              what the nodes are and were asked (`cluster_requests`)
+//! lines G h            the lines of the report
+//! IsLegalHistory G h   each event might happen where it happened
+//! AllHeed G b h        and was by these lines of the script: stops, starts, arms, barriers, feeds
 //! ```
 //!
 //! | Actor | Event | It may happen where |

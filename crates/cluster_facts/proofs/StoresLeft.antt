@@ -5,14 +5,14 @@ use mathlib.Core.Logic.{◌⊎◌, inl, inr}
 use Rattle.cluster_consensus.proofs.Invariant.{Inv}
 use Rattle.cluster_consensus.proofs.Kept.{always}
 use Rattle.cluster_consensus.proofs.StoresFit.{fits_or_old}
-use Rattle.cluster_consensus.specs.Events.{Event}
+use Rattle.cluster_consensus.specs.Events.{NodeEvent}
 use Rattle.cluster_consensus.specs.Facts.{Own, World}
 use Rattle.cluster_consensus.specs.Histories.{Legal, after}
 use Rattle.cluster_facts.specs.Stores.{Stored, left_by, AreTaken, AllFit}
 use Rattle.core_lists.proofs.Majorities.{majority_weaker}
 use Rattle.core_lists.specs.Majorities.{Majority}
 
-pub promise_stays : {E : Type 0} (n i : ℕ) (h : List (ℕ × Event E)) → Legal n h → ((after h).nodes i).store_promised ≤ ((after h).nodes i).promised
+pub promise_stays : {E : Type 0} (n i : ℕ) (h : List (ℕ × NodeEvent E)) → Legal n h → ((after h).nodes i).store_promised ≤ ((after h).nodes i).promised
 promise_stays n i h legal = ((always n h legal).local i).store
 
 -- what is left of a store
@@ -30,7 +30,7 @@ left_up o s up = go o.was_up refl
     go true e = omega arith
     go false e = let f = up in absurd (cc)
 
-pub left_fit : {E : Type 0} (n : ℕ) (h : List (ℕ × Event E)) (stores : ℕ → Stored) → Legal n h → AreTaken (after h) stores → AllFit n stores → AllFit n (λ k. left_by ((after h).nodes k) (stores k))
+pub left_fit : {E : Type 0} (n : ℕ) (h : List (ℕ × NodeEvent E)) (stores : ℕ → Stored) → Legal n h → AreTaken (after h) stores → AllFit n stores → AllFit n (λ k. left_by ((after h).nodes k) (stores k))
 left_fit {E} n h stores legal taken fit k pos le = go ((after h).nodes k).was_up refl
   where
     w : World E

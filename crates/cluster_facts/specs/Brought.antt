@@ -1,8 +1,8 @@
 -- The log with which a node came up first.
 use Rattle.std.specs.Prelude.{ℕ, List}
-use Rattle.cluster_consensus.specs.Events.{Event}
-use Rattle.cluster_consensus.specs.Events.Event.{Boot}
+use Rattle.cluster_consensus.specs.Events.{NodeEvent}
+use Rattle.cluster_consensus.specs.Events.NodeEvent.{Boot}
 use Rattle.core_lists.specs.Lists.{In}
 
-abbrev pub IsBrought : {E : Type 0} → List (ℕ × Event E) → ℕ → ℕ → List E → Type 0
+abbrev pub IsBrought : {E : Type 0} → List (ℕ × NodeEvent E) → ℕ → ℕ → List E → Type 0
 IsBrought h k a l = (p : ℕ) × In (k, Boot p a l) h

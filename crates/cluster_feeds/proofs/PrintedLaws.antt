@@ -1,13 +1,13 @@
 -- Barriers and feeds are printed in their order, each once.
 use Rattle.std.proofs.Common.{◌≡◌, ℕ, List, [], ◌∷◌, ◌++◌, refl, ap, sym, ◌∙◌}
 use Rattle.std.specs.Prelude.{Bool, true, false}
-use Rattle.cluster_consensus.specs.Events.{Event as Step}
-use Rattle.cluster_consensus.specs.Events.Event.{Boot, Down, Back, BackLead, BackTake, BackGrow, BackAppend}
+use Rattle.cluster_consensus.specs.Events.{NodeEvent}
+use Rattle.cluster_consensus.specs.Events.NodeEvent.{Boot, Down, Back, BackLead, BackTake, BackGrow, BackAppend}
 use Rattle.cluster_events.proofs.LineLists.{append_assoc}
 use Rattle.cluster_events.specs.ByScript.{Heeds, AllHeed}
 use Rattle.cluster_events.specs.Operator.{operators_from, Duty, next_left, fed_over, heed, duty, IsOfNode}
-use Rattle.cluster_events.specs.Parts.{Event, part, up_line, lines_by, lines}
-use Rattle.cluster_events.specs.Parts.Event.{Node, Order, Obeyed, Barrier, Fed, FedAgain}
+use Rattle.cluster_events.specs.Parts.{ActorEvent, part, up_line, lines_by, lines}
+use Rattle.cluster_events.specs.Parts.ActorEvent.{Node, Order, Obeyed, Barrier, Fed, FedAgain}
 use Rattle.cluster_feeds.specs.Printed.{printed_by, printed, prints, to_print}
 use Rattle.cluster_events.specs.Settings.{Setting}
 use Rattle.cluster_requests.specs.KeptEntries.{KeptEntry}
@@ -30,7 +30,7 @@ boot_prints : (b : Bool) (i : ℕ) → printed (up_line b i) ≡ []
 boot_prints true i = refl
 boot_prints false i = refl
 
-node_prints : (G : Setting) (h : List (ℕ × Event)) (i : ℕ) (e : Step KeptEntry) → printed (lines_by G (lines G h) (part G i h) i (Node e)) ≡ []
+node_prints : (G : Setting) (h : List (ℕ × ActorEvent)) (i : ℕ) (e : NodeEvent KeptEntry) → printed (lines_by G (lines G h) (part G i h) i (Node e)) ≡ []
 node_prints G h i Down = refl
 node_prints G h i (Boot p a l) = boot_prints (is_up i (lines G h)) i
 node_prints G h i (Back p) = refl
@@ -58,7 +58,7 @@ fed_prints d line rest e = ap (λ z. (act.Feed ∷ []) ++ to_print (fed_over z d
 kept_prints : (new : List Act) (left : List Act) → new ≡ [] → new ++ left ≡ left
 kept_prints new left e = ap (λ z. z ++ left) e
 
-row_prints : (G : Setting) (body : List BodyLine) (h : List (ℕ × Event)) (i : ℕ) (e : Event) → Heeds G body h i e → printed (lines_by G (lines G h) (part G i h) i e) ++ to_print (heed (duty body h) e).left ≡ to_print (duty body h).left
+row_prints : (G : Setting) (body : List BodyLine) (h : List (ℕ × ActorEvent)) (i : ℕ) (e : ActorEvent) → Heeds G body h i e → printed (lines_by G (lines G h) (part G i h) i e) ++ to_print (heed (duty body h) e).left ≡ to_print (duty body h).left
 row_prints G body h i (Node e) may = kept_prints _ (to_print (duty body h).left) (node_prints G h i e)
 row_prints G body h i Order may = refl
 row_prints G body h i Obeyed may = over_prints [] (duty body h).left may.line may.act may.rest may.next (sym (of_node_prints may.act may.of_node))
@@ -67,6 +67,6 @@ row_prints G body h i (Fed p g) may = fed_prints (duty body h) may.0 may.1 may.2
 row_prints G body h i (FedAgain p) may = fed_prints (duty body h) may.0 may.1 may.2
 row_prints G body h i _ may = refl
 
-pub all_printed : (G : Setting) (body : List BodyLine) (h : List (ℕ × Event)) → AllHeed G body h → printed (lines G h) ++ to_print (duty body h).left ≡ to_print (operators_from 0 body)
+pub all_printed : (G : Setting) (body : List BodyLine) (h : List (ℕ × ActorEvent)) → AllHeed G body h → printed (lines G h) ++ to_print (duty body h).left ≡ to_print (operators_from 0 body)
 all_printed G body [] all = refl
 all_printed G body (x ∷ h) all = more_printed (lines G h) (lines_by G (lines G h) (part G x.0 h) x.0 x.1) (to_print (duty body h).left) (to_print (heed (duty body h) x.1).left) (to_print (operators_from 0 body)) (all_printed G body h all.1) (row_prints G body h x.0 x.1 all.0.heeds)

@@ -21,5 +21,5 @@ named_uuid name = with_version (with_variant (take 16 (sha1 (namespace_dns ++ na
 unfoldable pub number_of : List ℕ → ℕ
 number_of name = from_be_bytes w128 (named_uuid name)
 
-abbrev pub id_of : List ℕ → ℕ → ℕ
-id_of cluster nodes = number_of (full_name cluster nodes)
+abbrev pub cluster_id_of : List ℕ → ℕ → ℕ
+cluster_id_of cluster nodes = number_of (full_name cluster nodes)

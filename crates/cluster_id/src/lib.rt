@@ -11,7 +11,7 @@
 #![tactic(auto)]
 
 ghost use Rattle.std.specs.Prelude.{◌≡◌, IfOk};
-ghost use Rattle.cluster_id.specs.Named.{full_name as full_name_of, id_of, number_of};
+ghost use Rattle.cluster_id.specs.Named.{full_name as full_name_of, cluster_id_of, number_of};
 
 use cdb_values::Name;
 use std::alloc::{AllocError, Global};
@@ -20,7 +20,7 @@ use uuid::Uuid;
 /// The id of the cluster of this name with so many nodes, its first byte as the highest of the number. `Err` is want of
 /// memory.
 pub fn cluster_id(alloc: Global, cluster: &Name, nodes: u8) -> Result<u128, AllocError>
-    ensures { IfOk result (λ id. id ≡ id_of cluster.now nodes) }
+    ensures { IfOk result (λ id. id ≡ cluster_id_of cluster.now nodes) }
 {
     let name = full_name(alloc, cluster, nodes)?;
     Ok(number(name.as_slice()))

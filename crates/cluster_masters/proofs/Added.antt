@@ -6,8 +6,8 @@ use Rattle.cluster_consensus.proofs.FactSteps.{holds, leads_log}
 use Rattle.cluster_consensus.proofs.Invariant.{Inv, Grows}
 use Rattle.cluster_consensus.proofs.Kept.{always, at_node, grows_row, self_row}
 use Rattle.cluster_consensus.specs.Enabled.{Enabled}
-use Rattle.cluster_consensus.specs.Events.{Event, change}
-use Rattle.cluster_consensus.specs.Events.Event.{BackLead, BackTake, BackGrow, BackAppend, Lead, Take, Grow, Append}
+use Rattle.cluster_consensus.specs.Events.{NodeEvent, change}
+use Rattle.cluster_consensus.specs.Events.NodeEvent.{BackLead, BackTake, BackGrow, BackAppend, Lead, Take, Grow, Append}
 use Rattle.cluster_consensus.specs.Facts.{Claim, World}
 use Rattle.cluster_consensus.specs.Histories.{Legal, happens, after}
 use Rattle.cluster_masters.specs.Appended.{Appends, AllAppend}
@@ -58,7 +58,7 @@ added_held R {n} {w} inv all i lead x r =
     let a = added_part R w c.it (record { gen = (w.nodes i).accepted; log = (w.nodes i).log }) ((all i).at c.it c.mem) (sym c.is.0) (subst (λ t. Front t c.it.log) c.is.1 (front_refl c.it.log)) in
     added_append R w (w.nodes i).accepted (w.nodes i).log x a r
 
-added_row : {E : Type 0} (R : ℕ → List E → E → Type 0) {n : ℕ} (w : World E) → Inv n w → ((k : ℕ) → Each (Added R w) (w.nodes k).accepts) → (i : ℕ) (e : Event E) → Enabled n w i (w.nodes i) e → Appends R (w.nodes i) e → (v : World E) → Grows w v → v.nodes i ≡ change i (w.nodes i) e → Each (Added R v) (change i (w.nodes i) e).accepts
+added_row : {E : Type 0} (R : ℕ → List E → E → Type 0) {n : ℕ} (w : World E) → Inv n w → ((k : ℕ) → Each (Added R w) (w.nodes k).accepts) → (i : ℕ) (e : NodeEvent E) → Enabled n w i (w.nodes i) e → Appends R (w.nodes i) e → (v : World E) → Grows w v → v.nodes i ≡ change i (w.nodes i) e → Each (Added R v) (change i (w.nodes i) e).accepts
 added_row {E} R {n} w inv all i e en may v g self = go e en may self
   where
     old : Each (Added R v) (w.nodes i).accepts
@@ -67,7 +67,7 @@ added_row {E} R {n} w inv all i e en may v g self = go e en may self
     on : (c : Claim E) → Added R w c → Added R v c
     on c a = added_grows R g a
 
-    go : (e : Event E) → Enabled n w i (w.nodes i) e → Appends R (w.nodes i) e → v.nodes i ≡ change i (w.nodes i) e → Each (Added R v) (change i (w.nodes i) e).accepts
+    go : (e : NodeEvent E) → Enabled n w i (w.nodes i) e → Appends R (w.nodes i) e → v.nodes i ≡ change i (w.nodes i) e → Each (Added R v) (change i (w.nodes i) e).accepts
     go BackLead en may self = let c : Claim E = record { gen = (w.nodes i).promised; log = (w.nodes i).log } in each_add (added_lead R v i c (subst (λ t. In c t.leads) (sym self) here)) old
     go Lead en may self = let c : Claim E = record { gen = (w.nodes i).promised; log = (w.nodes i).log } in each_add (added_lead R v i c (subst (λ t. In c t.leads) (sym self) here)) old
     go (BackTake h l) en may self = let s = en.2.2.1 in each_add (on _ (added_shipped R inv all en.2.2.0 h s.it l s.mem s.is.0 (subst (λ t. Front t s.it.log) s.is.1 (front_refl s.it.log)))) old
@@ -78,7 +78,7 @@ added_row {E} R {n} w inv all i e en may v g self = go e en may self
     go (Append x) en may self = each_add (on _ (added_held R inv all i en.1 x may)) old
     go _ en may self = old
 
-pub added : {E : Type 0} (R : ℕ → List E → E → Type 0) (n : ℕ) (h : List (ℕ × Event E)) → Legal n h → AllAppend R h → (k : ℕ) → Each (Added R (after h)) ((after h).nodes k).accepts
+pub added : {E : Type 0} (R : ℕ → List E → E → Type 0) (n : ℕ) (h : List (ℕ × NodeEvent E)) → Legal n h → AllAppend R h → (k : ℕ) → Each (Added R (after h)) ((after h).nodes k).accepts
 added R n [] legal new k = each_none
 added {E} R n (x ∷ h) legal new k =
     let w : World E = after h in

@@ -7,8 +7,8 @@ use Rattle.cluster_consensus.proofs.Invariant.{Inv}
 use Rattle.cluster_consensus.proofs.Kept.{always, at_node}
 use Rattle.cluster_consensus.specs.Durable.{DurableIn}
 use Rattle.cluster_consensus.specs.Enabled.{Enabled}
-use Rattle.cluster_consensus.specs.Events.{Event, change}
-use Rattle.cluster_consensus.specs.Events.Event.{Probe}
+use Rattle.cluster_consensus.specs.Events.{NodeEvent, change}
+use Rattle.cluster_consensus.specs.Events.NodeEvent.{Probe}
 use Rattle.cluster_consensus.specs.Facts.{Claim, Ping, Own, World}
 use Rattle.cluster_consensus.specs.Histories.{Legal, after}
 use Rattle.cluster_masters.specs.FirstMaster.{IsFirstMaster}
@@ -22,21 +22,21 @@ use Rattle.core_lists.specs.Lists.{In, Each, Has}
 record Positive {E : Type 0} (o : Own E) : Type 0 where
   each : Each (λ x. 1 ≤ x.durable) o.pings
 
-positive_row : {E : Type 0} (n : ℕ) (w : World E) (i : ℕ) (e : Event E) → Enabled n w i (w.nodes i) e → Positive (w.nodes i) → Positive (change i (w.nodes i) e)
+positive_row : {E : Type 0} (n : ℕ) (w : World E) (i : ℕ) (e : NodeEvent E) → Enabled n w i (w.nodes i) e → Positive (w.nodes i) → Positive (change i (w.nodes i) e)
 positive_row n w i (Probe t) en p = record { each = each_add en.3 p.each }
 positive_row n w i _ en p = record { each = p.each }
 
-positive : {E : Type 0} (n : ℕ) (h : List (ℕ × Event E)) → Legal n h → (k : ℕ) → Positive ((after h).nodes k)
+positive : {E : Type 0} (n : ℕ) (h : List (ℕ × NodeEvent E)) → Legal n h → (k : ℕ) → Positive ((after h).nodes k)
 positive n [] legal k = record { each = each_none }
 positive {E} n (x ∷ h) legal k =
     let w : World E = after h in
     at_node w x.0 x.1 (λ j o. Positive o) k (positive_row n w x.0 x.1 legal.0 (positive n h legal.1 x.0)) (positive n h legal.1 k)
 
-pub at_least_one : {E : Type 0} (n m : ℕ) (h : List (ℕ × Event E)) (x : Ping) → Legal n h → In x ((after h).nodes m).pings → 1 ≤ x.durable
+pub at_least_one : {E : Type 0} (n m : ℕ) (h : List (ℕ × NodeEvent E)) (x : Ping) → Legal n h → In x ((after h).nodes m).pings → 1 ≤ x.durable
 at_least_one n m h x legal hx = (positive n h legal m).each.at x hx
 
 -- a begin that was answered has a leader at or below it whose adopted log is durable in its own generation
-pub some_founded : {E : Type 0} (n m : ℕ) (h : List (ℕ × Event E)) (x : Ping) → Legal n h → In x ((after h).nodes m).pings → (k : ℕ) × Has (λ l. (l.gen ≤ x.gen) × DurableIn n (after h) l.gen l.log) ((after h).nodes k).leads
+pub some_founded : {E : Type 0} (n m : ℕ) (h : List (ℕ × NodeEvent E)) (x : Ping) → Legal n h → In x ((after h).nodes m).pings → (k : ℕ) × Has (λ l. (l.gen ≤ x.gen) × DurableIn n (after h) l.gen l.log) ((after h).nodes k).leads
 some_founded n m h x legal hx =
     let v = always_fresh n h legal in
     let b = ((v.refs m).pings.at x hx).0 in
@@ -46,7 +46,7 @@ some_founded n m h x legal hx =
     (f.0, record { it = f.1.it; mem = f.1.mem; is = (omega arith, subst (λ t. DurableIn n (after h) t f.1.it.log) (sym f.1.is.0) f.1.is.1) })
 
 -- and it is at least what the first master adopted
-pub at_least_base : {E : Type 0} (n m j : ℕ) (h : List (ℕ × Event E)) (x : Ping) (l : Claim E) → Legal n h → In x ((after h).nodes m).pings → IsFirstMaster n (after h) j l → length l.log ≤ x.durable
+pub at_least_base : {E : Type 0} (n m j : ℕ) (h : List (ℕ × NodeEvent E)) (x : Ping) (l : Claim E) → Legal n h → In x ((after h).nodes m).pings → IsFirstMaster n (after h) j l → length l.log ≤ x.durable
 at_least_base {E} n m j h x l legal hx first = go (lt_or_eq l.gen x.gen low)
   where
     inv : Inv n (after h)

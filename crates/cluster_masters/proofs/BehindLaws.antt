@@ -7,7 +7,7 @@ use Rattle.cluster_consensus.proofs.Generations.{one_leader, one_log}
 use Rattle.cluster_consensus.proofs.Invariant.{Inv}
 use Rattle.cluster_consensus.proofs.Kept.{always}
 use Rattle.cluster_consensus.specs.Durable.{DurableIn}
-use Rattle.cluster_consensus.specs.Events.{Event}
+use Rattle.cluster_consensus.specs.Events.{NodeEvent}
 use Rattle.cluster_consensus.specs.Facts.{Claim, World}
 use Rattle.cluster_consensus.specs.Histories.{Legal, after}
 use Rattle.cluster_masters.proofs.Added.{Added, added}
@@ -99,5 +99,5 @@ behind : {E : Type 0} {R : ℕ → List E → E → Type 0} {n : ℕ} {w : World
 behind inv all m l hl dur zero k c hc top low = same inv all m l hl k c hc (omega arith)
 behind inv all m l hl dur (suc b) k c hc top low = step inv all m l hl dur b k c hc top (lt_or_eq l.gen c.gen low) (λ k c hc top low. behind inv all m l hl dur b k c hc top low)
 
-pub behind_base : {E : Type 0} (R : ℕ → List E → E → Type 0) (n k m : ℕ) (h : List (ℕ × Event E)) (l c : Claim E) → Legal n h → AllAppend R h → In l ((after h).nodes m).leads → DurableIn n (after h) l.gen l.log → In c ((after h).nodes k).accepts → l.gen ≤ c.gen → IsBehind R l c
+pub behind_base : {E : Type 0} (R : ℕ → List E → E → Type 0) (n k m : ℕ) (h : List (ℕ × NodeEvent E)) (l c : Claim E) → Legal n h → AllAppend R h → In l ((after h).nodes m).leads → DurableIn n (after h) l.gen l.log → In c ((after h).nodes k).accepts → l.gen ≤ c.gen → IsBehind R l c
 behind_base R n k m h l c legal new hl dur hc low = behind (always n h legal) (added R n h legal new) m l hl dur c.gen k c hc (omega arith) low

@@ -7,8 +7,8 @@ use Rattle.core_lists.proofs.Lists.{each_add, each_none}
 use Rattle.core_lists.proofs.Fronts.{front_same, front_shorter}
 use Rattle.core_lists.proofs.Numbers.{lt_or_eq, lt_or_le}
 use Rattle.cluster_consensus.specs.Facts.{Claim, Own, World}
-use Rattle.cluster_consensus.specs.Events.{Event, change}
-use Rattle.cluster_consensus.specs.Events.Event.{Boot, BackLead, BackTake, BackGrow, BackAppend, Lead, Take, Grow, Append}
+use Rattle.cluster_consensus.specs.Events.{NodeEvent, change}
+use Rattle.cluster_consensus.specs.Events.NodeEvent.{Boot, BackLead, BackTake, BackGrow, BackAppend, Lead, Take, Grow, Append}
 use Rattle.cluster_consensus.specs.Enabled.{Enabled, CanGrow, IsShipped}
 use Rattle.cluster_consensus.specs.Durable.{DurableIn}
 use Rattle.cluster_consensus.specs.Histories.{Legal, after}
@@ -30,12 +30,12 @@ pub record Wholes {E : Type 0} (S : List E → Type 0) (o : Own E) : Type 0 wher
 abbrev pub Behind : {E : Type 0} → (List E → Type 0) → ℕ → List E → E → Type 0
 Behind S g xs e = S (xs ++ e ∷ [])
 
-appends_of : {E : Type 0} (S : List E → Type 0) (o : Own E) (e : Event E) → Leaves S o e → Appends (Behind S) o e
+appends_of : {E : Type 0} (S : List E → Type 0) (o : Own E) (e : NodeEvent E) → Leaves S o e → Appends (Behind S) o e
 appends_of S o (Append e) k = k
 appends_of S o (BackAppend e) k = k
 appends_of S o _ k = tt
 
-all_appends : {E : Type 0} (S : List E → Type 0) (h : List (ℕ × Event E)) → AllLeave S h → AllAppend (Behind S) h
+all_appends : {E : Type 0} (S : List E → Type 0) (h : List (ℕ × NodeEvent E)) → AllLeave S h → AllAppend (Behind S) h
 all_appends S [] k = tt
 all_appends S (x ∷ h) k = (appends_of S ((after h).nodes x.0) x.1 k.0, all_appends S h k.1)
 
@@ -80,7 +80,7 @@ grow_whole {E} S {n} {w} inv all add i l en =
 take_whole : {E : Type 0} (S : List E → Type 0) {n : ℕ} {w : World E} → Inv n w → ((k : ℕ) → Wholes S (w.nodes k)) → (g : ℕ) (l : List E) → IsShipped w g l → S l
 take_whole S {n} {w} inv all g l s = subst (λ t. S t) s.1.is.1 ((all s.0).accepts.at s.1.it ((inv.local s.0).ships.at s.1.it s.1.mem).1)
 
-wholes_row : {E : Type 0} (S : List E → Type 0) {n : ℕ} {w : World E} → Inv n w → ((k : ℕ) → Wholes S (w.nodes k)) → ((k : ℕ) → Each (Added (Behind S) w) (w.nodes k).accepts) → (i : ℕ) (e : Event E) → Enabled n w i (w.nodes i) e → Leaves S (w.nodes i) e → Wholes S (change i (w.nodes i) e)
+wholes_row : {E : Type 0} (S : List E → Type 0) {n : ℕ} {w : World E} → Inv n w → ((k : ℕ) → Wholes S (w.nodes k)) → ((k : ℕ) → Each (Added (Behind S) w) (w.nodes k).accepts) → (i : ℕ) (e : NodeEvent E) → Enabled n w i (w.nodes i) e → Leaves S (w.nodes i) e → Wholes S (change i (w.nodes i) e)
 wholes_row S {n} {w} inv all add i (Boot p a l) en k = record { own = k; leads = (all i).leads; accepts = (all i).accepts }
 wholes_row S {n} {w} inv all add i BackLead en k = record { own = (all i).own; leads = each_add (all i).own (all i).leads; accepts = each_add (all i).own (all i).accepts }
 wholes_row S {n} {w} inv all add i Lead en k = record { own = (all i).own; leads = each_add (all i).own (all i).leads; accepts = each_add (all i).own (all i).accepts }
@@ -92,7 +92,7 @@ wholes_row S {n} {w} inv all add i (BackAppend e) en k = record { own = k; leads
 wholes_row S {n} {w} inv all add i (Append e) en k = record { own = k; leads = (all i).leads; accepts = each_add k (all i).accepts }
 wholes_row S {n} {w} inv all add i _ en k = record { own = (all i).own; leads = (all i).leads; accepts = (all i).accepts }
 
-pub wholes : {E : Type 0} (S : List E → Type 0) (n : ℕ) (h : List (ℕ × Event E)) → S [] → Legal n h → AllLeave S h → (k : ℕ) → Wholes S ((after h).nodes k)
+pub wholes : {E : Type 0} (S : List E → Type 0) (n : ℕ) (h : List (ℕ × NodeEvent E)) → S [] → Legal n h → AllLeave S h → (k : ℕ) → Wholes S ((after h).nodes k)
 wholes S n [] none legal all k = record { own = none; leads = each_none; accepts = each_none }
 wholes {E} S n (x ∷ h) none legal all k =
     let w : World E = after h in
@@ -110,7 +110,7 @@ begins_with {E} {n} {w} inv m a ha dur k c hc low = go (lt_or_eq a.gen c.gen low
         subst (λ t. Front t c.log) (one_adopted inv f.by m f.adopted.it a f.adopted.mem ha (f.adopted.is.0 ∙ sym eq)) f.adopted.is.1
 
 -- and each front of it from there on has the property
-pub fronts : {E : Type 0} (S : List E → Type 0) (n : ℕ) (h : List (ℕ × Event E)) → S [] → Legal n h → AllLeave S h → (m : ℕ) (a : Claim E) → In a ((after h).nodes m).leads → DurableIn n (after h) a.gen a.log → (k : ℕ) (c : Claim E) → In c ((after h).nodes k).accepts → a.gen ≤ c.gen → (xs : List E) → Front xs c.log → length a.log ≤ length xs → S xs
+pub fronts : {E : Type 0} (S : List E → Type 0) (n : ℕ) (h : List (ℕ × NodeEvent E)) → S [] → Legal n h → AllLeave S h → (m : ℕ) (a : Claim E) → In a ((after h).nodes m).leads → DurableIn n (after h) a.gen a.log → (k : ℕ) (c : Claim E) → In c ((after h).nodes k).accepts → a.gen ≤ c.gen → (xs : List E) → Front xs c.log → length a.log ≤ length xs → S xs
 fronts {E} S n h none legal all m a ha dur k c hc low xs p long = go (lt_or_le (length a.log) (length xs))
   where
     inv : Inv n (after h)

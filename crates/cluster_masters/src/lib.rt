@@ -22,7 +22,7 @@ ghost use Rattle.std.specs.Prelude.{ℕ, ◌≡◌, ◌≤◌, ◌∷◌, [], Li
 ghost use Rattle.core_lists.specs.Fronts.{Front};
 ghost use Rattle.core_lists.specs.Lists.{In, Has};
 ghost use Rattle.cluster_consensus.specs.Facts.{Claim, Ping};
-ghost use Rattle.cluster_consensus.specs.Events.{Event};
+ghost use Rattle.cluster_consensus.specs.Events.{NodeEvent};
 ghost use Rattle.cluster_consensus.specs.Histories.{Legal, after};
 ghost use Rattle.cluster_consensus.specs.Durable.{DurableIn, DurableAt};
 ghost use Rattle.cluster_masters.specs.Appended.{AllAppend, EachBehind};
@@ -33,7 +33,7 @@ ghost use Rattle.cluster_masters.specs.WholeLogs.{AllLeave};
 
 /// The log of a node whose pair of accepted generation and length is greatest begins with each durable log.
 pub fn the_reported_log_has_every_durable_log<E>()
-    ensures { (n r : ℕ) (h : List (ℕ × Event E)) (d : List E) → Legal n h → IsReported n (after h) r
+    ensures { (n r : ℕ) (h : List (ℕ × NodeEvent E)) (d : List E) → Legal n h → IsReported n (after h) r
         → DurableAt n h d → Front d ((after h).nodes r).log }
 {}
 
@@ -48,11 +48,11 @@ pub fn two_masters_stand()
 /// Every begin's position is at least 1, and at least the base; and where a begin was answered some leader's
 /// adopted log is durable in its own generation.
 pub fn begins_reach_the_base<E>()
-    ensures one { (n m : ℕ) (h : List (ℕ × Event E)) (x : Ping) → Legal n h → In x ((after h).nodes m).pings
+    ensures one { (n m : ℕ) (h : List (ℕ × NodeEvent E)) (x : Ping) → Legal n h → In x ((after h).nodes m).pings
         → 1 ≤ x.durable }
-    ensures founded { (n m : ℕ) (h : List (ℕ × Event E)) (x : Ping) → Legal n h → In x ((after h).nodes m).pings
+    ensures founded { (n m : ℕ) (h : List (ℕ × NodeEvent E)) (x : Ping) → Legal n h → In x ((after h).nodes m).pings
         → (k : ℕ) × Has (λ l. (l.gen ≤ x.gen) × DurableIn n (after h) l.gen l.log) ((after h).nodes k).leads }
-    ensures base { (n m k : ℕ) (h : List (ℕ × Event E)) (x : Ping) (l : Claim E) → Legal n h
+    ensures base { (n m k : ℕ) (h : List (ℕ × NodeEvent E)) (x : Ping) (l : Claim E) → Legal n h
         → In x ((after h).nodes m).pings → IsFirstMaster n (after h) k l → length l.log ≤ x.durable }
 {}
 
@@ -66,10 +66,10 @@ pub trait AppendRule<E> {
 /// and each entry behind it was appended in the run, by the rule that every append keeps. Nothing is asked of the
 /// entries of stores.
 pub fn entries_behind_the_base_keep_their_rule<E, R: AppendRule<E>>()
-    ensures begins { (n k m : ℕ) (h : List (ℕ × Event E)) (l c : Claim E) → Legal n h → AllAppend R.holds h
+    ensures begins { (n k m : ℕ) (h : List (ℕ × NodeEvent E)) (l c : Claim E) → Legal n h → AllAppend R.holds h
         → In l ((after h).nodes m).leads → DurableIn n (after h) l.gen l.log
         → In c ((after h).nodes k).accepts → l.gen ≤ c.gen → Front l.log c.log }
-    ensures rule { (n k m : ℕ) (h : List (ℕ × Event E)) (l c : Claim E) → Legal n h → AllAppend R.holds h
+    ensures rule { (n k m : ℕ) (h : List (ℕ × NodeEvent E)) (l c : Claim E) → Legal n h → AllAppend R.holds h
         → In l ((after h).nodes m).leads → DurableIn n (after h) l.gen l.log
         → In c ((after h).nodes k).accepts → l.gen ≤ c.gen → EachBehind R.holds l.gen c.gen l.log c.log }
 {}
@@ -84,11 +84,12 @@ pub trait Property<E> {
 /// node has or had accepted; and by each front of a log that is accepted from a generation on in which the leader's
 /// adopted log is durable, from that log on.
 pub fn logs_keep_their_property<E, R: Property<E>>()
-    ensures held { (n k : ℕ) (h : List (ℕ × Event E)) → R.holds [] → Legal n h → AllLeave R.holds h
+    ensures held { (n k : ℕ) (h : List (ℕ × NodeEvent E)) → R.holds [] → Legal n h → AllLeave R.holds h
         → R.holds ((after h).nodes k).log }
-    ensures accepted { (n k : ℕ) (h : List (ℕ × Event E)) (c : Claim E) → R.holds [] → Legal n h → AllLeave R.holds h
+    ensures accepted { (n k : ℕ) (h : List (ℕ × NodeEvent E)) (c : Claim E) → R.holds [] → Legal n h
+        → AllLeave R.holds h
         → In c ((after h).nodes k).accepts → R.holds c.log }
-    ensures fronts { (n m k : ℕ) (h : List (ℕ × Event E)) (a c : Claim E) (xs : List E) → R.holds [] → Legal n h
+    ensures fronts { (n m k : ℕ) (h : List (ℕ × NodeEvent E)) (a c : Claim E) (xs : List E) → R.holds [] → Legal n h
         → AllLeave R.holds h → In a ((after h).nodes m).leads → DurableIn n (after h) a.gen a.log
         → In c ((after h).nodes k).accepts → a.gen ≤ c.gen
         → Front xs c.log → length a.log ≤ length xs → R.holds xs }

@@ -4,8 +4,8 @@ use mathlib.Core.Logic.{inl, inr}
 use Rattle.core_lists.specs.Lists.{In}
 use Rattle.core_lists.specs.Fronts.{Front}
 use Rattle.cluster_consensus.specs.Facts.{Claim, World}
-use Rattle.cluster_consensus.specs.Events.{Event as Step}
-use Rattle.cluster_consensus.specs.Events.Event.{BackAppend, Append}
+use Rattle.cluster_consensus.specs.Events.{NodeEvent}
+use Rattle.cluster_consensus.specs.Events.NodeEvent.{BackAppend, Append}
 use Rattle.cluster_consensus.specs.Enabled.{Below}
 use Rattle.cluster_consensus.specs.Durable.{DurableIn}
 use Rattle.cluster_masters.specs.FirstMaster.{IsFirstMaster}
@@ -15,9 +15,9 @@ use Rattle.cluster_requests.specs.Requests.{Sent}
 use Rattle.phys_log.specs.declared.entries.CommitId.{CommitId}
 use Rattle.cluster_requests.specs.KeptEntries.{KeptEntry}
 use Rattle.cluster_events.specs.Settings.{Setting, work_of}
-use Rattle.cluster_events.specs.Parts.{Event, part, field}
-use Rattle.cluster_events.specs.Parts.Event.{Node, Stop, Ask}
-use Rattle.cluster_events.specs.Guards.{MayDo, IsLegal, AreApart, Rising}
+use Rattle.cluster_events.specs.Parts.{ActorEvent, part, field}
+use Rattle.cluster_events.specs.Parts.ActorEvent.{Node, Stop, Ask}
+use Rattle.cluster_events.specs.Guards.{MayDo, IsLegalHistory, AreNamedApart, Rising}
 use Rattle.cluster_masters.specs.Appended.{Appends, AllAppend}
 use Rattle.cluster_consensus.proofs.FactSteps.{holds}
 use Rattle.cluster_masters.proofs.MasterLaws.{some_in}
@@ -28,18 +28,18 @@ use Rattle.cluster_answers.specs.Entries.{New}
 use Rattle.cluster_answers.proofs.NumberLaws.{counted}
 use Rattle.cluster_events.proofs.OwnLines.{one_actor}
 
-appends_row : (G : Setting) (h : List (ℕ × Event)) (i : ℕ) (e : Step KeptEntry) (P : List KeptEntry → KeptEntry → Type 0) → IsLegal G h → MayDo G h i (Node e) → ((xs : List KeptEntry) (x : KeptEntry) → New G h xs x → P xs x) → Appends (λ g. P) ((field h).core.nodes i) e
+appends_row : (G : Setting) (h : List (ℕ × ActorEvent)) (i : ℕ) (e : NodeEvent KeptEntry) (P : List KeptEntry → KeptEntry → Type 0) → IsLegalHistory G h → MayDo G h i (Node e) → ((xs : List KeptEntry) (x : KeptEntry) → New G h xs x → P xs x) → Appends (λ g. P) ((field h).core.nodes i) e
 appends_row G h i (Append e) P legal may f = f _ e (new_entry G h legal i e may.0.0.1 may.0.1 may.1)
 appends_row G h i (BackAppend e) P legal may f = f _ e (new_entry G h legal i e may.0.0.2 may.0.1 may.1)
 appends_row G h i _ P legal may f = tt
 
-all_append_row : (G : Setting) (h : List (ℕ × Event)) (i : ℕ) (e : Event) (P : List KeptEntry → KeptEntry → Type 0) → IsLegal G h → MayDo G h i e → ((xs : List KeptEntry) (x : KeptEntry) → New G h xs x → P xs x) → AllAppend (λ g. P) (steps h) → AllAppend (λ g. P) (add_step i e (steps h))
+all_append_row : (G : Setting) (h : List (ℕ × ActorEvent)) (i : ℕ) (e : ActorEvent) (P : List KeptEntry → KeptEntry → Type 0) → IsLegalHistory G h → MayDo G h i e → ((xs : List KeptEntry) (x : KeptEntry) → New G h xs x → P xs x) → AllAppend (λ g. P) (steps h) → AllAppend (λ g. P) (add_step i e (steps h))
 all_append_row G h i (Node e) P legal may f old = (subst (λ w. Appends (λ g. P) (w.nodes i) e) (core_is h) (appends_row G h i e P legal may f), old)
 all_append_row G h i Stop P legal may f old = (tt, old)
 all_append_row G h i (Ask t) P legal may f old = (tt, old)
 all_append_row G h i _ P legal may f old = old
 
-all_append : (G : Setting) (h : List (ℕ × Event)) (P : List KeptEntry → KeptEntry → Type 0) → IsLegal G h → ((xs : List KeptEntry) (x : KeptEntry) → New G h xs x → P xs x) → AllAppend (λ g. P) (steps h)
+all_append : (G : Setting) (h : List (ℕ × ActorEvent)) (P : List KeptEntry → KeptEntry → Type 0) → IsLegalHistory G h → ((xs : List KeptEntry) (x : KeptEntry) → New G h xs x → P xs x) → AllAppend (λ g. P) (steps h)
 all_append G [] P legal f = tt
 all_append G (x ∷ h) P legal f =
     let on = later_event G h x.0 x.1 (good_of G h legal.1).inv legal.0 in
@@ -59,7 +59,7 @@ reported_in {n} {w} inv r top m a ha da g d dur =
     low x n y k (inl lt) le = omega arith
     low x n y k (inr e) le = let q : x ≡ y = e.0 in omega arith
 
-pub beyond_base : (G : Setting) (h : List (ℕ × Event)) → IsLegal G h → (r : ℕ) → IsReported G.nodes (field h).core r → (m : ℕ) (a : Claim KeptEntry) → IsFirstMaster G.nodes (field h).core m a → (xs : List KeptEntry) (e : KeptEntry) → Front (xs ++ e ∷ []) ((field h).core.nodes r).log → length a.log ≤ length xs → New G h xs e
+pub beyond_base : (G : Setting) (h : List (ℕ × ActorEvent)) → IsLegalHistory G h → (r : ℕ) → IsReported G.nodes (field h).core r → (m : ℕ) (a : Claim KeptEntry) → IsFirstMaster G.nodes (field h).core m a → (xs : List KeptEntry) (e : KeptEntry) → Front (xs ++ e ∷ []) ((field h).core.nodes r).log → length a.log ≤ length xs → New G h xs e
 beyond_base G h legal r top m a first xs e p long =
     let inv = (good_of G h legal).inv in
     let le = reported_in inv r top m a first.mem first.durable a.gen a.log first.durable in
@@ -76,7 +76,7 @@ id_is a b p q r =
     ∙ ap (λ z. record { began = b.began; session = b.session; txn = z }) r)
 
 -- requests of one transaction have one identity
-pub one_id : (G : Setting) → AreApart G → (h : List (ℕ × Event)) → ((s : ℕ) → Rising 0 (work_of G s)) → IsLegal G h → (x y : Sent) → In x (field h).sends → In y (field h).sends → x.id.session ≡ y.id.session → x.id.txn ≡ y.id.txn → x.id ≡ y.id
+pub one_id : (G : Setting) → AreNamedApart G → (h : List (ℕ × ActorEvent)) → ((s : ℕ) → Rising 0 (work_of G s)) → IsLegalHistory G h → (x y : Sent) → In x (field h).sends → In y (field h).sends → x.id.session ≡ y.id.session → x.id.txn ≡ y.id.txn → x.id ≡ y.id
 one_id G far h rising legal x y mx my es et =
     let qx = ((sends_ok G h legal).at x mx).request in
     let qy = ((sends_ok G h legal).at y my).request in

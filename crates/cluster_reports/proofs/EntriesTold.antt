@@ -17,12 +17,12 @@ use Rattle.phys_log.specs.declared.entries.CommitId.{CommitId}
 use Rattle.cluster_requests.specs.KeptEntries.{KeptEntry}
 use Rattle.cdb_values.specs.Rows.{Rows}
 use Rattle.report_laws.specs.Told.{told, Numbered, numbered, IsToCommit}
-use Rattle.report_laws.specs.Work.{Transaction, Item, Does, End, Nowhere}
+use Rattle.report_laws.specs.Work.{Transaction, WorkItem, Does, End, Nowhere}
 use Rattle.cdb_values.specs.declared.replies.Reply.{Reply}
 use Rattle.cdb_values.specs.declared.replies.Reply.TheVariants as reply
-use Rattle.cluster_events.specs.Settings.{Setting, work_of, rows_at, run_alone}
-use Rattle.cluster_events.specs.Parts.{Event, part, acts, field, lines}
-use Rattle.cluster_events.specs.Guards.{IsRefused, IsLegal, AreApart, Rising, IsDone}
+use Rattle.cluster_events.specs.Settings.{Setting, work_of, kept_rows_at, run_alone}
+use Rattle.cluster_events.specs.Parts.{ActorEvent, part, acts, field, lines}
+use Rattle.cluster_events.specs.Guards.{IsRefused, IsLegalHistory, AreNamedApart, Rising, IsDone}
 use Rattle.cluster_consensus.proofs.FactSteps.{holds}
 use Rattle.cluster_masters.proofs.MasterLaws.{reported_has}
 use Rattle.node_reports.specs.Told.{MayEnd}
@@ -36,13 +36,13 @@ use Rattle.cluster_answers.proofs.ToldLaws.{does_eq}
 use Rattle.cluster_reports.proofs.BeyondLaws.{reported_in}
 use Rattle.cluster_reports.proofs.SendLaws.{LiveIn, ClosedIn, Judged, Stood, states, in_front}
 
-none_does : {A : Type 0} {t : Transaction} {xs : List Item} → [] ≡ Does t ∷ xs → A
+none_does : {A : Type 0} {t : Transaction} {xs : List WorkItem} → [] ≡ Does t ∷ xs → A
 none_does e = absurd (cc)
 
 no_open_end : {end : End} → IsToCommit end → end ≡ Nowhere → ⊥
 no_open_end k e = subst (λ z. IsToCommit z) e k
 
-not_live : (G : Setting) → AreApart G → (h : List (ℕ × Event)) (x : Sent) → ((s : ℕ) → Rising 0 (work_of G s)) → IsLegal G h → In x (field h).sends → IsDone G h x.by → LiveIn G (field h) (part G x.by h) x → ⊥
+not_live : (G : Setting) → AreNamedApart G → (h : List (ℕ × ActorEvent)) (x : Sent) → ((s : ℕ) → Rising 0 (work_of G s)) → IsLegalHistory G h → In x (field h).sends → IsDone G h x.by → LiveIn G (field h) (part G x.by h) x → ⊥
 not_live G far h x rising legal m (inl e) k = none_does (sym e ∙ k.at.is)
 not_live G far h x rising legal m (inr d) k =
     let q = ((sends_ok G h legal).at x m).request in
@@ -50,7 +50,7 @@ not_live G far h x rising legal m (inr d) k =
     no_open_end q.commits (ap (λ (z : Transaction). z.end) (u ∙ does_eq (sym k.at.is ∙ d.1)) ∙ d.2)
 
 -- a refused transaction has no entry in the reported log
-refused_out : (G : Setting) (h : List (ℕ × Event)) → IsLegal G h → (r m : ℕ) (a : Claim KeptEntry) → IsReported G.nodes (field h).core r → IsFirstMaster G.nodes (field h).core m a → (id : CommitId) (k : ℕ) (why : Reply) → IsRefused (field h) id k why → Lacks id ((field h).core.nodes r).log
+refused_out : (G : Setting) (h : List (ℕ × ActorEvent)) → IsLegalHistory G h → (r m : ℕ) (a : Claim KeptEntry) → IsReported G.nodes (field h).core r → IsFirstMaster G.nodes (field h).core m a → (id : CommitId) (k : ℕ) (why : Reply) → IsRefused (field h) id k why → Lacks id ((field h).core.nodes r).log
 refused_out G h legal r m a top first id k why z xs e p same =
     let inv = (good_of G h legal).inv in
     let d = z.durable in
@@ -70,7 +70,7 @@ one_place n k a b = go (lt_or_le n k) (lt_or_le k n)
     go (inr l) (inl q) = absurd (b q)
     go (inr l) (inr q) = omega arith
 
-stood_at : (G : Setting) (h : List (ℕ × Event)) (R xs : List KeptEntry) (e : KeptEntry) (x : Appended G h xs e) → Front (xs ++ e ∷ []) R → (k : ℕ) (s : Stood G h x.sent.id k) → Front (s.before ++ s.entry ∷ []) R → k ≡ length xs + 1
+stood_at : (G : Setting) (h : List (ℕ × ActorEvent)) (R xs : List KeptEntry) (e : KeptEntry) (x : Appended G h xs e) → Front (xs ++ e ∷ []) R → (k : ℕ) (s : Stood G h x.sent.id k) → Front (s.before ++ s.entry ∷ []) R → k ≡ length xs + 1
 stood_at G h R xs e x p k s q =
     let a = length-append xs (e ∷ []) in
     let b = length-append s.before (s.entry ∷ []) in
@@ -80,7 +80,7 @@ stood_at G h R xs e x p k s q =
     let pos : k ≡ length s.before + 1 = s.position in
     omega arith
 
-ends_at : (G : Setting) (h : List (ℕ × Event)) → IsLegal G h → (r m : ℕ) (a : Claim KeptEntry) → IsReported G.nodes (field h).core r → IsFirstMaster G.nodes (field h).core m a → (xs : List KeptEntry) (e : KeptEntry) (x : Appended G h xs e) → Front (xs ++ e ∷ []) ((field h).core.nodes r).log → (end : End) → IsToCommit end → (o : Reply) → Judged G h x.sent.id o → MayEnd (length xs + 1) end o
+ends_at : (G : Setting) (h : List (ℕ × ActorEvent)) → IsLegalHistory G h → (r m : ℕ) (a : Claim KeptEntry) → IsReported G.nodes (field h).core r → IsFirstMaster G.nodes (field h).core m a → (xs : List KeptEntry) (e : KeptEntry) (x : Appended G h xs e) → Front (xs ++ e ∷ []) ((field h).core.nodes r).log → (end : End) → IsToCommit end → (o : Reply) → Judged G h x.sent.id o → MayEnd (length xs + 1) end o
 ends_at G h legal r m a top first xs e x p end to (reply.Committed k) s = inl (stood_at G h ((field h).core.nodes r).log xs e x p k s (reported_has (good_of G h legal).inv r top s.durable.0 (s.before ++ s.entry ∷ []) s.durable.1))
 ends_at G h legal r m a top first xs e x p end to (reply.ConflictGenid k i g) z = absurd (refused_out G h legal r m a top first x.sent.id k (reply.ConflictGenid k i g) z xs e p x.its_id)
 ends_at G h legal r m a top first xs e x p end to (reply.ConflictRange k i g) z = absurd (refused_out G h legal r m a top first x.sent.id k (reply.ConflictRange k i g) z xs e p x.its_id)
@@ -91,7 +91,7 @@ ends_at G h legal r m a top first xs e x p end to reply.NoMemory z = inr (refl, 
 ends_at G h legal r m a top first xs e x p end to _ z = absurd z
 
 -- what a transaction of an entry was told
-pub record ToldOf (G : Setting) (h : List (ℕ × Event)) (R : List KeptEntry) (x : Sent) (k : ℕ) : Type 0 where
+pub record ToldOf (G : Setting) (h : List (ℕ × ActorEvent)) (R : List KeptEntry) (x : Sent) (k : ℕ) : Type 0 where
   pub txn : Transaction
   pub in_work : In (Does txn) (work_of G x.by)
   pub number : x.id.txn ≡ txn.number
@@ -99,9 +99,9 @@ pub record ToldOf (G : Setting) (h : List (ℕ × Event)) (R : List KeptEntry) (
   pub ends : MayEnd k txn.end outcome
   pub front : List Numbered
   pub back : List Numbered
-  pub says : told (G.names x.by) (lines G h) ≡ front ++ (numbered txn.number (reply.Begin x.begin ∷ ((run_alone G (rows_at G R x.begin) txn).replies ++ outcome ∷ [])) ++ back)
+  pub says : told (G.names x.by) (lines G h) ≡ front ++ (numbered txn.number (reply.Begin x.begin ∷ ((run_alone G (kept_rows_at G R x.begin) txn).replies ++ outcome ∷ [])) ++ back)
 
-pub entries_told : (G : Setting) → AreApart G → (h : List (ℕ × Event)) (r m : ℕ) (a : Claim KeptEntry) → ((s : ℕ) → Rising 0 (work_of G s)) → IsLegal G h → ((s : ℕ) → IsDone G h s) → IsReported G.nodes (field h).core r → IsFirstMaster G.nodes (field h).core m a
+pub entries_told : (G : Setting) → AreNamedApart G → (h : List (ℕ × ActorEvent)) (r m : ℕ) (a : Claim KeptEntry) → ((s : ℕ) → Rising 0 (work_of G s)) → IsLegalHistory G h → ((s : ℕ) → IsDone G h s) → IsReported G.nodes (field h).core r → IsFirstMaster G.nodes (field h).core m a
     → (xs : List KeptEntry) (e : KeptEntry) → Front (xs ++ e ∷ []) ((field h).core.nodes r).log → (x : Appended G h xs e) → ToldOf G h ((field h).core.nodes r).log x.sent (length xs + 1)
 entries_told G far h r m a rising legal done top first xs e p x = go ((states G far h rising legal).at x.sent x.mem)
   where

@@ -7,16 +7,16 @@ use mathlib.Core.Logic.{◌⊎◌, inl, inr}
 use Rattle.cluster_answers.proofs.AskLaws.{none_some}
 use Rattle.cluster_answers.proofs.BeginLaws.{NamedOk, named_lines}
 use Rattle.cluster_begins.proofs.Since.{fresh_begin}
-use Rattle.cluster_begins.specs.Begins.{CanBegin, IsAnswered as IsAnsweredIn}
-use Rattle.cluster_consensus.specs.Events.Event.{Asks}
+use Rattle.cluster_begins.specs.Begins.{CanBegin, IsPositionAnswered}
+use Rattle.cluster_consensus.specs.Events.NodeEvent.{Asks}
 use Rattle.cluster_consensus.specs.Histories.{Legal, after}
 use Rattle.cluster_events.proofs.HistoryLaws.{steps, core_is, steps_legal, steps_append, legal_rest, good_of, Later, later_refl, later_event}
 use Rattle.cluster_events.proofs.LineLists.{append_nil}
 use Rattle.cluster_events.specs.ByScript.{Heeds, AllHeed}
-use Rattle.cluster_events.specs.Guards.{MayDo, IsLegal, AllBeyond, WereFew}
+use Rattle.cluster_events.specs.Guards.{MayDo, IsLegalHistory, AllBeyond, WereFew}
 use Rattle.cluster_events.specs.Operator.{Duty, duty, IsOfNode}
-use Rattle.cluster_events.specs.Parts.{Event, part, moves, field, lines}
-use Rattle.cluster_events.specs.Parts.Event.{Node, Stop, Settle, Repeat, Ask, Begun, Say, Note, Send, Finish, Move, Order, Obeyed, Fire, Barrier, Fed, FedAgain}
+use Rattle.cluster_events.specs.Parts.{ActorEvent, part, moves, field, lines}
+use Rattle.cluster_events.specs.Parts.ActorEvent.{Node, Stop, Settle, Repeat, Ask, Begun, Say, Note, Send, Finish, Move, Order, Obeyed, Fire, Barrier, Fed, FedAgain}
 use Rattle.cluster_events.specs.Settings.{Setting, basis_from, lines_to_do}
 use Rattle.cluster_events.proofs.Charges.{some_is}
 use Rattle.cluster_feeds.proofs.FedLaws.{later_trans, all_in, unread_all, fed_again}
@@ -38,7 +38,7 @@ use Rattle.script_form.specs.declared.scripts.Act.TheVariants as act
 use Rattle.session_language.proofs.EachLaws.{all_append}
 
 -- what came later
-pub later_since : (G : Setting) (w h : List (ℕ × Event)) → IsLegal G (w ++ h) → Later (field h) (field (w ++ h))
+pub later_since : (G : Setting) (w h : List (ℕ × ActorEvent)) → IsLegalHistory G (w ++ h) → Later (field h) (field (w ++ h))
 later_since G [] h legal = later_refl (field h)
 later_since G (x ∷ w) h legal = later_trans (later_since G w h legal.1) (later_event G (w ++ h) x.0 x.1 (good_of G (w ++ h) legal.1).inv legal.0)
 
@@ -46,15 +46,15 @@ cancel : {A : Type 0} (a b c : List A) → a ++ b ≡ a ++ c → b ≡ c
 cancel [] b c e = e
 cancel (x ∷ a) b c e = cancel a b c (let t : a ++ b ≡ a ++ c = cc in t)
 
-no_barrier_append : (v w : List (ℕ × Event)) → NoBarrier v → NoBarrier w → NoBarrier (v ++ w)
+no_barrier_append : (v w : List (ℕ × ActorEvent)) → NoBarrier v → NoBarrier w → NoBarrier (v ++ w)
 no_barrier_append [] w a b = b
 no_barrier_append (x ∷ v) w a b = each_add (a.at x here) (no_barrier_append v w (record { at = λ y m. a.at y (there m) }) b)
 
-no_barrier_right : (v w : List (ℕ × Event)) → NoBarrier (v ++ w) → NoBarrier w
+no_barrier_right : (v w : List (ℕ × ActorEvent)) → NoBarrier (v ++ w) → NoBarrier w
 no_barrier_right [] w a = a
 no_barrier_right (x ∷ v) w a = no_barrier_right v w (record { at = λ y m. a.at y (there m) })
 
-no_barrier_left : (v w : List (ℕ × Event)) → NoBarrier (v ++ w) → NoBarrier v
+no_barrier_left : (v w : List (ℕ × ActorEvent)) → NoBarrier (v ++ w) → NoBarrier v
 no_barrier_left [] w a = each_none
 no_barrier_left (x ∷ v) w a = each_add (a.at x here) (no_barrier_left v w (record { at = λ y m. a.at y (there m) }))
 
@@ -73,29 +73,29 @@ not_said_all (l ∷ ls) k = (k.at l here, not_said_all ls (record { at = λ x m.
 
 module _ (G : Setting) where
   -- the operator waits for its ask at a feed
-  pub record AsksFeed (h : List (ℕ × Event)) (t : ℕ) : Type 0 where
+  pub record AsksFeed (h : List (ℕ × ActorEvent)) (t : ℕ) : Type 0 where
     pub place : ℕ
     pub rest : List (ℕ × Act)
     pub next : (duty (lines_to_do G) h).left ≡ (place, act.Feed) ∷ rest
-    pub mid : List (ℕ × Event)
-    pub before : List (ℕ × Event)
+    pub mid : List (ℕ × ActorEvent)
+    pub before : List (ℕ × ActorEvent)
     pub is : h ≡ mid ++ (0, Ask t) ∷ before
     pub final : place ≡ length G.script.body → AllBeyond G before
     pub bare : NoBarrier mid
 
-  kept : (x : ℕ × Event) (h : List (ℕ × Event)) (t : ℕ) → (duty (lines_to_do G) (x ∷ h)).left ≡ (duty (lines_to_do G) h).left → is_barrier_event x.1 ≡ false → AsksFeed h t → AsksFeed (x ∷ h) t
+  kept : (x : ℕ × ActorEvent) (h : List (ℕ × ActorEvent)) (t : ℕ) → (duty (lines_to_do G) (x ∷ h)).left ≡ (duty (lines_to_do G) h).left → is_barrier_event x.1 ≡ false → AsksFeed h t → AsksFeed (x ∷ h) t
   kept x h t same bar k = record { place = k.place; rest = k.rest; next = same ∙ k.next; mid = x ∷ k.mid; before = k.before; is = ap (λ z. x ∷ z) k.is; final = k.final; bare = each_add bar k.bare }
 
-  calm_kept : (i : ℕ) (e : Event) (h : List (ℕ × Event)) (t : ℕ) → is_calm e ≡ true → is_barrier_event e ≡ false → AsksFeed h t → AsksFeed ((i, e) ∷ h) t
+  calm_kept : (i : ℕ) (e : ActorEvent) (h : List (ℕ × ActorEvent)) (t : ℕ) → is_calm e ≡ true → is_barrier_event e ≡ false → AsksFeed h t → AsksFeed ((i, e) ∷ h) t
   calm_kept i e h t calm bar k = kept (i, e) h t (ap (λ (z : Duty). z.left) (heed_calm (duty (lines_to_do G) h) e calm)) bar k
 
-  obeyed_none : {A : Type 0} (h : List (ℕ × Event)) (t i : ℕ) → Heeds G (lines_to_do G) h i Obeyed → AsksFeed h t → A
+  obeyed_none : {A : Type 0} (h : List (ℕ × ActorEvent)) (t i : ℕ) → Heeds G (lines_to_do G) h i Obeyed → AsksFeed h t → A
   obeyed_none h t i may k = absurd (subst (λ z. IsOfNode z) (ap (λ (z : ℕ × Act). z.1) (first (sym may.next ∙ k.next))) may.of_node)
     where
       first : {x y : ℕ × Act} {xs ys : List (ℕ × Act)} → x ∷ xs ≡ y ∷ ys → x ≡ y
       first e = cc
 
-  asks_row : (h : List (ℕ × Event)) (i : ℕ) (e : Event) (t : ℕ) (b : Bool) → (0 == i) ≡ b → MayDo G h i e → Heeds G (lines_to_do G) h i e → ((part G 0 h).asked ≡ Some t → AsksFeed h t) → (cond b (moves (part G 0 h) e) (part G 0 h)).asked ≡ Some t → AsksFeed ((i, e) ∷ h) t
+  asks_row : (h : List (ℕ × ActorEvent)) (i : ℕ) (e : ActorEvent) (t : ℕ) (b : Bool) → (0 == i) ≡ b → MayDo G h i e → Heeds G (lines_to_do G) h i e → ((part G 0 h).asked ≡ Some t → AsksFeed h t) → (cond b (moves (part G 0 h) e) (part G 0 h)).asked ≡ Some t → AsksFeed ((i, e) ∷ h) t
   asks_row h i (Ask u) t true s may heeds old q =
       let z : 0 ≡ i = (Decides-eqb 0 i).0 s in
       let due = heeds (sym z) in
@@ -134,23 +134,23 @@ module _ (G : Setting) where
   asks_row h i (Fire l n) t true s may heeds old q = calm_kept i (Fire l n) h t refl refl (old q)
   asks_row h i (Fire l n) t false s may heeds old q = calm_kept i (Fire l n) h t refl refl (old q)
 
-  pub asks_feed : (h : List (ℕ × Event)) → IsLegal G h → AllHeed G (lines_to_do G) h → (t : ℕ) → (part G 0 h).asked ≡ Some t → AsksFeed h t
+  pub asks_feed : (h : List (ℕ × ActorEvent)) → IsLegalHistory G h → AllHeed G (lines_to_do G) h → (t : ℕ) → (part G 0 h).asked ≡ Some t → AsksFeed h t
   asks_feed [] legal all t q = none_some q
   asks_feed (x ∷ h) legal all t q = asks_row h x.0 x.1 t (0 == x.0) refl legal.0 all.0.heeds (asks_feed h legal.1 all.1 t) q
 
   module _ (fits : FitsScript G) (follows : FollowsScript G) where
     -- the ask itself stands behind all lines of the sessions
-    behind_ask : (h : List (ℕ × Event)) (t : ℕ) → IsLegal G h → (k : AsksFeed h t) → k.place ≡ length G.script.body → AllBeyond G ((0, Ask t) ∷ k.before)
-    behind_ask h t legal k q = (hush G fits follows ((0, Ask t) ∷ []) k.before (legal_rest G k.mid ((0, Ask t) ∷ k.before) (subst (λ z. IsLegal G z) k.is legal)) (each_add refl each_none) (k.final q)).0
+    behind_ask : (h : List (ℕ × ActorEvent)) (t : ℕ) → IsLegalHistory G h → (k : AsksFeed h t) → k.place ≡ length G.script.body → AllBeyond G ((0, Ask t) ∷ k.before)
+    behind_ask h t legal k q = (hush G fits follows ((0, Ask t) ∷ []) k.before (legal_rest G k.mid ((0, Ask t) ∷ k.before) (subst (λ z. IsLegalHistory G z) k.is legal)) (each_add refl each_none) (k.final q)).0
 
-    same_place : {h : List (ℕ × Event)} {t : ℕ} {rest : List (ℕ × Act)} → (k : AsksFeed h t) → (duty (lines_to_do G) h).left ≡ (length G.script.body, act.Feed) ∷ rest → k.place ≡ length G.script.body
+    same_place : {h : List (ℕ × ActorEvent)} {t : ℕ} {rest : List (ℕ × Act)} → (k : AsksFeed h t) → (duty (lines_to_do G) h).left ≡ (length G.script.body, act.Feed) ∷ rest → k.place ≡ length G.script.body
     same_place k e = ap (λ (z : ℕ × Act). z.0) (first (sym k.next ∙ e))
       where
         first : {x y : ℕ × Act} {xs ys : List (ℕ × Act)} → x ∷ xs ≡ y ∷ ys → x ≡ y
         first e = cc
 
     -- one that is answered
-    pub covers_all : (h : List (ℕ × Event)) (i d g : ℕ) (rest : List (ℕ × Act)) → IsLegal G h → AllHeed G (lines_to_do G) h → MayDo G h i (Fed d g) → (duty (lines_to_do G) h).left ≡ (length G.script.body, act.Feed) ∷ rest → NameUpTo d (lines G h) × AllBeyond G h
+    pub covers_all : (h : List (ℕ × ActorEvent)) (i d g : ℕ) (rest : List (ℕ × Act)) → IsLegalHistory G h → AllHeed G (lines_to_do G) h → MayDo G h i (Fed d g) → (duty (lines_to_do G) h).left ≡ (length G.script.body, act.Feed) ∷ rest → NameUpTo d (lines G h) × AllBeyond G h
     covers_all h i d g rest legal all may next = (subst (λ z. NameUpTo d z) (sym lined) (all_append _ (lines G k.before) un.0 early late), subst (λ z. AllBeyond G z) (sym k.is) quiet.0)
       where
         t : ℕ
@@ -159,11 +159,11 @@ module _ (G : Setting) where
         k : AsksFeed h t
         k = asks_feed h legal all t (subst (λ j. (part G j h).asked ≡ Some t) may.0 may.2)
 
-        u : List (ℕ × Event)
+        u : List (ℕ × ActorEvent)
         u = (0, Ask t) ∷ k.before
 
-        legal' : IsLegal G (k.mid ++ (0, Ask t) ∷ k.before)
-        legal' = subst (λ z. IsLegal G z) k.is legal
+        legal' : IsLegalHistory G (k.mid ++ (0, Ask t) ∷ k.before)
+        legal' = subst (λ z. IsLegalHistory G z) k.is legal
 
         quiet : AllBeyond G (k.mid ++ (0, Ask t) ∷ k.before) × AreNotSaid (since G k.mid ((0, Ask t) ∷ k.before))
         quiet = hush G fits follows k.mid ((0, Ask t) ∷ k.before) legal' k.bare (behind_ask h t legal k (same_place k next))
@@ -191,16 +191,16 @@ module _ (G : Setting) where
 
         at_most : (p : ℕ) → NamedOk (field k.before) p → p ≤ d
         at_most p (inl z) = let z' : p ≡ 0 = z in omega arith
-        at_most p (inr n) = fresh_begin G.nodes 0 t d g p n.0 (steps k.before) (steps k.mid) core can (subst (λ w. IsAnsweredIn w p n.0) (core_is k.before) n.1)
+        at_most p (inr n) = fresh_begin G.nodes 0 t d g p n.0 (steps k.before) (steps k.mid) core can (subst (λ w. IsPositionAnswered w p n.0) (core_is k.before) n.1)
 
         early : NameUpTo d (lines G k.before)
         early = all_in _ (lines G k.before) (λ x m. all_in _ (positions x) (λ p q. at_most p ((named_lines G k.before (legal_rest G k.mid ((0, Ask t) ∷ k.before) legal').1).at x m p q)))
 
-    pub goes_beyond : (x : ℕ × Event) (h : List (ℕ × Event)) → IsLegal G (x ∷ h) → is_barrier_event x.1 ≡ false → AllBeyond G h → AllBeyond G (x ∷ h)
+    pub goes_beyond : (x : ℕ × ActorEvent) (h : List (ℕ × ActorEvent)) → IsLegalHistory G (x ∷ h) → is_barrier_event x.1 ≡ false → AllBeyond G h → AllBeyond G (x ∷ h)
     goes_beyond x h legal bar beyond = (hush G fits follows (x ∷ []) h legal (each_add bar each_none) beyond).0
 
     -- one that repeats
-    pub repeats_all : (base : ℕ) (rows : Rows) → G.nodes ≡ G.script.nodes → (h : List (ℕ × Event)) (i d : ℕ) (rest : List (ℕ × Act)) → IsLegal G h → AllHeed G (lines_to_do G) h → MayDo G h i (FedAgain d) → (duty (lines_to_do G) h).left ≡ (length G.script.body, act.Feed) ∷ rest → RepeatsAtLast (basis_from G base rows) (lines G h) d × AllBeyond G h
+    pub repeats_all : (base : ℕ) (rows : Rows) → G.nodes ≡ G.script.nodes → (h : List (ℕ × ActorEvent)) (i d : ℕ) (rest : List (ℕ × Act)) → IsLegalHistory G h → AllHeed G (lines_to_do G) h → MayDo G h i (FedAgain d) → (duty (lines_to_do G) h).left ≡ (length G.script.body, act.Feed) ∷ rest → RepeatsAtLast (basis_from G base rows) (lines G h) d × AllBeyond G h
     repeats_all base rows nodes h i d rest legal all may next = (
       record {
         repeats = record {
@@ -228,28 +228,28 @@ module _ (G : Setting) where
         k : AsksFeed h w.ask
         k = asks_feed h legal all w.ask asked
 
-        legal' : IsLegal G (w.later ++ w.before)
-        legal' = subst (λ z. IsLegal G z) w.split legal
+        legal' : IsLegalHistory G (w.later ++ w.before)
+        legal' = subst (λ z. IsLegalHistory G z) w.split legal
 
-        legal'' : IsLegal G (k.mid ++ (0, Ask w.ask) ∷ k.before)
-        legal'' = subst (λ z. IsLegal G z) k.is legal
+        legal'' : IsLegalHistory G (k.mid ++ (0, Ask w.ask) ∷ k.before)
+        legal'' = subst (λ z. IsLegalHistory G z) k.is legal
 
         un : (back : List Line) × (lines G (w.later ++ w.before) ≡ lines G w.before ++ back) × AreUnread back
         un = unread_since G w.later w.before w.ask legal' was (subst (λ z. (part G 0 z).asked ≡ Some w.ask) w.split asked)
 
         -- the ask is new where it is made
-        none : (x : ℕ × Event) (z : List (ℕ × Event)) → (0, Ask w.ask) ∷ k.before ≡ x ∷ (z ++ w.before) → ⊥
+        none : (x : ℕ × ActorEvent) (z : List (ℕ × ActorEvent)) → (0, Ask w.ask) ∷ k.before ≡ x ∷ (z ++ w.before) → ⊥
         none x z e =
             let t : k.before ≡ z ++ w.before = cc in
             let a = asks_long z w.before w.ask (asked_in G w.before 0 w.ask was) in
-            let b = subst (λ y. IsLegal G ((0, Ask w.ask) ∷ y)) t (legal_rest G k.mid ((0, Ask w.ask) ∷ k.before) legal'') in
+            let b = subst (λ y. IsLegalHistory G ((0, Ask w.ask) ∷ y)) t (legal_rest G k.mid ((0, Ask w.ask) ∷ k.before) legal'') in
             b.0.0.0.at a.it a.mem a.is
 
-        from_ask : ((v : List (ℕ × Event)) × (w.before ≡ v ++ (0, Ask w.ask) ∷ k.before) × (k.mid ≡ w.later ++ v)) ⊎ ((x : ℕ × Event) × (z : List (ℕ × Event)) × ((0, Ask w.ask) ∷ k.before ≡ x ∷ (z ++ w.before))) → AllBeyond G w.before × NoBarrier w.later
+        from_ask : ((v : List (ℕ × ActorEvent)) × (w.before ≡ v ++ (0, Ask w.ask) ∷ k.before) × (k.mid ≡ w.later ++ v)) ⊎ ((x : ℕ × ActorEvent) × (z : List (ℕ × ActorEvent)) × ((0, Ask w.ask) ∷ k.before ≡ x ∷ (z ++ w.before))) → AllBeyond G w.before × NoBarrier w.later
         from_ask (inr n) = absurd (none n.0 n.1 n.2)
         from_ask (inl v) =
             let bare = subst (λ z. NoBarrier z) v.2 k.bare in (
-              subst (λ z. AllBeyond G z) (sym v.1) (hush G fits follows v.0 ((0, Ask w.ask) ∷ k.before) (subst (λ z. IsLegal G z) v.1 (legal_rest G w.later w.before legal')) (no_barrier_right w.later v.0 bare) (behind_ask h w.ask legal k (same_place k next))).0,
+              subst (λ z. AllBeyond G z) (sym v.1) (hush G fits follows v.0 ((0, Ask w.ask) ∷ k.before) (subst (λ z. IsLegalHistory G z) v.1 (legal_rest G w.later w.before legal')) (no_barrier_right w.later v.0 bare) (behind_ask h w.ask legal k (same_place k next))).0,
               no_barrier_left w.later v.0 bare,
             )
 

@@ -19,22 +19,22 @@ use Rattle.cdb_values.specs.Rows.{Rows, no_rows, apply_all}
 use Rattle.report_laws.specs.Lawful.{IsFreshLine}
 use Rattle.report_laws.specs.Told.{told, Numbered, numbered, Along}
 use Rattle.report_laws.specs.View.{IsUntouched}
-use Rattle.report_laws.specs.Work.{Item, number_of}
+use Rattle.report_laws.specs.Work.{WorkItem, number_of}
 use Rattle.report_text.specs.declared.reports.Line.{Line}
 use Rattle.report_text.specs.declared.reports.Line.TheVariants as line
 use Rattle.cdb_values.specs.declared.replies.Reply.{Reply}
 use Rattle.cdb_values.specs.declared.replies.Reply.TheVariants as reply
 use Rattle.session_language.specs.Each.{EachAfter}
 use Rattle.session_language.specs.Touched.{used_at}
-use Rattle.cluster_events.specs.Settings.{Setting, basis, basis_from, work_of, rows_at, run_alone, line_of, log_view}
-use Rattle.cluster_events.specs.Parts.{Event, Part, part, field, lines_by, lines}
-use Rattle.cluster_events.specs.Guards.{IsLegal, IsDone}
+use Rattle.cluster_events.specs.Settings.{Setting, basis, basis_from, work_of, kept_rows_at, run_alone, line_of, log_view}
+use Rattle.cluster_events.specs.Parts.{ActorEvent, Part, part, field, lines_by, lines}
+use Rattle.cluster_events.specs.Guards.{IsLegalHistory, IsDone}
 use Rattle.std.specs.Prelude.{◌&&◌, if◌then◌else◌}
 use Rattle.std.specs.List.{AllByRecursion}
 use Rattle.std.proofs.lemmas.Slice.Eq.{bytes_eq-Decides}
 use Rattle.cdb_values.specs.Good.{IsGood}
 use Rattle.cluster_masters.proofs.MasterLaws.{reported_has}
-use Rattle.report_laws.specs.History.{Origin, Basis, IsEntryAfter, is_entry_of, last_position, rows_at as rows_told, entry_at as told_at, view_of}
+use Rattle.report_laws.specs.History.{Origin, Basis, IsEntryAfter, is_entry_of, last_position, rows_at, entry_at as told_at, view_of}
 use Rattle.report_laws.specs.Lawful.{IsFreshAnswer, base_line}
 use Rattle.report_laws.specs.Work.{work, transaction_of}
 use Rattle.report_laws.proofs.OutcomeLemmas.{entry_within}
@@ -61,10 +61,10 @@ use Rattle.cluster_reports.proofs.EntriesTold.{entries_told}
 use Rattle.cluster_events.proofs.LinePlaces.{lines_placed}
 
 -- no line is told to a name that no actor has
-none_told_by : (G : Setting) (name : List ℕ) → ((i : ℕ) → bytes_eq (G.names i) name ≡ false) → (before : List Line) (p : Part) (i : ℕ) (e : Event) → told name (lines_by G before p i e) ≡ []
+none_told_by : (G : Setting) (name : List ℕ) → ((i : ℕ) → bytes_eq (G.names i) name ≡ false) → (before : List Line) (p : Part) (i : ℕ) (e : ActorEvent) → told name (lines_by G before p i e) ≡ []
 none_told_by G name other before p i e = other_told G name i (other i) before p e
 
-pub none_told : (G : Setting) (name : List ℕ) → ((i : ℕ) → bytes_eq (G.names i) name ≡ false) → (h : List (ℕ × Event)) → told name (lines G h) ≡ []
+pub none_told : (G : Setting) (name : List ℕ) → ((i : ℕ) → bytes_eq (G.names i) name ≡ false) → (h : List (ℕ × ActorEvent)) → told name (lines G h) ≡ []
 none_told G name other [] = refl
 none_told G name other (x ∷ h) = told_append name (lines G h) (lines_by G (lines G h) (part G x.0 h) x.0 x.1) ∙ (ap (λ z. z ++ told name (lines_by G (lines G h) (part G x.0 h) x.0 x.1)) (none_told G name other h) ∙ none_told_by G name other (lines G h) (part G x.0 h) x.0 x.1)
 
@@ -112,7 +112,7 @@ each_right : {A : Type 0} {P : A → Type 0} (xs ys : List A) → Each P (xs ++ 
 each_right [] ys k = k
 each_right (x ∷ xs) ys k = each_right xs ys (record { at = λ y m. k.at y (there m) })
 
-pub along_low : (P Q : Item → List Reply → Type 0) (base : ℕ) → ((i : Item) (m : List Reply) → BeginsFrom base m → P i m → Q i m) → (items : List Item) (ls : List Numbered) → Each (λ x. Low base x.1) ls → Along P items ls → Along Q items ls
+pub along_low : (P Q : WorkItem → List Reply → Type 0) (base : ℕ) → ((i : WorkItem) (m : List Reply) → BeginsFrom base m → P i m → Q i m) → (items : List WorkItem) (ls : List Numbered) → Each (λ x. Low base x.1) ls → Along P items ls → Along Q items ls
 along_low P Q base f [] ls k a = a
 along_low P Q base f (i ∷ items) ls k a =
     let whole = subst (λ z. Each (λ (x : Numbered). Low base x.1) z) a.2 k in
@@ -123,7 +123,7 @@ taken_front [] i y g = absurd (cc)
 taken_front (x ∷ xs) zero y g = subst (λ z. Front (z ∷ []) (x ∷ xs)) (some_same g) (front_cons front_nil)
 taken_front (x ∷ xs) (suc i) y g = front_cons (taken_front xs i y g)
 
-module _ (G : Setting) (fits : FitsScript G) (h : List (ℕ × Event)) (legal : IsLegal G h) (done : (s : ℕ) → IsDone G h s) (r : ℕ) (top : IsReported G.nodes (field h).core r) (m : ℕ) (a : Claim KeptEntry) (first : IsFirstMaster G.nodes (field h).core m a) where
+module _ (G : Setting) (fits : FitsScript G) (h : List (ℕ × ActorEvent)) (legal : IsLegalHistory G h) (done : (s : ℕ) → IsDone G h s) (r : ℕ) (top : IsReported G.nodes (field h).core r) (m : ℕ) (a : Claim KeptEntry) (first : IsFirstMaster G.nodes (field h).core m a) where
   abbrev R : List KeptEntry
   R = ((field h).core.nodes r).log
 
@@ -131,19 +131,19 @@ module _ (G : Setting) (fits : FitsScript G) (h : List (ℕ × Event)) (legal : 
   base = length a.log
 
   abbrev B : Basis
-  B = basis_from G (length a.log) (rows_at G ((field h).core.nodes r).log (length a.log))
+  B = basis_from G (length a.log) (kept_rows_at G ((field h).core.nodes r).log (length a.log))
 
   pub begins' : Front a.log R
   begins' = reported_has (good_of G h legal).inv r top a.gen a.log first.durable
 
-  known : (xs : List KeptEntry) (e : KeptEntry) → Front (xs ++ e ∷ []) R → base ≤ length xs → Known G fits.apart h fits.rising legal (length a.log) (rows_at G ((field h).core.nodes r).log (length a.log)) xs e
+  known : (xs : List KeptEntry) (e : KeptEntry) → Front (xs ++ e ∷ []) R → base ≤ length xs → Known G fits.apart h fits.rising legal (length a.log) (kept_rows_at G ((field h).core.nodes r).log (length a.log)) xs e
   known xs e p le = record {
     new = beyond_base G h legal r top m a first xs e p le;
     low = λ x. base_below G h legal m a first x.sent.begin x.sent.id.began ((sends_ok G h legal).at x.sent x.mem).pinged;
   }
 
   -- an entry of a log before this one is none of this transaction
-  once : (xs : List KeptEntry) (ls : List EntryLine) (e : KeptEntry) → Front (xs ++ e ∷ []) R → base ≤ length xs → Track G base (rows_at G R base) xs ls → (x : Appended G h xs e) → (k : ℕ) (d : EntryLine) → base < k → told_at B.origin ls k ≡ Some d → is_entry_of x.sent.id.session x.sent.id.txn d ≡ false
+  once : (xs : List KeptEntry) (ls : List EntryLine) (e : KeptEntry) → Front (xs ++ e ∷ []) R → base ≤ length xs → Track G base (kept_rows_at G R base) xs ls → (x : Appended G h xs e) → (k : ℕ) (d : EntryLine) → base < k → told_at B.origin ls k ≡ Some d → is_entry_of x.sent.id.session x.sent.id.txn d ≡ false
   once xs ls e p le t x k d lo q =
       let c = t.count in
       let hi : k ≤ base + length ls = entry_within B.origin ls d k q in
@@ -171,7 +171,7 @@ module _ (G : Setting) (fits : FitsScript G) (h : List (ℕ × Event)) (legal : 
           let px = front_trans (front_append xs (e ∷ [])) p in
           line_none y (beyond_base G h legal r top m a first (take (k - 1) xs) y (front_trans f px) (omega arith)) f (some_same i)
 
-  entry_right : (xs : List KeptEntry) (ls : List EntryLine) (e : KeptEntry) → Front (xs ++ e ∷ []) R → base ≤ length xs → Track G base (rows_at G R base) xs ls → IsEntryAfter B ls (line_of (length xs + 1) e)
+  entry_right : (xs : List KeptEntry) (ls : List EntryLine) (e : KeptEntry) → Front (xs ++ e ∷ []) R → base ≤ length xs → Track G base (kept_rows_at G R base) xs ls → IsEntryAfter B ls (line_of (length xs + 1) e)
   entry_right xs ls e p le t = go (known xs e p le).new
     where
       c : base + length ls ≡ length xs
@@ -206,24 +206,24 @@ module _ (G : Setting) (fits : FitsScript G) (h : List (ℕ × Event)) (legal : 
             is_ran = ap (λ (z : Rows). run_alone G z q.txn) (q.is_rows ∙ t.agree.rows x.sent.begin low q.within);
             has_ops = λ z. q.has_ops (q.ops ∙ z);
             untouched = subst (λ z. IsUntouched (view_of B ls) x.sent.begin (length xs + 1) z) (q.used ∙ ap (λ z. used_at z (run_alone G q.rows q.txn)) (sym q.level)) (untouched_same (same_of t.agree) x.sent.begin (length xs + 1) x.sent.used low (omega arith) x.untouched);
-            is_good = subst (λ z. IsGood G.tables (apply_all (rows_told B ls (last_position B.origin ls)) z).tables) q.ops (subst (λ (z : Rows). IsGood G.tables (apply_all z x.sent.ops).tables) (sym (ap (λ z. state_of z) (take_whole xs)) ∙ (t.agree.rows (length xs) le (omega arith) ∙ ap (λ z. rows_told B ls z) (sym c))) x.good');
+            is_good = subst (λ z. IsGood G.tables (apply_all (rows_at B ls (last_position B.origin ls)) z).tables) q.ops (subst (λ (z : Rows). IsGood G.tables (apply_all z x.sent.ops).tables) (sym (ap (λ z. state_of z) (take_whole xs)) ∙ (t.agree.rows (length xs) le (omega arith) ∙ ap (λ z. rows_at B ls z) (sym c))) x.good');
           }
 
       go : New G h xs e → IsEntryAfter B ls (line_of (length xs + 1) e)
       go (inl s) = subst (λ z. IsEntryAfter B ls z) (sym (s.its_line (length xs + 1))) (setup s)
       go (inr x) = subst (λ z. IsEntryAfter B ls z) (sym (x.its_line (length xs + 1))) (commit x)
 
-  tracks : (xs es : List KeptEntry) (ls : List EntryLine) → xs ++ es ≡ R → base ≤ length xs → Track G base (rows_at G R base) xs ls → EachAfter (IsEntryAfter B) ls (lines_from (length xs + 1) es) × Track G base (rows_at G R base) R (ls ++ lines_from (length xs + 1) es)
-  tracks xs [] ls q le t = (tt, subst (λ z. Track G base (rows_at G R base) R z) (sym (append_nil ls)) (subst (λ z. Track G base (rows_at G R base) z ls) (sym (append_nil xs) ∙ q) t))
+  tracks : (xs es : List KeptEntry) (ls : List EntryLine) → xs ++ es ≡ R → base ≤ length xs → Track G base (kept_rows_at G R base) xs ls → EachAfter (IsEntryAfter B) ls (lines_from (length xs + 1) es) × Track G base (kept_rows_at G R base) R (ls ++ lines_from (length xs + 1) es)
+  tracks xs [] ls q le t = (tt, subst (λ z. Track G base (kept_rows_at G R base) R z) (sym (append_nil ls)) (subst (λ z. Track G base (kept_rows_at G R base) z ls) (sym (append_nil xs) ∙ q) t))
   tracks xs (e ∷ es) ls q le t =
       let whole = append_assoc xs (e ∷ []) es ∙ q in
       let p : Front (xs ++ e ∷ []) R = subst (λ z. Front (xs ++ e ∷ []) z) whole (front_append (xs ++ e ∷ []) es) in
       let n = length-append xs (e ∷ []) in
       let n' : length (xs ++ e ∷ []) ≡ length xs + 1 = n in
-      let more = track_more G fits.apart h fits.rising legal base (rows_at G R base) xs ls e (known xs e p le) le t in
+      let more = track_more G fits.apart h fits.rising legal base (kept_rows_at G R base) xs ls e (known xs e p le) le t in
       let rest = tracks (xs ++ e ∷ []) es (ls ++ line_of (length xs + 1) e ∷ []) whole (omega arith) more in (
         (entry_right xs ls e p le t, subst (λ z. EachAfter (IsEntryAfter B) (ls ++ line_of (length xs + 1) e ∷ []) (lines_from (z + 1) es)) n' rest.0),
-        subst (λ z. Track G base (rows_at G R base) R z) (append_assoc ls (line_of (length xs + 1) e ∷ []) (lines_from (length xs + 1 + 1) es)) (subst (λ z. Track G base (rows_at G R base) R ((ls ++ line_of (length xs + 1) e ∷ []) ++ lines_from (z + 1) es)) n' rest.1),
+        subst (λ z. Track G base (kept_rows_at G R base) R z) (append_assoc ls (line_of (length xs + 1) e ∷ []) (lines_from (length xs + 1 + 1) es)) (subst (λ z. Track G base (kept_rows_at G R base) R ((ls ++ line_of (length xs + 1) e ∷ []) ++ lines_from (z + 1) es)) n' rest.1),
       )
 
   abbrev own : List KeptEntry
@@ -232,8 +232,8 @@ module _ (G : Setting) (fits : FitsScript G) (h : List (ℕ × Event)) (legal : 
   abbrev told_entries : List EntryLine
   told_entries = lines_from (length a.log + 1) own
 
-  history : EachAfter (IsEntryAfter B) [] told_entries × Track G base (rows_at G R base) R told_entries
-  history = tracks a.log own [] (front_rest begins').1 (omega arith) (track_first G fits.apart h fits.rising legal base (rows_at G R base) a.log R refl begins' refl)
+  history : EachAfter (IsEntryAfter B) [] told_entries × Track G base (kept_rows_at G R base) R told_entries
+  history = tracks a.log own [] (front_rest begins').1 (omega arith) (track_first G fits.apart h fits.rising legal base (kept_rows_at G R base) a.log R refl begins' refl)
 
   abbrev pub report : Report
   report = record { lines = lines G h; base = base_line base; entries = told_entries; feeds = []; end = length R }
@@ -242,10 +242,10 @@ module _ (G : Setting) (fits : FitsScript G) (h : List (ℕ × Event)) (legal : 
   agree = history.1.agree
 
   fresh : EachAfter (IsFreshLine B.origin) [] (lines G h)
-  fresh = begins_fresh G fits.apart h m a (rows_at G R base) legal first
+  fresh = begins_fresh G fits.apart h m a (kept_rows_at G R base) legal first
 
   of_session : (s : ℕ) → Along (IsToldAlong B (view_of B told_entries) (G.names s)) (work_of G s) (told (G.names s) (lines G h))
-  of_session s = along_low (IsToldAlong (basis G) (log_view G R) (G.names s)) (IsToldAlong B (view_of B told_entries) (G.names s)) base (λ i mine low k. told_on G 0 base (no_rows []) (rows_at G R base) (log_view G R) (view_of B told_entries) agree (front_length begins') (G.names s) i mine low k) (work_of G s) (told (G.names s) (lines G h)) (told_low base (G.names s) (lines G h) (all_low B.origin [] (lines G h) fresh)) (replies_right G fits.apart h r s (fits.rising s) legal top (done s))
+  of_session s = along_low (IsToldAlong (basis G) (log_view G R) (G.names s)) (IsToldAlong B (view_of B told_entries) (G.names s)) base (λ i mine low k. told_on G 0 base (no_rows []) (kept_rows_at G R base) (log_view G R) (view_of B told_entries) agree (front_length begins') (G.names s) i mine low k) (work_of G s) (told (G.names s) (lines G h)) (told_low base (G.names s) (lines G h) (all_low B.origin [] (lines G h) fresh)) (replies_right G fits.apart h r s (fits.rising s) legal top (done s))
 
   of_name : (name : List ℕ) → Along (IsToldAlong B (view_of B told_entries) name) (work G.language name G.script.body) (told name (lines G h))
   of_name name = go (fits.covers name)
@@ -270,13 +270,13 @@ module _ (G : Setting) (fits : FitsScript G) (h : List (ℕ × Event)) (legal : 
             transaction = k.txn;
             is_its = ap (λ z. transaction_of G.language z x.sent.id.txn G.script.body) q.name ∙ found 0 x.sent.id.txn (work_of G x.sent.by) k.txn (fits.rising x.sent.by) k.in_work k.number;
             within = omega arith;
-            ran = run_alone G (rows_at G R x.sent.begin) k.txn;
+            ran = run_alone G (kept_rows_at G R x.sent.begin) k.txn;
             is_ran = ap (λ (z : Rows). run_alone G z k.txn) (agree.rows x.sent.begin low (omega arith));
             outcome = k.outcome;
             ends = k.ends;
             before = k.front;
             after = k.back;
-            says = ap (λ z. told z (lines G h)) q.name ∙ (k.says ∙ ap (λ z. k.front ++ (numbered z (reply.Begin x.sent.begin ∷ ((run_alone G (rows_at G R x.sent.begin) k.txn).replies ++ k.outcome ∷ [])) ++ k.back)) (sym k.number));
+            says = ap (λ z. told z (lines G h)) q.name ∙ (k.says ∙ ap (λ z. k.front ++ (numbered z (reply.Begin x.sent.begin ∷ ((run_alone G (kept_rows_at G R x.sent.begin) k.txn).replies ++ k.outcome ∷ [])) ++ k.back)) (sym k.number));
           }
 
       go : New G h xs e → IsHeard B (view_of B told_entries) (lines G h) (line_of (length xs + 1) e)

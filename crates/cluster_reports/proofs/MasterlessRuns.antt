@@ -18,9 +18,9 @@ use Rattle.report_text.specs.declared.reports.Line.TheVariants as line
 use Rattle.cdb_values.specs.declared.replies.Reply.{Reply}
 use Rattle.cdb_values.specs.declared.replies.Reply.TheVariants as reply
 use Rattle.session_language.specs.Each.{EachAfter}
-use Rattle.cluster_events.specs.Settings.{Setting, basis, basis_from, work_of, rows_at, log_view}
-use Rattle.cluster_events.specs.Parts.{Event, field, lines}
-use Rattle.cluster_events.specs.Guards.{IsLegal, IsDone}
+use Rattle.cluster_events.specs.Settings.{Setting, basis, basis_from, work_of, kept_rows_at, log_view}
+use Rattle.cluster_events.specs.Parts.{ActorEvent, field, lines}
+use Rattle.cluster_events.specs.Guards.{IsLegalHistory, IsDone}
 use Rattle.cluster_masters.proofs.MasterLaws.{first_of}
 use Rattle.report_laws.specs.History.{Origin, Basis, view_of}
 use Rattle.report_laws.specs.Lawful.{base_line}
@@ -38,7 +38,7 @@ use Rattle.cluster_reports.proofs.TrackLaws.{track_first}
 use Rattle.cluster_events.proofs.LinePlaces.{lines_placed}
 use Rattle.cluster_reports.proofs.LawfulRuns.{none_told, along_low, told_low, all_low}
 
-no_ping : (G : Setting) (h : List (ℕ × Event)) → IsLegal G h → HasNoMaster G.nodes (field h).core → (b g : ℕ) → Pinged (field h) b g → ⊥
+no_ping : (G : Setting) (h : List (ℕ × ActorEvent)) → IsLegalHistory G h → HasNoMaster G.nodes (field h).core → (b g : ℕ) → Pinged (field h) b g → ⊥
 no_ping G h legal none b g p =
     let k = begins_of G h legal b g p in
     let f = first_of (good_of G h legal).inv k.gen k.log k.durable in
@@ -49,15 +49,15 @@ abbrev NoBegin : Line → Type 0
 NoBegin (line.Session s t (reply.Begin b)) = ⊥
 NoBegin _ = Unit {0}
 
-no_reply : (G : Setting) (h : List (ℕ × Event)) → IsLegal G h → HasNoMaster G.nodes (field h).core → (s : List ℕ) (t : ℕ) (r : Reply) → Stated (field h) (line.Session s t r) → NoBegin (line.Session s t r)
+no_reply : (G : Setting) (h : List (ℕ × ActorEvent)) → IsLegalHistory G h → HasNoMaster G.nodes (field h).core → (s : List ℕ) (t : ℕ) (r : Reply) → Stated (field h) (line.Session s t r) → NoBegin (line.Session s t r)
 no_reply G h legal none s t (reply.Begin b) k = no_ping G h legal none b k.0 k.1
 no_reply G h legal none s t _ k = tt
 
-no_begin : (G : Setting) (h : List (ℕ × Event)) → IsLegal G h → HasNoMaster G.nodes (field h).core → (l : Line) → Stated (field h) l → NoBegin l
+no_begin : (G : Setting) (h : List (ℕ × ActorEvent)) → IsLegalHistory G h → HasNoMaster G.nodes (field h).core → (l : Line) → Stated (field h) l → NoBegin l
 no_begin G h legal none (line.Session s t r) k = no_reply G h legal none s t r k
 no_begin G h legal none _ k = tt
 
-no_begins : (G : Setting) (h : List (ℕ × Event)) → IsLegal G h → HasNoMaster G.nodes (field h).core → Each NoBegin (lines G h)
+no_begins : (G : Setting) (h : List (ℕ × ActorEvent)) → IsLegalHistory G h → HasNoMaster G.nodes (field h).core → Each NoBegin (lines G h)
 no_begins G h legal none = each_more (λ l k. no_begin G h legal none l k) (stated_lines G h legal)
 
 free_reply : (origin : Origin) (before : List Line) (s : List ℕ) (t : ℕ) (r : Reply) → NoBegin (line.Session s t r) → IsFreshLine origin before (line.Session s t r)
@@ -72,21 +72,21 @@ free_lines : (origin : Origin) (before ls : List Line) → Each NoBegin ls → E
 free_lines origin before [] k = tt
 free_lines origin before (l ∷ ls) k = (free_line origin before l (k.at l here), free_lines origin (before ++ l ∷ []) ls (record { at = λ y m. k.at y (there m) }))
 
-module _ (G : Setting) (fits : FitsScript G) (h : List (ℕ × Event)) (legal : IsLegal G h) (done : (s : ℕ) → IsDone G h s) (r : ℕ) (top : IsReported G.nodes (field h).core r) (none : HasNoMaster G.nodes (field h).core) where
+module _ (G : Setting) (fits : FitsScript G) (h : List (ℕ × ActorEvent)) (legal : IsLegalHistory G h) (done : (s : ℕ) → IsDone G h s) (r : ℕ) (top : IsReported G.nodes (field h).core r) (none : HasNoMaster G.nodes (field h).core) where
   abbrev R : List KeptEntry
   R = ((field h).core.nodes r).log
 
   abbrev B : Basis
-  B = basis_from G (length ((field h).core.nodes r).log) (rows_at G ((field h).core.nodes r).log (length ((field h).core.nodes r).log))
+  B = basis_from G (length ((field h).core.nodes r).log) (kept_rows_at G ((field h).core.nodes r).log (length ((field h).core.nodes r).log))
 
   agree : Agree (length R) (log_view G R) (view_of B [])
-  agree = (track_first G fits.apart h fits.rising legal (length R) (rows_at G R (length R)) R R refl (front_refl R) refl).agree
+  agree = (track_first G fits.apart h fits.rising legal (length R) (kept_rows_at G R (length R)) R R refl (front_refl R) refl).agree
 
   fresh : EachAfter (IsFreshLine B.origin) [] (lines G h)
   fresh = free_lines B.origin [] (lines G h) (no_begins G h legal none)
 
   of_session : (s : ℕ) → Along (IsToldAlong B (view_of B []) (G.names s)) (work_of G s) (told (G.names s) (lines G h))
-  of_session s = along_low (IsToldAlong (basis G) (log_view G R) (G.names s)) (IsToldAlong B (view_of B []) (G.names s)) (length R) (λ i mine low k. told_on G 0 (length R) (no_rows []) (rows_at G R (length R)) (log_view G R) (view_of B []) agree (omega arith) (G.names s) i mine low k) (work_of G s) (told (G.names s) (lines G h)) (told_low (length R) (G.names s) (lines G h) (all_low B.origin [] (lines G h) fresh)) (replies_right G fits.apart h r s (fits.rising s) legal top (done s))
+  of_session s = along_low (IsToldAlong (basis G) (log_view G R) (G.names s)) (IsToldAlong B (view_of B []) (G.names s)) (length R) (λ i mine low k. told_on G 0 (length R) (no_rows []) (kept_rows_at G R (length R)) (log_view G R) (view_of B []) agree (omega arith) (G.names s) i mine low k) (work_of G s) (told (G.names s) (lines G h)) (told_low (length R) (G.names s) (lines G h) (all_low B.origin [] (lines G h) fresh)) (replies_right G fits.apart h r s (fits.rising s) legal top (done s))
 
   of_name : (name : List ℕ) → Along (IsToldAlong B (view_of B []) name) (work G.language name G.script.body) (told name (lines G h))
   of_name name = go (fits.covers name)

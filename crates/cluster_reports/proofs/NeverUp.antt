@@ -3,13 +3,13 @@ use Rattle.std.proofs.Common.{◌≡◌, ℕ, List, [], ◌∷◌, length, arith
 use Rattle.std.specs.Prelude.{◌==◌, Bool, true, false, cond}
 use mathlib.Core.Logic.{inr}
 use Rattle.cluster_consensus.specs.Enabled.{Enabled}
-use Rattle.cluster_consensus.specs.Events.{Event as Step, change}
-use Rattle.cluster_consensus.specs.Events.Event.{Admits, Boot, Down, Back, BackLead, BackTake, BackGrow, BackAppend, Stand, Grants, Lead, Take, Grow, Append, LearnLead, LearnFollow, Asks, Probe, Confirm}
+use Rattle.cluster_consensus.specs.Events.{NodeEvent, change}
+use Rattle.cluster_consensus.specs.Events.NodeEvent.{Admits, Boot, Down, Back, BackLead, BackTake, BackGrow, BackAppend, Stand, Grants, Lead, Take, Grow, Append, LearnLead, LearnFollow, Asks, Probe, Confirm}
 use Rattle.cluster_consensus.specs.Facts.{Own, World}
-use Rattle.cluster_events.specs.Guards.{MayDo, IsLegal}
-use Rattle.cluster_events.specs.Parts.{Event, field, lines}
-use Rattle.cluster_events.specs.Parts.Event.{Node, Stop, Ask}
-use Rattle.cluster_events.specs.Settings.{Setting, basis_from, rows_at}
+use Rattle.cluster_events.specs.Guards.{MayDo, IsLegalHistory}
+use Rattle.cluster_events.specs.Parts.{ActorEvent, field, lines}
+use Rattle.cluster_events.specs.Parts.ActorEvent.{Node, Stop, Ask}
+use Rattle.cluster_events.specs.Settings.{Setting, basis_from, kept_rows_at}
 use Rattle.cluster_masters.specs.FirstMaster.{HasNoMaster}
 use Rattle.cluster_masters.specs.Reported.{IsReported}
 use Rattle.cluster_reports.proofs.MasterlessRuns.{report}
@@ -36,7 +36,7 @@ is_up o k e = absurd (let q = sym k.up ∙ e in cc)
 was_up : {A : Type 0} (o : Own KeptEntry) → o.was_up ≡ false → o.was_up ≡ true → A
 was_up o q e = absurd (let w = sym q ∙ e in cc)
 
-own_blank : (n : ℕ) (w : World KeptEntry) (i : ℕ) (o : Own KeptEntry) (e : Step KeptEntry) → Enabled n w i o e → Stays o → Stays (change i o e)
+own_blank : (n : ℕ) (w : World KeptEntry) (i : ℕ) (o : Own KeptEntry) (e : NodeEvent KeptEntry) → Enabled n w i o e → Stays o → Stays (change i o e)
 own_blank n w i o (Admits k p a) may old q = old q
 own_blank n w i o (Asks t) may old q = old q
 own_blank n w i o Down may old q = let b = old q in record { up = refl; accepted = b.accepted; log = b.log; leads = b.leads }
@@ -57,29 +57,29 @@ own_blank n w i o (LearnFollow l) may old q = is_up o (old q) may.0
 own_blank n w i o (Probe t) may old q = is_up o (old q) may.0
 own_blank n w i o (Confirm t g) may old q = is_up o (old q) may.0
 
-stays_row : (G : Setting) (h : List (ℕ × Event)) (i : ℕ) (e : Step KeptEntry) → Enabled G.nodes (field h).core i ((field h).core.nodes i) e → ((k : ℕ) → Stays ((field h).core.nodes k)) → (k : ℕ) → Stays (cond (k == i) (change i ((field h).core.nodes i) e) ((field h).core.nodes k))
+stays_row : (G : Setting) (h : List (ℕ × ActorEvent)) (i : ℕ) (e : NodeEvent KeptEntry) → Enabled G.nodes (field h).core i ((field h).core.nodes i) e → ((k : ℕ) → Stays ((field h).core.nodes k)) → (k : ℕ) → Stays (cond (k == i) (change i ((field h).core.nodes i) e) ((field h).core.nodes k))
 stays_row G h i e may old k = go (k == i)
   where
     go : (b : Bool) → Stays (cond b (change i ((field h).core.nodes i) e) ((field h).core.nodes k))
     go true = own_blank G.nodes (field h).core i ((field h).core.nodes i) e may (old i)
     go false = old k
 
-event_stays : (G : Setting) (h : List (ℕ × Event)) (i : ℕ) (e : Event) → MayDo G h i e → ((k : ℕ) → Stays ((field h).core.nodes k)) → (k : ℕ) → Stays ((field ((i, e) ∷ h)).core.nodes k)
+event_stays : (G : Setting) (h : List (ℕ × ActorEvent)) (i : ℕ) (e : ActorEvent) → MayDo G h i e → ((k : ℕ) → Stays ((field h).core.nodes k)) → (k : ℕ) → Stays ((field ((i, e) ∷ h)).core.nodes k)
 event_stays G h i (Node e) may old k = stays_row G h i e may.0.0 old k
 event_stays G h i Stop may old k = stays_row G h i Down may.0.0 old k
 event_stays G h i (Ask t) may old k = stays_row G h i (Asks t) may.0.0 old k
 event_stays G h i _ may old k = old k
 
-never_up : (G : Setting) (h : List (ℕ × Event)) → IsLegal G h → (k : ℕ) → Stays ((field h).core.nodes k)
+never_up : (G : Setting) (h : List (ℕ × ActorEvent)) → IsLegalHistory G h → (k : ℕ) → Stays ((field h).core.nodes k)
 never_up G [] legal k q = record { up = refl; accepted = refl; log = refl; leads = refl }
 never_up G (x ∷ h) legal k q = event_stays G h x.0 x.1 legal.0 (never_up G h legal.1) k q
 
-abbrev Reports : Setting → List (ℕ × Event) → List KeptEntry → Type 0
-Reports G h log = (report : Report) × (report.lines ≡ lines G h) × (report.entries ≡ []) × (report.end ≡ length log) × IsLawfulWithFeeds (basis_from G (length log) (rows_at G log (length log))) report
+abbrev Reports : Setting → List (ℕ × ActorEvent) → List KeptEntry → Type 0
+Reports G h log = (report : Report) × (report.lines ≡ lines G h) × (report.entries ≡ []) × (report.end ≡ length log) × IsLawfulWithFeeds (basis_from G (length log) (kept_rows_at G log (length log))) report
 
 -- each node is as good as another, and none leads
-pub without_nodes : (G : Setting) (fits : FitsScript G) → FollowsScript G → (h : List (ℕ × Event)) → IsLegal G h → IsFinished G h → ((k : ℕ) → ((field h).core.nodes k).was_up ≡ false)
-    → (report : Report) × (report.lines ≡ lines G h) × (report.entries ≡ []) × (report.end ≡ 0) × IsLawfulWithFeeds (basis_from G 0 (rows_at G [] 0)) report
+pub without_nodes : (G : Setting) (fits : FitsScript G) → FollowsScript G → (h : List (ℕ × ActorEvent)) → IsLegalHistory G h → IsFinished G h → ((k : ℕ) → ((field h).core.nodes k).was_up ≡ false)
+    → (report : Report) × (report.lines ≡ lines G h) × (report.entries ≡ []) × (report.end ≡ 0) × IsLawfulWithFeeds (basis_from G 0 (kept_rows_at G [] 0)) report
 without_nodes G fits follows h legal done none = subst (λ z. Reports G h z) (blank 1).log (report G fits h legal done.sessions 1 top masterless, refl, refl, refl, without_master G fits follows h legal done 1 top masterless)
   where
     blank : (k : ℕ) → IsBlank ((field h).core.nodes k)

@@ -5,17 +5,17 @@ use Rattle.std.specs.Str.{bytes_eq}
 use Rattle.std.proofs.lemmas.Bool.Decides.{Decides-eqb}
 use mathlib.Core.Logic.{◌⊎◌, inl, inr}
 use Rattle.cdb_values.specs.Rows.{Rows}
-use Rattle.cluster_consensus.specs.Events.Event.{Down, Boot, Back, BackLead, BackTake, BackGrow, BackAppend}
+use Rattle.cluster_consensus.specs.Events.NodeEvent.{Down, Boot, Back, BackLead, BackTake, BackGrow, BackAppend}
 use Rattle.cluster_events.proofs.HistoryLaws.{legal_rest}
 use Rattle.cluster_events.proofs.LineLists.{append_assoc, append_nil, along_weaker}
 use Rattle.cluster_events.proofs.LinePlaces.{each_line}
 use Rattle.cluster_events.proofs.OwnLines.{knows}
 use Rattle.cluster_events.specs.ByScript.{AllHeed}
-use Rattle.cluster_events.specs.Guards.{MayDo, IsLegal, AllBeyond}
-use Rattle.cluster_events.specs.LinePlaces.{HasItsPlace}
+use Rattle.cluster_events.specs.Guards.{MayDo, IsLegalHistory, AllBeyond}
+use Rattle.cluster_events.specs.LinePlaces.{HasPlaceAmongNodes}
 use Rattle.cluster_events.specs.Operator.{operators_if, operators_from, duty, count_of}
-use Rattle.cluster_events.specs.Parts.{Event, part, barriers, up_line, lines_by, lines}
-use Rattle.cluster_events.specs.Parts.Event.{Node, Stop, Begun, Say, Note, Finish, Barrier, Fed, FedAgain}
+use Rattle.cluster_events.specs.Parts.{ActorEvent, part, barriers_printed, up_line, lines_by, lines}
+use Rattle.cluster_events.specs.Parts.ActorEvent.{Node, Stop, Begun, Say, Note, Finish, Barrier, Fed, FedAgain}
 use Rattle.cluster_events.specs.Settings.{Setting, basis_from, work_of, lines_to_do, closing}
 use Rattle.cluster_feeds.proofs.FedLaws.{fed_again}
 use Rattle.cluster_reports.proofs.ArmLaws.{arms_of, fit_arms, arms_apart, FiresAt, StopsAt, find, fires_in, armed_there}
@@ -29,7 +29,7 @@ use Rattle.cluster_reports.proofs.StandLaws.{PlacedTo, Free, Stand, stands}
 use Rattle.cluster_reports.proofs.WorkPieces.{IsShaped, shaped, work_over, todo, items_todo, open_todo}
 use Rattle.cluster_reports.specs.Lawful.{IsLawfulBesideOperator}
 use Rattle.cluster_reports.specs.Runs.{FitsScript, FollowsScript}
-use Rattle.cluster_reports.specs.SessionLines.{behind, behind_lines, barriers_passed}
+use Rattle.cluster_reports.specs.SessionLines.{lines_behind, behind_lines, barriers_passed}
 use Rattle.core_lists.proofs.Lists.{each_add, each_none}
 use Rattle.core_lists.specs.Lists.{Each}
 use Rattle.node_reports.specs.Fed.{IsFedAt, AreFeeds}
@@ -44,7 +44,7 @@ use Rattle.report_laws.specs.Lawful.{base_line}
 use Rattle.report_laws.specs.Nodes.{is_up}
 use Rattle.report_laws.specs.Told.{told, Numbered}
 use Rattle.report_laws.specs.View.{View}
-use Rattle.report_laws.specs.Work.{Item, said, start, items_at, place_from, next_place, next_by, work}
+use Rattle.report_laws.specs.Work.{WorkItem, said, start, items_at, place_from, next_place, next_by, work}
 use Rattle.report_text.specs.declared.reports.EntryLine.{EntryLine}
 use Rattle.report_text.specs.declared.reports.FeedLine.{FeedLine}
 use Rattle.report_text.specs.declared.reports.Line.{Line}
@@ -69,7 +69,7 @@ boot_of : (G : Setting) → G.nodes ≡ G.script.nodes → (before : List Line) 
 boot_of G nodes before i true k = each_none
 boot_of G nodes before i false k = up_of G nodes before i k
 
-of_script : (G : Setting) → G.nodes ≡ G.script.nodes → (h : List (ℕ × Event)) (i : ℕ) (e : Event) → IsLegal G h → MayDo G h i e → Each (OfScript G.script (lines G h)) (lines_by G (lines G h) (part G i h) i e)
+of_script : (G : Setting) → G.nodes ≡ G.script.nodes → (h : List (ℕ × ActorEvent)) (i : ℕ) (e : ActorEvent) → IsLegalHistory G h → MayDo G h i e → Each (OfScript G.script (lines G h)) (lines_by G (lines G h) (part G i h) i e)
 of_script G nodes h i (Node Down) legal may = each_add tt each_none
 of_script G nodes h i (Node (Boot q a l)) legal may = boot_of G nodes (lines G h) i (is_up i (lines G h)) may.2
 of_script G nodes h i (Node (Back q)) legal may = up_of G nodes (lines G h) i may.2
@@ -88,14 +88,14 @@ of_script G nodes h i (Fed d g) legal may = each_add tt each_none
 of_script G nodes h i (FedAgain d) legal may = each_add tt each_none
 of_script G nodes h i _ legal may = each_none
 
-place_of : (script : Script) (before : List Line) (l : Line) → HasItsPlace script before l → OfScript script before l → HasPlace script before l
+place_of : (script : Script) (before : List Line) (l : Line) → HasPlaceAmongNodes script before l → OfScript script before l → HasPlace script before l
 place_of script before (line.Session name t r) k o = k
 place_of script before (line.Down c n f) k o = record { counted = k.counted; of_script = k.of_script; was_up = k.was_up }
 place_of script before (line.Up n) k o = record { of_script = o; was_down = k }
 place_of script before line.Barrier k o = tt
 place_of script before (line.Fed d) k o = tt
 
-places_of : (script : Script) (before ls : List Line) → EachAfter (HasItsPlace script) before ls → EachAfter (OfScript script) before ls → EachAfter (HasPlace script) before ls
+places_of : (script : Script) (before ls : List Line) → EachAfter (HasPlaceAmongNodes script) before ls → EachAfter (OfScript script) before ls → EachAfter (HasPlace script) before ls
 places_of script before [] k o = tt
 places_of script before (l ∷ ls) k o = (place_of script before l k.0 o.0, places_of script (before ++ l ∷ []) ls k.1 o.1)
 
@@ -169,14 +169,14 @@ said_none L (t ∷ ts) e = absurd (none (L.kind t) (sym (items_todo L (next_plac
     none OtherText q = absurd (cc)
 
 -- the operator is told nothing
-operator_told : (G : Setting) → FitsScript G → FollowsScript G → (h : List (ℕ × Event)) → IsLegal G h → (part G 0 h).told ≡ []
+operator_told : (G : Setting) → FitsScript G → FollowsScript G → (h : List (ℕ × ActorEvent)) → IsLegalHistory G h → (part G 0 h).told ≡ []
 operator_told G fits follows [] legal = refl
 operator_told G fits follows (x ∷ h) legal = elim (step_of G fits x h 0 legal) [ inl k ↦ k.0 ∙ operator_told G fits follows h legal.1 | inr k ↦ absurd (k.3 (none_left G follows h)) ]
 
-module _ (G : Setting) (fits : FitsScript G) (follows : FollowsScript G) (H : List (ℕ × Event)) (whole : IsLegal G H) (all : AllHeed G (lines_to_do G) H) (over_duty : (duty (lines_to_do G) H).left ≡ [])
+module _ (G : Setting) (fits : FitsScript G) (follows : FollowsScript G) (H : List (ℕ × ActorEvent)) (whole : IsLegalHistory G H) (all : AllHeed G (lines_to_do G) H) (over_duty : (duty (lines_to_do G) H).left ≡ [])
     (base : ℕ) (rows : Rows) (entries : List EntryLine) (end : ℕ)
     (beside : IsLawfulBesideOperator (basis_from G base rows) (record { lines = lines G H; base = base_line base; entries = entries; feeds = []; end = end }))
-    (answered : (h w : List (ℕ × Event)) (i d g : ℕ) → w ++ (i, Fed d g) ∷ h ≡ H → IsFedAt (basis_from G base rows) (view_of (basis_from G base rows) entries) (lines G h) d) where
+    (answered : (h w : List (ℕ × ActorEvent)) (i d g : ℕ) → w ++ (i, Fed d g) ∷ h ≡ H → IsFedAt (basis_from G base rows) (view_of (basis_from G base rows) entries) (lines G h) d) where
   abbrev B : Basis
   B = basis_from G base rows
 
@@ -190,20 +190,20 @@ module _ (G : Setting) (fits : FitsScript G) (follows : FollowsScript G) (H : Li
   over_all : (s : ℕ) → (r : List Numbered) × (behind_lines G.language (G.names s) G.script.body (told (G.names s) (lines G H)) ≡ Some r)
   over_all s = work_over G.language (said (G.names s) G.script.body) (told (G.names s) (lines G H)) (along_weaker _ IsShaped (work_of G s) (told (G.names s) (lines G H)) (λ i m k. shaped (basis_from G base rows) (view_of (basis_from G base rows) entries) (G.names s) follows.answers i m k) (beside.replies (G.names s)))
 
-  full : (h w : List (ℕ × Event)) (s : ℕ) → H ≡ w ++ h → (part G s h).left ≡ [] → (r : List Numbered) × (behind_lines G.language (G.names s) G.script.body (part G s h).told ≡ Some r)
+  full : (h w : List (ℕ × ActorEvent)) (s : ℕ) → H ≡ w ++ h → (part G s h).left ≡ [] → (r : List Numbered) × (behind_lines G.language (G.names s) G.script.body (part G s h).told ≡ Some r)
   full h w s is q =
       let r = over_all s in
-      let k = rests G fits w h s (subst (λ z. IsLegal G z) is whole) q in
+      let k = rests G fits w h s (subst (λ z. IsLegalHistory G z) is whole) q in
       (r.0, ap (λ z. behind_lines G.language (G.names s) G.script.body z) (sym (knows G fits.apart H s ∙ (ap (λ z. (part G s z).told) is ∙ k.1))) ∙ r.1)
 
-  legal_at : (w h : List (ℕ × Event)) → w ++ h ≡ H → IsLegal G h
-  legal_at w h e = legal_rest G w h (subst (λ z. IsLegal G z) (sym e) whole)
+  legal_at : (w h : List (ℕ × ActorEvent)) → w ++ h ≡ H → IsLegalHistory G h
+  legal_at w h e = legal_rest G w h (subst (λ z. IsLegalHistory G z) (sym e) whole)
 
   -- at a barrier
-  told_there : (h w : List (ℕ × Event)) → w ++ h ≡ H → AllBeyond G h → (front back : List BodyLine) (bar : BodyLine) → G.script.body ≡ front ++ bar ∷ back → bar.act ≡ act.Barrier → barriers h ≡ barrier_lines front → (s : ℕ) → AreOf G.language (G.names s) front (told (G.names s) (lines G h))
+  told_there : (h w : List (ℕ × ActorEvent)) → w ++ h ≡ H → AllBeyond G h → (front back : List BodyLine) (bar : BodyLine) → G.script.body ≡ front ++ bar ∷ back → bar.act ≡ act.Barrier → barriers_printed h ≡ barrier_lines front → (s : ℕ) → AreOf G.language (G.names s) front (told (G.names s) (lines G h))
   told_there h w e beyond front back bar body is count s = go (s == 0) refl
     where
-      legal : IsLegal G h
+      legal : IsLegalHistory G h
       legal = legal_at w h e
 
       texts : said (G.names s) G.script.body ≡ said (G.names s) front ++ said (G.names s) (bar ∷ back)
@@ -211,7 +211,7 @@ module _ (G : Setting) (fits : FitsScript G) (follows : FollowsScript G) (H : Li
 
       of_rest : (r : List Numbered) × (behind_lines G.language (G.names s) front (part G s h).told ≡ Some r) → AreOf G.language (G.names s) front (told (G.names s) (lines G h))
       of_rest r =
-          let none = nothing_beyond G fits follows h legal s front back bar body (ap (λ z. is_barrier z) is) (let c : barriers h ≡ barrier_lines front = count in omega arith) r.0 r.1 in
+          let none = nothing_beyond G fits follows h legal s front back bar body (ap (λ z. is_barrier z) is) (let c : barriers_printed h ≡ barrier_lines front = count in omega arith) r.0 r.1 in
           let k = behind_pieces G.language [] start (said (G.names s) front) (part G s h).told r.0 r.1 in
           subst (λ z. AreOf G.language (G.names s) front z) (sym (knows G fits.apart h s ∙ (k.1 ∙ (ap (λ z. k.0 ++ z) none ∙ append_nil k.0)))) k.2
 
@@ -219,14 +219,14 @@ module _ (G : Setting) (fits : FitsScript G) (follows : FollowsScript G) (H : Li
       some None q = absurd (cc)
       some (Some r) q = (r, refl)
 
-      by_left : (ls : List Item) → (part G s h).left ≡ ls → (s == 0) ≡ false → AreOf G.language (G.names s) front (told (G.names s) (lines G h))
+      by_left : (ls : List WorkItem) → (part G s h).left ≡ ls → (s == 0) ≡ false → AreOf G.language (G.names s) front (told (G.names s) (lines G h))
       by_left [] q ns =
           let f = full h w s (sym e) q in
-          of_rest (behind_front G.language [] start (said (G.names s) front) (said (G.names s) (bar ∷ back)) (part G s h).told f.0 (ap (λ z. behind G.language [] start z (part G s h).told) (sym texts) ∙ f.1))
+          of_rest (behind_front G.language [] start (said (G.names s) front) (said (G.names s) (bar ∷ back)) (part G s h).told f.0 (ap (λ z. lines_behind G.language [] start z (part G s h).told) (sym texts) ∙ f.1))
       by_left (i ∷ ls) q ns =
-          let lt : barriers h < G.phase s (part G s h).told = beyond s ns (λ z. absurd (let y = sym q ∙ z in cc)) in
+          let lt : barriers_printed h < G.phase s (part G s h).told = beyond s ns (λ z. absurd (let y = sym q ∙ z in cc)) in
           let p : G.phase s (part G s h).told ≡ barriers_passed G.language (G.names s) [] (front ++ bar ∷ back) (part G s h).told = follows.phase s ns (part G s h).told ∙ ap (λ z. barriers_passed G.language (G.names s) [] z (part G s h).told) body in
-          let c : barriers h ≡ barrier_lines front = count in
+          let c : barriers_printed h ≡ barrier_lines front = count in
           of_rest (some (behind_lines G.language (G.names s) front (part G s h).told) (barrier_passed G.language (G.names s) front (bar ∷ back) (part G s h).told (omega arith)))
 
       go : (b : Bool) → (s == 0) ≡ b → AreOf G.language (G.names s) front (told (G.names s) (lines G h))
@@ -236,7 +236,7 @@ module _ (G : Setting) (fits : FitsScript G) (follows : FollowsScript G) (H : Li
           let none : said (G.names s) front ≡ [] = at_nil (said (G.names s) front) (said (G.names s) (bar ∷ back)) (sym texts ∙ (ap (λ j. said (G.names j) G.script.body) z ∙ follows.operator)) in
           subst (λ t. ArePieces G.language [] start t (told (G.names s) (lines G h))) (sym none) (knows G fits.apart h s ∙ (ap (λ j. (part G j h).told) z ∙ operator_told G fits follows h legal))
 
-  at_bar : (arms : ℕ → Option ℕ) (h w : List (ℕ × Event)) (i k : ℕ) (done rest : List (ℕ × Act)) → w ++ (i, Barrier) ∷ h ≡ H → Run G (lines_to_do G) arms ((i, Barrier) ∷ h) → done ++ (k, act.Barrier) ∷ rest ≡ operators_from 0 (lines_to_do G) → barriers h ≡ bars done → (name : List ℕ) → AreOf G.language name (take k (lines_to_do G)) (told name (lines G h))
+  at_bar : (arms : ℕ → Option ℕ) (h w : List (ℕ × ActorEvent)) (i k : ℕ) (done rest : List (ℕ × Act)) → w ++ (i, Barrier) ∷ h ≡ H → Run G (lines_to_do G) arms ((i, Barrier) ∷ h) → done ++ (k, act.Barrier) ∷ rest ≡ operators_from 0 (lines_to_do G) → barriers_printed h ≡ bars done → (name : List ℕ) → AreOf G.language name (take k (lines_to_do G)) (told name (lines G h))
   at_bar arms h w i k done rest e run ops count name = subst (λ z. AreOf G.language name z (told name (lines G h))) (sym taken) (of_name (fits.covers name))
     where
       a : AtLine 0 (lines_to_do G) done k act.Barrier
@@ -364,7 +364,7 @@ module _ (G : Setting) (fits : FitsScript G) (follows : FollowsScript G) (H : Li
       let ops : operators_from 0 (lines_to_do G) ≡ operators_from 0 G.script.body ++ (0 + length G.script.body, act.Feed) ∷ [] = ap (λ z. operators_from 0 (G.script.body ++ closing z)) q ∙ ops_append 0 G.script.body (record { line = 0; act = act.Feed }) refl in
       let zero_plus : 0 + length G.script.body ≡ length G.script.body = omega arith in
       let beyond = stand.ended (operators_from 0 G.script.body) (done_all ∙ (ops ∙ ap (λ z. operators_from 0 G.script.body ++ (z, act.Feed) ∷ []) zero_plus)) in
-      told_none name (since G stand.mid stand.last') (hush G fits follows stand.mid stand.last' (subst (λ z. IsLegal G z) stand.split whole) stand.bare beyond).1
+      told_none name (since G stand.mid stand.last') (hush G fits follows stand.mid stand.last' (subst (λ z. IsLegalHistory G z) stand.split whole) stand.bare beyond).1
 
   heeded_all : Heeded [] G.script.body [] (lines G H)
   heeded_all = subst (λ z. Heeded [] G.script.body [] z) (sym split_all) (heeded (since G stand.mid stand.last') free.alone still_all [] G.script.body refl [] (lines G stand.last') (subst (λ z. Placed z [] (lines G stand.last')) done_all stand.places))

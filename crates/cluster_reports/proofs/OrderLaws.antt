@@ -5,17 +5,17 @@ use Rattle.std.proofs.Common.{◌≡◌, ℕ, ◌+◌, ◌<◌, ◌≤◌, List,
 use Rattle.std.specs.Prelude.{◌==◌, ◌&&◌, not, Bool, true, false, cond, Option, Some, None, if◌then◌else◌}
 use Rattle.std.proofs.lemmas.Bool.Decides.{Decides-eqb}
 use mathlib.Core.Logic.{◌⊎◌, inl, inr}
-use Rattle.cluster_consensus.specs.Events.Event.{Down, Boot, Back, BackLead, BackTake, BackGrow, BackAppend}
+use Rattle.cluster_consensus.specs.Events.NodeEvent.{Down, Boot, Back, BackLead, BackTake, BackGrow, BackAppend}
 use Rattle.cluster_events.proofs.Charges.{OrderOk, orders_ok}
 use Rattle.cluster_events.proofs.LineLists.{append_nil}
 use Rattle.cluster_events.proofs.LinePlaces.{came, boot_came, other_lines, sees}
 use Rattle.cluster_events.specs.Arms.{IsStopArmed}
 use Rattle.cluster_events.specs.ByScript.{Heeds, AllHeed}
-use Rattle.cluster_events.specs.Guards.{MayDo, IsLegal}
-use Rattle.cluster_events.specs.Operator.{Turn, turn, Count, counted, count_of, Ordered, node_in, new_orders, orders, Duty, heed, duty, IsStopOrdered, IsStartOrdered}
+use Rattle.cluster_events.specs.Guards.{MayDo, IsLegalHistory}
+use Rattle.cluster_events.specs.Operator.{Turn, turn, Count, turn_counted, count_of, Ordered, node_in, new_orders, orders, Duty, heed, duty, IsStopOrdered, IsStartOrdered}
 use Rattle.cluster_events.specs.Operator.Turn.{Rise, Fall, Keep}
-use Rattle.cluster_events.specs.Parts.{Event, Part, part, field, up_line, lines_by, lines}
-use Rattle.cluster_events.specs.Parts.Event.{Node, Stop, Order, Obeyed, Barrier, Fed, FedAgain}
+use Rattle.cluster_events.specs.Parts.{ActorEvent, Part, part, field, up_line, lines_by, lines}
+use Rattle.cluster_events.specs.Parts.ActorEvent.{Node, Stop, Order, Obeyed, Barrier, Fed, FedAgain}
 use Rattle.cluster_events.specs.Settings.{Setting}
 use Rattle.cluster_requests.specs.KeptEntries.{KeptEntry}
 use Rattle.cluster_reports.proofs.SessionLaws.{since}
@@ -37,7 +37,7 @@ ShutBy (act.Stop node) ups falls t seen = t.up ≡ true → ups < t.ups
 ShutBy (act.Start node) ups falls t seen = seen ≡ false → falls < t.falls
 ShutBy _ ups falls t seen = Unit {0}
 
-abbrev pub Shut : Setting → List (ℕ × Event) → Ordered → Type 0
+abbrev pub Shut : Setting → List (ℕ × ActorEvent) → Ordered → Type 0
 Shut G h o = ShutBy o.act o.ups o.falls (count_of (node_in o.act) h) (is_up (node_in o.act) (lines G h))
 
 -- what an event of a node does to it, and what its lines say of it
@@ -49,7 +49,7 @@ data Turned (t : Turn) (was now : Bool) : Type 0 where
 went : (k : ℕ) (b f : Bool) (c : ℕ) → up_from k b (line.Down c k f ∷ []) ≡ false
 went k b f c = ap (λ z. if z then false else b) ((Decides-eqb k k).1 refl)
 
-turned : (G : Setting) (i : ℕ) (before : List Line) (p : Part) (e : Event) → Turned (turn e) (is_up i before) (up_from i (is_up i before) (lines_by G before p i e))
+turned : (G : Setting) (i : ℕ) (before : List Line) (p : Part) (e : ActorEvent) → Turned (turn e) (is_up i before) (up_from i (is_up i before) (lines_by G before p i e))
 turned G i before p (Node Down) = fell refl (went i (is_up i before) true (downs before + 1))
 turned G i before p (Node (Boot r a l)) = rose refl (boot_came i (is_up i before))
 turned G i before p (Node (Back r)) = rose refl (came i (is_up i before))
@@ -61,19 +61,19 @@ turned G i before p (Node _) = kept refl refl
 turned G i before p Stop = fell refl (went i (is_up i before) false (downs before + 1))
 turned G i before p _ = kept refl refl
 
-shut_turn : (a : Act) (ups falls : ℕ) (c : Count) (u : Turn) (was now : Bool) → ups ≤ c.ups → falls ≤ c.falls → Turned u was now → ShutBy a ups falls c was → ShutBy a ups falls (counted c u) now
-shut_turn (act.Stop node) ups falls c u was now lu lf (rose e q) k = subst (λ z. (counted c z).up ≡ true → ups < (counted c z).ups) (sym e) (λ w. omega arith)
-shut_turn (act.Stop node) ups falls c u was now lu lf (fell e q) k = subst (λ z. (counted c z).up ≡ true → ups < (counted c z).ups) (sym e) (λ w. absurd (cc))
-shut_turn (act.Stop node) ups falls c u was now lu lf (kept e q) k = subst (λ z. (counted c z).up ≡ true → ups < (counted c z).ups) (sym e) k
+shut_turn : (a : Act) (ups falls : ℕ) (c : Count) (u : Turn) (was now : Bool) → ups ≤ c.ups → falls ≤ c.falls → Turned u was now → ShutBy a ups falls c was → ShutBy a ups falls (turn_counted c u) now
+shut_turn (act.Stop node) ups falls c u was now lu lf (rose e q) k = subst (λ z. (turn_counted c z).up ≡ true → ups < (turn_counted c z).ups) (sym e) (λ w. omega arith)
+shut_turn (act.Stop node) ups falls c u was now lu lf (fell e q) k = subst (λ z. (turn_counted c z).up ≡ true → ups < (turn_counted c z).ups) (sym e) (λ w. absurd (cc))
+shut_turn (act.Stop node) ups falls c u was now lu lf (kept e q) k = subst (λ z. (turn_counted c z).up ≡ true → ups < (turn_counted c z).ups) (sym e) k
 shut_turn (act.Start node) ups falls c u was now lu lf (rose e q) k = λ w. absurd (cc)
-shut_turn (act.Start node) ups falls c u was now lu lf (fell e q) k = subst (λ z. now ≡ false → falls < (counted c z).falls) (sym e) (λ w. omega arith)
-shut_turn (act.Start node) ups falls c u was now lu lf (kept e q) k = subst (λ z. now ≡ false → falls < (counted c z).falls) (sym e) (λ w. k (sym q ∙ w))
+shut_turn (act.Start node) ups falls c u was now lu lf (fell e q) k = subst (λ z. now ≡ false → falls < (turn_counted c z).falls) (sym e) (λ w. omega arith)
+shut_turn (act.Start node) ups falls c u was now lu lf (kept e q) k = subst (λ z. now ≡ false → falls < (turn_counted c z).falls) (sym e) (λ w. k (sym q ∙ w))
 shut_turn (act.Say session text) ups falls c u was now lu lf t k = tt
 shut_turn (act.Arm session moment) ups falls c u was now lu lf t k = tt
 shut_turn act.Barrier ups falls c u was now lu lf t k = tt
 shut_turn act.Feed ups falls c u was now lu lf t k = tt
 
-pub shut_later : (G : Setting) (x : ℕ × Event) (h : List (ℕ × Event)) (o : Ordered) → OrderOk h o → Shut G h o → Shut G (x ∷ h) o
+pub shut_later : (G : Setting) (x : ℕ × ActorEvent) (h : List (ℕ × ActorEvent)) (o : Ordered) → OrderOk h o → Shut G h o → Shut G (x ∷ h) o
 shut_later G x h o ok k = go (node_in o.act == x.0) refl
   where
     n : ℕ
@@ -82,20 +82,20 @@ shut_later G x h o ok k = go (node_in o.act == x.0) refl
     lined : is_up (node_in o.act) (lines G (x ∷ h)) ≡ up_from (node_in o.act) (is_up (node_in o.act) (lines G h)) (lines_by G (lines G h) (part G x.0 h) x.0 x.1)
     lined = up_append (node_in o.act) true (lines G h) (lines_by G (lines G h) (part G x.0 h) x.0 x.1)
 
-    go : (b : Bool) → (node_in o.act == x.0) ≡ b → ShutBy o.act o.ups o.falls (cond b (counted (count_of (node_in o.act) h) (turn x.1)) (count_of (node_in o.act) h)) (is_up (node_in o.act) (lines G (x ∷ h)))
+    go : (b : Bool) → (node_in o.act == x.0) ≡ b → ShutBy o.act o.ups o.falls (cond b (turn_counted (count_of (node_in o.act) h) (turn x.1)) (count_of (node_in o.act) h)) (is_up (node_in o.act) (lines G (x ∷ h)))
     go false e = subst (λ z. ShutBy o.act o.ups o.falls (count_of (node_in o.act) h) z) (sym (lined ∙ other_lines G (node_in o.act) x.0 e (is_up (node_in o.act) (lines G h)) (lines G h) (part G x.0 h) x.1)) k
     go true e =
         let i : node_in o.act ≡ x.0 = (Decides-eqb (node_in o.act) x.0).0 e in
         let t : Turned (turn x.1) (is_up (node_in o.act) (lines G h)) (up_from (node_in o.act) (is_up (node_in o.act) (lines G h)) (lines_by G (lines G h) (part G x.0 h) x.0 x.1))
         = subst (λ j. Turned (turn x.1) (is_up j (lines G h)) (up_from j (is_up j (lines G h)) (lines_by G (lines G h) (part G x.0 h) x.0 x.1))) (sym i) (turned G x.0 (lines G h) (part G x.0 h) x.1) in
-        subst (λ z. ShutBy o.act o.ups o.falls (counted (count_of (node_in o.act) h) (turn x.1)) z) (sym lined)
+        subst (λ z. ShutBy o.act o.ups o.falls (turn_counted (count_of (node_in o.act) h) (turn x.1)) z) (sym lined)
         (shut_turn o.act o.ups o.falls (count_of (node_in o.act) h) (turn x.1) (is_up (node_in o.act) (lines G h)) (up_from (node_in o.act) (is_up (node_in o.act) (lines G h)) (lines_by G (lines G h) (part G x.0 h) x.0 x.1)) ok.ups ok.falls t k)
 
-pub all_later : (G : Setting) (body : List BodyLine) (x : ℕ × Event) (h : List (ℕ × Event)) → Each (Shut G h) (orders body h) → Each (Shut G (x ∷ h)) (orders body h)
+pub all_later : (G : Setting) (body : List BodyLine) (x : ℕ × ActorEvent) (h : List (ℕ × ActorEvent)) → Each (Shut G h) (orders body h) → Each (Shut G (x ∷ h)) (orders body h)
 all_later G body x h k = record { at = λ o m. shut_later G x h o ((orders_ok body h).at o m) (k.at o m) }
 
 -- an event that changes nothing of the operator's
-abbrev pub is_calm : Event → Bool
+abbrev pub is_calm : ActorEvent → Bool
 is_calm Order = false
 is_calm Obeyed = false
 is_calm Barrier = false
@@ -103,10 +103,10 @@ is_calm (Fed d g) = false
 is_calm (FedAgain d) = false
 is_calm _ = true
 
-abbrev pub Calm : List (ℕ × Event) → Type 0
+abbrev pub Calm : List (ℕ × ActorEvent) → Type 0
 Calm w = Each (λ x. is_calm x.1 ≡ true) w
 
-pub heed_calm : (d : Duty) (e : Event) → is_calm e ≡ true → heed d e ≡ d
+pub heed_calm : (d : Duty) (e : ActorEvent) → is_calm e ≡ true → heed d e ≡ d
 heed_calm d Order q = absurd (cc)
 heed_calm d Obeyed q = absurd (cc)
 heed_calm d Barrier q = absurd (cc)
@@ -114,44 +114,44 @@ heed_calm d (Fed p g) q = absurd (cc)
 heed_calm d (FedAgain p) q = absurd (cc)
 heed_calm d _ q = refl
 
-pub orders_calm : (body : List BodyLine) (x : ℕ × Event) (h : List (ℕ × Event)) → is_calm x.1 ≡ true → orders body (x ∷ h) ≡ orders body h
+pub orders_calm : (body : List BodyLine) (x : ℕ × ActorEvent) (h : List (ℕ × ActorEvent)) → is_calm x.1 ≡ true → orders body (x ∷ h) ≡ orders body h
 orders_calm body x h q = go x.1 q
   where
-    go : (e : Event) → is_calm e ≡ true → new_orders h e (duty body h).left ++ orders body h ≡ orders body h
+    go : (e : ActorEvent) → is_calm e ≡ true → new_orders h e (duty body h).left ++ orders body h ≡ orders body h
     go Order q = absurd (cc)
     go _ q = refl
 
-pub calm_tail : {x : ℕ × Event} {w : List (ℕ × Event)} → Calm (x ∷ w) → Calm w
+pub calm_tail : {x : ℕ × ActorEvent} {w : List (ℕ × ActorEvent)} → Calm (x ∷ w) → Calm w
 calm_tail k = record { at = λ y m. k.at y (there m) }
 
-pub duty_since : (body : List BodyLine) (w u : List (ℕ × Event)) → Calm w → duty body (w ++ u) ≡ duty body u
+pub duty_since : (body : List BodyLine) (w u : List (ℕ × ActorEvent)) → Calm w → duty body (w ++ u) ≡ duty body u
 duty_since body [] u k = refl
 duty_since body (x ∷ w) u k = heed_calm (duty body (w ++ u)) x.1 (k.at x here) ∙ duty_since body w u (calm_tail k)
 
-pub orders_since : (body : List BodyLine) (w u : List (ℕ × Event)) → Calm w → orders body (w ++ u) ≡ orders body u
+pub orders_since : (body : List BodyLine) (w u : List (ℕ × ActorEvent)) → Calm w → orders body (w ++ u) ≡ orders body u
 orders_since body [] u k = refl
 orders_since body (x ∷ w) u k = orders_calm body x (w ++ u) (k.at x here) ∙ orders_since body w u (calm_tail k)
 
 -- the arm by which a node is stopped, if it is by one
-abbrev pub armed_by : (body : List BodyLine) (h : List (ℕ × Event)) (i : ℕ) → IsStopOrdered body h i ⊎ IsStopArmed h i → Option ℕ
+abbrev pub armed_by : (body : List BodyLine) (h : List (ℕ × ActorEvent)) (i : ℕ) → IsStopOrdered body h i ⊎ IsStopArmed h i → Option ℕ
 armed_by body h i (inl o) = None
 armed_by body h i (inr f) = Some f.it.line
 
-abbrev pub FitsEvent : (G : Setting) (body : List BodyLine) (arms : ℕ → Option ℕ) (h : List (ℕ × Event)) (i : ℕ) (e : Event) → Heeds G body h i e → Type 0
+abbrev pub FitsEvent : (G : Setting) (body : List BodyLine) (arms : ℕ → Option ℕ) (h : List (ℕ × ActorEvent)) (i : ℕ) (e : ActorEvent) → Heeds G body h i e → Type 0
 FitsEvent G body arms h i Stop may = arms (downs (lines G h) + 1) ≡ armed_by body h i may.1
 FitsEvent G body arms h i _ may = Unit {0}
 
-abbrev pub FitsArms : (G : Setting) (body : List BodyLine) (arms : ℕ → Option ℕ) (h : List (ℕ × Event)) → AllHeed G body h → Type 0
+abbrev pub FitsArms : (G : Setting) (body : List BodyLine) (arms : ℕ → Option ℕ) (h : List (ℕ × ActorEvent)) → AllHeed G body h → Type 0
 FitsArms G body arms [] all = Unit {0}
 FitsArms G body arms (x ∷ h) all = FitsEvent G body arms h x.0 x.1 all.0.heeds × FitsArms G body arms h all.1
 
 -- a legal history by the script, whose arms these are
-pub record Run (G : Setting) (body : List BodyLine) (arms : ℕ → Option ℕ) (h : List (ℕ × Event)) : Type 0 where
-  pub legal : IsLegal G h
+pub record Run (G : Setting) (body : List BodyLine) (arms : ℕ → Option ℕ) (h : List (ℕ × ActorEvent)) : Type 0 where
+  pub legal : IsLegalHistory G h
   pub all : AllHeed G body h
   pub fits : FitsArms G body arms h all
 
-pub run_tail : {G : Setting} {body : List BodyLine} {arms : ℕ → Option ℕ} {x : ℕ × Event} {h : List (ℕ × Event)} → Run G body arms (x ∷ h) → Run G body arms h
+pub run_tail : {G : Setting} {body : List BodyLine} {arms : ℕ → Option ℕ} {x : ℕ × ActorEvent} {h : List (ℕ × ActorEvent)} → Run G body arms (x ∷ h) → Run G body arms h
 run_tail k = record { legal = k.legal.1; all = k.all.1; fits = k.fits.1 }
 
 pub ops_append : (arms : ℕ → Option ℕ) (a b : List Line) → operators arms (a ++ b) ≡ operators arms a ++ operators arms b
@@ -169,7 +169,7 @@ IsLineOf (act.Start node) ls = ls ≡ line.Up node ∷ []
 IsLineOf _ ls = ⊥
 
 -- a line of the operator comes of an order that was not shut, and is behind it
-pub record Obeys (G : Setting) (body : List BodyLine) (h : List (ℕ × Event)) (x : ℕ × Event) (ls : List Line) : Type 0 where
+pub record Obeys (G : Setting) (body : List BodyLine) (h : List (ℕ × ActorEvent)) (x : ℕ × ActorEvent) (ls : List Line) : Type 0 where
   pub order : Ordered
   pub mem : In order (orders body h)
   pub was : Shut G h order → ⊥
@@ -177,7 +177,7 @@ pub record Obeys (G : Setting) (body : List BodyLine) (h : List (ℕ × Event)) 
   pub now : Shut G (x ∷ h) order
 
 module _ (G : Setting) (body : List BodyLine) (arms : ℕ → Option ℕ) where
-  start_obeys : (h : List (ℕ × Event)) (i : ℕ) (e : Event) → is_up i (lines G h) ≡ false → is_up i (lines G ((i, e) ∷ h)) ≡ true → IsStartOrdered body h i → Obeys G body h (i, e) (line.Up i ∷ [])
+  start_obeys : (h : List (ℕ × ActorEvent)) (i : ℕ) (e : ActorEvent) → is_up i (lines G h) ≡ false → is_up i (lines G ((i, e) ∷ h)) ≡ true → IsStartOrdered body h i → Obeys G body h (i, e) (line.Up i ∷ [])
   start_obeys h i e down up k = record {
     order = k.it;
     mem = k.mem;
@@ -190,7 +190,7 @@ module _ (G : Setting) (body : List BodyLine) (arms : ℕ → Option ℕ) where
     now = subst (λ z. ShutBy z k.it.ups k.it.falls (count_of (node_in z) ((i, e) ∷ h)) (is_up (node_in z) (lines G ((i, e) ∷ h)))) (sym k.is.0) (λ q. absurd (let w = sym up ∙ q in cc));
   }
 
-  stop_obeys : (h : List (ℕ × Event)) (i c : ℕ) → (count_of i h).up ≡ true → IsStopOrdered body h i → Obeys G body h (i, Stop) (line.Down c i false ∷ [])
+  stop_obeys : (h : List (ℕ × ActorEvent)) (i c : ℕ) → (count_of i h).up ≡ true → IsStopOrdered body h i → Obeys G body h (i, Stop) (line.Down c i false ∷ [])
   stop_obeys h i c up k = record {
     order = k.it;
     mem = k.mem;
@@ -200,28 +200,28 @@ module _ (G : Setting) (body : List BodyLine) (arms : ℕ → Option ℕ) where
         let f : k.it.ups ≡ (count_of i h).ups = k.is.1 in
         absurd (omega arith));
     its = subst (λ z. IsLineOf z (line.Down c i false ∷ [])) (sym k.is.0) (c, refl);
-    now = subst (λ z. ShutBy z k.it.ups k.it.falls (count_of (node_in z) ((i, Stop) ∷ h)) (is_up (node_in z) (lines G ((i, Stop) ∷ h)))) (sym k.is.0) (λ q. absurd (let e = ap (λ z. (cond z (counted (count_of i h) Fall) (count_of i h)).up) ((Decides-eqb i i).1 refl) in let q' : (cond (i == i) (counted (count_of i h) Fall) (count_of i h)).up ≡ true = q in cc));
+    now = subst (λ z. ShutBy z k.it.ups k.it.falls (count_of (node_in z) ((i, Stop) ∷ h)) (is_up (node_in z) (lines G ((i, Stop) ∷ h)))) (sym k.is.0) (λ q. absurd (let e = ap (λ z. (cond z (turn_counted (count_of i h) Fall) (count_of i h)).up) ((Decides-eqb i i).1 refl) in let q' : (cond (i == i) (turn_counted (count_of i h) Fall) (count_of i h)).up ≡ true = q in cc));
   }
 
-  abbrev Tells : List (ℕ × Event) → ℕ → Event → Type 0
+  abbrev Tells : List (ℕ × ActorEvent) → ℕ → ActorEvent → Type 0
   Tells h i e = (operators arms (lines_by G (lines G h) (part G i h) i e) ≡ []) ⊎ Obeys G body h (i, e) (operators arms (lines_by G (lines G h) (part G i h) i e))
 
-  stop_tells : (h : List (ℕ × Event)) (i : ℕ) → (count_of i h).up ≡ true → (k : IsStopOrdered body h i ⊎ IsStopArmed h i) → arms (downs (lines G h) + 1) ≡ armed_by body h i k → Tells h i Stop
+  stop_tells : (h : List (ℕ × ActorEvent)) (i : ℕ) → (count_of i h).up ≡ true → (k : IsStopOrdered body h i ⊎ IsStopArmed h i) → arms (downs (lines G h) + 1) ≡ armed_by body h i k → Tells h i Stop
   stop_tells h i up (inr f) fit = inl (ap (λ z. if true && not (is_some z) then line.Down (downs (lines G h) + 1) i false ∷ [] else []) fit)
   stop_tells h i up (inl o) fit = inr (subst (λ z. Obeys G body h (i, Stop) z) (sym (ap (λ z. if true && not (is_some z) then line.Down (downs (lines G h) + 1) i false ∷ [] else []) fit)) (stop_obeys h i (downs (lines G h) + 1) up o))
 
-  back_tells : (h : List (ℕ × Event)) (i : ℕ) (e : Event) → is_up i (lines G ((i, e) ∷ h)) ≡ true → ((field h).core.nodes i).up ≡ false → ((field h).core.nodes i).was_up ≡ true → IsStartOrdered body h i → Obeys G body h (i, e) (line.Up i ∷ [])
+  back_tells : (h : List (ℕ × ActorEvent)) (i : ℕ) (e : ActorEvent) → is_up i (lines G ((i, e) ∷ h)) ≡ true → ((field h).core.nodes i).up ≡ false → ((field h).core.nodes i).was_up ≡ true → IsStartOrdered body h i → Obeys G body h (i, e) (line.Up i ∷ [])
   back_tells h i e now up was k = start_obeys h i e ((sees G h i).down up was) now k
 
-  came_up : (h : List (ℕ × Event)) (i : ℕ) (e : Event) → lines_by G (lines G h) (part G i h) i e ≡ line.Up i ∷ [] → is_up i (lines G ((i, e) ∷ h)) ≡ true
+  came_up : (h : List (ℕ × ActorEvent)) (i : ℕ) (e : ActorEvent) → lines_by G (lines G h) (part G i h) i e ≡ line.Up i ∷ [] → is_up i (lines G ((i, e) ∷ h)) ≡ true
   came_up h i e q = up_append i true (lines G h) (lines_by G (lines G h) (part G i h) i e) ∙ (ap (λ z. up_from i (is_up i (lines G h)) z) q ∙ came i (is_up i (lines G h)))
 
-  boot_tells : (h : List (ℕ × Event)) (i p a : ℕ) (l : List KeptEntry) (b : Bool) → is_up i (lines G h) ≡ b → (is_up i (lines G h) ≡ true) ⊎ IsStartOrdered body h i → (operators arms (up_line b i) ≡ []) ⊎ Obeys G body h (i, Node (Boot p a l)) (operators arms (up_line b i))
+  boot_tells : (h : List (ℕ × ActorEvent)) (i p a : ℕ) (l : List KeptEntry) (b : Bool) → is_up i (lines G h) ≡ b → (is_up i (lines G h) ≡ true) ⊎ IsStartOrdered body h i → (operators arms (up_line b i) ≡ []) ⊎ Obeys G body h (i, Node (Boot p a l)) (operators arms (up_line b i))
   boot_tells h i p a l true e k = inl refl
   boot_tells h i p a l false e (inl q) = absurd (let w = sym e ∙ q in cc)
   boot_tells h i p a l false e (inr k) = inr (start_obeys h i (Node (Boot p a l)) e (up_append i true (lines G h) (up_line (is_up i (lines G h)) i) ∙ boot_came i (is_up i (lines G h))) k)
 
-  tells : (h : List (ℕ × Event)) (i : ℕ) (e : Event) → is_calm e ≡ true → MayDo G h i e → (k : Heeds G body h i e) → FitsEvent G body arms h i e k → Tells h i e
+  tells : (h : List (ℕ × ActorEvent)) (i : ℕ) (e : ActorEvent) → is_calm e ≡ true → MayDo G h i e → (k : Heeds G body h i e) → FitsEvent G body arms h i e k → Tells h i e
   tells h i Stop calm may k fit = stop_tells h i k.0 k.1 fit
   tells h i (Node Down) calm may k fit = inl refl
   tells h i (Node (Boot p a l)) calm may k fit = boot_tells h i p a l (is_up i (lines G h)) refl k.1
@@ -240,7 +240,7 @@ module _ (G : Setting) (body : List BodyLine) (arms : ℕ → Option ℕ) where
   none_more a b e f = ops_append arms a b ∙ (ap (λ z. z ++ operators arms b) e ∙ f)
 
   -- where all orders are shut the operator tells nothing, until it goes on
-  pub quiet : (w u : List (ℕ × Event)) → Run G body arms (w ++ u) → Calm w → Each (Shut G u) (orders body u) → (operators arms (since G w u) ≡ []) × Each (Shut G (w ++ u)) (orders body (w ++ u))
+  pub quiet : (w u : List (ℕ × ActorEvent)) → Run G body arms (w ++ u) → Calm w → Each (Shut G u) (orders body u) → (operators arms (since G w u) ≡ []) × Each (Shut G (w ++ u)) (orders body (w ++ u))
   quiet [] u run calm shut = (refl, shut)
   quiet (x ∷ w) u run calm shut =
       let old = quiet w u (run_tail run) (calm_tail calm) shut in
@@ -251,7 +251,7 @@ module _ (G : Setting) (body : List BodyLine) (arms : ℕ → Option ℕ) where
       ]
 
   -- since an order that is the only one that is not shut
-  pub record Serves (o : Ordered) (os : List Ordered) (w u : List (ℕ × Event)) : Type 0 where
+  pub record Serves (o : Ordered) (os : List Ordered) (w u : List (ℕ × ActorEvent)) : Type 0 where
     pub orders' : orders body (w ++ u) ≡ o ∷ os
     pub others : Each (Shut G (w ++ u)) os
     pub so : (operators arms (since G w u) ≡ []) ⊎ (IsLineOf o.act (operators arms (since G w u)) × Shut G (w ++ u) o)
@@ -260,7 +260,7 @@ module _ (G : Setting) (body : List BodyLine) (arms : ℕ → Option ℕ) where
   in_head here = inl refl
   in_head (there m) = inr m
 
-  pub serves : (o : Ordered) (os : List Ordered) (w u : List (ℕ × Event)) → Run G body arms (w ++ u) → Calm w → orders body u ≡ o ∷ os → Each (Shut G u) os → Serves o os w u
+  pub serves : (o : Ordered) (os : List Ordered) (w u : List (ℕ × ActorEvent)) → Run G body arms (w ++ u) → Calm w → orders body u ≡ o ∷ os → Each (Shut G u) os → Serves o os w u
   serves o os [] u run calm e shut = record { orders' = e; others = shut; so = inl refl }
   serves o os (x ∷ w) u run calm e shut = step (serves o os w u (run_tail run) (calm_tail calm) e shut) (tells (w ++ u) x.0 x.1 (calm.at x here) run.legal.0 run.all.0.heeds run.fits.0)
     where

@@ -4,8 +4,8 @@ use Rattle.std.specs.Prelude.{true, false, if◌then◌else◌}
 use mathlib.Core.Logic.{◌⊎◌, inl, inr}
 use Rattle.cluster_events.specs.ByScript.{Heeds, AllHeed}
 use Rattle.cluster_events.specs.Operator.{operators_if, operators_from, Duty, next_left, fed_over, heed, duty}
-use Rattle.cluster_events.specs.Parts.{Event}
-use Rattle.cluster_events.specs.Parts.Event.{Order, Obeyed, Barrier, Fed, FedAgain}
+use Rattle.cluster_events.specs.Parts.{ActorEvent}
+use Rattle.cluster_events.specs.Parts.ActorEvent.{Order, Obeyed, Barrier, Fed, FedAgain}
 use Rattle.cluster_events.specs.Settings.{Setting}
 use Rattle.cluster_events.proofs.Obeying.{fewer}
 use Rattle.cluster_reports.proofs.OrderLaws.{is_calm, Calm, calm_tail}
@@ -29,19 +29,19 @@ two_ends (m ∷ mid) last (x ∷ later) before e =
       | inr k ↦ inr k
     ]
 
-pub calm_right : (a b : List (ℕ × Event)) → Calm (a ++ b) → Calm b
+pub calm_right : (a b : List (ℕ × ActorEvent)) → Calm (a ++ b) → Calm b
 calm_right [] b k = k
 calm_right (x ∷ a) b k = calm_right a b (calm_tail k)
 
-pub calm_left : (a b : List (ℕ × Event)) → Calm (a ++ b) → Calm a
+pub calm_left : (a b : List (ℕ × ActorEvent)) → Calm (a ++ b) → Calm a
 calm_left [] b k = each_none
 calm_left (x ∷ a) b k = each_add (k.at x here) (calm_left a b (calm_tail k))
 
-pub calm_bare : (a : List (ℕ × Event)) → Calm a → NoBarrier a
+pub calm_bare : (a : List (ℕ × ActorEvent)) → Calm a → NoBarrier a
 calm_bare [] k = each_none
 calm_bare (x ∷ a) k = each_add (one x.1 (k.at x here)) (calm_bare a (calm_tail k))
   where
-    one : (e : Event) → is_calm e ≡ true → is_barrier_event e ≡ false
+    one : (e : ActorEvent) → is_calm e ≡ true → is_barrier_event e ≡ false
     one Barrier q = absurd (cc)
     one _ q = refl
 
@@ -53,14 +53,14 @@ fed_left d k rest e = ap (λ z. fed_over z d) e ∙ ap (λ z. record { left = ne
 
 module _ (G : Setting) (body : List BodyLine) where
   -- what is ordered stays so until the operator goes on
-  pub stays_ordered : (z before : List (ℕ × Event)) → AllHeed G body (z ++ before) → (duty body before).ordered ≡ true → (((duty body (z ++ before)).ordered ≡ true) × ((duty body (z ++ before)).left ≡ (duty body before).left)) ⊎ (length (duty body (z ++ before)).left < length (duty body before).left)
+  pub stays_ordered : (z before : List (ℕ × ActorEvent)) → AllHeed G body (z ++ before) → (duty body before).ordered ≡ true → (((duty body (z ++ before)).ordered ≡ true) × ((duty body (z ++ before)).left ≡ (duty body before).left)) ⊎ (length (duty body (z ++ before)).left < length (duty body before).left)
   stays_ordered [] before all e = inl (e, refl)
   stays_ordered (x ∷ z) before all e = elim (stays_ordered z before all.1 e) [ inl k ↦ one x.0 x.1 all.0.heeds k | inr l ↦ inr (let f = fewer (duty body (z ++ before)) x.1 in omega arith) ]
     where
       same : length (duty body (z ++ before)).left ≡ length (duty body before).left → (n : ℕ) → n < length (duty body (z ++ before)).left → n < length (duty body before).left
       same q n l = subst (λ y. n < y) q l
 
-      one : (i : ℕ) (ev : Event) → Heeds G body (z ++ before) i ev → ((duty body (z ++ before)).ordered ≡ true) × ((duty body (z ++ before)).left ≡ (duty body before).left)
+      one : (i : ℕ) (ev : ActorEvent) → Heeds G body (z ++ before) i ev → ((duty body (z ++ before)).ordered ≡ true) × ((duty body (z ++ before)).left ≡ (duty body before).left)
           → (((heed (duty body (z ++ before)) ev).ordered ≡ true) × ((heed (duty body (z ++ before)) ev).left ≡ (duty body before).left)) ⊎ (length (heed (duty body (z ++ before)) ev).left < length (duty body before).left)
       one i Order may k = absurd (let u = may.unordered in let o = k.0 in cc)
       one i Obeyed may k = inr (same (ap (λ y. length y) k.1) (length (next_left (duty body (z ++ before)).left)) (passes (duty body (z ++ before)).left may.line may.act may.rest may.next))

@@ -5,7 +5,7 @@ use mathlib.Core.Logic.{◌⊎◌, inl, inr}
 use Rattle.cdb_values.specs.declared.replies.Reply.{Reply}
 use Rattle.std.proofs.lemmas.List.{append-nil}
 use Rattle.cluster_answers.proofs.OutcomeLaws.{some_same}
-use Rattle.cluster_reports.specs.SessionLines.{with_reply, piece_at, behind_piece, behind}
+use Rattle.cluster_reports.specs.SessionLines.{with_reply, piece_at, behind_piece, lines_behind}
 use Rattle.node_reports.specs.Pieces.{is_over, IsItsPiece, ArePieces}
 use Rattle.report_laws.specs.Play.{is_own, number_told}
 use Rattle.report_laws.specs.Told.{numbered, Numbered}
@@ -113,27 +113,27 @@ number_of_text L p t = number_told L p t
 
 -- what a first text does
 pub data FirstText (L : Language) (b : List Numbered) (p : Place) (t : List ℕ) (ts : List (List ℕ)) (xs : List Numbered) (r : List Numbered) : Type 0 where
-  skipped : is_over (number_told L p t) b ≡ true → behind L b (next_place L p t) ts xs ≡ Some r → FirstText L b p t ts xs r
-  told_it : is_over (number_told L p t) b ≡ false → (c : List Reply × List Numbered) → piece_at (number_told L p t) (is_last_of (is_own L p t)) xs ≡ Some c → behind L (b ++ numbered (number_told L p t) c.0) (next_place L p t) ts c.1 ≡ Some r → FirstText L b p t ts xs r
+  skipped : is_over (number_told L p t) b ≡ true → lines_behind L b (next_place L p t) ts xs ≡ Some r → FirstText L b p t ts xs r
+  told_it : is_over (number_told L p t) b ≡ false → (c : List Reply × List Numbered) → piece_at (number_told L p t) (is_last_of (is_own L p t)) xs ≡ Some c → lines_behind L (b ++ numbered (number_told L p t) c.0) (next_place L p t) ts c.1 ≡ Some r → FirstText L b p t ts xs r
 
-pub first_text : (L : Language) (b : List Numbered) (p : Place) (t : List ℕ) (ts : List (List ℕ)) (xs r : List Numbered) → behind L b p (t ∷ ts) xs ≡ Some r → FirstText L b p t ts xs r
+pub first_text : (L : Language) (b : List Numbered) (p : Place) (t : List ℕ) (ts : List (List ℕ)) (xs r : List Numbered) → lines_behind L b p (t ∷ ts) xs ≡ Some r → FirstText L b p t ts xs r
 first_text L b p t ts xs r e = go (is_over (number_told L p t) b) refl (piece_at (number_told L p t) (is_last_of (is_own L p t)) xs) refl e
   where
-    go : (o : Bool) → is_over (number_told L p t) b ≡ o → (c : Piece) → piece_at (number_told L p t) (is_last_of (is_own L p t)) xs ≡ c → (if o then behind L b (next_place L p t) ts xs else behind_piece c (λ mine rest. behind L (b ++ numbered (number_told L p t) mine) (next_place L p t) ts rest)) ≡ Some r → FirstText L b p t ts xs r
+    go : (o : Bool) → is_over (number_told L p t) b ≡ o → (c : Piece) → piece_at (number_told L p t) (is_last_of (is_own L p t)) xs ≡ c → (if o then lines_behind L b (next_place L p t) ts xs else behind_piece c (λ mine rest. lines_behind L (b ++ numbered (number_told L p t) mine) (next_place L p t) ts rest)) ≡ Some r → FirstText L b p t ts xs r
     go true q c w e = skipped q e
     go false q None w e = not_some e
     go false q (Some d) w e = told_it q d w e
 
-pub skip_so : (L : Language) (b : List Numbered) (p : Place) (t : List ℕ) (ts : List (List ℕ)) (xs : List Numbered) → is_over (number_told L p t) b ≡ true → behind L b p (t ∷ ts) xs ≡ behind L b (next_place L p t) ts xs
-skip_so L b p t ts xs q = ap (λ o. if o then behind L b (next_place L p t) ts xs else behind_piece (piece_at (number_told L p t) (is_last_of (is_own L p t)) xs) (λ mine rest. behind L (b ++ numbered (number_told L p t) mine) (next_place L p t) ts rest)) q
+pub skip_so : (L : Language) (b : List Numbered) (p : Place) (t : List ℕ) (ts : List (List ℕ)) (xs : List Numbered) → is_over (number_told L p t) b ≡ true → lines_behind L b p (t ∷ ts) xs ≡ lines_behind L b (next_place L p t) ts xs
+skip_so L b p t ts xs q = ap (λ o. if o then lines_behind L b (next_place L p t) ts xs else behind_piece (piece_at (number_told L p t) (is_last_of (is_own L p t)) xs) (λ mine rest. lines_behind L (b ++ numbered (number_told L p t) mine) (next_place L p t) ts rest)) q
 
-pub tell_so : (L : Language) (b : List Numbered) (p : Place) (t : List ℕ) (ts : List (List ℕ)) (xs : List Numbered) (c : List Reply × List Numbered) → is_over (number_told L p t) b ≡ false → piece_at (number_told L p t) (is_last_of (is_own L p t)) xs ≡ Some c → behind L b p (t ∷ ts) xs ≡ behind L (b ++ numbered (number_told L p t) c.0) (next_place L p t) ts c.1
+pub tell_so : (L : Language) (b : List Numbered) (p : Place) (t : List ℕ) (ts : List (List ℕ)) (xs : List Numbered) (c : List Reply × List Numbered) → is_over (number_told L p t) b ≡ false → piece_at (number_told L p t) (is_last_of (is_own L p t)) xs ≡ Some c → lines_behind L b p (t ∷ ts) xs ≡ lines_behind L (b ++ numbered (number_told L p t) c.0) (next_place L p t) ts c.1
 tell_so L b p t ts xs c q w =
-    ap (λ o. if o then behind L b (next_place L p t) ts xs else behind_piece (piece_at (number_told L p t) (is_last_of (is_own L p t)) xs) (λ mine rest. behind L (b ++ numbered (number_told L p t) mine) (next_place L p t) ts rest)) q
-    ∙ ap (λ z. behind_piece z (λ mine rest. behind L (b ++ numbered (number_told L p t) mine) (next_place L p t) ts rest)) w
+    ap (λ o. if o then lines_behind L b (next_place L p t) ts xs else behind_piece (piece_at (number_told L p t) (is_last_of (is_own L p t)) xs) (λ mine rest. lines_behind L (b ++ numbered (number_told L p t) mine) (next_place L p t) ts rest)) q
+    ∙ ap (λ z. behind_piece z (λ mine rest. lines_behind L (b ++ numbered (number_told L p t) mine) (next_place L p t) ts rest)) w
 
 -- lines behind them change nothing
-pub behind_more : (L : Language) (b : List Numbered) (p : Place) (ts : List (List ℕ)) (xs ys r : List Numbered) → behind L b p ts xs ≡ Some r → behind L b p ts (xs ++ ys) ≡ Some (r ++ ys)
+pub behind_more : (L : Language) (b : List Numbered) (p : Place) (ts : List (List ℕ)) (xs ys r : List Numbered) → lines_behind L b p ts xs ≡ Some r → lines_behind L b p ts (xs ++ ys) ≡ Some (r ++ ys)
 behind_more L b p [] xs ys r e = ap (λ z. Some (z ++ ys)) (some_same e)
 behind_more L b p (t ∷ ts) xs ys r e = elim (first_text L b p t ts xs r e) [
   | skipped q w ↦ skip_so L b p t ts (xs ++ ys) q ∙ behind_more L b (next_place L p t) ts xs ys r w
@@ -141,7 +141,7 @@ behind_more L b p (t ∷ ts) xs ys r e = elim (first_text L b p t ts xs r e) [
 ]
 
 -- they are pieces
-pub behind_pieces : (L : Language) (b : List Numbered) (p : Place) (ts : List (List ℕ)) (xs r : List Numbered) → behind L b p ts xs ≡ Some r → (earlier : List Numbered) × (xs ≡ earlier ++ r) × ArePieces L b p ts earlier
+pub behind_pieces : (L : Language) (b : List Numbered) (p : Place) (ts : List (List ℕ)) (xs r : List Numbered) → lines_behind L b p ts xs ≡ Some r → (earlier : List Numbered) × (xs ≡ earlier ++ r) × ArePieces L b p ts earlier
 behind_pieces L b p [] xs r e = ([], some_same e, refl)
 behind_pieces L b p (t ∷ ts) xs r e = elim (first_text L b p t ts xs r e) [
   | skipped q w ↦ (let k = behind_pieces L b (next_place L p t) ts xs r w in
@@ -152,20 +152,20 @@ behind_pieces L b p (t ∷ ts) xs r e = elim (first_text L b p t ts xs r e) [
 ]
 
 -- without the last line: it is behind them, or they end with it
-pub behind_none : (L : Language) (b : List Numbered) (p : Place) (ts : List (List ℕ)) (r : List Numbered) → behind L b p ts [] ≡ Some r → r ≡ []
+pub behind_none : (L : Language) (b : List Numbered) (p : Place) (ts : List (List ℕ)) (r : List Numbered) → lines_behind L b p ts [] ≡ Some r → r ≡ []
 behind_none L b p [] r e = sym (some_same e)
 behind_none L b p (t ∷ ts) r e = elim (first_text L b p t ts [] r e) [
   | skipped q w ↦ behind_none L b (next_place L p t) ts r w
   | told_it q c v w ↦ not_some v
 ]
 
-pub behind_less : (L : Language) (b : List Numbered) (p : Place) (ts : List (List ℕ)) (xs : List Numbered) (x : Numbered) (r : List Numbered) → behind L b p ts (xs ++ x ∷ []) ≡ Some r → (r ≡ []) ⊎ ((s : List Numbered) × (behind L b p ts xs ≡ Some s))
+pub behind_less : (L : Language) (b : List Numbered) (p : Place) (ts : List (List ℕ)) (xs : List Numbered) (x : Numbered) (r : List Numbered) → lines_behind L b p ts (xs ++ x ∷ []) ≡ Some r → (r ≡ []) ⊎ ((s : List Numbered) × (lines_behind L b p ts xs ≡ Some s))
 behind_less L b p [] xs x r e = inr (xs, refl)
 behind_less L b p (t ∷ ts) xs x r e = elim (first_text L b p t ts (xs ++ x ∷ []) r e) [
   | skipped q w ↦ elim (behind_less L b (next_place L p t) ts xs x r w) [ inl z ↦ inl z | inr k ↦ inr (k.0, skip_so L b p t ts xs q ∙ k.1) ]
   | told_it q c v w ↦ elim (piece_less (number_told L p t) (is_last_of (is_own L p t)) xs x c v) [
-    | inl z ↦ inl (behind_none L (b ++ numbered (number_told L p t) c.0) (next_place L p t) ts r (subst (λ z. behind L (b ++ numbered (number_told L p t) c.0) (next_place L p t) ts z ≡ Some r) z w))
-    | inr k ↦ elim (behind_less L (b ++ numbered (number_told L p t) c.0) (next_place L p t) ts k.0 x r (subst (λ z. behind L (b ++ numbered (number_told L p t) c.0) (next_place L p t) ts z ≡ Some r) k.1 w)) [
+    | inl z ↦ inl (behind_none L (b ++ numbered (number_told L p t) c.0) (next_place L p t) ts r (subst (λ z. lines_behind L (b ++ numbered (number_told L p t) c.0) (next_place L p t) ts z ≡ Some r) z w))
+    | inr k ↦ elim (behind_less L (b ++ numbered (number_told L p t) c.0) (next_place L p t) ts k.0 x r (subst (λ z. lines_behind L (b ++ numbered (number_told L p t) c.0) (next_place L p t) ts z ≡ Some r) k.1 w)) [
       | inl z ↦ inl z
       | inr m ↦ inr (m.0, tell_so L b p t ts xs (c.0, k.0) q k.2 ∙ m.1)
     ]
@@ -173,7 +173,7 @@ behind_less L b p (t ∷ ts) xs x r e = elim (first_text L b p t ts (xs ++ x ∷
 ]
 
 -- where more texts are over, so are the first of them
-pub behind_front : (L : Language) (b : List Numbered) (p : Place) (ts us : List (List ℕ)) (xs r : List Numbered) → behind L b p (ts ++ us) xs ≡ Some r → (s : List Numbered) × (behind L b p ts xs ≡ Some s)
+pub behind_front : (L : Language) (b : List Numbered) (p : Place) (ts us : List (List ℕ)) (xs r : List Numbered) → lines_behind L b p (ts ++ us) xs ≡ Some r → (s : List Numbered) × (lines_behind L b p ts xs ≡ Some s)
 behind_front L b p [] us xs r e = (xs, refl)
 behind_front L b p (t ∷ ts) us xs r e = elim (first_text L b p t (ts ++ us) xs r e) [
   | skipped q w ↦ (let k = behind_front L b (next_place L p t) ts us xs r w in (k.0, skip_so L b p t ts xs q ∙ k.1))
@@ -192,7 +192,7 @@ pub record Across (L : Language) (b : List Numbered) (p : Place) (ts : List (Lis
   pub its : part ++ left ≡ numbered (number_told L (place_from L p ts) t) mine
   pub is : IsItsPiece L (b ++ earlier) (place_from L p ts) t mine
 
-pub across : (L : Language) (b : List Numbered) (p : Place) (ts : List (List ℕ)) (t : List ℕ) (us : List (List ℕ)) (xs ys part r : List Numbered) → behind L b p ts xs ≡ Some part → behind L b p (ts ++ t ∷ []) xs ≡ None → behind L b p (ts ++ t ∷ us) (xs ++ ys) ≡ Some r → Across L b p ts t xs ys part
+pub across : (L : Language) (b : List Numbered) (p : Place) (ts : List (List ℕ)) (t : List ℕ) (us : List (List ℕ)) (xs ys part r : List Numbered) → lines_behind L b p ts xs ≡ Some part → lines_behind L b p (ts ++ t ∷ []) xs ≡ None → lines_behind L b p (ts ++ t ∷ us) (xs ++ ys) ≡ Some r → Across L b p ts t xs ys part
 across L b p [] t us xs ys part r over at_it all = elim (first_text L b p t us (xs ++ ys) r all) [
   | skipped q w ↦ not_some (sym at_it ∙ skip_so L b p t [] xs q)
   | told_it q c v w ↦ (

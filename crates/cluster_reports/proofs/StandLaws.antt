@@ -6,16 +6,16 @@ use Rattle.std.proofs.Common.{◌≡◌, ℕ, ◌+◌, ◌<◌, ◌≤◌, List,
 use Rattle.std.specs.Prelude.{true, false, cond, Option, if◌then◌else◌}
 use Rattle.std.proofs.lemmas.Bool.Decides.{Decides-eqb}
 use mathlib.Core.Logic.{◌⊎◌, inl, inr}
-use Rattle.cluster_consensus.specs.Events.Event.{Down}
+use Rattle.cluster_consensus.specs.Events.NodeEvent.{Down}
 use Rattle.cluster_events.proofs.Charges.{orders_ok}
 use Rattle.cluster_events.proofs.FireLaws.{count_seen}
 use Rattle.cluster_events.proofs.LineLists.{append_assoc, append_nil}
 use Rattle.cluster_events.specs.ByScript.{AllHeed, IsOrderDue}
 use Rattle.cluster_events.specs.Guards.{AllBeyond}
-use Rattle.cluster_events.specs.Operator.{operators_from, Duty, next_left, duty, Ordered, new_orders, orders, node_in, counted, count_of, IsOfNode, IsHeededAt, IsObeyed}
+use Rattle.cluster_events.specs.Operator.{operators_from, Duty, next_left, duty, Ordered, new_orders, orders, node_in, turn_counted, count_of, IsOfNode, IsHeededAt, IsObeyed}
 use Rattle.cluster_events.specs.Operator.Turn.{Fall}
-use Rattle.cluster_events.specs.Parts.{Event, barriers, lines}
-use Rattle.cluster_events.specs.Parts.Event.{Node, Order, Obeyed, Barrier, Fed, FedAgain}
+use Rattle.cluster_events.specs.Parts.{ActorEvent, barriers_printed, lines}
+use Rattle.cluster_events.specs.Parts.ActorEvent.{Node, Order, Obeyed, Barrier, Fed, FedAgain}
 use Rattle.cluster_events.specs.Settings.{Setting}
 use Rattle.cluster_reports.proofs.OrderLaws.{Shut, ShutBy, all_later, is_calm, Calm, calm_tail, heed_calm, orders_since, Run, run_tail, IsLineOf, quiet, Serves, serves, ops_append}
 use Rattle.cluster_reports.proofs.PlaceLaws.{two_ends, calm_right, calm_left, calm_bare, stays_ordered, fed_left, bars, bars_more}
@@ -77,15 +77,15 @@ module _ (G : Setting) (body : List BodyLine) (arms : ℕ → Option ℕ) (basis
       (p.0, p.1 ++ mine, ap (λ z. z ++ mine) p.2 ∙ append_assoc p.0 p.1 mine, p.3, placed_more xs x (before ++ p.0) p.1 mine p.4 (subst (λ z. IsPlaced x.0 x.1 z mine) (ap (λ z. before ++ z) p.2 ∙ sym (append_assoc before p.0 p.1)) k))
 
   -- the next line is ordered
-  pub record Under (h : List (ℕ × Event)) (place : List (ℕ × Event)) : Type 0 where
+  pub record Under (h : List (ℕ × ActorEvent)) (place : List (ℕ × ActorEvent)) : Type 0 where
     pub line : ℕ
     pub act : Act
     pub rest : List (ℕ × Act)
     pub next : (duty body h).left ≡ (line, act) ∷ rest
     pub of_node : IsOfNode act
-    pub later : List (ℕ × Event)
+    pub later : List (ℕ × ActorEvent)
     pub by : ℕ
-    pub before : List (ℕ × Event)
+    pub before : List (ℕ × ActorEvent)
     pub split : h ≡ later ++ (by, Order) ∷ before
     pub calm : Calm later
     pub order : Ordered
@@ -93,7 +93,7 @@ module _ (G : Setting) (body : List BodyLine) (arms : ℕ → Option ℕ) (basis
     pub orders' : orders body ((by, Order) ∷ before) ≡ order ∷ others
     pub is_act : order.act ≡ act
     pub shut : Each (Shut G ((by, Order) ∷ before)) others
-    pub front : List (ℕ × Event)
+    pub front : List (ℕ × ActorEvent)
     pub behind : before ≡ front ++ place
     pub alone : operators arms (since G front place) ≡ []
     pub unordered : (duty body before).ordered ≡ false
@@ -101,36 +101,36 @@ module _ (G : Setting) (body : List BodyLine) (arms : ℕ → Option ℕ) (basis
     pub ordered : (duty body h).ordered ≡ true
 
   -- or it is not
-  pub record Free (h : List (ℕ × Event)) (mid place : List (ℕ × Event)) : Type 0 where
+  pub record Free (h : List (ℕ × ActorEvent)) (mid place : List (ℕ × ActorEvent)) : Type 0 where
     pub unordered : (duty body h).ordered ≡ false
     pub alone : operators arms (since G mid place) ≡ []
     pub shut : Each (Shut G h) (orders body h)
 
-  pub record Stand (h : List (ℕ × Event)) : Type 0 where
+  pub record Stand (h : List (ℕ × ActorEvent)) : Type 0 where
     pub done : List (ℕ × Act)
     pub whole : done ++ (duty body h).left ≡ operators_from 0 body
-    pub mid : List (ℕ × Event)
-    pub last' : List (ℕ × Event)
+    pub mid : List (ℕ × ActorEvent)
+    pub last' : List (ℕ × ActorEvent)
     pub split : h ≡ mid ++ last'
     pub places : PlacedTo done [] (lines G last')
     pub bare : NoBarrier mid
-    pub told_bars : barriers h ≡ bars done
+    pub told_bars : barriers_printed h ≡ bars done
     pub ended : (front : List (ℕ × Act)) → done ≡ front ++ (ending, act.Feed) ∷ [] → AllBeyond G last'
     pub now : Free h mid last' ⊎ Under h last'
 
   -- what the laws of sessions and of feeds give at a barrier and at a feed
-  module _ (H : List (ℕ × Event))
-      (at_bar : (h w : List (ℕ × Event)) (i k : ℕ) (done rest : List (ℕ × Act)) → w ++ (i, Barrier) ∷ h ≡ H → Run G body arms ((i, Barrier) ∷ h) → done ++ (k, act.Barrier) ∷ rest ≡ operators_from 0 body → barriers h ≡ bars done → (name : List ℕ) → AreOf basis.language name (take k body) (told name (lines G h)))
-      (at_fed : (h w : List (ℕ × Event)) (i d g : ℕ) → w ++ (i, Fed d g) ∷ h ≡ H → Run G body arms ((i, Fed d g) ∷ h) → IsFed basis view (lines G h) d)
-      (at_again : (h w : List (ℕ × Event)) (i d : ℕ) → w ++ (i, FedAgain d) ∷ h ≡ H → Run G body arms ((i, FedAgain d) ∷ h) → IsFed basis view (lines G h) d)
-      (last_fed : (h w : List (ℕ × Event)) (i d g : ℕ) (rest : List (ℕ × Act)) → w ++ (i, Fed d g) ∷ h ≡ H → Run G body arms ((i, Fed d g) ∷ h) → (duty body h).left ≡ (ending, act.Feed) ∷ rest → IsFedAtLast basis view (lines G h) d × AllBeyond G ((i, Fed d g) ∷ h))
-      (last_again : (h w : List (ℕ × Event)) (i d : ℕ) (rest : List (ℕ × Act)) → w ++ (i, FedAgain d) ∷ h ≡ H → Run G body arms ((i, FedAgain d) ∷ h) → (duty body h).left ≡ (ending, act.Feed) ∷ rest → IsFedAtLast basis view (lines G h) d × AllBeyond G ((i, FedAgain d) ∷ h)) where
+  module _ (H : List (ℕ × ActorEvent))
+      (at_bar : (h w : List (ℕ × ActorEvent)) (i k : ℕ) (done rest : List (ℕ × Act)) → w ++ (i, Barrier) ∷ h ≡ H → Run G body arms ((i, Barrier) ∷ h) → done ++ (k, act.Barrier) ∷ rest ≡ operators_from 0 body → barriers_printed h ≡ bars done → (name : List ℕ) → AreOf basis.language name (take k body) (told name (lines G h)))
+      (at_fed : (h w : List (ℕ × ActorEvent)) (i d g : ℕ) → w ++ (i, Fed d g) ∷ h ≡ H → Run G body arms ((i, Fed d g) ∷ h) → IsFed basis view (lines G h) d)
+      (at_again : (h w : List (ℕ × ActorEvent)) (i d : ℕ) → w ++ (i, FedAgain d) ∷ h ≡ H → Run G body arms ((i, FedAgain d) ∷ h) → IsFed basis view (lines G h) d)
+      (last_fed : (h w : List (ℕ × ActorEvent)) (i d g : ℕ) (rest : List (ℕ × Act)) → w ++ (i, Fed d g) ∷ h ≡ H → Run G body arms ((i, Fed d g) ∷ h) → (duty body h).left ≡ (ending, act.Feed) ∷ rest → IsFedAtLast basis view (lines G h) d × AllBeyond G ((i, Fed d g) ∷ h))
+      (last_again : (h w : List (ℕ × ActorEvent)) (i d : ℕ) (rest : List (ℕ × Act)) → w ++ (i, FedAgain d) ∷ h ≡ H → Run G body arms ((i, FedAgain d) ∷ h) → (duty body h).left ≡ (ending, act.Feed) ∷ rest → IsFedAtLast basis view (lines G h) d × AllBeyond G ((i, FedAgain d) ∷ h)) where
     -- an event that changes nothing of the operator's
-    same_bars : (x : ℕ × Event) (h : List (ℕ × Event)) → is_calm x.1 ≡ true → barriers (x ∷ h) ≡ barriers h
+    same_bars : (x : ℕ × ActorEvent) (h : List (ℕ × ActorEvent)) → is_calm x.1 ≡ true → barriers_printed (x ∷ h) ≡ barriers_printed h
     same_bars (i, Barrier) h q = absurd (cc)
     same_bars (i, _) h q = refl
 
-    stand_calm : (x : ℕ × Event) (h : List (ℕ × Event)) → is_calm x.1 ≡ true → Run G body arms (x ∷ h) → Stand h → Stand (x ∷ h)
+    stand_calm : (x : ℕ × ActorEvent) (h : List (ℕ × ActorEvent)) → is_calm x.1 ≡ true → Run G body arms (x ∷ h) → Stand h → Stand (x ∷ h)
     stand_calm x h calm run s = record {
       done = s.done;
       whole = ap (λ (z : Duty). s.done ++ z.left) same ∙ s.whole;
@@ -182,7 +182,7 @@ module _ (G : Setting) (body : List BodyLine) (arms : ℕ → Option ℕ) (basis
             }
 
     -- a stop or a start is ordered
-    stand_order : (i : ℕ) (h : List (ℕ × Event)) → Run G body arms ((i, Order) ∷ h) → Stand h → Stand ((i, Order) ∷ h)
+    stand_order : (i : ℕ) (h : List (ℕ × ActorEvent)) → Run G body arms ((i, Order) ∷ h) → Stand h → Stand ((i, Order) ∷ h)
     stand_order i h run s = record {
       done = s.done;
       whole = s.whole;
@@ -225,23 +225,23 @@ module _ (G : Setting) (body : List BodyLine) (arms : ℕ → Option ℕ) (basis
         }
 
     -- it is heeded at a place: behind it the order is shut
-    heeded_shut : (i : ℕ) (h0 v : List (ℕ × Event)) (o : Ordered) → In o (orders body ((i, Order) ∷ h0)) → Calm v → AllHeed G body (v ++ (i, Order) ∷ h0) → (a : Act) → IsOfNode a → o.act ≡ a → IsHeededAt G body (v ++ (i, Order) ∷ h0) a → Shut G (v ++ (i, Order) ∷ h0) o
+    heeded_shut : (i : ℕ) (h0 v : List (ℕ × ActorEvent)) (o : Ordered) → In o (orders body ((i, Order) ∷ h0)) → Calm v → AllHeed G body (v ++ (i, Order) ∷ h0) → (a : Act) → IsOfNode a → o.act ≡ a → IsHeededAt G body (v ++ (i, Order) ∷ h0) a → Shut G (v ++ (i, Order) ∷ h0) o
     heeded_shut i h0 v o mem calm all (act.Stop node) kind e k = subst (λ z. ShutBy z o.ups o.falls (count_of (node_in z) (v ++ (i, Order) ∷ h0)) (is_up (node_in z) (lines G (v ++ (i, Order) ∷ h0)))) (sym e) (λ q. absurd (let u = count_seen G (v ++ (i, Order) ∷ h0) node q in let w = sym k ∙ u in cc))
     heeded_shut i h0 v o mem calm all (act.Start node) kind e (inl k) = subst (λ z. ShutBy z o.ups o.falls (count_of (node_in z) (v ++ (i, Order) ∷ h0)) (is_up (node_in z) (lines G (v ++ (i, Order) ∷ h0)))) (sym e) (λ q. absurd (let w = sym k ∙ q in cc))
-    heeded_shut i h0 [] o mem calm all (act.Start node) kind e (inr k) = absurd (let w : Order ≡ Node Down = ap (λ (z : ℕ × Event). z.1) (head k.fell) in cc)
+    heeded_shut i h0 [] o mem calm all (act.Start node) kind e (inr k) = absurd (let w : Order ≡ Node Down = ap (λ (z : ℕ × ActorEvent). z.1) (head k.fell) in cc)
       where
-        head : {x y : ℕ × Event} {xs ys : List (ℕ × Event)} → x ∷ xs ≡ y ∷ ys → x ≡ y
+        head : {x y : ℕ × ActorEvent} {xs ys : List (ℕ × ActorEvent)} → x ∷ xs ≡ y ∷ ys → x ≡ y
         head e = cc
     heeded_shut i h0 (x ∷ v) o mem calm all (act.Start node) kind e (inr k) = subst (λ z. ShutBy z o.ups o.falls (count_of (node_in z) (x ∷ (v ++ (i, Order) ∷ h0))) (is_up (node_in z) (lines G (x ∷ (v ++ (i, Order) ∷ h0))))) (sym e) (λ q. more)
       where
-        head : {x y : ℕ × Event} {xs ys : List (ℕ × Event)} → x ∷ xs ≡ y ∷ ys → x ≡ y
+        head : {x y : ℕ × ActorEvent} {xs ys : List (ℕ × ActorEvent)} → x ∷ xs ≡ y ∷ ys → x ≡ y
         head e = cc
 
         low : o.falls ≤ (count_of node (v ++ (i, Order) ∷ h0)).falls
         low = subst (λ z. o.falls ≤ (count_of (node_in z) (v ++ (i, Order) ∷ h0)).falls) e ((orders_ok body (v ++ (i, Order) ∷ h0)).at o (subst (λ z. In o z) (sym (orders_since body v ((i, Order) ∷ h0) (calm_tail calm))) mem)).falls
 
-        fell : (y : ℕ × Event) → y ≡ (node, Node Down) → o.falls < (count_of node (y ∷ (v ++ (i, Order) ∷ h0))).falls
-        fell y q = subst (λ z. o.falls < (count_of node (z ∷ (v ++ (i, Order) ∷ h0))).falls) (sym q) (subst (λ b. o.falls < (cond b (counted (count_of node (v ++ (i, Order) ∷ h0)) Fall) (count_of node (v ++ (i, Order) ∷ h0))).falls) (sym ((Decides-eqb node node).1 refl)) (let l = low in omega arith))
+        fell : (y : ℕ × ActorEvent) → y ≡ (node, Node Down) → o.falls < (count_of node (y ∷ (v ++ (i, Order) ∷ h0))).falls
+        fell y q = subst (λ z. o.falls < (count_of node (z ∷ (v ++ (i, Order) ∷ h0))).falls) (sym q) (subst (λ b. o.falls < (cond b (turn_counted (count_of node (v ++ (i, Order) ∷ h0)) Fall) (count_of node (v ++ (i, Order) ∷ h0))).falls) (sym ((Decides-eqb node node).1 refl)) (let l = low in omega arith))
 
         more : o.falls < (count_of node (x ∷ (v ++ (i, Order) ∷ h0))).falls
         more = fell x (head k.fell)
@@ -250,38 +250,38 @@ module _ (G : Setting) (body : List BodyLine) (arms : ℕ → Option ℕ) (basis
     heeded_shut i h0 v o mem calm all act.Barrier kind e k = absurd kind
     heeded_shut i h0 v o mem calm all act.Feed kind e k = absurd kind
 
-    heed_rest : (a b : List (ℕ × Event)) → AllHeed G body (a ++ b) → AllHeed G body b
+    heed_rest : (a b : List (ℕ × ActorEvent)) → AllHeed G body (a ++ b) → AllHeed G body b
     heed_rest [] b k = k
     heed_rest (x ∷ a) b k = heed_rest a b k.1
 
-    run_rest : (a b : List (ℕ × Event)) → Run G body arms (a ++ b) → Run G body arms b
+    run_rest : (a b : List (ℕ × ActorEvent)) → Run G body arms (a ++ b) → Run G body arms b
     run_rest [] b k = k
     run_rest (x ∷ a) b k = run_rest a b (run_tail k)
 
     -- what the operator told since its last place, up to a place behind an order
-    mine_ops : (v front last' before : List (ℕ × Event)) (by : ℕ) → before ≡ front ++ last' → operators arms (since G front last') ≡ [] → operators arms (since G (v ++ (by, Order) ∷ front) last') ≡ operators arms (since G v ((by, Order) ∷ before))
+    mine_ops : (v front last' before : List (ℕ × ActorEvent)) (by : ℕ) → before ≡ front ++ last' → operators arms (since G front last') ≡ [] → operators arms (since G (v ++ (by, Order) ∷ front) last') ≡ operators arms (since G v ((by, Order) ∷ before))
     mine_ops v front last' before by behind alone =
         ap (λ z. operators arms z) (since_append G v ((by, Order) ∷ front) last')
         ∙ (ops_append arms (since G front last' ++ []) (since G v ((by, Order) ∷ (front ++ last')))
         ∙ (ap (λ z. z ++ operators arms (since G v ((by, Order) ∷ (front ++ last')))) (ap (λ z. operators arms z) (append_nil (since G front last')) ∙ alone)
         ∙ ap (λ z. operators arms (since G v ((by, Order) ∷ z))) (sym behind)))
 
-    mine_lines : (v front last' before : List (ℕ × Event)) (by : ℕ) → before ≡ front ++ last' → lines G (v ++ (by, Order) ∷ before) ≡ lines G last' ++ since G (v ++ (by, Order) ∷ front) last'
+    mine_lines : (v front last' before : List (ℕ × ActorEvent)) (by : ℕ) → before ≡ front ++ last' → lines G (v ++ (by, Order) ∷ before) ≡ lines G last' ++ since G (v ++ (by, Order) ∷ front) last'
     mine_lines v front last' before by behind = ap (λ z. lines G z) (ap (λ z. v ++ (by, Order) ∷ z) behind ∙ sym (append_assoc v ((by, Order) ∷ front) last')) ∙ lines_since G (v ++ (by, Order) ∷ front) last'
 
-    start_there : (v front last' before : List (ℕ × Event)) (by node : ℕ) → before ≡ front ++ last' → IsHeededAt G body (v ++ (by, Order) ∷ before) (act.Start node)
+    start_there : (v front last' before : List (ℕ × ActorEvent)) (by node : ℕ) → before ≡ front ++ last' → IsHeededAt G body (v ++ (by, Order) ∷ before) (act.Start node)
         → (is_up node (lines G last' ++ since G (v ++ (by, Order) ∷ front) last') ≡ true) ⊎ ((ls : List Line) × (count : ℕ) × (since G (v ++ (by, Order) ∷ front) last' ≡ ls ++ line.Down count node true ∷ []))
     start_there v front last' before by node behind (inl k) = inl (ap (λ z. is_up node z) (sym (mine_lines v front last' before by behind)) ∙ k)
-    start_there [] front last' before by node behind (inr k) = absurd (let w : Order ≡ Node Down = ap (λ (z : ℕ × Event). z.1) (head k.fell) in cc)
+    start_there [] front last' before by node behind (inr k) = absurd (let w : Order ≡ Node Down = ap (λ (z : ℕ × ActorEvent). z.1) (head k.fell) in cc)
       where
-        head : {x y : ℕ × Event} {xs ys : List (ℕ × Event)} → x ∷ xs ≡ y ∷ ys → x ≡ y
+        head : {x y : ℕ × ActorEvent} {xs ys : List (ℕ × ActorEvent)} → x ∷ xs ≡ y ∷ ys → x ≡ y
         head e = cc
     start_there (x ∷ v) front last' before by node behind (inr k) = inr (fell x (head k.fell))
       where
-        head : {x y : ℕ × Event} {xs ys : List (ℕ × Event)} → x ∷ xs ≡ y ∷ ys → x ≡ y
+        head : {x y : ℕ × ActorEvent} {xs ys : List (ℕ × ActorEvent)} → x ∷ xs ≡ y ∷ ys → x ≡ y
         head e = cc
 
-        fell : (y : ℕ × Event) → y ≡ (node, Node Down) → (ls : List Line) × (count : ℕ) × (since G ((y ∷ v) ++ (by, Order) ∷ front) last' ≡ ls ++ line.Down count node true ∷ [])
+        fell : (y : ℕ × ActorEvent) → y ≡ (node, Node Down) → (ls : List Line) × (count : ℕ) × (since G ((y ∷ v) ++ (by, Order) ∷ front) last' ≡ ls ++ line.Down count node true ∷ [])
         fell y q = subst (λ z. (ls : List Line) × (count : ℕ) × (since G ((z ∷ v) ++ (by, Order) ∷ front) last' ≡ ls ++ line.Down count node true ∷ [])) (sym q) (since G (v ++ (by, Order) ∷ front) last', downs (lines G ((v ++ (by, Order) ∷ front) ++ last')) + 1, refl)
 
     of_node_bars : (done : List (ℕ × Act)) (k : ℕ) (a : Act) → IsOfNode a → bars (done ++ (k, a) ∷ []) ≡ bars done
@@ -302,13 +302,13 @@ module _ (G : Setting) (body : List BodyLine) (arms : ℕ → Option ℕ) (basis
     more_whole done left k a rest next whole = append_assoc done ((k, a) ∷ []) rest ∙ (ap (λ z. done ++ z) (sym next) ∙ whole)
 
     -- a stop or a start is obeyed
-    stand_obeyed : (i : ℕ) (h : List (ℕ × Event)) → Run G body arms ((i, Obeyed) ∷ h) → Stand h → Stand ((i, Obeyed) ∷ h)
+    stand_obeyed : (i : ℕ) (h : List (ℕ × ActorEvent)) → Run G body arms ((i, Obeyed) ∷ h) → Stand h → Stand ((i, Obeyed) ∷ h)
     stand_obeyed i h run s = elim s.now [ inl f ↦ absurd (let a = f.unordered in let b = may.ordered in cc) | inr u ↦ go u (two_ends u.later ((u.by, Order) ∷ u.before) may.later may.before (sym u.split ∙ may.split)) ]
       where
         may : IsObeyed G body h
         may = run.all.0.heeds
 
-        none : (u : Under h s.last') → (x : ℕ × Event) (w : List (ℕ × Event)) → (u.by, Order) ∷ u.before ≡ x ∷ (w ++ may.before) → ⊥
+        none : (u : Under h s.last') → (x : ℕ × ActorEvent) (w : List (ℕ × ActorEvent)) → (u.by, Order) ∷ u.before ≡ x ∷ (w ++ may.before) → ⊥
         none u x w e =
             let t : u.before ≡ w ++ may.before = cc in
             let all = heed_rest (u.later ++ (u.by, Order) ∷ []) u.before (subst (λ z. AllHeed G body z) (u.split ∙ sym (append_assoc u.later ((u.by, Order) ∷ []) u.before)) run.all.1) in
@@ -318,7 +318,7 @@ module _ (G : Setting) (body : List BodyLine) (arms : ℕ → Option ℕ) (basis
               | inr l ↦ (let q : length (duty body (w ++ may.before)).left ≡ length (duty body may.before).left = ap (λ z. length z) lefts in absurd (omega arith))
             ]
 
-        go : (u : Under h s.last') → ((v : List (ℕ × Event)) × (may.before ≡ v ++ (u.by, Order) ∷ u.before) × (u.later ≡ may.later ++ v)) ⊎ ((x : ℕ × Event) × (w : List (ℕ × Event)) × ((u.by, Order) ∷ u.before ≡ x ∷ (w ++ may.before))) → Stand ((i, Obeyed) ∷ h)
+        go : (u : Under h s.last') → ((v : List (ℕ × ActorEvent)) × (may.before ≡ v ++ (u.by, Order) ∷ u.before) × (u.later ≡ may.later ++ v)) ⊎ ((x : ℕ × ActorEvent) × (w : List (ℕ × ActorEvent)) × ((u.by, Order) ∷ u.before ≡ x ∷ (w ++ may.before))) → Stand ((i, Obeyed) ∷ h)
         go u (inr k) = absurd (none u k.0 k.1 k.2)
         go u (inl k) = record {
           done = s.done ++ (may.line, may.act) ∷ [];
@@ -337,7 +337,7 @@ module _ (G : Setting) (body : List BodyLine) (arms : ℕ → Option ℕ) (basis
           });
         }
           where
-            u0 : List (ℕ × Event)
+            u0 : List (ℕ × ActorEvent)
             u0 = (u.by, Order) ∷ u.before
 
             here_h : h ≡ may.later ++ (k.0 ++ (u.by, Order) ∷ u.before)
@@ -406,20 +406,20 @@ module _ (G : Setting) (body : List BodyLine) (arms : ℕ → Option ℕ) (basis
             placed = (by_act may.act may.of_node so heeded, λ q f. not_of_node may.act act.Feed may.of_node f (λ z. z))
 
     -- what stands behind the last place, where nothing is ordered
-    here_lines : (h : List (ℕ × Event)) (s : Stand h) → lines G h ≡ lines G s.last' ++ since G s.mid s.last'
+    here_lines : (h : List (ℕ × ActorEvent)) (s : Stand h) → lines G h ≡ lines G s.last' ++ since G s.mid s.last'
     here_lines h s = ap (λ z. lines G z) s.split ∙ lines_since G s.mid s.last'
 
-    not_under : {A : Type 0} (h : List (ℕ × Event)) (last' : List (ℕ × Event)) (k : ℕ) (a : Act) (rest : List (ℕ × Act)) → (duty body h).left ≡ (k, a) ∷ rest → (IsOfNode a → ⊥) → Under h last' → A
+    not_under : {A : Type 0} (h : List (ℕ × ActorEvent)) (last' : List (ℕ × ActorEvent)) (k : ℕ) (a : Act) (rest : List (ℕ × Act)) → (duty body h).left ≡ (k, a) ∷ rest → (IsOfNode a → ⊥) → Under h last' → A
     not_under h last' k a rest next not u = absurd (not (subst (λ z. IsOfNode z) (ap (λ (z : ℕ × Act). z.1) (first (sym u.next ∙ next))) u.of_node))
       where
         first : {x y : ℕ × Act} {xs ys : List (ℕ × Act)} → x ∷ xs ≡ y ∷ ys → x ≡ y
         first e = cc
 
-    free_of : (h : List (ℕ × Event)) (s : Stand h) (k : ℕ) (a : Act) (rest : List (ℕ × Act)) → (duty body h).left ≡ (k, a) ∷ rest → (IsOfNode a → ⊥) → Free h s.mid s.last'
+    free_of : (h : List (ℕ × ActorEvent)) (s : Stand h) (k : ℕ) (a : Act) (rest : List (ℕ × Act)) → (duty body h).left ≡ (k, a) ∷ rest → (IsOfNode a → ⊥) → Free h s.mid s.last'
     free_of h s k a rest next not = elim s.now [ inl f ↦ f | inr u ↦ not_under h s.last' k a rest next not u ]
 
     -- a barrier
-    stand_bar : (i : ℕ) (h w : List (ℕ × Event)) → w ++ (i, Barrier) ∷ h ≡ H → Run G body arms ((i, Barrier) ∷ h) → Stand h → Stand ((i, Barrier) ∷ h)
+    stand_bar : (i : ℕ) (h w : List (ℕ × ActorEvent)) → w ++ (i, Barrier) ∷ h ≡ H → Run G body arms ((i, Barrier) ∷ h) → Stand h → Stand ((i, Barrier) ∷ h)
     stand_bar i h w e run s = record {
       done = s.done ++ (k, act.Barrier) ∷ [];
       whole = ap (λ z. (s.done ++ (k, act.Barrier) ∷ []) ++ next_left z) next ∙ more_whole s.done (duty body h).left k act.Barrier rest next s.whole;
@@ -457,7 +457,7 @@ module _ (G : Setting) (body : List BodyLine) (arms : ℕ → Option ℕ) (basis
         )
 
     -- a feed
-    stand_feed : (x : ℕ × Event) (h : List (ℕ × Event)) (d k : ℕ) (rest : List (ℕ × Act)) → (duty body h).left ≡ (k, act.Feed) ∷ rest → lines G (x ∷ h) ≡ lines G h ++ line.Fed d ∷ [] → duty body (x ∷ h) ≡ record { left = rest; ordered = false } → orders body (x ∷ h) ≡ orders body h → barriers (x ∷ h) ≡ barriers h
+    stand_feed : (x : ℕ × ActorEvent) (h : List (ℕ × ActorEvent)) (d k : ℕ) (rest : List (ℕ × Act)) → (duty body h).left ≡ (k, act.Feed) ∷ rest → lines G (x ∷ h) ≡ lines G h ++ line.Fed d ∷ [] → duty body (x ∷ h) ≡ record { left = rest; ordered = false } → orders body (x ∷ h) ≡ orders body h → barriers_printed (x ∷ h) ≡ barriers_printed h
         → IsFed basis view (lines G h) d → (k ≡ ending → IsFedAtLast basis view (lines G h) d × AllBeyond G (x ∷ h)) → Stand h → Stand (x ∷ h)
     stand_feed x h d k rest next printed passed same_orders same_count right final s = record {
       done = s.done ++ (k, act.Feed) ∷ [];
@@ -496,7 +496,7 @@ module _ (G : Setting) (body : List BodyLine) (arms : ℕ → Option ℕ) (basis
           },
         )
 
-    step : (i : ℕ) (e : Event) (h w : List (ℕ × Event)) → w ++ (i, e) ∷ h ≡ H → Run G body arms ((i, e) ∷ h) → Stand h → Stand ((i, e) ∷ h)
+    step : (i : ℕ) (e : ActorEvent) (h w : List (ℕ × ActorEvent)) → w ++ (i, e) ∷ h ≡ H → Run G body arms ((i, e) ∷ h) → Stand h → Stand ((i, e) ∷ h)
     step i Order h w q run s = stand_order i h run s
     step i Obeyed h w q run s = stand_obeyed i h run s
     step i Barrier h w q run s = stand_bar i h w q run s
@@ -508,7 +508,7 @@ module _ (G : Setting) (body : List BodyLine) (arms : ℕ → Option ℕ) (basis
         stand_feed (i, FedAgain d) h d m.0 m.1 m.2 refl (fed_left (duty body h) m.0 m.1 m.2) refl refl (at_again h w i d q run) (λ z. last_again h w i d m.1 q run (m.2 ∙ ap (λ y. (y, act.Feed) ∷ m.1) z)) s
     step i e h w q run s = stand_calm (i, e) h refl run s
 
-    pub stands : (h w : List (ℕ × Event)) → w ++ h ≡ H → Run G body arms h → Stand h
+    pub stands : (h w : List (ℕ × ActorEvent)) → w ++ h ≡ H → Run G body arms h → Stand h
     stands [] w q run = record {
       done = [];
       whole = refl;

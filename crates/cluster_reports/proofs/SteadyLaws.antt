@@ -3,8 +3,8 @@ use Rattle.std.proofs.Common.{◌≡◌, ℕ, ◌≤◌, List, [], ◌∷◌, �
 use Rattle.std.specs.Prelude.{◌==◌, Bool, true, false, is_some, if◌then◌else◌}
 use Rattle.std.proofs.lemmas.Bool.Decides.{Decides-eqb}
 use mathlib.Core.Logic.{inl, inr}
-use Rattle.cluster_events.specs.Guards.{IsLegal}
-use Rattle.cluster_events.specs.Parts.{Event, part}
+use Rattle.cluster_events.specs.Guards.{IsLegalHistory}
+use Rattle.cluster_events.specs.Parts.{ActorEvent, part}
 use Rattle.cluster_events.specs.Premises.{Steady}
 use Rattle.cluster_events.specs.Settings.{Setting}
 use Rattle.cluster_reports.proofs.RestLaws.{behind_more}
@@ -40,7 +40,7 @@ passed_more L name done (b ∷ bs) ls more = go (is_barrier b.act) (are_over L n
     go true true false k m n le = absurd (let e = k refl in cc)
 
 -- a session passes barriers steadily
-session_steady : (G : Setting) → FitsScript G → FollowsScript G → (s : ℕ) → (s == 0) ≡ false → (x : ℕ × Event) (h : List (ℕ × Event)) → IsLegal G (x ∷ h) → G.phase s (part G s h).told ≤ G.phase s (part G s (x ∷ h)).told
+session_steady : (G : Setting) → FitsScript G → FollowsScript G → (s : ℕ) → (s == 0) ≡ false → (x : ℕ × ActorEvent) (h : List (ℕ × ActorEvent)) → IsLegalHistory G (x ∷ h) → G.phase s (part G s h).told ≤ G.phase s (part G s (x ∷ h)).told
 session_steady G fits follows s ns x h legal =
     let a : G.phase s (part G s h).told ≡ barriers_passed G.language (G.names s) [] G.script.body (part G s h).told = follows.phase s ns (part G s h).told in
     let b : G.phase s (part G s (x ∷ h)).told ≡ barriers_passed G.language (G.names s) [] G.script.body (part G s (x ∷ h)).told = follows.phase s ns (part G s (x ∷ h)).told in

@@ -14,7 +14,7 @@ use Rattle.cdb_values.specs.declared.rows.StatementError.TheVariants.{State}
 use Rattle.cdb_values.specs.declared.rows.Version.{Version}
 use Rattle.cdb_values.specs.declared.tables.TableDef.{TableDef}
 use Rattle.std.proofs.lemmas.List.{append-nil}
-use Rattle.cluster_reports.specs.SessionLines.{with_reply, piece_at, behind_piece, behind}
+use Rattle.cluster_reports.specs.SessionLines.{with_reply, piece_at, behind_piece, lines_behind}
 use Rattle.node_reports.specs.Pieces.{is_over}
 use Rattle.node_reports.specs.Told.{IsToldAlong}
 use Rattle.report_laws.specs.Cut.{cuts}
@@ -23,7 +23,7 @@ use Rattle.report_laws.specs.Outcome.{IsDecided, IsOneDecision, Ends}
 use Rattle.report_laws.specs.Play.{is_own_by, number_by}
 use Rattle.report_laws.specs.Told.{numbered, Numbered, Along}
 use Rattle.report_laws.specs.View.{View}
-use Rattle.report_laws.specs.Work.{Place, start, next_by, next_place, place_from, Item, Does, Lone, Transaction, transaction, End, ByCommit, ByRollback, WithItsLine, Nowhere, open_item, items_at, with_open}
+use Rattle.report_laws.specs.Work.{Place, start, next_by, next_place, place_from, WorkItem, Does, Lone, Transaction, transaction, End, ByCommit, ByRollback, WithItsLine, Nowhere, open_item, items_at, with_open}
 use Rattle.session_language.specs.Answers.{Answers, IsPlain, ArePlain}
 use Rattle.session_language.specs.Language.{Language, Kind, BeginText, CommitText, RollbackText, LevelText, OtherText, alone_from}
 use Rattle.session_language.specs.Replies.{are_none, are_up_to, is_last_of, is_outcome}
@@ -246,11 +246,11 @@ pub data ToldWhole (t : Transaction) (mine : List Reply) : Type 0 where
   whole : (b : ℕ) (rs last : List Reply) → PiecesOf t.texts rs → Ends t.end last → mine ≡ reply.Begin b ∷ (rs ++ last) → ToldWhole t mine
   short : (b : ℕ) (rs front rest : List Reply) (c : Reply) → PiecesOf t.texts rs → front ++ rest ≡ reply.Begin b ∷ rs → cuts c ≡ true → mine ≡ front ++ c ∷ [] → ToldWhole t mine
 
-abbrev pub IsShaped : Item → List Reply → Type 0
+abbrev pub IsShaped : WorkItem → List Reply → Type 0
 IsShaped (Does t) mine = ToldWhole t mine
 IsShaped (Lone r) mine = mine ≡ r ∷ []
 
-pub shaped : (basis : Basis) (view : View) (name : List ℕ) → Answers basis.language → (i : Item) (mine : List Reply) → IsToldAlong basis view name i mine → IsShaped i mine
+pub shaped : (basis : Basis) (view : View) (name : List ℕ) → Answers basis.language → (i : WorkItem) (mine : List Reply) → IsToldAlong basis view name i mine → IsShaped i mine
 shaped basis view name k (Lone r) mine e = e
 shaped basis view name k (Does t) mine (inl w) = whole w.begin w.ran.replies w.last (subst (λ a. PiecesOf t.texts a.replies) (sym w.is_ran) (replies_pieces basis.language k basis.origin.tables (view.rows w.begin).tables [] t.texts)) w.ends w.says
 shaped basis view name k (Does t) mine (inr w) = short w.begin w.ran.replies w.front w.rest w.cause (subst (λ a. PiecesOf t.texts a.replies) (sym w.is_ran) (replies_pieces basis.language k basis.origin.tables (view.rows w.begin).tables [] t.texts)) w.fits w.is_cause w.says
@@ -275,14 +275,14 @@ abbrev pub inner : Language → List (List ℕ) → Inner
 inner L [] = ([], Nowhere, [])
 inner L (t ∷ ts) = inner_by (L.kind t) t ts (inner L ts)
 
-abbrev pub open_of : ℕ → Level → Option (List (List ℕ)) → List Item
+abbrev pub open_of : ℕ → Level → Option (List (List ℕ)) → List WorkItem
 open_of n l None = []
 open_of n l (Some texts) = Does (transaction n texts l Nowhere) ∷ []
 
 abbrev pub More : Type 0
-More = ℕ → Level → Option (List (List ℕ)) → List Item
+More = ℕ → Level → Option (List (List ℕ)) → List WorkItem
 
-abbrev pub todo_by : ℕ → Level → List ℕ → Kind → Option (List (List ℕ)) → More → List Item
+abbrev pub todo_by : ℕ → Level → List ℕ → Kind → Option (List (List ℕ)) → More → List WorkItem
 todo_by n l t BeginText None k = k (n + 1) l (Some [])
 todo_by n l t CommitText None k = Lone (reply.Error State) ∷ k n l None
 todo_by n l t RollbackText None k = Lone (reply.Error State) ∷ k n l None
@@ -295,7 +295,7 @@ todo_by n l t (LevelText level) (Some texts) k = k n l (Some (texts ++ t ∷ [])
 todo_by n l t OtherText (Some texts) k = k n l (Some (texts ++ t ∷ []))
 
 -- the items from a place on
-abbrev pub todo : Language → ℕ → Level → Option (List (List ℕ)) → List (List ℕ) → List Item
+abbrev pub todo : Language → ℕ → Level → Option (List (List ℕ)) → List (List ℕ) → List WorkItem
 todo L n l pending [] = open_of n l pending
 todo L n l pending (t ∷ ts) = todo_by n l t (L.kind t) pending (λ n' l' pending'. todo L n' l' pending' ts)
 
@@ -337,12 +337,12 @@ open_todo L n l texts (t ∷ ts) = step (L.kind t) (open_todo L n l (texts ++ t 
 -- the walk
 
 abbrev pub AreOverAt : Language → List Numbered → Place → List (List ℕ) → List Numbered → Type 0
-AreOverAt L b p ts lines = (r : List Numbered) × (behind L b p ts lines ≡ Some r)
+AreOverAt L b p ts lines = (r : List Numbered) × (lines_behind L b p ts lines ≡ Some r)
 
 abbrev behind_by : Language → List Numbered → Place → List ℕ → List (List ℕ) → List Numbered → Kind → Option (List (List ℕ)) → Option (List Numbered)
 behind_by L b p t ts lines k o =
-    if is_over (number_by p.number k o) b then behind L b (next_by p t k o) ts lines
-    else behind_piece (piece_at (number_by p.number k o) (is_last_of (is_own_by k o)) lines) (λ mine rest. behind L (b ++ numbered (number_by p.number k o) mine) (next_by p t k o) ts rest)
+    if is_over (number_by p.number k o) b then lines_behind L b (next_by p t k o) ts lines
+    else behind_piece (piece_at (number_by p.number k o) (is_last_of (is_own_by k o)) lines) (λ mine rest. lines_behind L (b ++ numbered (number_by p.number k o) mine) (next_by p t k o) ts rest)
 
 -- no number that comes later was cut short
 abbrev IsClear : List Numbered → ℕ → Type 0
@@ -360,13 +360,13 @@ Cut L ts = (p : Place) (b : List Numbered) (texts : List (List ℕ)) (lines : Li
     → Along IsShaped (todo L p.number p.level None (inner L ts).2) lines → AreOverAt L b p ts lines
 
 skip_by : (L : Language) (b : List Numbered) (p : Place) (t : List ℕ) (ts : List (List ℕ)) (lines : List Numbered) (k : Kind) (o : Option (List (List ℕ))) → is_over (number_by p.number k o) b ≡ true → AreOverAt L b (next_by p t k o) ts lines → (r : List Numbered) × (behind_by L b p t ts lines k o ≡ Some r)
-skip_by L b p t ts lines k o q old = (old.0, ap (λ z. if z then behind L b (next_by p t k o) ts lines else behind_piece (piece_at (number_by p.number k o) (is_last_of (is_own_by k o)) lines) (λ mine rest. behind L (b ++ numbered (number_by p.number k o) mine) (next_by p t k o) ts rest)) q ∙ old.1)
+skip_by L b p t ts lines k o q old = (old.0, ap (λ z. if z then lines_behind L b (next_by p t k o) ts lines else behind_piece (piece_at (number_by p.number k o) (is_last_of (is_own_by k o)) lines) (λ mine rest. lines_behind L (b ++ numbered (number_by p.number k o) mine) (next_by p t k o) ts rest)) q ∙ old.1)
 
 tell_by : (L : Language) (b : List Numbered) (p : Place) (t : List ℕ) (ts : List (List ℕ)) (k : Kind) (o : Option (List (List ℕ))) (mine : List Reply) (rest lines : List Numbered) → lines ≡ numbered (number_by p.number k o) mine ++ rest → is_over (number_by p.number k o) b ≡ false → are_up_to (is_last_of (is_own_by k o)) mine ≡ true → AreOverAt L (b ++ numbered (number_by p.number k o) mine) (next_by p t k o) ts rest → (r : List Numbered) × (behind_by L b p t ts lines k o ≡ Some r)
 tell_by L b p t ts k o mine rest lines is q up old = (
   old.0,
-  ap (λ z. if z then behind L b (next_by p t k o) ts lines else behind_piece (piece_at (number_by p.number k o) (is_last_of (is_own_by k o)) lines) (λ mine rest. behind L (b ++ numbered (number_by p.number k o) mine) (next_by p t k o) ts rest)) q
-      ∙ (ap (λ z. behind_piece z (λ mine rest. behind L (b ++ numbered (number_by p.number k o) mine) (next_by p t k o) ts rest)) (ap (λ z. piece_at (number_by p.number k o) (is_last_of (is_own_by k o)) z) is ∙ up_to_piece (number_by p.number k o) (is_last_of (is_own_by k o)) mine rest up) ∙ old.1),
+  ap (λ z. if z then lines_behind L b (next_by p t k o) ts lines else behind_piece (piece_at (number_by p.number k o) (is_last_of (is_own_by k o)) lines) (λ mine rest. lines_behind L (b ++ numbered (number_by p.number k o) mine) (next_by p t k o) ts rest)) q
+      ∙ (ap (λ z. behind_piece z (λ mine rest. lines_behind L (b ++ numbered (number_by p.number k o) mine) (next_by p t k o) ts rest)) (ap (λ z. piece_at (number_by p.number k o) (is_last_of (is_own_by k o)) z) is ∙ up_to_piece (number_by p.number k o) (is_last_of (is_own_by k o)) mine rest up) ∙ old.1),
 )
 
 none_over : (n : ℕ) (a b : List Numbered) → is_over n a ≡ false → is_over n b ≡ false → is_over n (a ++ b) ≡ false

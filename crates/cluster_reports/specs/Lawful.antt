@@ -5,7 +5,7 @@
 use Rattle.std.specs.Prelude.{◌≡◌, ℕ, [], List}
 use Rattle.std.specs.List.{AllByRecursion}
 use Rattle.node_reports.specs.Told.{IsToldAlong, IsHeard}
-use Rattle.cluster_events.specs.LinePlaces.{HasItsPlace}
+use Rattle.cluster_events.specs.LinePlaces.{HasPlaceAmongNodes}
 use Rattle.report_laws.specs.History.{Basis, view_of, IsEntryAfter}
 use Rattle.report_laws.specs.Lawful.{IsFreshLine, base_line}
 use Rattle.report_laws.specs.Told.{told, Along}
@@ -24,7 +24,7 @@ pub record IsLawfulBesideOperator (basis : Basis) (report : Report) : Type 0 whe
   -- every entry's transaction was told its replies, and that it is committed there, or was cut short at its commit
   pub answered : AllByRecursion (IsHeard basis (view_of basis report.entries) report.lines) report.entries
   -- every line has its place behind the lines before it
-  pub places : EachAfter (HasItsPlace basis.script) [] report.lines
+  pub places : EachAfter (HasPlaceAmongNodes basis.script) [] report.lines
   -- the base and the length of the history are told
   pub base : report.base ≡ base_line basis.origin.position
   pub end : report.end ≡ (view_of basis report.entries).last

@@ -2,9 +2,9 @@
 use Rattle.std.specs.Prelude.{ℕ, ◌≡◌, ◌+◌, ◌==◌, List, [], ◌∷◌, ◌++◌, length, true, false, ◌⊎◌}
 use Rattle.std.specs.Str.{bytes_eq}
 use Rattle.cluster_events.specs.ByScript.{AllHeed}
-use Rattle.cluster_events.specs.Guards.{AreApart, IsDone, IsLegal, Rising}
+use Rattle.cluster_events.specs.Guards.{AreNamedApart, IsDone, IsLegalHistory, Rising}
 use Rattle.cluster_events.specs.Operator.{duty}
-use Rattle.cluster_events.specs.Parts.{Event, part}
+use Rattle.cluster_events.specs.Parts.{ActorEvent, part}
 use Rattle.cluster_events.specs.Settings.{Setting, line_of, lines_to_do, work_of}
 use Rattle.cluster_reports.specs.SessionLines.{barriers_passed, IsAtNext}
 use Rattle.cluster_requests.specs.KeptEntries.{KeptEntry}
@@ -25,7 +25,7 @@ Covers G = (name : List ℕ) → ((s : ℕ) × (G.names s ≡ name)) ⊎ ((work 
 
 -- actors have names of their own, which are all names; the nodes are those of the script; and transactions are numbered upwards
 pub record FitsScript (G : Setting) : Type 0 where
-  pub apart : AreApart G
+  pub apart : AreNamedApart G
   pub covers : Covers G
   pub nodes : G.nodes ≡ G.script.nodes
   pub rising : (s : ℕ) → Rising 0 (work_of G s)
@@ -41,7 +41,7 @@ pub record FollowsScript (G : Setting) : Type 0 where
   pub armed : (s : ℕ) (told : List Numbered) (line : ℕ) → G.armed s told line ≡ true → IsAtNext G.language (G.names s) G.script.body line told
 
 -- a history is by the script, and finished: the operator and the sessions did all their lines
-pub record IsFinished (G : Setting) (h : List (ℕ × Event)) : Type 0 where
+pub record IsFinished (G : Setting) (h : List (ℕ × ActorEvent)) : Type 0 where
   pub by_script : AllHeed G (lines_to_do G) h
   pub operator : (duty (lines_to_do G) h).left ≡ []
   pub sessions : (s : ℕ) → IsDone G h s

@@ -30,16 +30,18 @@ behind_piece (Some piece) more = more piece.0 piece.1
 
 -- the lines of a session behind those of these texts, which come from that place of its work on and behind the lines `before`,
 -- where all of these texts are over
-abbrev pub behind : Language → List Numbered → Place → List (List ℕ) → List Numbered → Option (List Numbered)
-behind language before p [] lines = Some lines
-behind language before p (text ∷ texts) lines =
-    if is_over (number_told language p text) before then behind language before (next_place language p text) texts lines
+abbrev pub lines_behind : Language → List Numbered → Place → List (List ℕ) → List Numbered → Option (List Numbered)
+lines_behind language before p [] lines = Some lines
+lines_behind language before p (text ∷ texts) lines =
+    if is_over (number_told language p text) before then lines_behind language before
+    (next_place language p text) texts lines
     else behind_piece (piece_at (number_told language p text) (is_last_of (is_own language p text)) lines) (λ mine rest.
-    behind language (before ++ numbered (number_told language p text) mine) (next_place language p text) texts rest)
+    lines_behind language (before ++ numbered (number_told language p text) mine)
+    (next_place language p text) texts rest)
 
 -- and behind those of the session's lines among these of the script
 abbrev pub behind_lines : Language → List ℕ → List BodyLine → List Numbered → Option (List Numbered)
-behind_lines language name done lines = behind language [] start (said name done) lines
+behind_lines language name done lines = lines_behind language [] start (said name done) lines
 
 abbrev pub are_over : Language → List ℕ → List BodyLine → List Numbered → Bool
 are_over language name done lines = is_some (behind_lines language name done lines)
@@ -68,5 +70,5 @@ pub record IsAtNext (language : Language) (name : List ℕ) (body : List BodyLin
   pub is_next : next.act ≡ act.Say name text
   pub none_between : said name (arm ∷ middle) ≡ []
   pub part : List Numbered
-  pub over : behind language [] start (said name done) lines ≡ Some part
-  pub at_it : behind language [] start (said name done ++ text ∷ []) lines ≡ None
+  pub over : lines_behind language [] start (said name done) lines ≡ Some part
+  pub at_it : lines_behind language [] start (said name done ++ text ∷ []) lines ≡ None

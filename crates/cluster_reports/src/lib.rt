@@ -26,10 +26,10 @@
 ghost use Rattle.std.specs.Prelude.{ℕ, ◌≡◌, ◌<◌, List, [], length, false};
 ghost use Rattle.std.specs.List.{AllByRecursion};
 ghost use Rattle.cluster_consensus.specs.Facts.{Claim};
-ghost use Rattle.cluster_events.specs.Guards.{IsLegal};
-ghost use Rattle.cluster_events.specs.Parts.{Event, lines, field};
+ghost use Rattle.cluster_events.specs.Guards.{IsLegalHistory};
+ghost use Rattle.cluster_events.specs.Parts.{ActorEvent, lines, field};
 ghost use Rattle.cluster_events.specs.Premises.{Steady};
-ghost use Rattle.cluster_events.specs.Settings.{Setting, basis_from, rows_at};
+ghost use Rattle.cluster_events.specs.Settings.{Setting, basis_from, kept_rows_at};
 ghost use Rattle.cluster_masters.specs.FirstMaster.{IsFirstMaster, HasNoMaster};
 ghost use Rattle.cluster_masters.specs.Reported.{IsReported};
 ghost use Rattle.cluster_reports.specs.Runs.{AreEntriesBehind, FitsScript, FollowsScript, IsFinished, IsLawfulWithFeeds};
@@ -43,32 +43,34 @@ ghost use Rattle.report_text.specs.declared.reports.Report.{Report};
 /// The report of a finished history with a first master is lawful: its lines are those of the history, its entries those
 /// of the reported node's log behind what the first master adopted; and its feeds may have any numbers that fit.
 pub fn finished_runs_are_lawful()
-    ensures { (G : Setting) (h : List (ℕ × Event)) (r m : ℕ) (a : Claim KeptEntry) → FitsScript G → FollowsScript G
-        → IsLegal G h → IsFinished G h → IsReported G.nodes (field h).core r → IsFirstMaster G.nodes (field h).core m a
+    ensures { (G : Setting) (h : List (ℕ × ActorEvent)) (r m : ℕ) (a : Claim KeptEntry) → FitsScript G → FollowsScript G
+        → IsLegalHistory G h → IsFinished G h → IsReported G.nodes (field h).core r
+        → IsFirstMaster G.nodes (field h).core m a
         → (report : Report) × (report.lines ≡ lines G h)
         × AreEntriesBehind a.log ((field h).core.nodes r).log report.entries
         × (report.end ≡ length ((field h).core.nodes r).log)
         × IsLawfulWithFeeds
-        (basis_from G (length a.log) (rows_at G ((field h).core.nodes r).log (length a.log))) report }
+        (basis_from G (length a.log) (kept_rows_at G ((field h).core.nodes r).log (length a.log))) report }
 {}
 
 /// And so is that of one without a first master, which has no entries.
 pub fn runs_without_a_master_are_lawful()
-    ensures { (G : Setting) (h : List (ℕ × Event)) (r : ℕ) → FitsScript G → FollowsScript G → IsLegal G h
+    ensures { (G : Setting) (h : List (ℕ × ActorEvent)) (r : ℕ) → FitsScript G → FollowsScript G → IsLegalHistory G h
         → IsFinished G h → IsReported G.nodes (field h).core r → HasNoMaster G.nodes (field h).core
         → (report : Report) × (report.lines ≡ lines G h) × (report.entries ≡ [])
         × (report.end ≡ length ((field h).core.nodes r).log)
         × IsLawfulWithFeeds
         (basis_from G (length ((field h).core.nodes r).log)
-        (rows_at G ((field h).core.nodes r).log (length ((field h).core.nodes r).log))) report }
+        (kept_rows_at G ((field h).core.nodes r).log (length ((field h).core.nodes r).log))) report }
 {}
 
 /// And so is that of one in which no node came up: its history is empty.
 pub fn runs_without_nodes_are_lawful()
-    ensures { (G : Setting) (h : List (ℕ × Event)) → FitsScript G → FollowsScript G → IsLegal G h → IsFinished G h
+    ensures { (G : Setting) (h : List (ℕ × ActorEvent)) → FitsScript G → FollowsScript G → IsLegalHistory G h
+        → IsFinished G h
         → ((k : ℕ) → ((field h).core.nodes k).was_up ≡ false) → (report : Report) × (report.lines ≡ lines G h)
         × (report.entries ≡ []) × (report.end ≡ 0)
-        × IsLawfulWithFeeds (basis_from G 0 (rows_at G [] 0)) report }
+        × IsLawfulWithFeeds (basis_from G 0 (kept_rows_at G [] 0)) report }
 {}
 
 /// A setting that follows its script is steady, as the laws of what stays enabled ask: how far a session is in the

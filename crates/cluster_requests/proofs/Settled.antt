@@ -11,16 +11,16 @@ use Rattle.cluster_consensus.proofs.Kept.{always, kept, at_node, grows_row, self
 use Rattle.cluster_consensus.proofs.Onward.{Onward, onward_row}
 use Rattle.cluster_consensus.specs.Durable.{DurableIn}
 use Rattle.cluster_consensus.specs.Enabled.{Enabled}
-use Rattle.cluster_consensus.specs.Events.{Event, change}
-use Rattle.cluster_consensus.specs.Events.Event.{BackLead, BackTake, BackGrow, BackAppend, Lead, Take, Grow, Append}
+use Rattle.cluster_consensus.specs.Events.{NodeEvent, change}
+use Rattle.cluster_consensus.specs.Events.NodeEvent.{BackLead, BackTake, BackGrow, BackAppend, Lead, Take, Grow, Append}
 use Rattle.cluster_consensus.specs.Facts.{Claim, Own, World}
 use Rattle.cluster_consensus.specs.Histories.{happens}
 use Rattle.phys_log.specs.declared.entries.CommitId.{CommitId}
 use Rattle.cluster_requests.specs.KeptEntries.{KeptEntry}
-use Rattle.cluster_requests.specs.KeptEntries.KeptEntry.{Setup, Commit}
+use Rattle.cluster_requests.specs.KeptEntries.KeptEntry.{SetupKept, CommitKept}
 use Rattle.cluster_requests.specs.Identities.{generation_of, identity_of, Lacks}
-use Rattle.cluster_requests.specs.Requests.{Sent, Settled, Act, Field, IsAskedFor, MayEnter, May, settled_with, does, field_after, AllMay}
-use Rattle.cluster_requests.specs.Requests.Act.{Core, Send, Settle, Repeat}
+use Rattle.cluster_requests.specs.Requests.{Sent, Settled, FieldAct, Field, IsAskedFor, MayEnter, May, settled_with, does, field_after, AllMay}
+use Rattle.cluster_requests.specs.Requests.FieldAct.{Core, ToSend, ToSettle, ToRepeat}
 use Rattle.core_lists.proofs.Fronts.{front_refl, front_trans, front_length, front_shorter}
 use Rattle.core_lists.proofs.Lasts.{front_last}
 use Rattle.core_lists.proofs.Lists.{each_add, each_none}
@@ -31,27 +31,27 @@ use Rattle.core_lists.specs.Lists.In.{here, there}
 
 -- a commit was sent in this generation
 abbrev pub IsBacked : List Sent → ℕ → KeptEntry → Type 0
-IsBacked sends g (Setup generation schema records reached) = Unit {0}
-IsBacked sends g (Commit generation id begin level changes records reached) = Has (λ s. (s.id ≡ id) × (s.gen ≡ g)) sends
+IsBacked sends g (SetupKept generation schema records reached) = Unit {0}
+IsBacked sends g (CommitKept generation id begin level changes records reached) = Has (λ s. (s.id ≡ id) × (s.gen ≡ g)) sends
 
 backed_more : {s t : List Sent} (g : ℕ) (e : KeptEntry) → ((x : Sent) → In x s → In x t) → IsBacked s g e → IsBacked t g e
-backed_more g (Setup generation schema records reached) more k = tt
-backed_more g (Commit generation id begin level changes records reached) more k = record { it = k.it; mem = more k.it k.mem; is = k.is }
+backed_more g (SetupKept generation schema records reached) more k = tt
+backed_more g (CommitKept generation id begin level changes records reached) more k = record { it = k.it; mem = more k.it k.mem; is = k.is }
 
 backed_at : (s : List Sent) (g h : ℕ) (e : KeptEntry) → g ≡ h → IsBacked s g e → IsBacked s h e
-backed_at s g h (Setup generation schema records reached) q k = tt
-backed_at s g h (Commit generation id begin level changes records reached) q k = record { it = k.it; mem = k.mem; is = (k.is.0, k.is.1 ∙ q) }
+backed_at s g h (SetupKept generation schema records reached) q k = tt
+backed_at s g h (CommitKept generation id begin level changes records reached) q k = record { it = k.it; mem = k.mem; is = (k.is.0, k.is.1 ∙ q) }
 
 asked_backed : (s : List Sent) (i g : ℕ) (log : List KeptEntry) (e : KeptEntry) → IsAskedFor s i g log e → IsBacked s g e
-asked_backed s i g log (Setup generation schema records reached) k = tt
-asked_backed s i g log (Commit generation id begin level changes records reached) k = record { it = k.it; mem = k.mem; is = (k.is.0, k.is.2) }
+asked_backed s i g log (SetupKept generation schema records reached) k = tt
+asked_backed s i g log (CommitKept generation id begin level changes records reached) k = record { it = k.it; mem = k.mem; is = (k.is.0, k.is.2) }
 
 same_some : {a b : CommitId} → Some a ≡ Some b → a ≡ b
 same_some e = cc
 
 backed_sent : (s : List Sent) (g : ℕ) (e : KeptEntry) (id : CommitId) → IsBacked s g e → identity_of e ≡ Some id → Has (λ s. (s.id ≡ id) × (s.gen ≡ g)) s
-backed_sent s g (Setup generation schema records reached) id k q = absurd (cc)
-backed_sent s g (Commit generation its begin level changes records reached) id k q = record { it = k.it; mem = k.mem; is = (k.is.0 ∙ same_some q, k.is.1) }
+backed_sent s g (SetupKept generation schema records reached) id k q = absurd (cc)
+backed_sent s g (CommitKept generation its begin level changes records reached) id k q = record { it = k.it; mem = k.mem; is = (k.is.0 ∙ same_some q, k.is.1) }
 
 -- each entry beyond the adopted log was appended, and sent, in this generation
 pub record Added (w : World KeptEntry) (sends : List Sent) (c : Claim KeptEntry) : Type 0 where
@@ -122,7 +122,7 @@ added_held {n} {w} sends inv all i lead x may =
     let a = added_part w sends c.it (record { gen = (w.nodes i).accepted; log = (w.nodes i).log }) ((all i).at c.it c.mem) (sym c.is.0) (subst (λ t. Front t c.it.log) c.is.1 (front_refl c.it.log)) in
     added_append w sends (w.nodes i).accepted (w.nodes i).log x a may.0 may.1
 
-added_row : {n : ℕ} (f : Field) → Inv n f.core → ((k : ℕ) → Each (Added f.core f.sends) (f.core.nodes k).accepts) → (i : ℕ) (e : Event KeptEntry) → Enabled n f.core i (f.core.nodes i) e → MayEnter f i e → (v : World KeptEntry) → Grows f.core v → v.nodes i ≡ change i (f.core.nodes i) e → Each (Added v f.sends) (change i (f.core.nodes i) e).accepts
+added_row : {n : ℕ} (f : Field) → Inv n f.core → ((k : ℕ) → Each (Added f.core f.sends) (f.core.nodes k).accepts) → (i : ℕ) (e : NodeEvent KeptEntry) → Enabled n f.core i (f.core.nodes i) e → MayEnter f i e → (v : World KeptEntry) → Grows f.core v → v.nodes i ≡ change i (f.core.nodes i) e → Each (Added v f.sends) (change i (f.core.nodes i) e).accepts
 added_row {n} f inv all i e en may v g self = go e en may self
   where
     old : Each (Added v f.sends) (f.core.nodes i).accepts
@@ -131,7 +131,7 @@ added_row {n} f inv all i e en may v g self = go e en may self
     on : (c : Claim KeptEntry) → Added f.core f.sends c → Added v f.sends c
     on c a = added_grows g (λ x t. t) a
 
-    go : (e : Event KeptEntry) → Enabled n f.core i (f.core.nodes i) e → MayEnter f i e → v.nodes i ≡ change i (f.core.nodes i) e → Each (Added v f.sends) (change i (f.core.nodes i) e).accepts
+    go : (e : NodeEvent KeptEntry) → Enabled n f.core i (f.core.nodes i) e → MayEnter f i e → v.nodes i ≡ change i (f.core.nodes i) e → Each (Added v f.sends) (change i (f.core.nodes i) e).accepts
     go BackLead en may self = let c : Claim KeptEntry = record { gen = (f.core.nodes i).promised; log = (f.core.nodes i).log } in each_add (added_lead v f.sends i c (subst (λ t. In c t.leads) (sym self) here)) old
     go Lead en may self = let c : Claim KeptEntry = record { gen = (f.core.nodes i).promised; log = (f.core.nodes i).log } in each_add (added_lead v f.sends i c (subst (λ t. In c t.leads) (sym self) here)) old
     go (BackTake h l) en may self = let s = en.2.2.1 in each_add (on _ (added_shipped f.sends inv all en.2.2.0 h s.it l s.mem s.is.0 (subst (λ t. Front t s.it.log) s.is.1 (front_refl s.it.log)))) old
@@ -143,7 +143,7 @@ added_row {n} f inv all i e en may v g self = go e en may self
     go _ en may self = old
 
 -- the identities that were settled stay out of what that node accepts in that generation
-none_row : {n : ℕ} (f : Field) → Inv n f.core → (i : ℕ) (e : Event KeptEntry) → Enabled n f.core i (f.core.nodes i) e → MayEnter f i e → (z : Settled) → SettlePart (f.core.nodes i) (f.settled i) z → Each (λ c. c.gen ≡ z.gen → Lacks z.id c.log) (change i (f.core.nodes i) e).accepts
+none_row : {n : ℕ} (f : Field) → Inv n f.core → (i : ℕ) (e : NodeEvent KeptEntry) → Enabled n f.core i (f.core.nodes i) e → MayEnter f i e → (z : Settled) → SettlePart (f.core.nodes i) (f.settled i) z → Each (λ c. c.gen ≡ z.gen → Lacks z.id c.log) (change i (f.core.nodes i) e).accepts
 none_row {n} f inv i e en may z s = go e en may
   where
     w : World KeptEntry
@@ -168,7 +168,7 @@ none_row {n} f inv i e en may z s = go e en may
         let ne : identity_of x ≢ Some z.id = out.at z.id (s.kept lead eq) in
         lacks_append z.id (f.core.nodes i).log x (subst (λ t. Lacks z.id t) c.is.1 (s.none.at c.it c.mem (c.is.0 ∙ eq))) ne
 
-    go : (e : Event KeptEntry) → Enabled n f.core i (f.core.nodes i) e → MayEnter f i e → Each (λ c. c.gen ≡ z.gen → Lacks z.id c.log) (change i (f.core.nodes i) e).accepts
+    go : (e : NodeEvent KeptEntry) → Enabled n f.core i (f.core.nodes i) e → MayEnter f i e → Each (λ c. c.gen ≡ z.gen → Lacks z.id c.log) (change i (f.core.nodes i) e).accepts
     go BackLead en may = each_add (λ (eq : (f.core.nodes i).promised ≡ z.gen). (let lt : (f.core.nodes i).accepted < (f.core.nodes i).promised = en.2.0 in absurd (omega arith))) s.none
     go Lead en may = each_add (λ (eq : (f.core.nodes i).promised ≡ z.gen). (let lt : (f.core.nodes i).accepted < (f.core.nodes i).promised = en.1.0 in absurd (omega arith))) s.none
     go (BackTake h l) en may = each_add (λ (eq : h ≡ z.gen). (let lt : (f.core.nodes i).accepted < h = en.2.1 in absurd (omega arith))) s.none
@@ -179,7 +179,7 @@ none_row {n} f inv i e en may z s = go e en may
     go (Append x) en may = each_add (λ eq. append x en.1 may.unsettled eq) s.none
     go _ en may = s.none
 
-kept_row : {n : ℕ} (f : Field) → Inv n f.core → (i : ℕ) (e : Event KeptEntry) → Enabled n f.core i (f.core.nodes i) e → (z : Settled) → SettlePart (f.core.nodes i) (f.settled i) z → Onward (f.core.nodes i) (change i (f.core.nodes i) e) → (change i (f.core.nodes i) e).leading ≡ true → (change i (f.core.nodes i) e).accepted ≡ z.gen → In z.id (settled_with (f.settled i) e)
+kept_row : {n : ℕ} (f : Field) → Inv n f.core → (i : ℕ) (e : NodeEvent KeptEntry) → Enabled n f.core i (f.core.nodes i) e → (z : Settled) → SettlePart (f.core.nodes i) (f.settled i) z → Onward (f.core.nodes i) (change i (f.core.nodes i) e) → (change i (f.core.nodes i) e).leading ≡ true → (change i (f.core.nodes i) e).accepted ≡ z.gen → In z.id (settled_with (f.settled i) e)
 kept_row f inv i Lead en z s on lead eq =
     let lt : (f.core.nodes i).accepted < (f.core.nodes i).promised = en.1.0 in
     let eq' : (f.core.nodes i).promised ≡ z.gen = eq in
@@ -191,7 +191,7 @@ kept_row f inv i e en z s on lead eq =
     let same : (f.core.nodes i).accepted ≡ (change i (f.core.nodes i) e).accepted = omega arith in
     s.kept (on.still lead same).0 (same ∙ eq)
 
-settle_row : {n : ℕ} (f : Field) → Inv n f.core → (i : ℕ) (e : Event KeptEntry) → Enabled n f.core i (f.core.nodes i) e → MayEnter f i e → (z : Settled) → SettlePart (f.core.nodes i) (f.settled i) z → SettlePart (change i (f.core.nodes i) e) (settled_with (f.settled i) e) z
+settle_row : {n : ℕ} (f : Field) → Inv n f.core → (i : ℕ) (e : NodeEvent KeptEntry) → Enabled n f.core i (f.core.nodes i) e → MayEnter f i e → (z : Settled) → SettlePart (f.core.nodes i) (f.settled i) z → SettlePart (change i (f.core.nodes i) e) (settled_with (f.settled i) e) z
 settle_row f inv i e en may z s =
     let on = onward_row inv i e en in
     record {
@@ -213,7 +213,7 @@ two f i new t z k a b = go (k == i) refl
     go true e = a ((Decides-eqb k i).0 e)
     go false e = b
 
-good_step : (n : ℕ) (f : Field) (i : ℕ) (a : Act) → Good n f → May n f i a → Good n (does f i a)
+good_step : (n : ℕ) (f : Field) (i : ℕ) (a : FieldAct) → Good n f → May n f i a → Good n (does f i a)
 good_step n f i (Core e) old may =
     let w : World KeptEntry = f.core in
     let v : World KeptEntry = happens w i e in
@@ -226,24 +226,24 @@ good_step n f i (Core e) old may =
   where
     mine : (z : Settled) → z.by ≡ i → SettlePart (f.core.nodes z.by) (f.settled z.by) z → SettlePart (change i (f.core.nodes i) e) (settled_with (f.settled z.by) e) z
     mine z q s = subst (λ j. SettlePart (change i (f.core.nodes i) e) (settled_with (f.settled j) e) z) (sym q) (settle_row f old.inv i e may.0 may.1 z (subst (λ j. SettlePart (f.core.nodes j) (f.settled j) z) q s))
-good_step n f i (Send x) old may = record {
+good_step n f i (ToSend x) old may = record {
   inv = old.inv;
   added = λ k. record { at = λ c h. (let a = (old.added k).at c h in record { by = a.by; lead = a.lead; mem = a.mem; gen = a.gen; rest = λ xs e p le. (let r = a.rest xs e p le in (r.0, backed_more c.gen e (λ y m. there m) r.1)) }) };
   settles = record { at = λ z h. old.settles.at z h };
 }
-good_step n f i (Repeat id position) old may = record {
+good_step n f i (ToRepeat id position) old may = record {
   inv = old.inv;
   added = old.added;
   settles = record { at = λ z h. known z (old.settles.at z h) };
 }
   where
-    known : (z : Settled) → SettlePart (f.core.nodes z.by) (f.settled z.by) z → SettleOk (does f i (Repeat id position)) z
+    known : (z : Settled) → SettlePart (f.core.nodes z.by) (f.settled z.by) z → SettleOk (does f i (ToRepeat id position)) z
     known z s = go (z.by == i)
       where
         go : (b : Bool) → SettlePart (f.core.nodes z.by) (cond b (id ∷ f.settled z.by) (f.settled z.by)) z
         go true = record { low = s.low; led = s.led; none = s.none; kept = λ l e. there (s.kept l e) }
         go false = s
-good_step n f i (Settle id why) old may = record {
+good_step n f i (ToSettle id why) old may = record {
   inv = old.inv;
   added = old.added;
   settles = each_add (subst (λ (b : Bool). SettlePart (f.core.nodes i) (cond b (id ∷ f.settled i) (f.settled i)) new) (sym ((Decides-eqb i i).1 refl)) fresh) (record { at = λ z h. older z (old.settles.at z h) });
@@ -260,14 +260,14 @@ good_step n f i (Settle id why) old may = record {
       kept = λ l e. here;
     }
 
-    older : (z : Settled) → SettlePart (f.core.nodes z.by) (f.settled z.by) z → SettleOk (does f i (Settle id why)) z
+    older : (z : Settled) → SettlePart (f.core.nodes z.by) (f.settled z.by) z → SettleOk (does f i (ToSettle id why)) z
     older z s = go (z.by == i)
       where
         go : (b : Bool) → SettlePart (f.core.nodes z.by) (cond b (id ∷ f.settled z.by) (f.settled z.by)) z
         go true = record { low = s.low; led = s.led; none = s.none; kept = λ l e. there (s.kept l e) }
         go false = s
 
-pub good : (n : ℕ) (h : List (ℕ × Act)) → AllMay n h → Good n (field_after h)
+pub good : (n : ℕ) (h : List (ℕ × FieldAct)) → AllMay n h → Good n (field_after h)
 good n [] may = record { inv = always n [] tt; added = λ k. each_none; settles = each_none }
 good n (x ∷ h) may = good_step n (field_after h) x.0 x.1 (good n h may.1) may.0
 
@@ -322,8 +322,8 @@ stays_out {n} {f} g z hz last d dur zero k c hc top low = same_gen g z hz k c hc
 stays_out {n} {f} g z hz last d dur (suc b) k c hc top low =
     out g z hz last d dur b k c hc top (lt_or_eq z.gen c.gen low) (λ k c hc top low. stays_out g z hz last d dur b k c hc top low)
 
-pub settled_out : (n : ℕ) (h : List (ℕ × Act)) → AllMay n h → (z : Settled) → In z (field_after h).settles → Each (λ s. s.id ≡ z.id → s.gen ≤ z.gen) (field_after h).sends → (d : List KeptEntry) → DurableIn n (field_after h).core z.gen d → (k : ℕ) (c : Claim KeptEntry) → In c ((field_after h).core.nodes k).accepts → z.gen ≤ c.gen → Lacks z.id c.log
+pub settled_out : (n : ℕ) (h : List (ℕ × FieldAct)) → AllMay n h → (z : Settled) → In z (field_after h).settles → Each (λ s. s.id ≡ z.id → s.gen ≤ z.gen) (field_after h).sends → (d : List KeptEntry) → DurableIn n (field_after h).core z.gen d → (k : ℕ) (c : Claim KeptEntry) → In c ((field_after h).core.nodes k).accepts → z.gen ≤ c.gen → Lacks z.id c.log
 settled_out n h may z hz last d dur k c hc low = stays_out (good n h may) z hz last d dur c.gen k c hc (omega arith) low
 
-pub settled_same : (n k : ℕ) (h : List (ℕ × Act)) (z : Settled) (c : Claim KeptEntry) → AllMay n h → In z (field_after h).settles → In c ((field_after h).core.nodes k).accepts → c.gen ≡ z.gen → Lacks z.id c.log
+pub settled_same : (n k : ℕ) (h : List (ℕ × FieldAct)) (z : Settled) (c : Claim KeptEntry) → AllMay n h → In z (field_after h).settles → In c ((field_after h).core.nodes k).accepts → c.gen ≡ z.gen → Lacks z.id c.log
 settled_same n k h z c may hz hc eq = same_gen (good n h may) z hz k c hc eq

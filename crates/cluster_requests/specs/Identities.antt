@@ -3,15 +3,15 @@ use Rattle.std.specs.Prelude.{ℕ, ◌≡◌, ◌≢◌, ◌+◌, length, List, 
 use Rattle.core_lists.specs.Fronts.{Front}
 use Rattle.phys_log.specs.declared.entries.CommitId.{CommitId}
 use Rattle.cluster_requests.specs.KeptEntries.{KeptEntry}
-use Rattle.cluster_requests.specs.KeptEntries.KeptEntry.{Setup, Commit}
+use Rattle.cluster_requests.specs.KeptEntries.KeptEntry.{SetupKept, CommitKept}
 
 abbrev pub generation_of : KeptEntry → ℕ
-generation_of (Setup generation schema records reached) = generation
-generation_of (Commit generation id begin level changes records reached) = generation
+generation_of (SetupKept generation schema records reached) = generation
+generation_of (CommitKept generation id begin level changes records reached) = generation
 
 abbrev pub identity_of : KeptEntry → Option CommitId
-identity_of (Setup generation schema records reached) = None
-identity_of (Commit generation id begin level changes records reached) = Some id
+identity_of (SetupKept generation schema records reached) = None
+identity_of (CommitKept generation id begin level changes records reached) = Some id
 
 -- the entry at a position has it
 pub record HasAt (id : CommitId) (position : ℕ) (l : List KeptEntry) : Type 0 where

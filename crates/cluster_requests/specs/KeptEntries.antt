@@ -11,18 +11,18 @@ use Rattle.phys_log.specs.declared.entries.Entry.{Entry}
 use Rattle.phys_log.specs.declared.entries.Entry.TheVariants as plain_entry
 
 pub data KeptEntry : Type 0 where
-  Setup : ℕ → List TableDef → List LogRecord → Rows → KeptEntry
-  Commit : ℕ → CommitId → ℕ → Level → List Change → List LogRecord → Rows → KeptEntry
+  SetupKept : ℕ → List TableDef → List LogRecord → Rows → KeptEntry
+  CommitKept : ℕ → CommitId → ℕ → Level → List Change → List LogRecord → Rows → KeptEntry
 
 -- the entry as it is in the log
 abbrev pub plain : KeptEntry → Entry
-plain (Setup generation schema records reached) = plain_entry.Setup generation schema records
-plain (Commit generation id begin level changes records reached) = plain_entry.Commit generation id begin level changes records
+plain (SetupKept generation schema records reached) = plain_entry.Setup generation schema records
+plain (CommitKept generation id begin level changes records reached) = plain_entry.Commit generation id begin level changes records
 
 -- the rows behind it
 abbrev pub rows_behind : KeptEntry → Rows
-rows_behind (Setup generation schema records reached) = reached
-rows_behind (Commit generation id begin level changes records reached) = reached
+rows_behind (SetupKept generation schema records reached) = reached
+rows_behind (CommitKept generation id begin level changes records reached) = reached
 
 -- the rows behind the last of these, where those before them are given
 abbrev pub state_from : Rows → List KeptEntry → Rows

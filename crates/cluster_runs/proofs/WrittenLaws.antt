@@ -6,8 +6,8 @@ use Rattle.std.proofs.lemmas.Slice.Eq.{bytes_eq-Decides}
 use Rattle.cluster_events.proofs.LineLists.{append_assoc}
 use Rattle.cluster_events.specs.Settings.{Setting}
 use Rattle.cluster_reports.specs.Runs.{FollowsScript}
-use Rattle.cluster_reports.specs.SessionLines.{barriers_passed, behind, behind_lines, IsAtNext}
-use Rattle.cluster_runs.specs.Written.{waits, waits_by, waits_for, waits_at, written}
+use Rattle.cluster_reports.specs.SessionLines.{barriers_passed, lines_behind, behind_lines, IsAtNext}
+use Rattle.cluster_runs.specs.Written.{waits, waits_by, waits_for, waits_at, as_scripted}
 use Rattle.report_laws.specs.Told.{Numbered}
 use Rattle.report_laws.specs.Work.{said, said_by, start}
 use Rattle.script_form.specs.declared.scripts.Act.{Act}
@@ -69,7 +69,7 @@ not_both true e = absurd (cc)
 not_both false e = absurd (cc)
 
 -- an arm that waits, where its session's texts behind it begin so
-arm_waits : (L : Language) (name : List ℕ) (done : List BodyLine) (b : BodyLine) (bs : List BodyLine) (lines : List Numbered) (text : List ℕ) (place : ℕ) → place ≡ length done → IsSaidNext name bs text → (a : Act) → b.act ≡ a → (o : Option (List Numbered)) → behind_lines L name done lines ≡ o → (m : Option (List Numbered)) → behind L [] start (said name done ++ text ∷ []) lines ≡ m → (waits_by a o && not (is_some m)) ≡ true → IsAtNext L name (done ++ b ∷ bs) place lines
+arm_waits : (L : Language) (name : List ℕ) (done : List BodyLine) (b : BodyLine) (bs : List BodyLine) (lines : List Numbered) (text : List ℕ) (place : ℕ) → place ≡ length done → IsSaidNext name bs text → (a : Act) → b.act ≡ a → (o : Option (List Numbered)) → behind_lines L name done lines ≡ o → (m : Option (List Numbered)) → lines_behind L [] start (said name done ++ text ∷ []) lines ≡ m → (waits_by a o && not (is_some m)) ≡ true → IsAtNext L name (done ++ b ∷ bs) place lines
 arm_waits L name done b bs lines text place at s (act.Arm session when) qa (Some part) qo None qm e = record {
   done = done;
   arm = b;
@@ -96,7 +96,7 @@ arm_waits L name done b bs lines text place at s act.Feed qa o qo m qm e = absur
 here : (L : Language) (name : List ℕ) (done : List BodyLine) (b : BodyLine) (bs : List BodyLine) (lines : List Numbered) (place : ℕ) → place ≡ length done → (texts : List (List ℕ)) → said name bs ≡ texts → waits_for L name done b.act texts lines ≡ true → IsAtNext L name (done ++ b ∷ bs) place lines
 here L name done b bs lines place at [] q e = absurd (cc)
 here L name done b bs lines place at (text ∷ texts) q e =
-    arm_waits L name done b bs lines text place at (next_said name bs text texts q) b.act refl (behind_lines L name done lines) refl (behind L [] start (said name done ++ text ∷ []) lines) refl e
+    arm_waits L name done b bs lines text place at (next_said name bs text texts q) b.act refl (behind_lines L name done lines) refl (lines_behind L [] start (said name done ++ text ∷ []) lines) refl e
 
 at_next : (L : Language) (name : List ℕ) (done bs : List BodyLine) (n : ℕ) (lines : List Numbered) (place : ℕ) → place ≡ length done + n → waits_at L name done bs n lines ≡ true → IsAtNext L name (done ++ bs) place lines
 at_next L name done [] n lines place at e = absurd (cc)
@@ -106,7 +106,7 @@ at_next L name done (b ∷ bs) (suc n) lines place at e =
     let k : IsAtNext L name ((done ++ b ∷ []) ++ bs) place lines = at_next L name (done ++ b ∷ []) bs n lines place (omega arith) e in
     subst (λ z. IsAtNext L name z place lines) (append_assoc done (b ∷ []) bs) k
 
-pub follows : (G : Setting) → Answers G.language → said (G.names 0) G.script.body ≡ [] → FollowsScript (written G)
+pub follows : (G : Setting) → Answers G.language → said (G.names 0) G.script.body ≡ [] → FollowsScript (as_scripted G)
 follows G answers quiet = record {
   answers = answers;
   operator = quiet;

@@ -5,7 +5,7 @@
 use Rattle.std.specs.Prelude.{ℕ, zero, suc, ◌==◌, ◌&&◌, ◌+◌, List, [], ◌∷◌, ◌++◌, Bool, true, false, not, Option, Some, is_some, if◌then◌else◌}
 use Rattle.cdb_values.specs.declared.replies.Reply.TheVariants as reply
 use Rattle.cluster_events.specs.Settings.{Setting}
-use Rattle.cluster_reports.specs.SessionLines.{barriers_passed, behind, behind_lines}
+use Rattle.cluster_reports.specs.SessionLines.{barriers_passed, lines_behind, behind_lines}
 use Rattle.report_laws.specs.Told.{Numbered}
 use Rattle.report_laws.specs.Work.{said, start}
 use Rattle.script_form.specs.declared.scripts.Act.{Act}
@@ -40,7 +40,7 @@ waits_by _ _ = false
 abbrev pub waits_for : Language → List ℕ → List BodyLine → Act → List (List ℕ) → List Numbered → Bool
 waits_for language name done arm [] lines = false
 waits_for language name done arm (text ∷ texts) lines =
-    waits_by arm (behind_lines language name done lines) && not (is_some (behind language [] start (said name done ++ text ∷ []) lines))
+    waits_by arm (behind_lines language name done lines) && not (is_some (lines_behind language [] start (said name done ++ text ∷ []) lines))
 
 -- whether the line at a place among these, which stand behind the others, is an arm that waits for the line at which the session is
 abbrev pub waits_at : Language → List ℕ → List BodyLine → List BodyLine → ℕ → List Numbered → Bool
@@ -49,8 +49,8 @@ waits_at language name done (b ∷ bs) zero lines = waits_for language name done
 waits_at language name done (b ∷ bs) (suc place) lines = waits_at language name (done ++ b ∷ []) bs place lines
 
 -- the same setting, where the barriers before the lines of sessions, and the arms, are those of its script
-abbrev pub written : Setting → Setting
-written G = record G {
+abbrev pub as_scripted : Setting → Setting
+as_scripted G = record G {
   phase = λ s told. if s == 0 then 0 else barriers_passed G.language (G.names s) [] G.script.body told;
   armed = λ s told line. waits_at G.language (G.names s) [] G.script.body line told;
 }

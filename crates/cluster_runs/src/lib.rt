@@ -13,13 +13,13 @@ ghost use Rattle.cluster_consensus.specs.Facts.{Claim};
 ghost use Rattle.cluster_events.specs.Guards.{IsDone};
 ghost use Rattle.cluster_events.specs.Operator.{duty};
 ghost use Rattle.cluster_events.specs.Parts.{lines};
-ghost use Rattle.cluster_events.specs.Settings.{Setting, basis_from, lines_to_do, rows_at};
+ghost use Rattle.cluster_events.specs.Settings.{Setting, basis_from, lines_to_do, kept_rows_at};
 ghost use Rattle.cluster_masters.specs.FirstMaster.{IsFirstMaster, HasNoMaster};
 ghost use Rattle.cluster_masters.specs.Reported.{IsReported};
 ghost use Rattle.cluster_reports.specs.Runs.{AreEntriesBehind, FitsScript, FollowsScript, IsLawfulWithFeeds};
 ghost use Rattle.cluster_requests.specs.KeptEntries.{KeptEntry};
-ghost use Rattle.cluster_runs.specs.Written.{written};
-ghost use Rattle.cluster_steps.specs.Guards.{IsPlan, MayDo};
+ghost use Rattle.cluster_runs.specs.Written.{as_scripted};
+ghost use Rattle.cluster_steps.specs.Guards.{IsPlan, MayTakeStep};
 ghost use Rattle.cluster_steps.specs.Named.{steps, world};
 ghost use Rattle.cluster_steps.specs.declared.events.Event.{Event};
 ghost use Rattle.report_laws.specs.Work.{said};
@@ -30,23 +30,23 @@ ghost use Rattle.session_language.specs.Answers.{Answers};
 /// what the first master adopted; without one it has none.
 pub fn runs_are_lawful()
     ensures with_master { (G : Setting) (h : List (ℕ × Event)) (r m : ℕ) (a : Claim KeptEntry) → FitsScript G
-        → FollowsScript G → IsLegal (λ g i e. MayDo G g i e) h
+        → FollowsScript G → IsLegal (λ g i e. MayTakeStep G g i e) h
         → (duty (lines_to_do G) (steps G h)).left ≡ [] → ((s : ℕ) → IsDone G (steps G h) s)
         → IsReported G.nodes (world G h) r → IsFirstMaster G.nodes (world G h) m a
         → (report : Report) × (report.lines ≡ lines G (steps G h))
         × AreEntriesBehind a.log ((world G h).nodes r).log report.entries
         × (report.end ≡ length ((world G h).nodes r).log)
         × IsLawfulWithFeeds
-        (basis_from G (length a.log) (rows_at G ((world G h).nodes r).log (length a.log))) report }
+        (basis_from G (length a.log) (kept_rows_at G ((world G h).nodes r).log (length a.log))) report }
     ensures without_master { (G : Setting) (h : List (ℕ × Event)) (r : ℕ) → FitsScript G → FollowsScript G
-        → IsLegal (λ g i e. MayDo G g i e) h
+        → IsLegal (λ g i e. MayTakeStep G g i e) h
         → (duty (lines_to_do G) (steps G h)).left ≡ [] → ((s : ℕ) → IsDone G (steps G h) s)
         → IsReported G.nodes (world G h) r → HasNoMaster G.nodes (world G h)
         → (report : Report) × (report.lines ≡ lines G (steps G h)) × (report.entries ≡ [])
         × (report.end ≡ length ((world G h).nodes r).log)
         × IsLawfulWithFeeds
         (basis_from G (length ((world G h).nodes r).log)
-        (rows_at G ((world G h).nodes r).log (length ((world G h).nodes r).log))) report }
+        (kept_rows_at G ((world G h).nodes r).log (length ((world G h).nodes r).log))) report }
 {}
 
 /// A setting that is of its script, and follows it, is one that a run may have: how far a session is in the barriers
@@ -58,5 +58,5 @@ pub fn scripts_are_plans()
 /// Each script has a setting that follows it, whatever its actors are called: what that says of barriers and arms is read
 /// off the script.
 pub fn scripts_have_settings()
-    ensures { (G : Setting) → Answers G.language → said (G.names 0) G.script.body ≡ [] → FollowsScript (written G) }
+    ensures { (G : Setting) → Answers G.language → said (G.names 0) G.script.body ≡ [] → FollowsScript (as_scripted G) }
 {}

@@ -22,7 +22,7 @@ use Rattle.cluster_events.proofs.HistoryLaws.{steps as core_steps, Pinged, begin
 use Rattle.cluster_facts.proofs.ToldLaws.{shipped_accepted}
 use Rattle.cluster_requests.specs.KeptEntries.{KeptEntry, state_of}
 use Rattle.cluster_sessions.proofs.PingLaws.{reached, pings_of_nodes}
-use Rattle.cluster_steps.specs.Guards.{IsNamed, Lawful}
+use Rattle.cluster_steps.specs.Guards.{IsLogFound, AreLegalSteps}
 use Rattle.cluster_steps.specs.Named.{log_named, rows_begun, steps, world}
 use Rattle.cluster_steps.specs.declared.events.Event.{Event}
 use Rattle.cluster_steps.proofs.StepLaws.{legal_steps, core_legal, inv_of, world_is}
@@ -50,7 +50,7 @@ pub record IsFoundAt (G : Setting) (h : List (ℕ × Event)) (o : Opened) : Type
   pub found : find_log (world G h) o.gen o.begin G.nodes ≡ Some log
   pub as_durable : (g : ℕ) (d : List KeptEntry) → DurableIn G.nodes (world G h) g d → o.begin ≤ length d → log ≡ take o.begin d
 
-found_by : (G : Setting) (h : List (ℕ × Event)) → Lawful G h → (o : Opened) → Pinged (field (steps G h)) o.begin o.gen → IsFoundAt G h o
+found_by : (G : Setting) (h : List (ℕ × Event)) → AreLegalSteps G h → (o : Opened) → Pinged (field (steps G h)) o.begin o.gen → IsFoundAt G h o
 found_by G h l o p = record { log = take o.begin ship.it.log; found = found; as_durable = same }
   where
     inv : Inv G.nodes (world G h)
@@ -94,15 +94,15 @@ found_by G h l o p = record { log = take o.begin ship.it.log; found = found; as_
         as_durable inv b.gen b.log b.durable p.node ship.it accepted (omega arith) o.begin b.within long
         ∙ apart (durable_either inv b.gen g b.log d b.durable dur) o.begin b.within within
 
-pub found_at : (G : Setting) (h : List (ℕ × Event)) → Lawful G h → (s : ℕ) (o : Opened) → (part G s (steps G h)).opened ≡ Some o → IsFoundAt G h o
+pub found_at : (G : Setting) (h : List (ℕ × Event)) → AreLegalSteps G h → (s : ℕ) (o : Opened) → (part G s (steps G h)).opened ≡ Some o → IsFoundAt G h o
 found_at G h l s o is = found_by G h l o (opened_ok G (steps G h) (legal_steps G h l) s o is)
 
 is_log : (G : Setting) (h : List (ℕ × Event)) (o : Opened) (f : IsFoundAt G h o) → log_named G.nodes (world G h) o.gen o.begin ≡ f.log
 is_log G h o f = ap (λ z. unwrap_or z []) f.found
 
-pub named_at : (G : Setting) (h : List (ℕ × Event)) → Lawful G h → (s : ℕ) (o : Opened) → (part G s (steps G h)).opened ≡ Some o → IsNamed G.nodes (world G h) o.gen o.begin
+pub named_at : (G : Setting) (h : List (ℕ × Event)) → AreLegalSteps G h → (s : ℕ) (o : Opened) → (part G s (steps G h)).opened ≡ Some o → IsLogFound G.nodes (world G h) o.gen o.begin
 named_at G h l s o is = let f = found_at G h l s o is in f.found ∙ ap (λ z. Some z) (sym (is_log G h o f))
 
-pub rows_at_begin : (G : Setting) (h : List (ℕ × Event)) → Lawful G h → (s g : ℕ) (o : Opened) (d : List KeptEntry) → (part G s (steps G h)).opened ≡ Some o → DurableIn G.nodes (world G h) g d → o.begin ≤ length d
+pub rows_at_begin : (G : Setting) (h : List (ℕ × Event)) → AreLegalSteps G h → (s g : ℕ) (o : Opened) (d : List KeptEntry) → (part G s (steps G h)).opened ≡ Some o → DurableIn G.nodes (world G h) g d → o.begin ≤ length d
     → rows_begun G (world G h) o ≡ state_of (take o.begin d)
 rows_at_begin G h l s g o d is dur within = let f = found_at G h l s o is in ap (λ z. state_of z) (is_log G h o f ∙ f.as_durable g d dur within)

@@ -14,10 +14,10 @@ use Rattle.cluster_requests.specs.KeptEntries.{KeptEntry}
 use Rattle.cluster_steps.specs.Named.{steps, world}
 use Rattle.cluster_steps.specs.declared.events.Event.{Event}
 use Rattle.cluster_steps.proofs.StepLaws.{core_legal, world_is}
-use Rattle.cluster_steps.specs.Guards.{Lawful}
+use Rattle.cluster_steps.specs.Guards.{AreLegalSteps}
 use Rattle.phys_log.specs.declared.entries.CommitId.{CommitId}
 
-pub kept_by : (G : Setting) (h : List (ℕ × Event)) (i j position : ℕ) (id : CommitId) (d : Claim KeptEntry) → Lawful G h → ((world G h).nodes i).leading ≡ true → HasAt id position ((world G h).nodes i).log
+pub kept_by : (G : Setting) (h : List (ℕ × Event)) (i j position : ℕ) (id : CommitId) (d : Claim KeptEntry) → AreLegalSteps G h → ((world G h).nodes i).leading ≡ true → HasAt id position ((world G h).nodes i).log
     → In d ((world G h).nodes j).durables → d.gen ≡ ((world G h).nodes i).accepted → position ≤ length d.log → IsKept (field (steps G h)) id position
 kept_by G h i j position id d l lead at mem gen long =
     let q = world_is G h in

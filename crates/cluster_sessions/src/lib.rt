@@ -19,8 +19,8 @@ ghost use Rattle.cluster_events.specs.Parts.{Opened, field, part};
 ghost use Rattle.cluster_events.specs.Settings.{Setting};
 ghost use Rattle.cluster_requests.specs.Identities.{HasAt};
 ghost use Rattle.cluster_requests.specs.KeptEntries.{KeptEntry, state_of};
-ghost use Rattle.cluster_steps.specs.Guards.{IsNamed, IsToSend, MayDo};
-ghost use Rattle.cluster_steps.specs.Named.{begin_of, rows_begun, sent_of, steps, transaction_of, world};
+ghost use Rattle.cluster_steps.specs.Guards.{IsLogFound, IsToSend, MayTakeStep};
+ghost use Rattle.cluster_steps.specs.Named.{begin_of, rows_begun, sent_of, steps, current_transaction, world};
 ghost use Rattle.cluster_steps.specs.declared.events.Event.{Event};
 ghost use Rattle.core_lists.specs.Lists.{Has, In};
 ghost use Rattle.phys_log.specs.declared.entries.CommitId.{CommitId};
@@ -28,9 +28,9 @@ ghost use Rattle.phys_log.specs.declared.entries.CommitId.{CommitId};
 /// The log that a session's begin names was shipped, and its rows are those at the begin position of every durable log
 /// that reaches it.
 pub fn begins_are_found()
-    ensures named { (G : Setting) (h : List (ℕ × Event)) (s : ℕ) (o : Opened) → IsLegal (λ g i e. MayDo G g i e) h
-        → (part G s (steps G h)).opened ≡ Some o → IsNamed G.nodes (world G h) o.gen o.begin }
-    ensures rows { (G : Setting) (h : List (ℕ × Event)) (s g : ℕ) (o : Opened) (d : List KeptEntry) → IsLegal (λ g i e. MayDo G g i e) h
+    ensures named { (G : Setting) (h : List (ℕ × Event)) (s : ℕ) (o : Opened) → IsLegal (λ g i e. MayTakeStep G g i e) h
+        → (part G s (steps G h)).opened ≡ Some o → IsLogFound G.nodes (world G h) o.gen o.begin }
+    ensures rows { (G : Setting) (h : List (ℕ × Event)) (s g : ℕ) (o : Opened) (d : List KeptEntry) → IsLegal (λ g i e. MayTakeStep G g i e) h
         → (part G s (steps G h)).opened ≡ Some o → DurableIn G.nodes (world G h) g d → o.begin ≤ length d
         → rows_begun G (world G h) o ≡ state_of (take o.begin d) }
 {}
@@ -38,16 +38,16 @@ pub fn begins_are_found()
 /// What a session sends by its name at the commit of a transaction with operations is what the transaction was answered, where
 /// the node that it sends to led the generation that it names, no lower than that of its begin.
 pub fn commits_are_sent_by_name()
-    ensures { (G : Setting) (h : List (ℕ × Event)) (i master gen : ℕ) (c : Commits G (steps G h) i) → IsLegal (λ g i e. MayDo G g i e) h
+    ensures { (G : Setting) (h : List (ℕ × Event)) (i master gen : ℕ) (c : Commits G (steps G h) i) → IsLegal (λ g i e. MayTakeStep G g i e) h
         → c.ran.ops ≢ [] → c.start.gen ≤ gen → Has (λ l. l.gen ≡ gen) ((world G h).nodes master).leads
         → IsToSend G (world G h) (part G i (steps G h))
-        × Sends G (steps G h) i (sent_of G (world G h) i master gen (transaction_of (part G i (steps G h)).left) (begin_of (part G i (steps G h)).opened)) }
+        × Sends G (steps G h) i (sent_of G (world G h) i master gen (current_transaction (part G i (steps G h)).left) (begin_of (part G i (steps G h)).opened)) }
 {}
 
 /// A session may be told that its transaction is committed at a position where a leader's log has its entry there, once a length
 /// that is told durable in the leader's generation reaches it.
 pub fn a_leader_tells_what_is_committed()
-    ensures { (G : Setting) (h : List (ℕ × Event)) (i j position : ℕ) (id : CommitId) (d : Claim KeptEntry) → IsLegal (λ g k e. MayDo G g k e) h
+    ensures { (G : Setting) (h : List (ℕ × Event)) (i j position : ℕ) (id : CommitId) (d : Claim KeptEntry) → IsLegal (λ g k e. MayTakeStep G g k e) h
         → ((world G h).nodes i).leading ≡ true → HasAt id position ((world G h).nodes i).log
         → In d ((world G h).nodes j).durables → d.gen ≡ ((world G h).nodes i).accepted → position ≤ length d.log
         → IsKept (field (steps G h)) id position }

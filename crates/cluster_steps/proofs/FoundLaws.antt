@@ -11,7 +11,7 @@ use Rattle.cluster_consensus.specs.Shipped.{find_ship, either_of, find_log}
 use Rattle.cluster_consensus.proofs.Invariant.{Inv}
 use Rattle.cluster_consensus.proofs.Lengths.{front_found, passes}
 use Rattle.cluster_requests.specs.KeptEntries.{KeptEntry}
-use Rattle.cluster_steps.specs.Guards.{IsNamed}
+use Rattle.cluster_steps.specs.Guards.{IsLogFound}
 use Rattle.cluster_steps.specs.Named.{log_named}
 use Rattle.election_core.specs.More.{TellsMore}
 
@@ -53,7 +53,7 @@ found_on {E} {n} {w} {v} inv more g l x e =
     subst (λ k. find_log v g k n ≡ Some x) s.is.2 q
 
 -- a name is of the same log
-pub log_stays : {n : ℕ} {w v : World KeptEntry} → Inv n v → TellsMore w v → (g l : ℕ) → IsNamed n w g l → (log_named n v g l ≡ log_named n w g l) × IsNamed n v g l
+pub log_stays : {n : ℕ} {w v : World KeptEntry} → Inv n v → TellsMore w v → (g l : ℕ) → IsLogFound n w g l → (log_named n v g l ≡ log_named n w g l) × IsLogFound n v g l
 log_stays {n} {w} {v} inv more g l x =
     let f : find_log v g l n ≡ Some (log_named n w g l) = found_on inv more g l (log_named n w g l) x in
     let q : log_named n v g l ≡ log_named n w g l = ap (λ t. unwrap_or t []) f in

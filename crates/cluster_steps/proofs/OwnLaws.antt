@@ -4,13 +4,13 @@ use Rattle.std.specs.Prelude.{Some, None, Option}
 use Rattle.actor_trace.specs.History.{entries_of}
 use Rattle.actor_trace.specs.Lists.{Begins}
 use Rattle.actor_trace.specs.Steps.{Adds, Rests}
-use Rattle.cluster_consensus.specs.Events.{Event as Core, change}
+use Rattle.cluster_consensus.specs.Events.{NodeEvent, change}
 use Rattle.cluster_consensus.specs.Facts.{Own, World}
 use Rattle.cluster_consensus.proofs.Kept.{self_row}
-use Rattle.cluster_events.specs.Parts.{Event as Step, part, field}
+use Rattle.cluster_events.specs.Parts.{ActorEvent, part, field}
 use Rattle.cluster_events.specs.Settings.{Setting}
 use Rattle.cluster_requests.specs.KeptEntries.{KeptEntry}
-use Rattle.cluster_steps.specs.Guards.{IsExact, Lawful}
+use Rattle.cluster_steps.specs.Guards.{IsExact, AreLegalSteps}
 use Rattle.cluster_steps.specs.Named.{named, steps, world}
 use Rattle.cluster_steps.specs.declared.events.Event.{Event}
 use Rattle.cluster_steps.proofs.NameLaws.{same_name}
@@ -18,20 +18,20 @@ use Rattle.cluster_steps.proofs.StepLaws.{inv_of, idle, idle_part, ticket, ticke
 use Rattle.cluster_steps.proofs.TellsLaws.{tells, tells_on, tells_step}
 use Rattle.election_core.specs.More.{TellsMore}
 
-no_ticket : (e : Step) (c : Core KeptEntry) (t : ℕ) → e ≡ Step.Node c → ticket_of e ≡ Some t → ⊥
+no_ticket : (e : ActorEvent) (c : NodeEvent KeptEntry) (t : ℕ) → e ≡ ActorEvent.Node c → ticket_of e ≡ Some t → ⊥
 no_ticket e c t q z = let f : None ≡ Some t = sym (ap ticket_of q) ∙ z in absurd (cc)
 
 -- the node that did it has the part that the event gives
-pub own_adds : (G : Setting) (i : ℕ) (e : Event) (c : Core KeptEntry) (old new : List (ℕ × Event)) → named G (steps G old) i e ≡ Step.Node c → IsExact G (steps G old) i e
-    → Adds i e old new → Lawful G new → (world G new).nodes i ≡ change i ((world G old).nodes i) c
+pub own_adds : (G : Setting) (i : ℕ) (e : Event) (c : NodeEvent KeptEntry) (old new : List (ℕ × Event)) → named G (steps G old) i e ≡ ActorEvent.Node c → IsExact G (steps G old) i e
+    → Adds i e old new → AreLegalSteps G new → (world G new).nodes i ≡ change i ((world G old).nodes i) c
 own_adds G i e c old new name exact d legal =
     let g = steps G old in
     let k = steps G (d.between ++ old) in
     let x = world G (d.between ++ old) in
-    let law : Lawful G ((i, e) ∷ (d.between ++ old)) = subst (λ t. Lawful G t) d.whole legal in
+    let law : AreLegalSteps G ((i, e) ∷ (d.between ++ old)) = subst (λ t. AreLegalSteps G t) d.whole legal in
     let still = idle G i d.between old d.none in
     let same = same_name G g k i e (inv_of G (d.between ++ old) law.1) (tells G d.between old) still (idle_part G i d.between old d.none) (λ t z. no_ticket (named G g i e) c t name (named_ticket G g i e ∙ z)) exact in
-    let now : named G k i e ≡ Step.Node c = same.0 ∙ name in
+    let now : named G k i e ≡ ActorEvent.Node c = same.0 ∙ name in
     ap (λ t. (world G t).nodes i) d.whole
     ∙ (ap (λ t. (field ((i, t) ∷ k)).core.nodes i) now ∙ (self_row x i c ∙ ap (λ (t : Own KeptEntry). change i t c) still))
 

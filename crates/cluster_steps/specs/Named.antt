@@ -9,14 +9,14 @@ use Rattle.cdb_values.specs.declared.replies.Reply.{Reply}
 use Rattle.cdb_values.specs.declared.replies.Reply.TheVariants as reply
 use Rattle.cdb_values.specs.declared.rows.Level.TheVariants.{Snapshot}
 use Rattle.cdb_values.specs.declared.tables.TableDef.{TableDef}
-use Rattle.cluster_consensus.specs.Events.{Event as Core}
+use Rattle.cluster_consensus.specs.Events.{NodeEvent}
 use Rattle.cluster_consensus.specs.Facts.{Own, World}
 use Rattle.cluster_consensus.specs.Shipped.{find_log}
 use Rattle.cluster_events.specs.Guards.{commit_id_of}
-use Rattle.cluster_events.specs.Parts.{Event as Step, Opened, part, field}
+use Rattle.cluster_events.specs.Parts.{ActorEvent, Opened, part, field}
 use Rattle.cluster_events.specs.Settings.{Setting, run_alone}
 use Rattle.cluster_requests.specs.KeptEntries.{KeptEntry, state_of}
-use Rattle.cluster_requests.specs.KeptEntries.KeptEntry.{Setup as SetupKept, Commit as CommitKept}
+use Rattle.cluster_requests.specs.KeptEntries.KeptEntry.{SetupKept, CommitKept}
 use Rattle.cluster_requests.specs.Requests.{Sent}
 use Rattle.cluster_steps.specs.declared.events.Event.{Event}
 use Rattle.cluster_steps.specs.declared.events.Event.TheVariants as event
@@ -29,7 +29,7 @@ use Rattle.phys_log.specs.declared.entries.Entry.TheVariants as entry
 use Rattle.phys_log.specs.declared.requests.Decision.{Decision}
 use Rattle.phys_log.specs.declared.requests.Decision.TheVariants as decision
 use Rattle.report_laws.specs.Outcome.{name_of_table, name_of_key, line_by, range_line}
-use Rattle.report_laws.specs.Work.{Item, Transaction, Does, Lone, Nowhere}
+use Rattle.report_laws.specs.Work.{WorkItem, Transaction, Does, Lone, Nowhere}
 use Rattle.report_text.specs.declared.reports.Line.{Line}
 use Rattle.report_text.specs.declared.reports.Line.TheVariants as line
 use Rattle.session_language.specs.Intervals.{keys_at}
@@ -53,17 +53,18 @@ abbrev pub log_named : ℕ → World KeptEntry → ℕ → ℕ → List KeptEntr
 log_named n w g l = unwrap_or (find_log w g l n) []
 
 -- the entry that stands behind a node's log in the entries that its store has
-abbrev pub back_append : ℕ → List KeptEntry → Option Entry → Core KeptEntry
-back_append promised log None = Core.Back promised
-back_append promised log (Some e) = Core.BackAppend (kept_over log e)
+abbrev pub back_append : ℕ → List KeptEntry → Option Entry → NodeEvent KeptEntry
+back_append promised log None = NodeEvent.Back promised
+back_append promised log (Some e) = NodeEvent.BackAppend (kept_over log e)
 
 -- how a node comes up, with these numbers and entries
-abbrev pub named_up : ℕ → World KeptEntry → Own KeptEntry → Woken → ℕ → ℕ → List Entry → Core KeptEntry
-named_up n w o (woken.First rows) promised accepted entries = Core.Boot promised accepted (kept_all rows.value entries)
-named_up n w o woken.AsLeft promised accepted entries = Core.Back promised
-named_up n w o woken.Led promised accepted entries = Core.BackLead
+abbrev pub named_up : ℕ → World KeptEntry → Own KeptEntry → Woken → ℕ → ℕ → List Entry → NodeEvent KeptEntry
+named_up n w o (woken.First rows) promised accepted entries = NodeEvent.Boot promised accepted
+    (kept_all rows.value entries)
+named_up n w o woken.AsLeft promised accepted entries = NodeEvent.Back promised
+named_up n w o woken.Led promised accepted entries = NodeEvent.BackLead
 named_up n w o woken.Took promised accepted entries =
-    cond (accepted == o.accepted) (Core.BackGrow (log_named n w accepted (length entries))) (Core.BackTake accepted (log_named n w accepted (length entries)))
+    cond (accepted == o.accepted) (NodeEvent.BackGrow (log_named n w accepted (length entries))) (NodeEvent.BackTake accepted (log_named n w accepted (length entries)))
 named_up n w o woken.Appended promised accepted entries = back_append promised o.log (slice_get entries (length o.log))
 
 -- a decision as it is told, where it refuses
@@ -78,9 +79,9 @@ refusal_line tables (decision.Conflict position (item.Range table key)) = range_
 refusal_line tables (decision.Duplicate position table key) = duplicate_line position (name_of_table tables table) (name_of_key (keys_at tables table) (Some key))
 refusal_line tables (decision.Commit next) = None
 
-abbrev pub named_settled : List TableDef → CommitId → Decision → Step
-named_settled tables id (decision.Repeat position) = Step.Repeat id position
-named_settled tables id d = Step.Settle id (unwrap_or (refusal_line tables d) reply.NoMemory)
+abbrev pub named_settled : List TableDef → CommitId → Decision → ActorEvent
+named_settled tables id (decision.Repeat position) = ActorEvent.Repeat id position
+named_settled tables id d = ActorEvent.Settle id (unwrap_or (refusal_line tables d) reply.NoMemory)
 
 -- the answer that a line tells
 abbrev pub reply_in : Line → Reply
@@ -88,14 +89,14 @@ reply_in (line.Session session txn answer) = answer
 reply_in _ = reply.NoMemory
 
 -- an answer inside a transaction, or that of a line outside one
-abbrev pub named_reply : List Item → Reply → Step
-named_reply (Lone r ∷ items) answer = Step.Note
-named_reply _ answer = Step.Say answer
+abbrev pub named_reply : List WorkItem → Reply → ActorEvent
+named_reply (Lone r ∷ items) answer = ActorEvent.Note
+named_reply _ answer = ActorEvent.Say answer
 
 -- the transaction that a session is in, and its begin
-abbrev pub transaction_of : List Item → Transaction
-transaction_of (Does t ∷ items) = t
-transaction_of _ = record { number = 0; texts = []; level = Snapshot; end = Nowhere }
+abbrev pub current_transaction : List WorkItem → Transaction
+current_transaction (Does t ∷ items) = t
+current_transaction _ = record { number = 0; texts = []; level = Snapshot; end = Nowhere }
 
 abbrev pub begin_of : Option Opened → Opened
 begin_of (Some o) = o
@@ -122,35 +123,36 @@ abbrev pub sent_of : Setting → World KeptEntry → ℕ → ℕ → ℕ → Tra
 sent_of G w i master generation t o = sent_over G (rows_begun G w o) i master generation t o
 
 -- what an event of an actor is, behind a history
-abbrev pub named : Setting → List (ℕ × Step) → ℕ → Event → Step
-named G g i event.Order = Step.Order
-named G g i event.Obeyed = Step.Obeyed
-named G g i (event.Fire place node) = Step.Fire place node
-named G g i (event.Admit node promised accepted) = Step.Node (Core.Admits node promised accepted)
-named G g i (event.Up how promised accepted entries) = Step.Node (named_up G.nodes (field g).core ((field g).core.nodes i) how promised accepted entries.value)
-named G g i (event.Down fault) = cond fault (Step.Node Core.Down) Step.Stop
-named G g i (event.Stand generation) = Step.Node (Core.Stand generation)
-named G g i (event.Grant generation to) = Step.Node (Core.Grants generation to)
-named G g i (event.Lead generation) = Step.Node Core.Lead
+abbrev pub named : Setting → List (ℕ × ActorEvent) → ℕ → Event → ActorEvent
+named G g i event.Order = ActorEvent.Order
+named G g i event.Obeyed = ActorEvent.Obeyed
+named G g i (event.Fire place node) = ActorEvent.Fire place node
+named G g i (event.Admit node promised accepted) = ActorEvent.Node (NodeEvent.Admits node promised accepted)
+named G g i (event.Up how promised accepted entries) = ActorEvent.Node (named_up G.nodes (field g).core ((field g).core.nodes i) how promised accepted entries.value)
+named G g i (event.Down fault) = cond fault (ActorEvent.Node NodeEvent.Down) ActorEvent.Stop
+named G g i (event.Stand generation) = ActorEvent.Node (NodeEvent.Stand generation)
+named G g i (event.Grant generation to) = ActorEvent.Node (NodeEvent.Grants generation to)
+named G g i (event.Lead generation) = ActorEvent.Node NodeEvent.Lead
 named G g i (event.Take generation l) =
-    Step.Node (cond (generation == ((field g).core.nodes i).accepted) (Core.Grow (log_named G.nodes (field g).core generation l)) (Core.Take generation (log_named G.nodes (field g).core generation l)))
-named G g i (event.Append next) = Step.Node (Core.Append (kept_over ((field g).core.nodes i).log next.value))
+    ActorEvent.Node (cond (generation == ((field g).core.nodes i).accepted) (NodeEvent.Grow (log_named G.nodes (field g).core generation l)) (NodeEvent.Take generation (log_named G.nodes (field g).core generation l)))
+named G g i (event.Append next) = ActorEvent.Node (NodeEvent.Append (kept_over ((field g).core.nodes i).log next.value))
 named G g i (event.Settle id d) = named_settled G.tables id.value d.value
-named G g i (event.Learn l) = Step.Node (cond ((field g).core.nodes i).leading (Core.LearnLead l) (Core.LearnFollow l))
-named G g i (event.Probe ask) = Step.Node (Core.Probe ask)
-named G g i (event.Confirm ask generation) = Step.Node (Core.Confirm ask generation)
-named G g i event.Ask = Step.Ask (length g)
-named G g i (event.Begun position generation) = Step.Begun position generation
+named G g i (event.Learn l) = ActorEvent.Node
+    (cond ((field g).core.nodes i).leading (NodeEvent.LearnLead l) (NodeEvent.LearnFollow l))
+named G g i (event.Probe ask) = ActorEvent.Node (NodeEvent.Probe ask)
+named G g i (event.Confirm ask generation) = ActorEvent.Node (NodeEvent.Confirm ask generation)
+named G g i event.Ask = ActorEvent.Ask (length g)
+named G g i (event.Begun position generation) = ActorEvent.Begun position generation
 named G g i (event.Reply told) = named_reply (part G i g).left (reply_in told)
-named G g i (event.Send master generation) = Step.Send (sent_of G (field g).core i master generation (transaction_of (part G i g).left) (begin_of (part G i g).opened))
-named G g i (event.Outcome told) = Step.Finish (reply_in told)
-named G g i (event.Move node) = Step.Move node
-named G g i event.Barrier = Step.Barrier
-named G g i (event.Fed position generation) = Step.Fed position generation
-named G g i (event.FedAgain position) = Step.FedAgain position
+named G g i (event.Send master generation) = ActorEvent.Send (sent_of G (field g).core i master generation (current_transaction (part G i g).left) (begin_of (part G i g).opened))
+named G g i (event.Outcome told) = ActorEvent.Finish (reply_in told)
+named G g i (event.Move node) = ActorEvent.Move node
+named G g i event.Barrier = ActorEvent.Barrier
+named G g i (event.Fed position generation) = ActorEvent.Fed position generation
+named G g i (event.FedAgain position) = ActorEvent.FedAgain position
 
 -- the whole history that a history of named events is
-abbrev pub steps : Setting → List (ℕ × Event) → List (ℕ × Step)
+abbrev pub steps : Setting → List (ℕ × Event) → List (ℕ × ActorEvent)
 steps G [] = []
 steps G (x ∷ h) = (x.0, named G (steps G h) x.0 x.1) ∷ steps G h
 

@@ -1,14 +1,14 @@
 //! The laws of named events.
 ghost use Rattle.std.specs.Prelude.{ℕ, ◌≡◌, List, ◌++◌, length};
 ghost use Rattle.actor_trace.specs.History.{IsLegal, entries_of};
-ghost use Rattle.cluster_consensus.specs.Events.{Event as Core};
+ghost use Rattle.cluster_consensus.specs.Events.{NodeEvent};
 ghost use Rattle.cluster_consensus.specs.Histories.{Legal, after};
 ghost use Rattle.cluster_events.specs.ByScript.{AllHeed};
-ghost use Rattle.cluster_events.specs.Guards.{IsLegal as IsLegalWhole};
+ghost use Rattle.cluster_events.specs.Guards.{IsLegalHistory};
 ghost use Rattle.cluster_events.specs.Parts.{part};
 ghost use Rattle.cluster_events.specs.Settings.{Setting, lines_to_do};
 ghost use Rattle.cluster_requests.specs.KeptEntries.{KeptEntry};
-ghost use Rattle.cluster_steps.specs.Guards.{MayDo, IsExact};
+ghost use Rattle.cluster_steps.specs.Guards.{MayTakeStep, IsExact};
 ghost use Rattle.cluster_steps.specs.Named.{named, steps, world};
 ghost use Rattle.cluster_steps.specs.declared.events.Event.{Event};
 ghost use Rattle.cluster_steps.specs.declared.events.Event.TheVariants as event;
@@ -18,10 +18,10 @@ ghost use Rattle.election_core.specs.More.{TellsMore};
 /// its events might be done; and its nodes are those after a legal history of consensus.
 pub fn named_histories_are_legal()
     ensures size { (G : Setting) (h : List (ℕ × Event)) → length (steps G h) ≡ length h }
-    ensures legal { (G : Setting) (h : List (ℕ × Event)) → IsLegal (λ g i e. MayDo G g i e) h → IsLegalWhole G (steps G h) }
-    ensures by_script { (G : Setting) (h : List (ℕ × Event)) → IsLegal (λ g i e. MayDo G g i e) h → AllHeed G (lines_to_do G) (steps G h) }
-    ensures core { (G : Setting) (h : List (ℕ × Event)) → IsLegal (λ g i e. MayDo G g i e) h
-        → (c : List (ℕ × Core KeptEntry)) × Legal G.nodes c × (world G h ≡ after c) }
+    ensures legal { (G : Setting) (h : List (ℕ × Event)) → IsLegal (λ g i e. MayTakeStep G g i e) h → IsLegalHistory G (steps G h) }
+    ensures by_script { (G : Setting) (h : List (ℕ × Event)) → IsLegal (λ g i e. MayTakeStep G g i e) h → AllHeed G (lines_to_do G) (steps G h) }
+    ensures core { (G : Setting) (h : List (ℕ × Event)) → IsLegal (λ g i e. MayTakeStep G g i e) h
+        → (c : List (ℕ × NodeEvent KeptEntry)) × Legal G.nodes c × (world G h ≡ after c) }
 {}
 
 /// What was told stays told.
@@ -39,13 +39,13 @@ pub fn who_does_nothing_stays()
 
 /// A name means the same while its actor does nothing; only an ask, which is called by its ticket, is another one then.
 pub fn names_stay()
-    ensures { (G : Setting) (later h : List (ℕ × Event)) (i : ℕ) (e : Event) → IsLegal (λ g j f. MayDo G g j f) (later ++ h)
+    ensures { (G : Setting) (later h : List (ℕ × Event)) (i : ℕ) (e : Event) → IsLegal (λ g j f. MayTakeStep G g j f) (later ++ h)
         → entries_of i (later ++ h) ≡ entries_of i h → (e ≡ event.Ask → ⊥) → IsExact G (steps G h) i e
         → (named G (steps G (later ++ h)) i e ≡ named G (steps G h) i e) × IsExact G (steps G (later ++ h)) i e }
 {}
 
 /// What an actor may do it may do while it does nothing, whatever others do.
 pub fn what_may_be_done_stays()
-    ensures { (G : Setting) (later h : List (ℕ × Event)) (i : ℕ) (e : Event) → IsLegal (λ g j f. MayDo G g j f) (later ++ h)
-        → entries_of i (later ++ h) ≡ entries_of i h → MayDo G h i e → MayDo G (later ++ h) i e }
+    ensures { (G : Setting) (later h : List (ℕ × Event)) (i : ℕ) (e : Event) → IsLegal (λ g j f. MayTakeStep G g j f) (later ++ h)
+        → entries_of i (later ++ h) ≡ entries_of i h → MayTakeStep G h i e → MayTakeStep G (later ++ h) i e }
 {}

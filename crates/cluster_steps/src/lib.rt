@@ -27,7 +27,7 @@
 //! | `Send` | the request of the session's transaction, over the rows at its begin | a log that was shipped up to there |
 //! | `Outcome` | an end of the transaction | its line |
 //!
-//! An actor may do an event (`MayDo` of `specs/Guards.antt`) where it says exactly what it does, the whole history allows it,
+//! An actor may do an event (`MayTakeStep` of `specs/Guards.antt`) where it says exactly what it does, the whole history allows it,
 //! the script does, and a log that it makes has pages that stand for its rows.
 #![tactic(auto)]
 

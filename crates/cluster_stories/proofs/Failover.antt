@@ -4,13 +4,13 @@ use Rattle.std.specs.Prelude.{Bool, true, false, Some}
 use mathlib.Core.Logic.{inl, inr}
 use Rattle.cdb_values.specs.declared.rows.RowOp.TheVariants.{Insert}
 use Rattle.cluster_consensus.proofs.ThreeNodes.{first_has, one_and_two, two_and_three}
-use Rattle.cluster_consensus.specs.Events.Event.{Stand, Grants, Lead, Take, LearnLead}
+use Rattle.cluster_consensus.specs.Events.NodeEvent.{Stand, Grants, Lead, Take, LearnLead}
 use Rattle.cdb_values.specs.declared.replies.Reply.TheVariants as reply
 use Rattle.cluster_consensus.specs.Durable.{DurableIn}
 use Rattle.cluster_events.specs.ByScript.{AllHeed}
-use Rattle.cluster_events.specs.Guards.{Commits, IsLegal}
+use Rattle.cluster_events.specs.Guards.{Commits, IsLegalHistory}
 use Rattle.cluster_events.specs.Parts.{field}
-use Rattle.cluster_events.specs.Parts.Event.{Node}
+use Rattle.cluster_events.specs.Parts.ActorEvent.{Node}
 use Rattle.cluster_requests.specs.Identities.{identity_of, Lacks}
 use Rattle.cluster_stories.proofs.Story.{its_txn, its_open, its_ran, lacks, sent_legal}
 use Rattle.cluster_stories.specs.Failover.{sent_on, commit_on, appended, sent_again, repeated, fallen, lost, come_back, moved, repeated_on, stopped, moved_on, appended_on, tail_dropped}
@@ -30,17 +30,17 @@ lacks_its id q = subst (λ z. Lacks z (setup ∷ [])) (let z : Some its_id ≡ S
 lacks_on : (id : CommitId) → identity_of commit_on ≡ Some id → Lacks id (setup ∷ [])
 lacks_on id q = subst (λ z. Lacks z (setup ∷ [])) (let z : Some its_id ≡ Some id = q in cc) lacks
 
-appended_legal : (q : Bool) → IsLegal (given_as q) appended
+appended_legal : (q : Bool) → IsLegalHistory (given_as q) appended
 appended_legal q = (((((refl, refl), record { made = refl; asked = first_has (refl, refl, refl); unsettled = each_none; new = λ id q. lacks_its id q }), record { sent = its_sent; mem = here; its_id = refl; gen = refl; its_begin = refl; its_level = refl; changes = refl; rows = refl; untouched = λ j lo hi. absurd (omega arith); good = record { rows_fit = tt; keys_kept = refl } }, (omega arith, omega arith))), sent_legal q)
 
 -- at its commit, with the replies over a log that is durable then
 abbrev at_appended : Commits given appended 4
 at_appended = record { txn = its_txn; start = its_open; at = record { others = []; is = refl; opened = refl }; ends = tt; ran = its_ran; answered = record { log = setup ∷ []; durable = (1, one_and_two (first_has (refl, front_cons front_nil)) (first_has (refl, front_cons front_nil))); within = omega arith; alone = refl; says = refl } }
 
-sent_again_legal : IsLegal given sent_again
+sent_again_legal : IsLegalHistory given sent_again
 sent_again_legal = ((each_add (λ q. omega arith) each_none, record { at = at_appended; has_ops = has_one (Insert 0 []); its_by = refl; its_id = refl; its_begin = refl; its_level = refl; its_ops = refl; its_used = refl; low = omega arith; led = first_has refl }), appended_legal true)
 
-pub repeated_legal : IsLegal given repeated
+pub repeated_legal : IsLegalHistory given repeated
 repeated_legal = (
   (
     (
@@ -61,7 +61,7 @@ repeated_legal = (
   ),
 )
 
-fallen_legal : (q : Bool) → IsLegal (given_as q) fallen
+fallen_legal : (q : Bool) → IsLegalHistory (given_as q) fallen
 fallen_legal q = (
   ((tt, tt), tt, (omega arith, omega arith)),
   (
@@ -71,7 +71,7 @@ fallen_legal q = (
 )
 
 -- a session that does not survive the fall is told that its transaction is lost
-lost_legal : IsLegal (given_as false) lost
+lost_legal : IsLegalHistory (given_as false) lost
 lost_legal = (
   (
     (
@@ -96,7 +96,7 @@ lost_legal = (
   fallen_legal false,
 )
 
-pub come_back_legal : IsLegal (given_as false) come_back
+pub come_back_legal : IsLegalHistory (given_as false) come_back
 come_back_legal = (
   (((refl, refl, omega arith, omega arith, two_and_three (first_has (refl, omega arith)) (first_has (refl, omega arith))), tt), tt, (omega arith, omega arith)),
   (
@@ -117,7 +117,7 @@ come_back_legal = (
 pub come_back_durable : DurableIn 3 (field come_back).core 2 (setup ∷ commit ∷ [])
 come_back_durable = two_and_three (first_has (refl, front_refl (setup ∷ commit ∷ []))) (first_has (refl, front_refl (setup ∷ commit ∷ [])))
 
-moved_legal : IsLegal given moved
+moved_legal : IsLegalHistory given moved
 moved_legal = (
   record { later = []; between = (2, Node (LearnLead 2)) ∷ (3, Node (Take 2 (setup ∷ commit ∷ []))) ∷ (2, Node Lead) ∷ (3, Node (Grants 2 2)) ∷ (2, Node (Stand 2)) ∷ []; before = fallen; split = refl; stays = refl; down = refl; next = refl },
   (
@@ -141,7 +141,7 @@ moved_legal = (
 abbrev at_moved : Commits given moved 4
 at_moved = record { txn = its_txn; start = its_open; at = record { others = []; is = refl; opened = refl }; ends = tt; ran = its_ran; answered = record { log = setup ∷ []; durable = (2, two_and_three (first_has (refl, front_cons front_nil)) (first_has (refl, front_cons front_nil))); within = omega arith; alone = refl; says = refl } }
 
-pub repeated_on_legal : IsLegal given repeated_on
+pub repeated_on_legal : IsLegalHistory given repeated_on
 repeated_on_legal = (
   (
     (
@@ -159,10 +159,10 @@ repeated_on_legal = (
   ),
 )
 
-stopped_legal : IsLegal given stopped
+stopped_legal : IsLegalHistory given stopped
 stopped_legal = (((tt, tt), refl, omega arith, omega arith), (refl, appended_legal true))
 
-moved_on_legal : IsLegal given moved_on
+moved_on_legal : IsLegalHistory given moved_on
 moved_on_legal = (
   record { later = []; between = (3, Node (Take 2 (setup ∷ []))) ∷ (2, Node Lead) ∷ (3, Node (Grants 2 2)) ∷ (2, Node (Stand 2)) ∷ []; before = stopped; split = refl; stays = refl; down = refl; next = refl },
   (
@@ -183,7 +183,7 @@ moved_on_legal = (
 abbrev at_moved_on : Commits given moved_on 4
 at_moved_on = record { txn = its_txn; start = its_open; at = record { others = []; is = refl; opened = refl }; ends = tt; ran = its_ran; answered = record { log = setup ∷ []; durable = (2, two_and_three (first_has (refl, front_refl (setup ∷ []))) (first_has (refl, front_refl (setup ∷ [])))); within = omega arith; alone = refl; says = refl } }
 
-appended_on_legal : IsLegal given appended_on
+appended_on_legal : IsLegalHistory given appended_on
 appended_on_legal = (
   (
     (
@@ -207,7 +207,7 @@ appended_on_legal = (
   ),
 )
 
-pub tail_dropped_legal : IsLegal given tail_dropped
+pub tail_dropped_legal : IsLegalHistory given tail_dropped
 tail_dropped_legal = (
   (((refl, (omega arith, omega arith, (2, first_has (refl, refl)))), tt), tt, (omega arith, omega arith)),
   (

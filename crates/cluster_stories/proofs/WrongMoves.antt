@@ -9,9 +9,9 @@ use Rattle.report_laws.specs.Nodes.{is_up, up_after, up_from}
 use Rattle.report_text.specs.declared.reports.Line.{Line}
 use Rattle.cluster_events.specs.Arms.{FellSince}
 use Rattle.cluster_events.specs.ByScript.{AllHeed}
-use Rattle.cluster_events.specs.Guards.{IsLegal}
-use Rattle.cluster_events.specs.Parts.{Event, part, lines, lines_by}
-use Rattle.cluster_events.specs.Parts.Event.{Ask, Move, Send}
+use Rattle.cluster_events.specs.Guards.{IsLegalHistory}
+use Rattle.cluster_events.specs.Parts.{ActorEvent, part, lines, lines_by}
+use Rattle.cluster_events.specs.Parts.ActorEvent.{Ask, Move, Send}
 use Rattle.cluster_events.specs.Settings.{Setting}
 use Rattle.cluster_events.specs.Sites.{CanMove, next_up, site}
 use Rattle.cluster_stories.specs.Failover.{fallen, fired}
@@ -26,11 +26,11 @@ up_at k front_nil all = refl
 up_at k (front_cons {x = x} {xs = xs} p) all = ap (λ b. up_from k b xs) all.0 ∙ up_at k p all.1
 
 -- the lines of a beginning come first
-first_lines : (G : Setting) (later before : List (ℕ × Event)) → Front (lines G before) (lines G (later ++ before))
+first_lines : (G : Setting) (later before : List (ℕ × ActorEvent)) → Front (lines G before) (lines G (later ++ before))
 first_lines G [] before = front_refl (lines G before)
 first_lines G (x ∷ later) before = front_trans (first_lines G later before) (front_append (lines G (later ++ before)) (lines_by G (lines G (later ++ before)) (part G x.0 (later ++ before)) x.0 x.1))
 
-up_before : (k : ℕ) (h later before : List (ℕ × Event)) → h ≡ later ++ before → StaysUp k (lines given h) → is_up k (lines given before) ≡ true
+up_before : (k : ℕ) (h later before : List (ℕ × ActorEvent)) → h ≡ later ++ before → StaysUp k (lines given h) → is_up k (lines given before) ≡ true
 up_before k h later before e all = up_at k (first_lines given later before) (subst (λ z. StaysUp k (lines given z)) e all)
 
 -- a session moves, and its node did not go down
@@ -40,7 +40,7 @@ moves_for_nothing k = absurd (
     let d : is_up 1 (lines given k.before) ≡ false = k.down in
     cc)
 
-pub moved_for_nothing : IsLegal given ((4, Move 2) ∷ sent) → ⊥
+pub moved_for_nothing : IsLegalHistory given ((4, Move 2) ∷ sent) → ⊥
 moved_for_nothing legal = moves_for_nothing legal.0
 
 -- it passes over a node that is up
@@ -53,7 +53,7 @@ passes_over k = absurd (
     let q : Some 2 ≡ Some 3 = sym o ∙ n in
     cc)
 
-pub moved_too_far : IsLegal given ((4, Move 3) ∷ fallen) → ⊥
+pub moved_too_far : IsLegalHistory given ((4, Move 3) ∷ fallen) → ⊥
 moved_too_far legal = passes_over legal.0
 
 -- a session goes on before the node is down that its arm stops
@@ -67,5 +67,5 @@ pub went_on_armed : AllHeed given script.body ((4, Send its_sent) ∷ fired) →
 went_on_armed all = still_up all.0.goes_on
 
 -- and before the barrier before its line is told
-pub went_on_barred : IsLegal barred ((4, Ask 7) ∷ set_up) → ⊥
+pub went_on_barred : IsLegalHistory barred ((4, Ask 7) ∷ set_up) → ⊥
 went_on_barred legal = let w : 1 ≤ 0 = legal.0.1 in omega arith

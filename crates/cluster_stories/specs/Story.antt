@@ -6,9 +6,9 @@ use Rattle.cdb_values.specs.Changes.{changes_of}
 use Rattle.cdb_values.specs.declared.rows.Level.TheVariants.{Snapshot}
 use Rattle.cdb_values.specs.declared.rows.RowOp.{RowOp}
 use Rattle.cdb_values.specs.declared.rows.RowOp.TheVariants.{Insert}
-use Rattle.cluster_consensus.specs.Events.Event.{Admits, Boot, Stand, Grants, Lead, Take, Grow, Append, LearnLead, Probe, Confirm}
+use Rattle.cluster_consensus.specs.Events.NodeEvent.{Admits, Boot, Stand, Grants, Lead, Take, Grow, Append, LearnLead, Probe, Confirm}
 use Rattle.cluster_requests.specs.KeptEntries.{KeptEntry}
-use Rattle.cluster_requests.specs.KeptEntries.KeptEntry.{Setup, Commit}
+use Rattle.cluster_requests.specs.KeptEntries.KeptEntry.{SetupKept, CommitKept}
 use Rattle.cluster_requests.specs.Requests.{Sent}
 use Rattle.phys_log.specs.declared.entries.CommitId.{CommitId}
 use Rattle.cdb_values.specs.declared.replies.Reply.TheVariants as reply
@@ -17,8 +17,8 @@ use Rattle.script_form.specs.declared.scripts.Moment.TheVariants as moment
 use Rattle.script_form.specs.declared.scripts.Script.{Script}
 use Rattle.session_language.specs.Language.{Language, OtherText}
 use Rattle.cluster_events.specs.Settings.{Setting}
-use Rattle.cluster_events.specs.Parts.{Event}
-use Rattle.cluster_events.specs.Parts.Event.{Node, Ask, Begun, Say, Send, Finish}
+use Rattle.cluster_events.specs.Parts.{ActorEvent}
+use Rattle.cluster_events.specs.Parts.ActorEvent.{Node, Ask, Begun, Say, Send, Finish}
 
 abbrev pub its_ops : List RowOp
 its_ops = Insert 0 [] ∷ []
@@ -45,31 +45,31 @@ abbrev pub barred : Setting
 barred = record given { phase = λ s told. 1 }
 
 abbrev pub setup : KeptEntry
-setup = Setup 1 [] [] (no_rows [])
+setup = SetupKept 1 [] [] (no_rows [])
 
 abbrev pub its_id : CommitId
 its_id = record { began = 1; session = 115 ∷ []; txn = 1 }
 
 abbrev pub commit : KeptEntry
-commit = Commit 1 its_id 1 Snapshot (changes_of its_ops 1) [] (apply_all (no_rows []) its_ops)
+commit = CommitKept 1 its_id 1 Snapshot (changes_of its_ops 1) [] (apply_all (no_rows []) its_ops)
 
 abbrev pub its_sent : Sent
 its_sent = record { by = 4; id = its_id; to = 1; gen = 1; begin = 1; level = Snapshot; ops = its_ops; used = [] }
 
-abbrev pub opened : List (ℕ × Event)
+abbrev pub opened : List (ℕ × ActorEvent)
 opened = (3, Node (Boot 0 0 [])) ∷ (2, Node (Boot 0 0 [])) ∷ (1, Node (Boot 0 0 [])) ∷ (0, Node (Admits 3 0 0)) ∷ (0, Node (Admits 2 0 0)) ∷ (0, Node (Admits 1 0 0)) ∷ []
 
-abbrev pub led : List (ℕ × Event)
+abbrev pub led : List (ℕ × ActorEvent)
 led = (2, Node (Take 1 [])) ∷ (1, Node Lead) ∷ (2, Node (Grants 1 1)) ∷ (1, Node (Stand 1)) ∷ opened
 
-abbrev pub set_up : List (ℕ × Event)
+abbrev pub set_up : List (ℕ × ActorEvent)
 set_up = (1, Node (LearnLead 1)) ∷ (2, Node (Grow (setup ∷ []))) ∷ (1, Node (Append setup)) ∷ led
 
-abbrev pub begun : List (ℕ × Event)
+abbrev pub begun : List (ℕ × ActorEvent)
 begun = (4, Begun 1 1) ∷ (2, Node (Confirm 7 1)) ∷ (1, Node (Probe 7)) ∷ (4, Ask 7) ∷ set_up
 
-abbrev pub sent : List (ℕ × Event)
+abbrev pub sent : List (ℕ × ActorEvent)
 sent = (4, Send its_sent) ∷ (4, Say (reply.Changed 1)) ∷ begun
 
-abbrev pub committed : List (ℕ × Event)
+abbrev pub committed : List (ℕ × ActorEvent)
 committed = (4, Finish (reply.Committed 2)) ∷ (1, Node (LearnLead 2)) ∷ (2, Node (Grow (setup ∷ commit ∷ []))) ∷ (1, Node (Append commit)) ∷ sent

@@ -17,12 +17,12 @@
 
 ghost use Rattle.std.specs.Prelude.{ℕ, ◌≡◌, [], ◌∷◌, true, false, List};
 ghost use Rattle.cdb_values.specs.declared.replies.Reply.TheVariants as reply;
-ghost use Rattle.cluster_consensus.specs.Events.Event.{Append, Down};
+ghost use Rattle.cluster_consensus.specs.Events.NodeEvent.{Append, Down};
 ghost use Rattle.cluster_consensus.specs.Durable.{DurableIn};
 ghost use Rattle.cluster_events.specs.ByScript.{AllHeed};
-ghost use Rattle.cluster_events.specs.Guards.{IsLegal};
+ghost use Rattle.cluster_events.specs.Guards.{IsLegalHistory};
 ghost use Rattle.cluster_events.specs.Parts.{lines, field};
-ghost use Rattle.cluster_events.specs.Parts.Event.{Node, Settle, Ask, Begun, Note, Barrier, Fed, Say, Send, Finish, Move, Stop, Repeat, Order, Obeyed, Fire, FedAgain};
+ghost use Rattle.cluster_events.specs.Parts.ActorEvent.{Node, Settle, Ask, Begun, Note, Barrier, Fed, Say, Send, Finish, Move, Stop, Repeat, Order, Obeyed, Fire, FedAgain};
 ghost use Rattle.cluster_stories.specs.Failover.{repeated, repeated_on, fallen, come_back, fired, appended_on, tail_dropped, commit_on};
 ghost use Rattle.cluster_stories.specs.Story.{given, given_as, barred, committed, setup, commit, script, led, set_up, begun, its_sent, sent};
 ghost use Rattle.cluster_stories.specs.Story.{its_id};
@@ -30,7 +30,7 @@ ghost use Rattle.report_text.specs.declared.reports.Line.TheVariants as line;
 
 /// A line begins, is answered, sent, appended and committed.
 pub fn a_commit_is_told()
-    ensures legal { IsLegal given committed }
+    ensures legal { IsLegalHistory given committed }
     ensures lines { lines given committed
         ≡ line.Session (115 ∷ []) 1 (reply.Begin 1) ∷ line.Session (115 ∷ []) 1 (reply.Changed 1)
         ∷ line.Session (115 ∷ []) 1 (reply.Committed 2) ∷ [] }
@@ -38,14 +38,14 @@ pub fn a_commit_is_told()
 
 /// It is sent to its leader again, which tells where its entry stands: the same lines.
 pub fn a_commit_is_repeated()
-    ensures legal { IsLegal given repeated }
+    ensures legal { IsLegalHistory given repeated }
     ensures lines { lines given repeated ≡ lines given committed }
 {}
 
 /// Its leader falls when a follower has the entry. This one leads next, the session moves to it, and it tells where
 /// the entry stands.
 pub fn a_session_moves()
-    ensures legal { IsLegal given repeated_on }
+    ensures legal { IsLegalHistory given repeated_on }
     ensures lines { lines given repeated_on
         ≡ line.Session (115 ∷ []) 1 (reply.Begin 1) ∷ line.Session (115 ∷ []) 1 (reply.Changed 1) ∷ line.Down 1 1 true
         ∷ line.Session (115 ∷ []) 1 (reply.Committed 2) ∷ [] }
@@ -54,7 +54,7 @@ pub fn a_session_moves()
 /// The session does not survive the fall of its node: it is told that its transaction is lost. But a follower has the
 /// entry and leads next, so it is durable.
 pub fn a_lost_commit_comes_back()
-    ensures legal { IsLegal (given_as false) come_back }
+    ensures legal { IsLegalHistory (given_as false) come_back }
     ensures lines { lines (given_as false) come_back
         ≡ line.Session (115 ∷ []) 1 (reply.Begin 1) ∷ line.Session (115 ∷ []) 1 (reply.Changed 1) ∷ line.Down 1 1 true
         ∷ line.Session (115 ∷ []) 1 (reply.Lost 1 1) ∷ [] }
@@ -64,7 +64,7 @@ pub fn a_lost_commit_comes_back()
 /// The arm fires when the leader has appended, and the leader is stopped with an entry that nobody took. The next
 /// leader appends it anew; the first one is started again, and drops its own.
 pub fn an_arm_fires()
-    ensures legal { IsLegal given tail_dropped }
+    ensures legal { IsLegalHistory given tail_dropped }
     ensures by_script { AllHeed given script.body tail_dropped }
     ensures lines { lines given tail_dropped
         ≡ line.Session (115 ∷ []) 1 (reply.Begin 1) ∷ line.Session (115 ∷ []) 1 (reply.Changed 1) ∷ line.Down 1 1 false
@@ -84,23 +84,23 @@ pub fn an_arm_fires()
 ///
 /// Of the operator: a barrier before a session's line that stands before it, a feed that repeats and was not asked for.
 pub fn wrong_histories_are_not_legal()
-    ensures unasked { IsLegal given ((1, Node (Append commit)) ∷ set_up) → ⊥ }
-    ensures set_up_twice { IsLegal given ((1, Node (Append setup)) ∷ set_up) → ⊥ }
-    ensures untrue { IsLegal given ((4, Say (reply.Changed 2)) ∷ begun) → ⊥ }
-    ensures appended_twice { IsLegal given ((1, Node (Append commit)) ∷ (1, Node (Append commit)) ∷ sent) → ⊥ }
-    ensures lost_for_nothing { IsLegal given ((4, Finish (reply.Lost 1 1)) ∷ sent) → ⊥ }
-    ensures not_there { IsLegal given ((1, Repeat its_id 2) ∷ sent) → ⊥ }
-    ensures appended_settled { IsLegal given ((1, Node (Append commit)) ∷ (1, Settle its_id (reply.ConflictGenid 2 [] 1)) ∷ sent) → ⊥ }
-    ensures refused_wrongly { IsLegal given ((1, Settle its_id (reply.ConflictGenid 2 [] 1)) ∷ sent) → ⊥ }
-    ensures stopped_down { IsLegal given ((1, Stop) ∷ (1, Stop) ∷ led) → ⊥ }
-    ensures begun_unasked { IsLegal given ((4, Begun 1 1) ∷ set_up) → ⊥ }
-    ensures noted_inside { IsLegal given ((4, Note) ∷ begun) → ⊥ }
-    ensures sent_early { IsLegal given ((4, Send its_sent) ∷ begun) → ⊥ }
-    ensures barred_early { IsLegal given ((0, Barrier) ∷ set_up) → ⊥ }
-    ensures unfed { IsLegal given ((0, FedAgain 0) ∷ sent) → ⊥ }
-    ensures moved_for_nothing { IsLegal given ((4, Move 2) ∷ sent) → ⊥ }
-    ensures moved_too_far { IsLegal given ((4, Move 3) ∷ fallen) → ⊥ }
-    ensures went_on_barred { IsLegal barred ((4, Ask 7) ∷ set_up) → ⊥ }
+    ensures unasked { IsLegalHistory given ((1, Node (Append commit)) ∷ set_up) → ⊥ }
+    ensures set_up_twice { IsLegalHistory given ((1, Node (Append setup)) ∷ set_up) → ⊥ }
+    ensures untrue { IsLegalHistory given ((4, Say (reply.Changed 2)) ∷ begun) → ⊥ }
+    ensures appended_twice { IsLegalHistory given ((1, Node (Append commit)) ∷ (1, Node (Append commit)) ∷ sent) → ⊥ }
+    ensures lost_for_nothing { IsLegalHistory given ((4, Finish (reply.Lost 1 1)) ∷ sent) → ⊥ }
+    ensures not_there { IsLegalHistory given ((1, Repeat its_id 2) ∷ sent) → ⊥ }
+    ensures appended_settled { IsLegalHistory given ((1, Node (Append commit)) ∷ (1, Settle its_id (reply.ConflictGenid 2 [] 1)) ∷ sent) → ⊥ }
+    ensures refused_wrongly { IsLegalHistory given ((1, Settle its_id (reply.ConflictGenid 2 [] 1)) ∷ sent) → ⊥ }
+    ensures stopped_down { IsLegalHistory given ((1, Stop) ∷ (1, Stop) ∷ led) → ⊥ }
+    ensures begun_unasked { IsLegalHistory given ((4, Begun 1 1) ∷ set_up) → ⊥ }
+    ensures noted_inside { IsLegalHistory given ((4, Note) ∷ begun) → ⊥ }
+    ensures sent_early { IsLegalHistory given ((4, Send its_sent) ∷ begun) → ⊥ }
+    ensures barred_early { IsLegalHistory given ((0, Barrier) ∷ set_up) → ⊥ }
+    ensures unfed { IsLegalHistory given ((0, FedAgain 0) ∷ sent) → ⊥ }
+    ensures moved_for_nothing { IsLegalHistory given ((4, Move 2) ∷ sent) → ⊥ }
+    ensures moved_too_far { IsLegalHistory given ((4, Move 3) ∷ fallen) → ⊥ }
+    ensures went_on_barred { IsLegalHistory barred ((4, Ask 7) ∷ set_up) → ⊥ }
 {}
 
 /// Histories that are not by the script: a stop without a line of it, an order that is told twice, a feed out of its

@@ -9,9 +9,9 @@ use Rattle.cdb_values.specs.declared.rows.Level.TheVariants.{Snapshot}
 use Rattle.cdb_values.specs.declared.rows.RowOp.TheVariants.{Insert}
 use Rattle.cluster_consensus.proofs.ThreeNodes.{first_has, one_and_two, second_has, apart}
 use Rattle.cluster_events.specs.ByScript.{AllHeed}
-use Rattle.cluster_events.specs.Guards.{AllBeyond, Commits, DurableNow, IsLegal}
-use Rattle.cluster_events.specs.Parts.{Event, Opened, field, part}
-use Rattle.cluster_events.specs.Parts.Event.{Finish}
+use Rattle.cluster_events.specs.Guards.{AllBeyond, Commits, DurableNow, IsLegalHistory}
+use Rattle.cluster_events.specs.Parts.{ActorEvent, Opened, field, part}
+use Rattle.cluster_events.specs.Parts.ActorEvent.{Finish}
 use Rattle.cluster_events.specs.Settings.{lines_to_do}
 use Rattle.cluster_events.proofs.Stays.{part_left}
 use Rattle.cluster_requests.specs.Identities.{identity_of, Lacks}
@@ -26,11 +26,11 @@ use Rattle.core_lists.proofs.Lists.{each_add, each_none, has_one}
 use Rattle.core_lists.specs.Fronts.Front.{front_nil, front_cons}
 use Rattle.core_lists.specs.Lists.In.{here, there}
 use Rattle.phys_log.specs.declared.entries.CommitId.{CommitId}
-use Rattle.report_laws.specs.Work.{Transaction, Item, Does, WithItsLine, items_at, place_from, start, work}
+use Rattle.report_laws.specs.Work.{Transaction, WorkItem, Does, WithItsLine, items_at, place_from, start, work}
 use Rattle.session_language.specs.Language.{Answered}
 
 -- the work of a name, by whether it is a's and whether it is b's
-abbrev pub work_by : Bool → Bool → List Item
+abbrev pub work_by : Bool → Bool → List WorkItem
 work_by is_a is_b = items_at (place_from words start (if is_a then (119 ∷ []) ∷ (if is_b then (119 ∷ []) ∷ [] else []) else (if is_b then (119 ∷ []) ∷ [] else [])))
 
 work_is : (name : List ℕ) → work words name body ≡ work_by (bytes_eq (97 ∷ []) name) (bytes_eq (98 ∷ []) name)
@@ -39,12 +39,12 @@ work_is name = refl
 pub no_work : (name : List ℕ) → bytes_eq (97 ∷ []) name ≡ false → bytes_eq (98 ∷ []) name ≡ false → work words name body ≡ []
 no_work name a b = work_is name ∙ (ap (λ z. work_by z (bytes_eq (98 ∷ []) name)) a ∙ ap (λ z. work_by false z) b)
 
-no_left : (s : ℕ) → (97 == s) ≡ false → (98 == s) ≡ false → (h : List (ℕ × Event)) → (part setting s h).left ≡ []
+no_left : (s : ℕ) → (97 == s) ≡ false → (98 == s) ≡ false → (h : List (ℕ × ActorEvent)) → (part setting s h).left ≡ []
 no_left s a b [] = no_work (s ∷ []) (other_name 97 s a) (other_name 98 s b)
 no_left s a b (x ∷ h) = part_left setting s x h (no_left s a b h)
 
 -- who did it where both sessions did
-done_by : (h : List (ℕ × Event)) → (part setting 97 h).left ≡ [] → (part setting 98 h).left ≡ [] → (s : ℕ) → (part setting s h).left ≡ []
+done_by : (h : List (ℕ × ActorEvent)) → (part setting 97 h).left ≡ [] → (part setting 98 h).left ≡ [] → (s : ℕ) → (part setting s h).left ≡ []
 done_by h a b s = go (97 == s) refl (98 == s) refl
   where
     go : (c : Bool) → (97 == s) ≡ c → (d : Bool) → (98 == s) ≡ d → (part setting s h).left ≡ []
@@ -61,7 +61,7 @@ its_open = record { begin = 1; gen = 1 }
 abbrev its_ran : Answered
 its_ran = record { replies = reply.Changed 1 ∷ []; ops = its_ops; uses = []; ranges = []; failed = false }
 
-begun_legal : IsLegal setting begun
+begun_legal : IsLegalHistory setting begun
 begun_legal = (
   (7, refl, refl, its_txn, record { others = []; is = refl }, (1, first_has (refl, refl, refl), one_and_two (inl refl) (inr (first_has (refl, refl)))), refl),
   (
@@ -73,7 +73,7 @@ begun_legal = (
   ),
 )
 
-begun_both_legal : IsLegal setting begun_both
+begun_both_legal : IsLegalHistory setting begun_both
 begun_both_legal = (
   (8, refl, refl, its_txn, record { others = []; is = refl }, (1, first_has (refl, refl, refl), one_and_two (inl refl) (inr (first_has (refl, refl)))), refl),
   (
@@ -88,7 +88,7 @@ begun_both_legal = (
 durable : DurableNow 3 (field begun_both) (setup ∷ [])
 durable = (1, one_and_two (first_has (refl, front_refl (setup ∷ []))) (first_has (refl, front_refl (setup ∷ []))))
 
-sent_legal : IsLegal setting sent
+sent_legal : IsLegalHistory setting sent
 sent_legal = (
   (
     each_none,
@@ -111,7 +111,7 @@ sent_legal = (
   ),
 )
 
-sent_both_legal : IsLegal setting sent_both
+sent_both_legal : IsLegalHistory setting sent_both
 sent_both_legal = (
   (
     each_add (λ q. omega arith) each_none,
@@ -157,7 +157,7 @@ lacks_second (x ∷ y ∷ xs) e p q =
     let r = front_parts x setup (y ∷ (xs ++ e ∷ [])) (commit ∷ []) p in
     no_more xs e (front_parts y commit (xs ++ e ∷ []) [] r.1).1
 
-settled_legal : IsLegal setting settled
+settled_legal : IsLegalHistory setting settled
 settled_legal = (
   (
     (refl, refl, lacks_second),
@@ -197,7 +197,7 @@ commits_a = record { txn = its_txn; start = its_open; at = record { others = [];
 abbrev commits_b : Commits setting ((97, Finish (reply.Committed 2)) ∷ settled) 98
 commits_b = record { txn = its_txn; start = its_open; at = record { others = []; is = refl; opened = refl }; ends = tt; ran = its_ran; answered = record { log = setup ∷ []; durable = (1, one_and_two (first_has (refl, front_cons front_nil)) (first_has (refl, front_cons front_nil))); within = omega arith; alone = refl; says = refl } }
 
-told_legal : IsLegal setting told
+told_legal : IsLegalHistory setting told
 told_legal = (
   (
     (
@@ -226,7 +226,7 @@ told_legal = (
   ),
 )
 
-pub finished_legal : IsLegal setting finished
+pub finished_legal : IsLegalHistory setting finished
 finished_legal = (
   (refl, 9, refl, (1, first_has (refl, refl, refl), one_and_two (inl refl) (inr (first_has (refl, refl))))),
   (

@@ -3,7 +3,7 @@ use Rattle.std.proofs.Common.{List, [], ◌∷◌, arith, refl}
 use mathlib.Core.Logic.{inl, inr}
 use Rattle.cluster_consensus.proofs.ThreeNodes.{first_has, one_and_two, apart, empty_fits}
 use Rattle.cluster_events.specs.ByScript.{AllHeed}
-use Rattle.cluster_events.specs.Guards.{IsLegal}
+use Rattle.cluster_events.specs.Guards.{IsLegalHistory}
 use Rattle.cluster_events.specs.Settings.{lines_to_do}
 use Rattle.cluster_stories.proofs.Story.{no_old}
 use Rattle.cluster_stories.specs.Story.{opened, led}
@@ -14,7 +14,7 @@ use Rattle.core_lists.proofs.Lists.{each_add, each_none}
 use Rattle.core_lists.specs.Lists.In.{here, there}
 use Rattle.script_form.specs.declared.scripts.BodyLine.{BodyLine}
 
-pub opened_legal : (body : List BodyLine) → IsLegal (setting_of body) opened
+pub opened_legal : (body : List BodyLine) → IsLegalHistory (setting_of body) opened
 opened_legal body = (
   (((refl, refl, omega arith, here), tt), no_old, (omega arith, omega arith)),
   (
@@ -32,7 +32,7 @@ opened_legal body = (
   ),
 )
 
-pub led_legal : (body : List BodyLine) → IsLegal (setting_of body) led
+pub led_legal : (body : List BodyLine) → IsLegalHistory (setting_of body) led
 led_legal body = (
   (((refl, (omega arith, omega arith, (1, first_has (refl, refl)))), tt), tt, (omega arith, omega arith)),
   (
@@ -44,7 +44,7 @@ led_legal body = (
   ),
 )
 
-pub set_up_legal : (body : List BodyLine) → IsLegal (setting_of body) set_up
+pub set_up_legal : (body : List BodyLine) → IsLegalHistory (setting_of body) set_up
 set_up_legal body = (
   (((refl, refl, omega arith, omega arith, one_and_two (first_has (refl, omega arith)) (first_has (refl, omega arith))), tt), tt, (omega arith, omega arith)),
   (

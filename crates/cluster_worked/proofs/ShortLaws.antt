@@ -9,12 +9,12 @@ use Rattle.cdb_values.specs.declared.replies.Reply.TheVariants as reply
 use Rattle.cdb_values.specs.declared.rows.Level.TheVariants.{Snapshot}
 use Rattle.cluster_consensus.proofs.ThreeNodes.{first_has}
 use Rattle.cluster_consensus.specs.Enabled.{Below}
-use Rattle.cluster_consensus.specs.Events.Event.{Down, Asks}
+use Rattle.cluster_consensus.specs.Events.NodeEvent.{Down, Asks}
 use Rattle.cluster_consensus.specs.Facts.{Own}
 use Rattle.cluster_events.specs.ByScript.{AllHeed}
-use Rattle.cluster_events.specs.Guards.{IsLegal, Rising}
-use Rattle.cluster_events.specs.Parts.{Event, field, part}
-use Rattle.cluster_events.specs.Parts.Event.{Finish}
+use Rattle.cluster_events.specs.Guards.{IsLegalHistory, Rising}
+use Rattle.cluster_events.specs.Parts.{ActorEvent, field, part}
+use Rattle.cluster_events.specs.Parts.ActorEvent.{Finish}
 use Rattle.cluster_events.specs.Settings.{basis_from, lines_to_do}
 use Rattle.cluster_events.proofs.Stays.{part_left}
 use Rattle.cluster_masters.proofs.MasterLaws.{some_in}
@@ -35,13 +35,13 @@ use Rattle.core_lists.specs.Lists.{Has}
 use Rattle.node_reports.specs.Fed.{AreFeeds}
 use Rattle.node_reports.specs.Lawful.{LawfulOfNodes}
 use Rattle.report_laws.specs.History.{view_of}
-use Rattle.report_laws.specs.Work.{Transaction, Item, WithItsLine, items_at, place_from, start, work}
+use Rattle.report_laws.specs.Work.{Transaction, WorkItem, WithItsLine, items_at, place_from, start, work}
 use Rattle.report_text.specs.declared.reports.FeedLine.{FeedLine}
 use Rattle.report_text.specs.declared.reports.Line.TheVariants as line
 use Rattle.script_form.specs.declared.scripts.Act.TheVariants as act
 
 -- a's one line is all work
-abbrev work_by : Bool → List Item
+abbrev work_by : Bool → List WorkItem
 work_by is_a = items_at (place_from words start (if is_a then (119 ∷ []) ∷ [] else []))
 
 work_is : (name : List ℕ) → work words name body ≡ work_by (bytes_eq (97 ∷ []) name)
@@ -50,12 +50,12 @@ work_is name = refl
 no_work : (name : List ℕ) → bytes_eq (97 ∷ []) name ≡ false → work words name body ≡ []
 no_work name a = work_is name ∙ ap (λ z. work_by z) a
 
-no_left : (s : ℕ) → (97 == s) ≡ false → (h : List (ℕ × Event)) → (part setting s h).left ≡ []
+no_left : (s : ℕ) → (97 == s) ≡ false → (h : List (ℕ × ActorEvent)) → (part setting s h).left ≡ []
 no_left s a [] = no_work (s ∷ []) (other_name 97 s a)
 no_left s a (x ∷ h) = part_left setting s x h (no_left s a h)
 
 -- who did it where a did
-done_by : (h : List (ℕ × Event)) → (part setting 97 h).left ≡ [] → (s : ℕ) → (part setting s h).left ≡ []
+done_by : (h : List (ℕ × ActorEvent)) → (part setting 97 h).left ≡ [] → (s : ℕ) → (part setting s h).left ≡ []
 done_by h a s = go (97 == s) refl
   where
     go : (b : Bool) → (97 == s) ≡ b → (part setting s h).left ≡ []
@@ -82,10 +82,10 @@ abbrev its_txn : Transaction
 its_txn = record { number = 1; texts = (119 ∷ []) ∷ []; level = Snapshot; end = WithItsLine }
 
 -- two nodes are stopped
-stopped_legal : IsLegal setting stopped
+stopped_legal : IsLegalHistory setting stopped
 stopped_legal = (refl, (((tt, tt), refl, omega arith, omega arith), (refl, (refl, (((tt, tt), refl, omega arith, omega arith), (refl, opened_legal body))))))
 
-pub without_master_legal : IsLegal setting without_master
+pub without_master_legal : IsLegalHistory setting without_master
 without_master_legal = (
   (refl, refl, record { ask = 13; asked = refl; later = []; before = stopped_ask; split = refl; since = refl; few = refl }),
   (
@@ -147,10 +147,10 @@ pub stopped_lawful : LawfulOfNodes (basis_from setting 0 (no_rows [])) (report_b
 stopped_lawful = laws.without_master setting setting_fits setting_follows without_master without_master_legal without_master_done 1 stopped_reported nobody_led its_feeds feeds_fit
 
 -- the stores of two nodes are refused, and the third is not read
-refused_legal : IsLegal setting refused
+refused_legal : IsLegalHistory setting refused
 refused_legal = (((tt, tt), tt, (omega arith, omega arith)), (((tt, tt), tt, (omega arith, omega arith)), tt))
 
-pub without_nodes_legal : IsLegal setting without_nodes
+pub without_nodes_legal : IsLegalHistory setting without_nodes
 without_nodes_legal = (
   (refl, refl, record { ask = 7; asked = refl; later = []; before = refused_ask; split = refl; since = refl; few = refl }),
   (

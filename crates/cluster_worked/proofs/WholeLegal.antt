@@ -8,8 +8,8 @@ use Rattle.cdb_values.specs.declared.replies.Reply.TheVariants as reply
 use Rattle.cdb_values.specs.declared.rows.Level.TheVariants.{Snapshot}
 use Rattle.cdb_values.specs.declared.rows.RowOp.TheVariants.{Insert}
 use Rattle.cluster_consensus.proofs.ThreeNodes.{first_has, one_and_two, apart}
-use Rattle.cluster_events.specs.Guards.{AllBeyond, DurableNow, IsLegal}
-use Rattle.cluster_events.specs.Parts.{Event, Opened, barriers, field, part}
+use Rattle.cluster_events.specs.Guards.{AllBeyond, DurableNow, IsLegalHistory}
+use Rattle.cluster_events.specs.Parts.{ActorEvent, Opened, barriers_printed, field, part}
 use Rattle.cluster_events.proofs.Stays.{part_left}
 use Rattle.cluster_requests.specs.Identities.{identity_of, Lacks}
 use Rattle.cluster_worked.proofs.SetUpLaws.{set_up_legal}
@@ -23,7 +23,7 @@ use Rattle.core_lists.proofs.Lists.{each_add, each_none, has_one}
 use Rattle.core_lists.specs.Fronts.Front.{front_nil, front_cons}
 use Rattle.core_lists.specs.Lists.In.{here}
 use Rattle.phys_log.specs.declared.entries.CommitId.{CommitId}
-use Rattle.report_laws.specs.Work.{Transaction, Item, Does, WithItsLine, items_at, place_from, start, work}
+use Rattle.report_laws.specs.Work.{Transaction, WorkItem, Does, WithItsLine, items_at, place_from, start, work}
 use Rattle.report_text.specs.declared.reports.Line.TheVariants as line
 use Rattle.session_language.specs.Language.{Answered}
 
@@ -32,7 +32,7 @@ abbrev pub reads : Bool → List (List ℕ)
 reads is_b = if is_b then (114 ∷ []) ∷ (if is_b then (114 ∷ []) ∷ [] else []) else (if is_b then (114 ∷ []) ∷ [] else [])
 
 -- the work of a name, by whether it is a's and whether it is b's
-abbrev pub work_by : Bool → Bool → List Item
+abbrev pub work_by : Bool → Bool → List WorkItem
 work_by is_a is_b = items_at (place_from words start (if is_a then (119 ∷ []) ∷ reads is_b else reads is_b))
 
 pub work_is : (name : List ℕ) → work words name body ≡ work_by (bytes_eq (97 ∷ []) name) (bytes_eq (98 ∷ []) name)
@@ -42,7 +42,7 @@ pub no_work : (name : List ℕ) → bytes_eq (97 ∷ []) name ≡ false → byte
 no_work name a b = work_is name ∙ (ap (λ z. work_by z (bytes_eq (98 ∷ []) name)) a ∙ ap (λ z. work_by false z) b)
 
 -- an actor without work has none left
-pub no_left : (s : ℕ) → (s == 97) ≡ false → (s == 98) ≡ false → (h : List (ℕ × Event)) → (part setting s h).left ≡ []
+pub no_left : (s : ℕ) → (s == 97) ≡ false → (s == 98) ≡ false → (h : List (ℕ × ActorEvent)) → (part setting s h).left ≡ []
 no_left s a b [] = no_work (s ∷ []) (other_name 97 s (turned 97 s a)) (other_name 98 s (turned 98 s b))
   where
     turned : (i j : ℕ) → (j == i) ≡ false → (i == j) ≡ false
@@ -62,7 +62,7 @@ its_open = record { begin = 1; gen = 1 }
 abbrev its_ran : Answered
 its_ran = record { replies = reply.Changed 1 ∷ []; ops = its_ops; uses = []; ranges = []; failed = false }
 
-begun_legal : IsLegal setting begun
+begun_legal : IsLegalHistory setting begun
 begun_legal = (
   (7, refl, refl, its_txn, record { others = []; is = refl }, (1, first_has (refl, refl, refl), one_and_two (inl refl) (inr (first_has (refl, refl)))), refl),
   (
@@ -77,7 +77,7 @@ begun_legal = (
 set_up_durable : DurableNow 3 (field begun) (setup ∷ [])
 set_up_durable = (1, one_and_two (first_has (refl, front_refl (setup ∷ []))) (first_has (refl, front_refl (setup ∷ []))))
 
-sent_legal : IsLegal setting sent
+sent_legal : IsLegalHistory setting sent
 sent_legal = (
   (
     each_none,
@@ -107,7 +107,7 @@ lacks (x ∷ xs) e p q = no_more xs e (front_parts x setup (xs ++ e ∷ []) [] p
 lacks_its : (id : CommitId) → identity_of commit ≡ Some id → Lacks id (setup ∷ [])
 lacks_its id q = subst (λ z. Lacks z (setup ∷ [])) (let z : Some its_id ≡ Some id = q in cc) lacks
 
-committed_legal : IsLegal setting committed
+committed_legal : IsLegalHistory setting committed
 committed_legal = (
   (
     (
@@ -144,18 +144,18 @@ committed_legal = (
 )
 
 -- b waits for the barrier, and everybody else has no work left
-reader_beyond : barriers committed < setting.phase 98 (part setting 98 committed).told
+reader_beyond : barriers_printed committed < setting.phase 98 (part setting 98 committed).told
 reader_beyond = omega arith
 
 all_beyond : AllBeyond setting committed
 all_beyond s ns some = go (s == 97) refl (s == 98) refl
   where
-    go : (b : Bool) → (s == 97) ≡ b → (c : Bool) → (s == 98) ≡ c → barriers committed < setting.phase s (part setting s committed).told
+    go : (b : Bool) → (s == 97) ≡ b → (c : Bool) → (s == 98) ≡ c → barriers_printed committed < setting.phase s (part setting s committed).told
     go true p c q = absurd (some (subst (λ j. (part setting j committed).left ≡ []) (sym ((Decides-eqb s 97).0 p)) refl))
-    go false p true q = subst (λ j. barriers committed < setting.phase j (part setting j committed).told) (sym ((Decides-eqb s 98).0 q)) reader_beyond
+    go false p true q = subst (λ j. barriers_printed committed < setting.phase j (part setting j committed).told) (sym ((Decides-eqb s 98).0 q)) reader_beyond
     go false p false q = absurd (some (no_left s p q committed))
 
-stopped_legal : IsLegal setting stopped
+stopped_legal : IsLegalHistory setting stopped
 stopped_legal = (((tt, tt), refl, omega arith, omega arith), (refl, ((refl, all_beyond), committed_legal)))
 
 -- b's transaction of that number
@@ -168,10 +168,10 @@ read_open = record { begin = 2; gen = 1 }
 abbrev read_ran : Answered
 read_ran = record { replies = reply.Row its_row ∷ reply.Done 1 ∷ []; ops = []; uses = []; ranges = []; failed = false }
 
-has_items : (x y : Item) → x ∷ y ∷ [] ≢ []
+has_items : (x y : WorkItem) → x ∷ y ∷ [] ≢ []
 has_items x y e = absurd (cc)
 
-begun_on_legal : IsLegal setting begun_on
+begun_on_legal : IsLegalHistory setting begun_on
 begun_on_legal = (
   (8, refl, refl, read_txn 1, record { others = Does (read_txn 2) ∷ []; is = refl }, (1, first_has (refl, refl, refl), one_and_two (inl refl) (inr (first_has (refl, refl)))), refl),
   (
@@ -183,7 +183,7 @@ begun_on_legal = (
   ),
 )
 
-started_legal : IsLegal setting started
+started_legal : IsLegalHistory setting started
 started_legal = (
   refl,
   (
@@ -195,7 +195,7 @@ started_legal = (
 whole_durable : DurableNow 3 (field started) (setup ∷ commit ∷ [])
 whole_durable = (1, one_and_two (first_has (refl, front_refl (setup ∷ commit ∷ []))) (first_has (refl, front_refl (setup ∷ commit ∷ []))))
 
-fired_legal : IsLegal setting fired
+fired_legal : IsLegalHistory setting fired
 fired_legal = (
   refl,
   (
@@ -204,7 +204,7 @@ fired_legal = (
   ),
 )
 
-lost_legal : IsLegal setting lost
+lost_legal : IsLegalHistory setting lost
 lost_legal = (
   (
     (
@@ -233,7 +233,7 @@ lost_legal = (
   (((tt, tt), refl, omega arith, omega arith), fired_legal),
 )
 
-started_on_legal : IsLegal setting started_on
+started_on_legal : IsLegalHistory setting started_on
 started_on_legal = (
   refl,
   (
@@ -242,7 +242,7 @@ started_on_legal = (
   ),
 )
 
-begun_again_legal : IsLegal setting begun_again
+begun_again_legal : IsLegalHistory setting begun_again
 begun_again_legal = (
   (9, refl, refl, read_txn 2, record { others = []; is = refl }, (1, first_has (refl, refl, refl), one_and_two (inl refl) (inr (first_has (refl, refl)))), refl),
   (
@@ -257,7 +257,7 @@ begun_again_legal = (
 again_durable : DurableNow 3 (field begun_again) (setup ∷ commit ∷ [])
 again_durable = (1, one_and_two (first_has (refl, front_refl (setup ∷ commit ∷ []))) (first_has (refl, front_refl (setup ∷ commit ∷ []))))
 
-read_legal : IsLegal setting read
+read_legal : IsLegalHistory setting read
 read_legal = (
   (
     (
@@ -275,7 +275,7 @@ read_legal = (
   ),
 )
 
-pub finished_legal : IsLegal setting finished
+pub finished_legal : IsLegalHistory setting finished
 finished_legal = (
   (refl, 10, refl, (1, first_has (refl, refl, refl), one_and_two (inl refl) (inr (first_has (refl, refl))))),
   (

@@ -9,7 +9,7 @@ use Rattle.cdb_values.specs.declared.replies.Reply.TheVariants as reply
 use Rattle.cdb_values.specs.declared.rows.RowOp.{RowOp}
 use Rattle.cdb_values.specs.declared.rows.Version.{Version}
 use Rattle.cdb_values.specs.declared.values.Value.{Value}
-use Rattle.cluster_events.specs.Guards.{AreApart}
+use Rattle.cluster_events.specs.Guards.{AreNamedApart}
 use Rattle.cluster_worked.specs.Words.{rows_read, writing, reading, words, setting_of}
 use Rattle.script_form.specs.declared.scripts.BodyLine.{BodyLine}
 use Rattle.session_language.proofs.UpToLaws.{up_to_rows}
@@ -58,5 +58,5 @@ long_name i a b more = not_true (bytes_eq (i ∷ []) (a ∷ b ∷ more)) (λ e. 
 pub no_name : (i : ℕ) → bytes_eq (i ∷ []) [] ≡ false
 no_name i = not_true (bytes_eq (i ∷ []) []) (λ e. absurd (let same : i ∷ [] ≡ [] = (bytes_eq-Decides (i ∷ []) []).0 e in cc))
 
-pub apart_names : (body : List BodyLine) → AreApart (setting_of body)
+pub apart_names : (body : List BodyLine) → AreNamedApart (setting_of body)
 apart_names body i j ne = other_name i j ne

@@ -8,12 +8,12 @@ use Rattle.cdb_values.specs.Rows.{no_rows, apply_all}
 use Rattle.cdb_values.specs.declared.replies.Reply.{Reply}
 use Rattle.cdb_values.specs.declared.replies.Reply.TheVariants as reply
 use Rattle.cdb_values.specs.declared.rows.Level.TheVariants.{Snapshot}
-use Rattle.cluster_consensus.specs.Events.Event.{Grow, Append, LearnLead, Probe, Confirm}
-use Rattle.cluster_events.specs.Parts.{Event}
-use Rattle.cluster_events.specs.Parts.Event.{Node, Settle, Ask, Begun, Say, Send, Finish, Fed}
+use Rattle.cluster_consensus.specs.Events.NodeEvent.{Grow, Append, LearnLead, Probe, Confirm}
+use Rattle.cluster_events.specs.Parts.{ActorEvent}
+use Rattle.cluster_events.specs.Parts.ActorEvent.{Node, Settle, Ask, Begun, Say, Send, Finish, Fed}
 use Rattle.cluster_events.specs.Settings.{Setting}
 use Rattle.cluster_requests.specs.KeptEntries.{KeptEntry}
-use Rattle.cluster_requests.specs.KeptEntries.KeptEntry.{Commit}
+use Rattle.cluster_requests.specs.KeptEntries.KeptEntry.{CommitKept}
 use Rattle.cluster_requests.specs.Requests.{Sent}
 use Rattle.cluster_worked.specs.SetUp.{setup, set_up}
 use Rattle.cluster_worked.specs.Words.{its_ops, its_table, setting_of}
@@ -40,33 +40,33 @@ abbrev pub sent_by : ℕ → Sent
 sent_by name = record { by = name; id = id_of name; to = 1; gen = 1; begin = 1; level = Snapshot; ops = its_ops; used = [] }
 
 abbrev pub commit : KeptEntry
-commit = Commit 1 (id_of 97) 1 Snapshot (changes_of its_ops 1) [] (apply_all (no_rows (its_table ∷ [])) its_ops)
+commit = CommitKept 1 (id_of 97) 1 Snapshot (changes_of its_ops 1) [] (apply_all (no_rows (its_table ∷ [])) its_ops)
 
 abbrev pub refusal : Reply
 refusal = reply.Duplicate 2 (116 ∷ []) (107 ∷ [])
 
 -- both begin, and send their commits
-abbrev pub begun : List (ℕ × Event)
+abbrev pub begun : List (ℕ × ActorEvent)
 begun = (97, Begun 1 1) ∷ (2, Node (Confirm 7 1)) ∷ (1, Node (Probe 7)) ∷ (97, Ask 7) ∷ set_up
 
-abbrev pub begun_both : List (ℕ × Event)
+abbrev pub begun_both : List (ℕ × ActorEvent)
 begun_both = (98, Begun 1 1) ∷ (2, Node (Confirm 8 1)) ∷ (1, Node (Probe 8)) ∷ (98, Ask 8) ∷ begun
 
-abbrev pub sent : List (ℕ × Event)
+abbrev pub sent : List (ℕ × ActorEvent)
 sent = (97, Send (sent_by 97)) ∷ (97, Say (reply.Changed 1)) ∷ begun_both
 
-abbrev pub sent_both : List (ℕ × Event)
+abbrev pub sent_both : List (ℕ × ActorEvent)
 sent_both = (98, Send (sent_by 98)) ∷ (98, Say (reply.Changed 1)) ∷ sent
 
 -- the leader appends a's, and refuses b's
-abbrev pub settled : List (ℕ × Event)
+abbrev pub settled : List (ℕ × ActorEvent)
 settled = (1, Settle (id_of 98) refusal) ∷ (1, Node (LearnLead 2)) ∷ (2, Node (Grow (setup ∷ commit ∷ []))) ∷ (1, Node (Append commit)) ∷ sent_both
 
-abbrev pub told : List (ℕ × Event)
+abbrev pub told : List (ℕ × ActorEvent)
 told = (98, Finish refusal) ∷ (97, Finish (reply.Committed 2)) ∷ settled
 
 -- the feed at the end is answered
-abbrev pub finished : List (ℕ × Event)
+abbrev pub finished : List (ℕ × ActorEvent)
 finished = (0, Fed 2 1) ∷ (2, Node (Confirm 9 1)) ∷ (1, Node (Probe 9)) ∷ (0, Ask 9) ∷ told
 
 abbrev pub its_lines : List Line

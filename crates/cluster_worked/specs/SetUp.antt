@@ -2,19 +2,19 @@
 -- sets up the schema of these runs.
 use Rattle.std.specs.Prelude.{ℕ, List, [], ◌∷◌}
 use Rattle.cdb_values.specs.Rows.{no_rows}
-use Rattle.cluster_consensus.specs.Events.Event.{Grow, Append, LearnLead}
+use Rattle.cluster_consensus.specs.Events.NodeEvent.{Grow, Append, LearnLead}
 use Rattle.cluster_consensus.specs.Facts.{Claim}
-use Rattle.cluster_events.specs.Parts.{Event}
-use Rattle.cluster_events.specs.Parts.Event.{Node}
+use Rattle.cluster_events.specs.Parts.{ActorEvent}
+use Rattle.cluster_events.specs.Parts.ActorEvent.{Node}
 use Rattle.cluster_requests.specs.KeptEntries.{KeptEntry}
-use Rattle.cluster_requests.specs.KeptEntries.KeptEntry.{Setup}
+use Rattle.cluster_requests.specs.KeptEntries.KeptEntry.{SetupKept}
 use Rattle.cluster_stories.specs.Story.{led}
 use Rattle.cluster_worked.specs.Words.{its_table}
 
 abbrev pub setup : KeptEntry
-setup = Setup 1 (its_table ∷ []) [] (no_rows (its_table ∷ []))
+setup = SetupKept 1 (its_table ∷ []) [] (no_rows (its_table ∷ []))
 
-abbrev pub set_up : List (ℕ × Event)
+abbrev pub set_up : List (ℕ × ActorEvent)
 set_up = (1, Node (LearnLead 1)) ∷ (2, Node (Grow (setup ∷ []))) ∷ (1, Node (Append setup)) ∷ led
 
 -- what the first master adopted

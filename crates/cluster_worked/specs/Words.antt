@@ -11,7 +11,7 @@ use Rattle.cdb_values.specs.declared.tables.TableDef.{TableDef}
 use Rattle.cdb_values.specs.declared.values.Value.{Value}
 use Rattle.cdb_values.specs.declared.values.Value.TheVariants.{Text}
 use Rattle.cluster_events.specs.Settings.{Setting}
-use Rattle.cluster_runs.specs.Written.{written}
+use Rattle.cluster_runs.specs.Written.{as_scripted}
 use Rattle.script_form.specs.declared.scripts.BodyLine.{BodyLine}
 use Rattle.script_form.specs.declared.scripts.Script.{Script}
 use Rattle.session_language.specs.Language.{Answered, Language, OtherText}
@@ -62,4 +62,4 @@ unwritten_of body = record { nodes = 3; language = words; script = script_of bod
 
 -- the setting that is read off such a script
 abbrev pub setting_of : List BodyLine → Setting
-setting_of body = written (unwritten_of body)
+setting_of body = as_scripted (unwritten_of body)

@@ -27,15 +27,15 @@
 
 ghost use Rattle.std.specs.Prelude.{ℕ, ◌≡◌, List, [], true, false};
 ghost use Rattle.std.specs.declared.snapshot.Snapshot.{Snapshot};
-ghost use Rattle.actor_trace.specs.History.{IsLegal as IsRun};
+ghost use Rattle.actor_trace.specs.History.{IsLegal};
 ghost use Rattle.cdb_values.specs.Rows.{Rows, no_rows};
-ghost use Rattle.cluster_events.specs.Guards.{IsLegal};
+ghost use Rattle.cluster_events.specs.Guards.{IsLegalHistory};
 ghost use Rattle.cluster_events.specs.Parts.{lines, field};
 ghost use Rattle.cluster_events.specs.Settings.{basis_from};
 ghost use Rattle.cluster_masters.specs.FirstMaster.{IsFirstMaster, HasNoMaster};
 ghost use Rattle.cluster_masters.specs.Reported.{IsReported};
 ghost use Rattle.cluster_reports.specs.Runs.{FitsScript, FollowsScript, IsFinished};
-ghost use Rattle.cluster_steps.specs.Guards.{MayDo};
+ghost use Rattle.cluster_steps.specs.Guards.{MayTakeStep};
 ghost use Rattle.cluster_steps.specs.Named.{steps};
 ghost use Rattle.cluster_worked.specs.Duplicate as duplicate;
 ghost use Rattle.cluster_worked.specs.Named.{run};
@@ -50,7 +50,7 @@ ghost use Rattle.phys_log.specs.declared.entries.Entry.{Entry};
 pub fn a_whole_run_is_lawful()
     ensures fits { FitsScript whole.setting }
     ensures follows { FollowsScript whole.setting }
-    ensures legal { IsLegal whole.setting whole.finished }
+    ensures legal { IsLegalHistory whole.setting whole.finished }
     ensures done { IsFinished whole.setting whole.finished }
     ensures reported { IsReported 3 (field whole.finished).core 1 }
     ensures master { IsFirstMaster 3 (field whole.finished).core 1 adopted }
@@ -63,7 +63,7 @@ pub fn a_whole_run_is_lawful()
 pub fn a_run_with_a_refusal_is_lawful()
     ensures fits { FitsScript duplicate.setting }
     ensures follows { FollowsScript duplicate.setting }
-    ensures legal { IsLegal duplicate.setting duplicate.finished }
+    ensures legal { IsLegalHistory duplicate.setting duplicate.finished }
     ensures done { IsFinished duplicate.setting duplicate.finished }
     ensures reported { IsReported 3 (field duplicate.finished).core 1 }
     ensures master { IsFirstMaster 3 (field duplicate.finished).core 1 adopted }
@@ -76,7 +76,7 @@ pub fn a_run_with_a_refusal_is_lawful()
 pub fn a_run_without_a_master_is_lawful()
     ensures fits { FitsScript short.setting }
     ensures follows { FollowsScript short.setting }
-    ensures legal { IsLegal short.setting short.without_master }
+    ensures legal { IsLegalHistory short.setting short.without_master }
     ensures done { IsFinished short.setting short.without_master }
     ensures reported { IsReported 3 (field short.without_master).core 1 }
     ensures none { HasNoMaster 3 (field short.without_master).core }
@@ -86,7 +86,7 @@ pub fn a_run_without_a_master_is_lawful()
 
 /// And one in which no node comes up: the stores of two are refused.
 pub fn a_run_without_nodes_is_lawful()
-    ensures legal { IsLegal short.setting short.without_nodes }
+    ensures legal { IsLegalHistory short.setting short.without_nodes }
     ensures done { IsFinished short.setting short.without_nodes }
     ensures never_up { (k : ℕ) → ((field short.without_nodes).core.nodes k).was_up ≡ false }
     ensures lines { lines short.setting short.without_nodes ≡ (short.report_by true).lines }
@@ -96,7 +96,7 @@ pub fn a_run_without_nodes_is_lawful()
 /// The run without a master is one of the machine, whose events name what they take.
 pub fn the_machine_may_run_it()
     ensures may { (rows : Snapshot Rows) (log : Snapshot (List Entry))
-        → IsRun (λ g i e. MayDo short.setting g i e) (run rows log) }
+        → IsLegal (λ g i e. MayTakeStep short.setting g i e) (run rows log) }
     ensures its_history { (rows : Snapshot Rows) (log : Snapshot (List Entry))
         → steps short.setting (run rows log) ≡ short.without_master }
 {}

@@ -9,7 +9,7 @@ use Rattle.page_store.specs.declared.edits.Edit.TheVariants.{PutCell, TakeCell, 
 use Rattle.page_workspace.specs.Drafts.{edited, edited_by, AreFit}
 use Rattle.page_workspace.proofs.DraftLaws.{edited_other}
 use Rattle.phys_log.specs.declared.entries.LogRecord.{LogRecord}
-use Rattle.phys_log.specs.Logs.{written, replayed, AreNext}
+use Rattle.phys_log.specs.Logs.{after_record, replayed, AreNext}
 use Rattle.phys_log.proofs.ReplayLaws.{written_other}
 use Rattle.edit_records.specs.Alike.{IsAlike, AreAlike}
 use Rattle.edit_records.specs.Numbered.{lsns_of, raised, numbered, IsUnedited}
@@ -41,12 +41,12 @@ choose_lsn : (t : Bool) (a b : Image) (x y : ℕ) → x ≡ a.lsn → y ≡ b.ls
 choose_lsn true a b x y p q = p
 choose_lsn false a b x y p q = q
 
-step_alike : (p q : ℕ → Image) (r : LogRecord) → AreAlike p q → AreAlike (edited p r.page r.edit) (written q r)
+step_alike : (p q : ℕ → Image) (r : LogRecord) → AreAlike p q → AreAlike (edited p r.page r.edit) (after_record q r)
 step_alike p q r like n =
     choose_alike (n == r.page) (after_edit (p r.page) r.edit (p r.page).lsn) (after_edit (q r.page) r.edit r.lsn) (p n) (q n)
     (after_alike (p r.page) (q r.page) r.edit (p r.page).lsn r.lsn (like r.page)) (like n)
 
-step_lsn : (q : ℕ → Image) (lsns : ℕ → ℕ) (r : LogRecord) → ((n : ℕ) → lsns n ≡ (q n).lsn) → (n : ℕ) → raised lsns r.page r.lsn n ≡ (written q r n).lsn
+step_lsn : (q : ℕ → Image) (lsns : ℕ → ℕ) (r : LogRecord) → ((n : ℕ) → lsns n ≡ (q n).lsn) → (n : ℕ) → raised lsns r.page r.lsn n ≡ (after_record q r n).lsn
 step_lsn q lsns r is n = choose_lsn (n == r.page) (after_edit (q r.page) r.edit r.lsn) (q n) r.lsn (lsns n) refl (is n)
 
 made_alike : (es : List (ℕ × Edit)) (p q : ℕ → Image) (lsns : ℕ → ℕ) (lsn : ℕ) → AreAlike p q
@@ -54,7 +54,7 @@ made_alike : (es : List (ℕ × Edit)) (p q : ℕ → Image) (lsns : ℕ → ℕ
 made_alike [] p q lsns lsn like = like
 made_alike (e ∷ es) p q lsns lsn like =
     let r : LogRecord = record { lsn = lsn; prev = lsns e.0; page = e.0; edit = e.1 } in
-    made_alike es (edited p e.0 e.1) (written q r) (raised lsns e.0 lsn) (lsn + 1) (step_alike p q r like)
+    made_alike es (edited p e.0 e.1) (after_record q r) (raised lsns e.0 lsn) (lsn + 1) (step_alike p q r like)
 
 made_next : (es : List (ℕ × Edit)) (p q : ℕ → Image) (lsns : ℕ → ℕ) (lsn : ℕ) → ((n : ℕ) → lsns n ≡ (q n).lsn) → AreAlike p q
     → AreFit es p → AreNext q lsn (numbered lsns lsn es)
@@ -62,14 +62,14 @@ made_next [] p q lsns lsn is like fit = tt
 made_next (e ∷ es) p q lsns lsn is like fit =
     let r : LogRecord = record { lsn = lsn; prev = lsns e.0; page = e.0; edit = e.1 } in (
       record { number = refl; before = is e.0; fits = fit_alike (p e.0) (q e.0) e.1 (like e.0) fit.0 },
-      made_next es (edited p e.0 e.1) (written q r) (raised lsns e.0 lsn) (lsn + 1) (step_lsn q lsns r is) (step_alike p q r like) fit.1,
+      made_next es (edited p e.0 e.1) (after_record q r) (raised lsns e.0 lsn) (lsn + 1) (step_lsn q lsns r is) (step_alike p q r like) fit.1,
     )
 
 made_others : (es : List (ℕ × Edit)) (q : ℕ → Image) (lsns : ℕ → ℕ) (lsn n : ℕ) → IsUnedited n es → replayed q (numbered lsns lsn es) n ≡ q n
 made_others [] q lsns lsn n off = refl
 made_others (e ∷ es) q lsns lsn n off =
     let r : LogRecord = record { lsn = lsn; prev = lsns e.0; page = e.0; edit = e.1 } in
-    made_others es (written q r) (raised lsns e.0 lsn) (lsn + 1) n off.1 ∙ written_other q r n off.0
+    made_others es (after_record q r) (raised lsns e.0 lsn) (lsn + 1) n off.1 ∙ written_other q r n off.0
 
 pub edits_others : (p : ℕ → Image) (es : List (ℕ × Edit)) (n : ℕ) → IsUnedited n es → edited_by es p n ≡ p n
 edits_others p [] n off = refl

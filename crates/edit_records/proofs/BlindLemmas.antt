@@ -11,7 +11,7 @@ use Rattle.page_workspace.specs.Drafts.{edited_by}
 use Rattle.page_workspace.specs.Spare.{IsMeta, IsChain, IsFreePage, AreFree, AreApart, first_cell, next_genid, count_of, first_free}
 use Rattle.phys_log.specs.Logs.{replayed}
 use Rattle.btree_index.specs.Cells.{IsLeafCell, IsInnerCell}
-use Rattle.btree_index.specs.Trees.{Entry, page_of, below, spread, leaves, cells_of, pages_of, IsLeafPage, IsInnerPage, BeginsEmpty, IsShaped, IsFenced, AreFenced, AreLinked, Holds, top}
+use Rattle.btree_index.specs.Trees.{Entry, page_of, below, spread, leaves, cells_of, tree_pages, IsLeafPage, IsInnerPage, BeginsEmpty, IsShaped, IsFenced, AreFenced, AreLinked, Holds, top}
 use Rattle.cdb_values.specs.Rows.{Rows}
 use Rattle.cdb_values.specs.declared.tables.TableDef.{TableDef}
 use Rattle.table_store.specs.Forests.{Pair, IsTree, AreTrees}
@@ -60,10 +60,10 @@ leaves_alike old new zero level like = refl
 leaves_alike old new (suc height) level like =
     ap (λ (l : List Entry). leaves new height l) (spread_alike old new level like) ∙ leaves_alike old new height (spread old level) like
 
-pages_alike : (old new : ℕ → Image) (height : ℕ) (level : List Entry) → AreAlike old new → pages_of new height level ≡ pages_of old height level
+pages_alike : (old new : ℕ → Image) (height : ℕ) (level : List Entry) → AreAlike old new → tree_pages new height level ≡ tree_pages old height level
 pages_alike old new zero level like = refl
 pages_alike old new (suc height) level like =
-    ap (λ (l : List Entry). map page_of level ++ pages_of new height l) (spread_alike old new level like)
+    ap (λ (l : List Entry). map page_of level ++ tree_pages new height l) (spread_alike old new level like)
     ∙ ap (λ (l : List ℕ). map page_of level ++ l) (pages_alike old new height (spread old level) like)
 
 cells_alike : (old new : ℕ → Image) (level : List Entry) → AreAlike old new → cells_of new level ≡ cells_of old level

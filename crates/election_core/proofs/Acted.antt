@@ -8,7 +8,7 @@ use Rattle.std.proofs.lemmas.Grind.{common_steps}
 use Rattle.std.proofs.lemmas.Option.{same_Some}
 use Rattle.core_lists.specs.Fronts.{Front}
 use Rattle.core_lists.specs.Lists.{In, Has}
-use Rattle.cluster_consensus.specs.Events.{Event}
+use Rattle.cluster_consensus.specs.Events.{NodeEvent}
 use Rattle.cluster_consensus.specs.Facts.{Claim, World}
 use Rattle.cluster_consensus.specs.Histories.{Legal, after}
 use Rattle.cluster_consensus.specs.Shipped.{find_log}
@@ -66,7 +66,7 @@ counted_on w u v more c = record {
 }
 
 -- both are found by the generation and the length
-pub one_ship : {E : Type 0} (n m k : ℕ) (h : List (ℕ × Event E)) (s c : Claim E) (xs ys : List E) → Legal n h → 0 < m → m ≤ n → 0 < k → k ≤ n
+pub one_ship : {E : Type 0} (n m k : ℕ) (h : List (ℕ × NodeEvent E)) (s c : Claim E) (xs ys : List E) → Legal n h → 0 < m → m ≤ n → 0 < k → k ≤ n
     → In s ((after h).nodes m).ships → In c ((after h).nodes k).ships → s.gen ≡ c.gen → Front xs s.log → Front ys c.log → length xs ≡ length ys → xs ≡ ys
 one_ship {E} n m k h s c xs ys legal mp mn kp kn hs hc g p q e =
     let inv = always n h legal in

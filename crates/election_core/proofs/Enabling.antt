@@ -7,13 +7,13 @@ use Rattle.core_lists.specs.Lists.{Has}
 use Rattle.core_lists.specs.Majorities.{Majority}
 use Rattle.core_lists.proofs.Fronts.{front_take, length_take, take_length}
 use Rattle.cluster_consensus.specs.Facts.{World}
-use Rattle.cluster_consensus.specs.Events.{Event, change}
-use Rattle.cluster_consensus.specs.Events.Event.{Grants, LearnLead, LearnFollow, Confirm, Stand}
+use Rattle.cluster_consensus.specs.Events.{NodeEvent, change}
+use Rattle.cluster_consensus.specs.Events.NodeEvent.{Grants, LearnLead, LearnFollow, Confirm, Stand}
 use Rattle.cluster_consensus.specs.Enabled.{Enabled, Below, IsGranted}
 use Rattle.election_core.specs.Counts.{has_bit, reaches}
 use Rattle.election_core.specs.Counted.{acted, counted}
 use Rattle.election_core.specs.Allowed.{MayStand, MayGrant, MayLead, Takes, MayTake, MayLearn, MayHear, MayConfirm, Allows}
-use Rattle.election_core.specs.Told.{IsPart, IsTold, IsAcked, IsCounted, IsNamed}
+use Rattle.election_core.specs.Told.{IsPart, IsMessageTold, IsAcked, IsCounted, IsEventOf}
 use Rattle.election_core.specs.declared.votes.NodeVote.{NodeVote}
 use Rattle.election_core.specs.declared.messages.Message.{Message}
 use Rattle.election_core.specs.declared.messages.Message.TheVariants.{Vote, Granted, Adopt, Ship, Ack, Durable, Ping, Pong}
@@ -23,8 +23,8 @@ use Rattle.election_core.specs.declared.messages.Action.TheVariants as action
 
 -- an event that the action stands for, enabled, with the numbers after both alike
 pub record Happens {E : Type 0} (n : ℕ) (w : World E) (v : NodeVote) (a : Action) : Type 0 where
-  pub event : Event E
-  pub named : IsNamed v a event
+  pub event : NodeEvent E
+  pub named : IsEventOf v a event
   pub enabled : Enabled n w v.node (w.nodes v.node) event
   pub part : IsPart (acted v a) (change v.node (w.nodes v.node) event)
 
@@ -37,7 +37,7 @@ stand_enabled n w v g p m =
       record { promised = refl; accepted = p.accepted; length = p.length; adopted = p.adopted; durable = p.durable; leading = refl; up = p.up },
     )
 
-grant_happens : {E : Type 0} (n : ℕ) (w : World E) (v : NodeVote) (f g a l : ℕ) → IsPart v (w.nodes v.node) → IsTold w (Vote f g a l) → MayGrant v g a l → Happens n w v (Promise g f)
+grant_happens : {E : Type 0} (n : ℕ) (w : World E) (v : NodeVote) (f g a l : ℕ) → IsPart v (w.nodes v.node) → IsMessageTold w (Vote f g a l) → MayGrant v g a l → Happens n w v (Promise g f)
 grant_happens {E} n w v f g a l p x m = record {
   event = Grants g f;
   named = refl;
@@ -51,7 +51,7 @@ grant_happens {E} n w v f g a l p x m = record {
 
 lead_happens : {E : Type 0} (n : ℕ) (w : World E) (v : NodeVote) (g to : ℕ) → v.nodes ≡ n → IsPart v (w.nodes v.node) → IsCounted w v → MayLead v g to → Happens n w v (action.Lead g)
 lead_happens {E} n w v g to size p c m = record {
-  event = Event.Lead;
+  event = NodeEvent.Lead;
   named = (m.2, refl);
   enabled = (sym p.up ∙ m.0, ((let s : v.promised ≡ (w.nodes v.node).promised = p.promised in let t : v.accepted ≡ (w.nodes v.node).accepted = p.accepted in let lt : v.accepted < v.promised = m.3 in omega arith), many));
   part = record { promised = p.promised; accepted = m.2 ∙ p.promised; length = p.length; adopted = p.length; durable = p.durable; leading = refl; up = p.up };
@@ -88,7 +88,7 @@ take_happens {E} n w v f g l m p x may = go may.2
         let len : length (take m x.it.log) ≡ m = omega arith in
         let og : (w.nodes v.node).accepted ≡ g = sym acc ∙ e in
         record {
-          event = Event.Grow (take m x.it.log);
+          event = NodeEvent.Grow (take m x.it.log);
           named = inl (e, take m x.it.log, refl, len);
           enabled = (sym p.up ∙ may.0, (omega arith, f, record { it = x.it; mem = x.mem; is = (x.is.0 ∙ sym og, front_take m x.it.log, sizes shape len xl) }));
           part = record { promised = sym og; accepted = sym og; length = sym len; adopted = p.adopted; durable = p.durable; leading = both_true v.leading (w.nodes v.node).leading p.leading v.accepted g e; up = p.up };
@@ -104,7 +104,7 @@ take_happens {E} n w v f g l m p x may = go may.2
         let lt : v.accepted < g = t.0 in
         let len : length x.it.log ≡ m = x.is.1 ∙ sym t.1 in
         record {
-          event = Event.Take g x.it.log;
+          event = NodeEvent.Take g x.it.log;
           named = inr (x.it.log, refl, len);
           enabled = (sym p.up ∙ may.0, (pro, omega arith, (f, record { it = x.it; mem = x.mem; is = (x.is.0, refl) })));
           part = record { promised = refl; accepted = refl; length = sym len; adopted = p.adopted; durable = p.durable; leading = both_false v.leading v.accepted g lt; up = p.up };
@@ -135,7 +135,7 @@ learn_happens {E} n w v g d size p c m = record {
       hold = λ k q le e. subst (λ t. IsAcked w t d k) p.accepted (c.acked m.1 d k m.3 e);
     })
 
-hear_happens : {E : Type 0} (n : ℕ) (w : World E) (v : NodeVote) (f g l d : ℕ) → IsPart v (w.nodes v.node) → IsTold w (Durable f g l) → MayHear v g l d → Happens n w v (Know d)
+hear_happens : {E : Type 0} (n : ℕ) (w : World E) (v : NodeVote) (f g l d : ℕ) → IsPart v (w.nodes v.node) → IsMessageTold w (Durable f g l) → MayHear v g l d → Happens n w v (Know d)
 hear_happens {E} n w v f g l d p x m =
     let a : v.durable ≡ (w.nodes v.node).durable = p.durable in
     let b : v.length ≡ length (w.nodes v.node).log = p.length in
@@ -153,7 +153,7 @@ hear_happens {E} n w v f g l d p x m =
       part = record { promised = p.promised; accepted = p.accepted; length = p.length; adopted = p.adopted; durable = refl; leading = p.leading; up = p.up };
     }
 
-confirm_happens : {E : Type 0} (n : ℕ) (w : World E) (v : NodeVote) (f g t d to : ℕ) → IsPart v (w.nodes v.node) → IsTold w (Ping f g t d) → MayConfirm v g → Happens n w v (Answer (Pong v.node g t) to)
+confirm_happens : {E : Type 0} (n : ℕ) (w : World E) (v : NodeVote) (f g t d to : ℕ) → IsPart v (w.nodes v.node) → IsMessageTold w (Ping f g t d) → MayConfirm v g → Happens n w v (Answer (Pong v.node g t) to)
 confirm_happens {E} n w v f g t d to p x m = record {
   event = Confirm t g;
   named = refl;
@@ -162,7 +162,7 @@ confirm_happens {E} n w v f g t d to p x m = record {
 }
 
 -- by the numbers in which the message is counted
-pub allowed_happens : {E : Type 0} (n : ℕ) (w : World E) (v : NodeVote) (m : Message) (a : Action) → v.nodes ≡ n → IsPart v (w.nodes v.node) → IsPart (counted v m) (w.nodes (counted v m).node) → (counted v m).nodes ≡ n → IsCounted w (counted v m) → IsTold w m → Allows v m a → Happens n w (counted v m) a
+pub allowed_happens : {E : Type 0} (n : ℕ) (w : World E) (v : NodeVote) (m : Message) (a : Action) → v.nodes ≡ n → IsPart v (w.nodes v.node) → IsPart (counted v m) (w.nodes (counted v m).node) → (counted v m).nodes ≡ n → IsCounted w (counted v m) → IsMessageTold w m → Allows v m a → Happens n w (counted v m) a
 allowed_happens n w v (Vote f g a l) (Promise h to) size p q size' c x may = subst (λ t. Happens n w v (Promise t to)) (sym may.1) (subst (λ t. Happens n w v (Promise g t)) (sym may.2) (grant_happens n w v f g a l p x may.0))
 allowed_happens n w v (Granted f g to) (action.Lead h) size p q size' c x may = subst (λ t. Happens n w (counted v (Granted f g to)) (action.Lead t)) (sym may.1) (lead_happens n w (counted v (Granted f g to)) g to size' q c may.0)
 allowed_happens n w v (Adopt f g l) (action.Take h m) size p q size' c x may = subst (λ t. Happens n w v (action.Take t m)) (sym may.1) (take_happens n w v f g l m p x may.0)

@@ -13,7 +13,7 @@ use Rattle.cluster_consensus.specs.Enabled.{IsGranted}
 use Rattle.election_core.specs.Counts.{has_bit, with_bit, reaches}
 use Rattle.election_core.specs.Counted.{acted, counted, counts_vote, counts_length, with_length}
 use Rattle.election_core.specs.Senders.{sender_of}
-use Rattle.election_core.specs.Told.{IsPart, IsTold, IsAcked, IsCounted}
+use Rattle.election_core.specs.Told.{IsPart, IsMessageTold, IsAcked, IsCounted}
 use Rattle.election_core.proofs.Greatest.{reach, reached}
 use Rattle.election_core.specs.declared.votes.NodeVote.{NodeVote}
 use Rattle.election_core.specs.declared.messages.Message.{Message}
@@ -107,7 +107,7 @@ reached_with acked f l m (suc j) pos top e = go (j == f - 1) refl
 size_with : (acked : List ℕ) (f l : ℕ) → length acked ≡ 7 → length (with_length acked f l) ≡ 7
 size_with acked f l e = grind (arith, common_steps)
 
-pub counted_kept : {E : Type 0} (w : World E) (v : NodeVote) (m : Message) → 0 < sender_of m → sender_of m ≤ 7 → IsCounted w v → IsTold w m → IsCounted w (counted v m)
+pub counted_kept : {E : Type 0} (w : World E) (v : NodeVote) (m : Message) → 0 < sender_of m → sender_of m ≤ 7 → IsCounted w v → IsMessageTold w m → IsCounted w (counted v m)
 counted_kept {E} w v (Granted f g to) pos top c x = go (counts_vote v g to) refl
   where
     vote : counts_vote v g to ≡ true → (k : ℕ) → (k ≡ f) ⊎ (has_bit v.granted k ≡ true) → IsGranted w v.promised v.node k

@@ -9,8 +9,8 @@ use Rattle.core_lists.specs.Fronts.{Front}
 use Rattle.core_lists.proofs.Fronts.{front_length}
 use Rattle.core_lists.proofs.Majorities.{majority_weaker}
 use Rattle.cluster_consensus.specs.Facts.{World, Claim}
-use Rattle.cluster_consensus.specs.Events.{Event}
-use Rattle.cluster_consensus.specs.Events.Event.{Admits, Boot, Down, Back, BackLead, BackTake, BackGrow, BackAppend, Stand, Grants, Grow, Append, LearnLead, LearnFollow, Asks, Probe, Confirm}
+use Rattle.cluster_consensus.specs.Events.{NodeEvent}
+use Rattle.cluster_consensus.specs.Events.NodeEvent.{Admits, Boot, Down, Back, BackLead, BackTake, BackGrow, BackAppend, Stand, Grants, Grow, Append, LearnLead, LearnFollow, Asks, Probe, Confirm}
 use Rattle.cluster_consensus.specs.Enabled.{Enabled, Below, IsGranted, Fit}
 use Rattle.election_core.specs.Counts.{has_bit, reaches}
 use Rattle.election_core.specs.Counted.{counted, counts_vote}
@@ -73,7 +73,7 @@ own_grant v _ = false
 
 -- with such a vote counted no majority granted
 never_leads : {E : Type 0} (n : ℕ) (w : World E) (v : NodeVote) (m : Message) → v.nodes ≡ n → IsPart v (w.nodes v.node) → CountsAll w (counted v m) → Refuses v m → own_grant v m ≡ true
-    → Enabled n w v.node (w.nodes v.node) Event.Lead → ⊥
+    → Enabled n w v.node (w.nodes v.node) NodeEvent.Lead → ⊥
 never_leads {E} n w v (Granted f g to) size p all none own h =
     none (action.Lead g) ((q.up ∙ h.0, t.0 ∙ sym same.0, t.1 ∙ (p.promised ∙ sym q.promised), above, reached), refl)
   where
@@ -109,7 +109,7 @@ both : (a b c d : ℕ) → a ≡ b → c ≡ d → (a == b && c == d) ≡ true
 both a b c d e f = grind (arith, nat_tests)
 
 lead_without : {E : Type 0} (n : ℕ) (w u : World E) (v : NodeVote) (m : Message) → v.nodes ≡ n → IsPart v (w.nodes v.node) → CountsAll w (counted v m) → LacksOnly m w u → Refuses v m
-    → Enabled n w v.node (w.nodes v.node) Event.Lead → Enabled n u v.node (w.nodes v.node) Event.Lead
+    → Enabled n w v.node (w.nodes v.node) NodeEvent.Lead → Enabled n u v.node (w.nodes v.node) NodeEvent.Lead
 lead_without {E} n w u v m size p all lacks none h = go (own_grant v m) refl
   where
     kept : own_grant v m ≡ false → (k : ℕ) → IsGranted w (w.nodes v.node).promised v.node k → IsGranted u (w.nodes v.node).promised v.node k
@@ -121,7 +121,7 @@ lead_without {E} n w u v m size p all lacks none h = go (own_grant v m) refl
           absurd (cc)
     ]
 
-    go : (b : Bool) → own_grant v m ≡ b → Enabled n u v.node (w.nodes v.node) Event.Lead
+    go : (b : Bool) → own_grant v m ≡ b → Enabled n u v.node (w.nodes v.node) NodeEvent.Lead
     go true own = absurd (never_leads n w v m size p all none own h)
     go false other = (h.0, (h.1.0, majority_weaker (kept other) h.1.1))
 
@@ -131,10 +131,10 @@ ship_refused v m k s l none (inl e) may = refused v m (Adopt k s.gen (length s.l
 ship_refused v m k s l none (inr e) may = refused v m (Ship k s.gen (length s.log)) (action.Take s.gen l) none e (may, refl)
 
 take_without : {E : Type 0} (n : ℕ) (w u : World E) (v : NodeVote) (m : Message) (g : ℕ) (x : List E) → IsPart v (w.nodes v.node) → LacksOnly m w u → Refuses v m
-    → Enabled n w v.node (w.nodes v.node) (Event.Take g x) → Enabled n u v.node (w.nodes v.node) (Event.Take g x)
+    → Enabled n w v.node (w.nodes v.node) (NodeEvent.Take g x) → Enabled n u v.node (w.nodes v.node) (NodeEvent.Take g x)
 take_without {E} n w u v m g x p lacks none h = go h.1.2.1
   where
-    go : Has (λ s. (s.gen ≡ g) × (s.log ≡ x)) (w.nodes h.1.2.0).ships → Enabled n u v.node (w.nodes v.node) (Event.Take g x)
+    go : Has (λ s. (s.gen ≡ g) × (s.log ≡ x)) (w.nodes h.1.2.0).ships → Enabled n u v.node (w.nodes v.node) (NodeEvent.Take g x)
     go s = elim ((lacks.ships h.1.2.0).at s.it s.mem) [
       | inl i ↦ (h.0, (h.1.0, h.1.1, (h.1.2.0, record { it = s.it; mem = i; is = s.is })))
       | inr e ↦
@@ -253,7 +253,7 @@ confirm_without {E} n w u v m t g p lacks none h =
           absurd (refused v m (Ping h.2 h.3.it.gen h.3.it.ask h.3.it.durable) (Answer (Pong v.node h.3.it.gen h.3.it.ask) h.2) none e ((p.up ∙ h.0, omega arith), refl, refl))
     ]
 
-pub enabled_without : {E : Type 0} (n : ℕ) (w u : World E) (v : NodeVote) (m : Message) (e : Event E) → v.nodes ≡ n → IsPart v (w.nodes v.node) → CountsAll w (counted v m) → LacksOnly m w u → Refuses v m → comes_up e ≡ false
+pub enabled_without : {E : Type 0} (n : ℕ) (w u : World E) (v : NodeVote) (m : Message) (e : NodeEvent E) → v.nodes ≡ n → IsPart v (w.nodes v.node) → CountsAll w (counted v m) → LacksOnly m w u → Refuses v m → comes_up e ≡ false
     → Enabled n w v.node (w.nodes v.node) e → Enabled n u v.node (w.nodes v.node) e
 enabled_without n w u v m (Admits k r a) size p all lacks none stays h = subst (λ t. Each (λ b. b.node ≢ k) t × Fit n (record { node = k; promised = r; accepted = a } ∷ t)) (sym lacks.admits) h
 enabled_without n w u v m (Boot r a l) size p all lacks none stays h = absurd (cc)
@@ -265,8 +265,8 @@ enabled_without n w u v m (BackGrow l) size p all lacks none stays h = absurd (c
 enabled_without n w u v m (BackAppend e) size p all lacks none stays h = absurd (cc)
 enabled_without n w u v m (Stand g) size p all lacks none stays h = h
 enabled_without n w u v m (Grants g to) size p all lacks none stays h = grant_without n w u v m g to p lacks none h
-enabled_without n w u v m Event.Lead size p all lacks none stays h = lead_without n w u v m size p all lacks none h
-enabled_without n w u v m (Event.Take g l) size p all lacks none stays h = take_without n w u v m g l p lacks none h
+enabled_without n w u v m NodeEvent.Lead size p all lacks none stays h = lead_without n w u v m size p all lacks none h
+enabled_without n w u v m (NodeEvent.Take g l) size p all lacks none stays h = take_without n w u v m g l p lacks none h
 enabled_without n w u v m (Grow l) size p all lacks none stays h = grow_without n w u v m l p lacks none h
 enabled_without n w u v m (Append e) size p all lacks none stays h = h
 enabled_without n w u v m (LearnLead d) size p all lacks none stays h = learn_without n w u v m d size p all lacks none h

@@ -56,9 +56,9 @@ Allows v (Ping f g t d) (Answer m to) = MayConfirm v g × (m ≡ Pong v.node g t
 Allows v _ _ = ⊥
 
 -- the action is allowed; and where it is Nothing, no other one is
-abbrev pub Decides : NodeVote → Message → Action → Type 0
-Decides v m Nothing = (a : Action) → Allows v m a → ⊥
-Decides v m a = Allows v m a
+abbrev pub AllowsExactly : NodeVote → Message → Action → Type 0
+AllowsExactly v m Nothing = (a : Action) → Allows v m a → ⊥
+AllowsExactly v m a = Allows v m a
 
 -- of what it may know it knows the greatest
 abbrev pub IsMost : NodeVote → Message → Action → Type 0

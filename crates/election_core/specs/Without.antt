@@ -4,8 +4,8 @@ use mathlib.Core.Logic.{◌⊎◌}
 use Rattle.core_lists.specs.Lists.{In, Each}
 use Rattle.cluster_consensus.specs.Facts.{Claim, World}
 use Rattle.cluster_consensus.specs.Enabled.{IsGranted}
-use Rattle.cluster_consensus.specs.Events.{Event}
-use Rattle.cluster_consensus.specs.Events.Event.{Boot, Back, BackLead, BackTake, BackGrow, BackAppend}
+use Rattle.cluster_consensus.specs.Events.{NodeEvent}
+use Rattle.cluster_consensus.specs.Events.NodeEvent.{Boot, Back, BackLead, BackTake, BackGrow, BackAppend}
 use Rattle.election_core.specs.Counts.{has_bit, reaches}
 use Rattle.election_core.specs.Told.{IsAcked}
 use Rattle.election_core.specs.declared.votes.NodeVote.{NodeVote}
@@ -33,7 +33,7 @@ pub record CountsAll {E : Type 0} (w : World E) (v : NodeVote) : Type 0 where
   pub acked : v.leading ≡ true → (l k : ℕ) → 1 ≤ l → 0 < k → k ≤ v.nodes → IsAcked w v.accepted l k → reaches v.acked l k ≡ true
 
 -- a node comes up: with what its store holds, whatever messages come
-abbrev pub comes_up : {E : Type 0} → Event E → Bool
+abbrev pub comes_up : {E : Type 0} → NodeEvent E → Bool
 comes_up (Boot p a l) = true
 comes_up (Back p) = true
 comes_up BackLead = true

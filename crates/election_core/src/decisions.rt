@@ -3,7 +3,7 @@ ghost use Rattle.std.specs.Prelude.{ℕ, ◌≡◌, ◌+◌, ◌<◌, ◌≤◌,
 ghost use Rattle.election_core.specs.Senders.{sender_of};
 ghost use Rattle.election_core.specs.Counted.{counted, acted, counts_vote, counts_length};
 ghost use Rattle.election_core.specs.Allowed.{MayStand, MayGrant, MayLead, MayTake, MayLearn, MayHear};
-ghost use Rattle.election_core.specs.Allowed.{Decides, IsMost};
+ghost use Rattle.election_core.specs.Allowed.{AllowsExactly, IsMost};
 ghost use Rattle.election_core.specs.declared.messages.Message.TheVariants.{Vote, Granted, Adopt, Ship, Ack};
 ghost use Rattle.election_core.specs.declared.messages.Message.TheVariants.{Durable, Ping};
 ghost use Rattle.election_core.specs.declared.messages.Action.TheVariants.{Nothing, Promise, Lead, Take, Know};
@@ -32,7 +32,7 @@ pub fn stand(vote: &mut NodeVote, generation: u64) -> Action
 pub fn on_message(vote: &mut NodeVote, message: &Message) -> Action
     requires nodes { vote.old.nodes ≤ 7 }
     requires sender { (0 < sender_of message.now) × (sender_of message.now ≤ vote.old.nodes) }
-    ensures event { Decides vote.old message.now result }
+    ensures event { AllowsExactly vote.old message.now result }
     ensures greatest { IsMost vote.old message.now result }
     // who it is, and of how many
     ensures same { (vote.new.node ≡ vote.old.node) × (vote.new.nodes ≡ vote.old.nodes) }
@@ -45,7 +45,7 @@ pub fn on_message(vote: &mut NodeVote, message: &Message) -> Action
 fn act_on(vote: &mut NodeVote, message: &Message) -> Action
     requires nodes { vote.old.nodes ≤ 7 }
     requires sender { (0 < sender_of message.now) × (sender_of message.now ≤ vote.old.nodes) }
-    ensures event { Decides vote.old message.now result }
+    ensures event { AllowsExactly vote.old message.now result }
     ensures greatest { IsMost vote.old message.now result }
     ensures changes { vote.new ≡ acted (counted vote.old message.now) result }
 {
@@ -111,7 +111,7 @@ fn may_grant(vote: &NodeVote, generation: u64, accepted: u64, length: u64) -> bo
 /// A candidate stands.
 #[tactic(auto, using(crate::proofs::Refusals::no_promise))]
 fn on_vote(vote: &mut NodeVote, from: u8, generation: u64, accepted: u64, length: u64) -> Action
-    ensures event { Decides vote.old (Vote from generation accepted length) result }
+    ensures event { AllowsExactly vote.old (Vote from generation accepted length) result }
     ensures greatest { IsMost vote.old (Vote from generation accepted length) result }
     ensures changes { vote.new ≡ acted vote.old result }
 {
@@ -160,7 +160,7 @@ fn lead(vote: &mut NodeVote, generation: u64) -> Action
 fn on_granted(vote: &mut NodeVote, from: u8, generation: u64, to: u8) -> Action
     requires nodes { vote.old.nodes ≤ 7 }
     requires sender { from ≤ 7 }
-    ensures event { Decides vote.old (Granted from generation to) result }
+    ensures event { AllowsExactly vote.old (Granted from generation to) result }
     ensures greatest { IsMost vote.old (Granted from generation to) result }
     ensures changes { vote.new ≡ acted (counted vote.old (Granted from generation to)) result }
 {
@@ -207,8 +207,8 @@ fn take(vote: &mut NodeVote, generation: u64, length: u64) -> Action
 /// A leader's log is shipped.
 #[tactic(auto, using(crate::proofs::Refusals::no_adopt, crate::proofs::Refusals::no_ship))]
 fn on_log(vote: &mut NodeVote, generation: u64, length: u64) -> Action
-    ensures adopt { (from : ℕ) → Decides vote.old (Adopt from generation length) result }
-    ensures ship { (from : ℕ) → Decides vote.old (Ship from generation length) result }
+    ensures adopt { (from : ℕ) → AllowsExactly vote.old (Adopt from generation length) result }
+    ensures ship { (from : ℕ) → AllowsExactly vote.old (Ship from generation length) result }
     ensures not_known { (d : ℕ) → result ≡ Know d → ⊥ }
     ensures changes { vote.new ≡ acted vote.old result }
 {
@@ -260,7 +260,7 @@ fn know(vote: &mut NodeVote, durable: u64) -> Action
 fn on_ack(vote: &mut NodeVote, from: u8, generation: u64, length: u64) -> Action
     requires nodes { vote.old.nodes ≤ 7 }
     requires sender { (0 < from) × (from ≤ 7) }
-    ensures event { Decides vote.old (Ack from generation length) result }
+    ensures event { AllowsExactly vote.old (Ack from generation length) result }
     ensures greatest { IsMost vote.old (Ack from generation length) result }
     ensures changes { vote.new ≡ acted (counted vote.old (Ack from generation length)) result }
 {
@@ -290,7 +290,7 @@ fn heard_length(vote: &NodeVote, generation: u64, length: u64) -> Option<u64>
 /// A length is told durable.
 #[tactic(auto, using(crate::proofs::Refusals::no_hear))]
 fn on_durable(vote: &mut NodeVote, generation: u64, length: u64) -> Action
-    ensures event { (from : ℕ) → Decides vote.old (Durable from generation length) result }
+    ensures event { (from : ℕ) → AllowsExactly vote.old (Durable from generation length) result }
     ensures greatest { (from : ℕ) → IsMost vote.old (Durable from generation length) result }
     ensures changes { vote.new ≡ acted vote.old result }
 {
@@ -303,7 +303,7 @@ fn on_durable(vote: &mut NodeVote, generation: u64, length: u64) -> Action
 /// A begin's round: confirms the leader's generation.
 #[tactic(auto, using(crate::proofs::Refusals::no_answer))]
 fn on_ping(vote: &mut NodeVote, from: u8, generation: u64, ask: u64) -> Action
-    ensures event { (durable : ℕ) → Decides vote.old (Ping from generation ask durable) result }
+    ensures event { (durable : ℕ) → AllowsExactly vote.old (Ping from generation ask durable) result }
     ensures not_known { (d : ℕ) → result ≡ Know d → ⊥ }
     ensures changes { vote.new ≡ acted vote.old result }
 {

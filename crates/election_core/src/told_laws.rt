@@ -2,7 +2,7 @@
 ghost use Rattle.std.specs.Prelude.{ℕ, ◌≡◌, ◌<◌, ◌≤◌, List, length};
 ghost use Rattle.core_lists.specs.Fronts.{Front};
 ghost use Rattle.core_lists.specs.Lists.{In};
-ghost use Rattle.cluster_consensus.specs.Events.{Event};
+ghost use Rattle.cluster_consensus.specs.Events.{NodeEvent};
 ghost use Rattle.cluster_consensus.specs.Facts.{Claim, World};
 ghost use Rattle.cluster_consensus.specs.Histories.{Legal, after};
 ghost use Rattle.election_core.specs.Counted.{acted};
@@ -20,7 +20,7 @@ pub fn what_is_counted_stays_told<E>()
 /// Of what was shipped in one generation, two fronts that are as long are the same, whoever shipped it: so a node that
 /// knows the generation and the length of a log that it may take knows the log.
 pub fn one_generation_ships_one_log<E>()
-    ensures { (n m k : ℕ) (h : List (ℕ × Event E)) (s c : Claim E) (xs ys : List E) → Legal n h
+    ensures { (n m k : ℕ) (h : List (ℕ × NodeEvent E)) (s c : Claim E) (xs ys : List E) → Legal n h
         → 0 < m → m ≤ n → 0 < k → k ≤ n
         → In s ((after h).nodes m).ships → In c ((after h).nodes k).ships → s.gen ≡ c.gen
         → Front xs s.log → Front ys c.log → length xs ≡ length ys → xs ≡ ys }

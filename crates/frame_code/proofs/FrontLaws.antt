@@ -6,7 +6,7 @@ use Rattle.frame_code.specs.declared.frames.Frame.{Frame}
 use Rattle.frame_code.specs.declared.frames.Frame.TheVariants as frames
 use Rattle.frame_code.specs.Codes.{number, payload, kind_of, envelope, frame_code}
 use Rattle.frame_code.specs.Spelled.{IsSpelled}
-use Rattle.frame_code.specs.Fronts.{IsKind, IsUnfinished, IsFront}
+use Rattle.frame_code.specs.Fronts.{IsKind, IsUnfinished, IsFrameFront}
 
 -- an envelope's length and payload, as a front of the bytes behind its kind, are no unfinished bytes
 pub no_envelope : (x rest bytes : List ℕ) → length x < 2 ^ 64 → (length bytes < 8) ⊎ IsUnfinished bytes
@@ -27,7 +27,7 @@ no_envelope x rest bytes hx (inr u) e =
     let lacks : length u.rest < u.size = u.lacks in
     omega arith
 
-pub no_frames : (bytes rest : List ℕ) (f : Frame) → IsFront bytes → IsSpelled f → frame_code f ++ rest ≡ bytes → ⊥
+pub no_frames : (bytes rest : List ℕ) (f : Frame) → IsFrameFront bytes → IsSpelled f → frame_code f ++ rest ≡ bytes → ⊥
 no_frames [] rest f front h e = cc
 no_frames (kind ∷ bytes) rest f front h e = no_envelope (payload f) rest bytes h.size front.1 (cc)
 
@@ -71,7 +71,7 @@ lt_or_le (suc n) (suc m) = later (lt_or_le n m)
     later (inr h) = inr (omega arith)
 
 pub fronts_are_short : (kind : ℕ) (payload bytes more : List ℕ) → IsKind kind → length payload < 2 ^ 64
-    → bytes ++ more ≡ envelope kind payload → (more ≡ [] → ⊥) → IsFront bytes
+    → bytes ++ more ≡ envelope kind payload → (more ≡ [] → ⊥) → IsFrameFront bytes
 fronts_are_short kind payload [] more k fits e some = tt
 fronts_are_short kind payload (b ∷ bytes) more k fits e some =
     let kinds : b ≡ kind = cc in
@@ -90,6 +90,6 @@ kinds_are_kinds (frames.Entry entry) = (omega arith, omega arith)
 kinds_are_kinds (frames.Cut length) = (omega arith, omega arith)
 
 pub frames_have_fronts : (f : Frame) (bytes more : List ℕ) → IsSpelled f → bytes ++ more ≡ frame_code f
-    → (more ≡ [] → ⊥) → IsFront bytes
+    → (more ≡ [] → ⊥) → IsFrameFront bytes
 frames_have_fronts f bytes more h e some =
     fronts_are_short (kind_of f) (payload f) bytes more (kinds_are_kinds f) h.size e some

@@ -15,6 +15,6 @@ pub record IsUnfinished (bytes : List ℕ) : Type 0 where
   pub lacks : length rest < size
 
 -- no byte; or a kind, and behind it fewer bytes than a length takes, or fewer than it says
-abbrev pub IsFront : List ℕ → Type 0
-IsFront [] = Unit {0}
-IsFront (kind ∷ bytes) = IsKind kind × ((length bytes < 8) ⊎ IsUnfinished bytes)
+abbrev pub IsFrameFront : List ℕ → Type 0
+IsFrameFront [] = Unit {0}
+IsFrameFront (kind ∷ bytes) = IsKind kind × ((length bytes < 8) ⊎ IsUnfinished bytes)

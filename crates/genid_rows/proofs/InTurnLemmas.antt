@@ -15,7 +15,7 @@ use Rattle.cdb_values.specs.declared.tables.TableDef.{TableDef}
 use Rattle.cdb_values.specs.declared.values.Value.{Value}
 use Rattle.genid_rows.specs.Targets.{based, own_genid, genid_of, is_genid_live, or_own}
 use Rattle.net_writes.specs.Net.{held_with, held_after, held_at, held_of, taken_out, rewritten, undone, standing}
-use Rattle.cdb_values.specs.Views.{rows_in}
+use Rattle.cdb_values.specs.Views.{table_rows}
 use Rattle.genid_rows.specs.InTurn.{IsNumbered, Applies, ApplyInTurn, in_turn, made_with, NetIsInTurn, NoRowsAreNumbered, StaysNumbered}
 use Rattle.cdb_values.proofs.ViewLaws.{view_applied, placed_here, placed_there, same_place, other_place, eq_flip, neither}
 use Rattle.genid_rows.proofs.OwnLemmas.{own, own_one, own_rows, own_more, gone, gone_is, gone_more, gone_out, takes_held, others, others_own, others_out, in_second, still_there, IsStillThere, IsWrittenTo, LeavesNone, IsHeldOn, stands_on, held_more, held_out, held_there, Recorded, recorded_next, recorded_none, recorded_out, recorded_above}
@@ -399,7 +399,7 @@ at_first base = record {
 }
 
 -- the rows are those that a transaction sees of what stands
-seen : (base rows : Rows) (made : List ℕ) (held : List (Option RowOp)) (table : ℕ) → IsSoFar base rows made held → rows_in rows table ≡ view base (standing held) table
+seen : (base rows : Rows) (made : List ℕ) (held : List (Option RowOp)) (table : ℕ) → IsSoFar base rows made held → table_rows rows table ≡ view base (standing held) table
 seen base rows made held table far =
     ap (map (λ (v : Version). v.row)) (far.versions table)
     ∙ map-append (λ (v : Version). v.row) (left base held table) (own table made held)

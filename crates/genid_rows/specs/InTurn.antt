@@ -16,7 +16,7 @@ use Rattle.cdb_values.specs.declared.rows.RowRef.TheVariants.{Base, Own}
 use Rattle.cdb_values.specs.declared.tables.TableDef.{TableDef}
 use Rattle.genid_rows.specs.Targets.{based, given, is_target_live, table_of}
 use Rattle.net_writes.specs.Net.{net_of}
-use Rattle.cdb_values.specs.Views.{rows_in}
+use Rattle.cdb_values.specs.Views.{table_rows}
 
 -- the genid that a write gave, and 0 for a write that gave none
 abbrev pub recorded : Option ℕ → ℕ
@@ -60,7 +60,7 @@ pub record IsNumbered (rows : Rows) : Type 0 where
 -- the law, on every such base: the writes in turn and their net operations give the same rows
 abbrev pub NetIsInTurn : Type 0
 NetIsInTurn = (rows : Rows) (ops : List RowOp) (table : ℕ) → IsNumbered rows → ApplyInTurn rows.next rows [] ops
-    → rows_in (in_turn rows [] ops) table ≡ rows_in (apply_all rows (net_of ops)) table
+    → table_rows (in_turn rows [] ops) table ≡ table_rows (apply_all rows (net_of ops)) table
 
 -- tables without rows are such a base
 abbrev pub NoRowsAreNumbered : Type 0

@@ -1,14 +1,14 @@
 -- A loop that reads parts one behind the other: what it has read so far, before what the reader finds in the rest.
 use Rattle.std.proofs.Common.{◌≡◌, ℕ, Bool, true, false, List, [], ◌∷◌, ◌++◌, refl, sym, ap, ◌∙◌, append_assoc, append-nil}
-use Rattle.grammar_forms.specs.Forms.{Spelling, Reader, Outcome, Read, Refused, next_is, and_then, many}
+use Rattle.grammar_forms.specs.Forms.{Spelling, Reader, ReadOutcome, Read, Refused, next_is, and_then, many}
 use Rattle.grammar_forms.specs.Laws.{Exact}
 use Rattle.grammar_forms.proofs.Repeat.{with_first, many_on, many_end, first_part}
 
 -- the parts so far, before those to come
-abbrev pub with_front : {T A : Type 0} → List A → Outcome T (List A) → Outcome T (List A)
+abbrev pub with_front : {T A : Type 0} → List A → ReadOutcome T (List A) → ReadOutcome T (List A)
 with_front front o = and_then o (λ xs k. Read (front ++ xs) k)
 
-front_grows : {T A : Type 0} (front : List A) (x : A) (o : Outcome T (List A)) → with_front front (and_then o (λ xs k. Read (x ∷ xs) k)) ≡ with_front (front ++ x ∷ []) o
+front_grows : {T A : Type 0} (front : List A) (x : A) (o : ReadOutcome T (List A)) → with_front front (and_then o (λ xs k. Read (x ∷ xs) k)) ≡ with_front (front ++ x ∷ []) o
 front_grows front x (Read xs k) = ap (λ l. Read l k) (sym (append_assoc front (x ∷ []) xs))
 front_grows front x (Refused k) = refl
 

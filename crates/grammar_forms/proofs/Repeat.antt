@@ -1,6 +1,6 @@
 -- The law of parts one behind the other, as many as come.
 use Rattle.std.proofs.Common.{◌≡◌, ℕ, zero, suc, ◌≤◌, ◌<◌, Bool, true, false, cond, List, [], ◌∷◌, ◌++◌, length, refl, sym, ap, subst, ◌∙◌, true≢false, append_assoc, append-nil, length-append, arith}
-use Rattle.grammar_forms.specs.Forms.{Spelling, Reader, Outcome, Read, Refused, next_is, and_then, Many, many, many_within}
+use Rattle.grammar_forms.specs.Forms.{Spelling, Reader, ReadOutcome, Read, Refused, next_is, and_then, Many, many, many_within}
 use Rattle.grammar_forms.specs.Kinds.{has, apart, Stops}
 use Rattle.grammar_forms.specs.Laws.{Alike, Run, reads, refuses, Exact}
 use Rattle.grammar_forms.proofs.Alike.{alike_self, alike_front, alike_next, apart_means, stops_left, stops_right}
@@ -18,11 +18,11 @@ takes {T} {A} S r ts x k (reads y w rest e s at) h =
     let same_rest : rest ≡ k = cc in
     record { taken = w; split = e ∙ ap (λ l. w ++ l) same_rest; spelled = subst (λ z. S z w) same_value s }
 takes {T} {A} S r ts x k (refuses w rest y v e s at) h =
-    let refused_of : List T → Outcome T A = λ l. Refused l in
+    let refused_of : List T → ReadOutcome T A = λ l. Refused l in
     let there : refused_of rest ≡ Read x k = sym (ap r e ∙ at rest (alike_self rest)) ∙ h in cc
 
 -- one part, and then the rest of the list
-abbrev pub with_first : {T A : Type 0} → Outcome T A → (List T → Outcome T (List A)) → Outcome T (List A)
+abbrev pub with_first : {T A : Type 0} → ReadOutcome T A → (List T → ReadOutcome T (List A)) → ReadOutcome T (List A)
 with_first o f = and_then o (λ x k. and_then (f k) (λ xs j. Read (x ∷ xs) j))
 
 module _ {T A : Type 0} (kind : T → ℕ) (p : T → Bool) (S : Spelling T A) (r : Reader T A) {firsts mores : List ℕ} (E : Exact kind S r false firsts mores) where
@@ -35,7 +35,7 @@ module _ {T A : Type 0} (kind : T → ℕ) (p : T → Bool) (S : Spelling T A) (
   part_takes ts x k h = let t = takes S r ts x k (E.run ts) h in taken_some x t.taken k ts t.split t.spelled
 
   -- any number of turns that is large enough gives the same
-  rest_same : (ts : List T) (o : Outcome T A) (f g : List T → Outcome T (List A)) → r ts ≡ o → ((k : List T) → length k < length ts → f k ≡ g k) → with_first o f ≡ with_first o g
+  rest_same : (ts : List T) (o : ReadOutcome T A) (f g : List T → ReadOutcome T (List A)) → r ts ≡ o → ((k : List T) → length k < length ts → f k ≡ g k) → with_first o f ≡ with_first o g
   rest_same ts (Read x k) f g h same_later = ap (λ q. and_then q (λ xs j. Read (x ∷ xs) j)) (same_later k (part_takes ts x k h))
   rest_same ts (Refused k) f g h same_later = refl
 

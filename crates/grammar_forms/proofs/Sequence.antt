@@ -1,6 +1,6 @@
 -- The laws of one token, of nothing, of a part seen as something else, and of one part behind another.
 use Rattle.std.proofs.Common.{◌≡◌, ℕ, Bool, true, false, ◌&&◌, List, [], ◌∷◌, ◌++◌, Option, Some, None, refl, sym, ap, subst, ◌∙◌, append_assoc}
-use Rattle.grammar_forms.specs.Forms.{Spelling, Reader, Outcome, Read, Refused, and_then, One, one, meant, Nothing, nothing, As, as_of, Both, both}
+use Rattle.grammar_forms.specs.Forms.{Spelling, Reader, ReadOutcome, Read, Refused, and_then, One, one, meant, Nothing, nothing, As, as_of, Both, both}
 use Rattle.grammar_forms.specs.Kinds.{has, when, apart, Stops}
 use Rattle.grammar_forms.specs.Laws.{Alike, Run, reads, refuses, Exact}
 use Rattle.grammar_forms.proofs.Alike.{alike_front, apart_means, stops_left, stops_right, stops_when, in_left, in_right}
@@ -69,7 +69,7 @@ module _ {T A B : Type 0} (kind : T → ℕ) (f : A → B) (S : Spelling T A) (r
 
 -- One part behind another.
 module _ {T A B C : Type 0} (kind : T → ℕ) (f : A → B → C) (S : Spelling T A) (R : Spelling T B) (r : Reader T A) (s : Reader T B) where
-  and_second : A → Outcome T B → Outcome T C
+  and_second : A → ReadOutcome T B → ReadOutcome T C
   and_second x o = and_then o (λ y j. Read (f x y) j)
 
   first_read : (ts : List T) (x : A) (k : List T) → r ts ≡ Read x k → both f r s ts ≡ and_then (s k) (λ y j. Read (f x y) j)
@@ -78,7 +78,7 @@ module _ {T A B C : Type 0} (kind : T → ℕ) (f : A → B → C) (S : Spelling
   first_refused : (ts k : List T) → r ts ≡ Refused k → both f r s ts ≡ Refused k
   first_refused ts k e = ap (λ o. and_then o (λ z i. and_then (s i) (λ y j. Read (f z y) j))) e
 
-  then_is : (x : A) (k : List T) (o : Outcome T B) → s k ≡ o → and_then (s k) (λ y j. Read (f x y) j) ≡ and_then o (λ y j. Read (f x y) j)
+  then_is : (x : A) (k : List T) (o : ReadOutcome T B) → s k ≡ o → and_then (s k) (λ y j. Read (f x y) j) ≡ and_then o (λ y j. Read (f x y) j)
   then_is x k o e = ap (λ p. and_then p (λ y j. Read (f x y) j)) e
 
   both_after : (ts : List T) (x : A) (w rest : List T) → ts ≡ w ++ rest → S x w → ((k : List T) → Alike rest k → r (w ++ k) ≡ Read x k) → Run R s rest → Run (Both f S R) (both f r s) ts

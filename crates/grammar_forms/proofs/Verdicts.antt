@@ -1,6 +1,6 @@
 -- What an exact reader says of a whole list.
 use Rattle.std.proofs.Common.{◌≡◌, ℕ, Bool, List, [], ◌∷◌, ◌++◌, refl, sym, ap, subst, ◌∙◌, append_assoc, append-nil}
-use Rattle.grammar_forms.specs.Forms.{Spelling, Reader, Outcome, Read, Refused, only}
+use Rattle.grammar_forms.specs.Forms.{Spelling, Reader, ReadOutcome, Read, Refused, only}
 use Rattle.grammar_forms.specs.Faults.{Begins, IsFault}
 use Rattle.grammar_forms.specs.Laws.{Alike, Run, reads, refuses, Exact}
 use Rattle.grammar_forms.proofs.Alike.{alike_self}
@@ -51,7 +51,7 @@ module _ {T A : Type 0} (S : Spelling T A) where
 
 -- What is read of a whole list, and what is refused.
 module _ {T A : Type 0} (kind : T → ℕ) (S : Spelling T A) (r : Reader T A) {null : Bool} {first more : List ℕ} (E : Exact kind S r null first more) where
-  abbrev refusal : List T → Outcome T A
+  abbrev refusal : List T → ReadOutcome T A
   refusal k = Refused k
 
   not_read : (k : List T) (x : A) → Refused k ≡ Read x [] → ⊥

@@ -9,12 +9,12 @@ Spelling T A = A → List T → Type 0
 
 -- What a reader finds at the front of a list: a value and the tokens after it, or the tokens from the first one on
 -- that cannot stand where it stands (none, where the list ends too early).
-pub data Outcome (T A : Type 0) : Type 0 where
-  Read : A → List T → Outcome T A
-  Refused : List T → Outcome T A
+pub data ReadOutcome (T A : Type 0) : Type 0 where
+  Read : A → List T → ReadOutcome T A
+  Refused : List T → ReadOutcome T A
 
 abbrev pub Reader : Type 0 → Type 0 → Type 0
-Reader T A = List T → Outcome T A
+Reader T A = List T → ReadOutcome T A
 
 -- the next token is there, and passes the test
 abbrev pub next_is : {T : Type 0} → (T → Bool) → List T → Bool
@@ -22,7 +22,7 @@ next_is p [] = false
 next_is p (t ∷ ts) = p t
 
 -- what is read goes on, with the value and the tokens after it
-abbrev pub and_then : {T A B : Type 0} → Outcome T A → (A → List T → Outcome T B) → Outcome T B
+abbrev pub and_then : {T A B : Type 0} → ReadOutcome T A → (A → List T → ReadOutcome T B) → ReadOutcome T B
 and_then (Read x k) f = f x k
 and_then (Refused k) f = Refused k
 
@@ -30,7 +30,7 @@ and_then (Refused k) f = Refused k
 abbrev pub One : {T A : Type 0} → (T → Option A) → Spelling T A
 One {T} f x w = (t : T) × (f t ≡ Some x) × (w ≡ t ∷ [])
 
-abbrev pub meant : {T A : Type 0} → Option A → T → List T → Outcome T A
+abbrev pub meant : {T A : Type 0} → Option A → T → List T → ReadOutcome T A
 meant None t ts = Refused (t ∷ ts)
 meant (Some x) t ts = Read x ts
 
@@ -80,7 +80,7 @@ unfoldable pub many : {T A : Type 0} → (T → Bool) → Reader T A → Reader 
 many p r ts = many_within (length ts) p r ts
 
 -- The whole list: a value with tokens behind it is refused at the first of those.
-abbrev pub only : {T A : Type 0} → Outcome T A → Outcome T A
+abbrev pub only : {T A : Type 0} → ReadOutcome T A → ReadOutcome T A
 only (Read x []) = Read x []
 only (Read x (t ∷ ts)) = Refused (t ∷ ts)
 only (Refused ts) = Refused ts

@@ -1,6 +1,6 @@
 //! A source that loses its pages.
 ghost use Rattle.std.specs.Prelude.{◌≡◌, None, false, option_map, if◌then◌else◌};
-ghost use Rattle.page_store.specs.Sources.{pages_of};
+ghost use Rattle.page_store.specs.Sources.{listed_pages};
 
 use page_store::{Cell, Edit, MemPages, Page, PageFault, PageSource};
 use page_workspace::{EditFault, Workspace};
@@ -16,11 +16,11 @@ struct LostPages {
 }
 
 impl PageSource for LostPages {
-    ghost pages = { λ s. pages_of s.below.pages };
+    ghost pages = { λ s. listed_pages s.below.pages };
 
-    ghost below = { λ s. pages_of s.below.pages };
+    ghost below = { λ s. listed_pages s.below.pages };
 
-    ghost loaded = { λ s. if s.is_open then option_map (pages_of s.below.pages) s.below.loaded else None };
+    ghost loaded = { λ s. if s.is_open then option_map (listed_pages s.below.pages) s.below.loaded else None };
 
     ghost losses = { λ s. s.losses };
 

@@ -1,7 +1,7 @@
 //! Sources, sinks and stores in memory: each once with ample memory, and the faults that no clause can make happen.
 
 use cdb_outside::{
-    Failed, LogStore, MemSink, MemSource, MemStore, ReadSource, ReadStop, Sink, WriteSink,
+    Failed, LogStore, MemSink, MemSource, MemStore, ReadSource, Sink, SourceStop, WriteSink,
     read_up_to, write_whole,
 };
 use std::alloc::Global;
@@ -21,7 +21,7 @@ fn a_source_fails_and_is_read(rt: HostRuntime) -> Result<(), Fail> {
     let text = Vec::from_slice(rt.alloc(), b"hello")?;
     let mut source = MemSource::new(text, vec![in rt.alloc(); 1]?);
     let stop = read_up_to(rt.alloc(), &mut source, 9).err();
-    assert_eq!(rt; stop, Some(ReadStop::Fault));
+    assert_eq!(rt; stop, Some(SourceStop::Fault));
     assert!(rt; reads(rt.alloc(), &mut source, 3, b"hell"));
     assert!(rt; reads(rt.alloc(), &mut source, 9, b"o"));
     Ok(())

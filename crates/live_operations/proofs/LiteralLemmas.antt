@@ -11,11 +11,11 @@ use Rattle.grammar_forms.specs.Parts.{Word, After, Before, Optional, Separated, 
 use Rattle.key_code.specs.Codes.{IsInRange}
 use Rattle.sql_answer.proofs.ReadingLemmas.{reading_spells}
 use Rattle.sql_answer.specs.Answers.{Meaning}
-use Rattle.sql_answer.specs.Language.{bound_in, meaning, meant_by, meant_as}
+use Rattle.sql_answer.specs.Language.{sql_binder, meaning, meant_by, meant_as}
 use Rattle.sql_answer.specs.Reading.{reading}
 use Rattle.sql_bind.specs.Binding.{binding}
 use Rattle.sql_bind.specs.Bound.{BoundStatement, BeginIt, CommitIt, RollbackIt, SetIt, InsertInto, UpdateOf, DeleteFrom, SelectOf}
-use Rattle.sql_bind.specs.Faults.{Kind}
+use Rattle.sql_bind.specs.Faults.{FaultKind}
 use Rattle.sql_bind.specs.Meaning.{value_of, bound_side, listed_value, bound_row, bound_setting, bound_as}
 use Rattle.sql_bind.specs.Scope.{Visible, target}
 use Rattle.sql_bind.specs.declared.types.BoundAssign.{BoundAssign}
@@ -273,21 +273,21 @@ abbrev IsRangedMeaning : Meaning → Type 0
 IsRangedMeaning (Ok s) = IsRangedStatement s
 IsRangedMeaning (Err cause) = Unit {0}
 
-meant_ranged : (tables : List TableDef) (s : Statement) → IsSmallStatement s → IsRangedMeaning (bound_in tables s)
+meant_ranged : (tables : List TableDef) (s : Statement) → IsSmallStatement s → IsRangedMeaning (sql_binder tables s)
 meant_ranged tables s is = go (binding tables s) refl
   where
-    go : (r : Result BoundStatement Kind) → binding tables s ≡ r → IsRangedMeaning (meant_as r)
+    go : (r : Result BoundStatement FaultKind) → binding tables s ≡ r → IsRangedMeaning (meant_as r)
     go (Ok b) binds = let f = faultless tables s b binds in subst IsRangedStatement f.is (bound_is tables s is)
     go (Err kind) binds = tt
 
-meaning_ranged : (tables : List TableDef) (text : List ℕ) → IsRangedMeaning (meaning bound_in tables text)
+meaning_ranged : (tables : List TableDef) (text : List ℕ) → IsRangedMeaning (meaning sql_binder tables text)
 unfolding meaning
 meaning_ranged tables text = go (reading text) refl
   where
-    go : (r : Result Statement ℕ) → reading text ≡ r → IsRangedMeaning (meant_by bound_in tables r)
+    go : (r : Result Statement ℕ) → reading text ≡ r → IsRangedMeaning (meant_by sql_binder tables r)
     go (Ok s) read = meant_ranged tables s (spelled_small text s (reading_spells text s read))
     go (Err at) read = tt
 
 -- what a text means
-pub text_ranged : (tables : List TableDef) (text : List ℕ) (s : BoundStatement) → meaning bound_in tables text ≡ Ok s → IsRangedStatement s
+pub text_ranged : (tables : List TableDef) (text : List ℕ) (s : BoundStatement) → meaning sql_binder tables text ≡ Ok s → IsRangedStatement s
 text_ranged tables text s means = subst IsRangedMeaning means (meaning_ranged tables text)

@@ -18,7 +18,7 @@ use Rattle.query_laws.specs.Alone.{reads_of, sql_language}
 use Rattle.cdb_values.specs.declared.replies.Reply.TheVariants as reply
 use Rattle.sql_answer.specs.Answers.{Meaning, Outcome, Fails, Gives, told_only, net_given, given_unless, rows_met, updating, deleting, items_used, rows_given, finished, finish, found, answer}
 use Rattle.sql_answer.specs.Combinations.{Seen, seen, rows_of, met}
-use Rattle.sql_answer.specs.Language.{answered, bound_in, meaning}
+use Rattle.sql_answer.specs.Language.{answered, sql_binder, meaning}
 use Rattle.sql_answer.specs.Shapes.{shape}
 use Rattle.sql_answer.specs.Writes.{set_row, rows_error}
 use Rattle.sql_bind.specs.Bound.{Cond, BoundStatement, BeginIt, CommitIt, RollbackIt, SetIt, InsertInto, UpdateOf, DeleteFrom, SelectOf}
@@ -88,7 +88,7 @@ module _ (Q : List RowOp → Type 0) where
   -- what holds of the operations that a text finds, and of the net operations with the writes of what it means where
   -- they are within the limit, holds of the operations that it leaves
   pub text_leaves : (tables : List TableDef) (versions : List (List Version)) (done : List RowOp) (text : List ℕ) → Q done
-      → ((s : BoundStatement) → meaning bound_in tables text ≡ Ok s → NetHas done (writes_of versions done s)) → Q (sql_language.answer tables versions done text).ops
+      → ((s : BoundStatement) → meaning sql_binder tables text ≡ Ok s → NetHas done (writes_of versions done s)) → Q (sql_language.answer tables versions done text).ops
   text_leaves tables versions done text has net =
-      leaves_too (reads_of tables versions done (meaning bound_in tables text)) done (answer tables versions done (meaning bound_in tables text))
-      (meaning_leaves tables versions done (meaning bound_in tables text) has net)
+      leaves_too (reads_of tables versions done (meaning sql_binder tables text)) done (answer tables versions done (meaning sql_binder tables text))
+      (meaning_leaves tables versions done (meaning sql_binder tables text) has net)

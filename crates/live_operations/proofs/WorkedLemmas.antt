@@ -2,7 +2,7 @@
 use Rattle.std.proofs.Common.{◌≡◌, inl, inr, ◌==◌, Bool, true, false, cond, [], ◌∷◌, refl, ap, arith}
 use Rattle.cdb_values.specs.Rows.{apply_all}
 use Rattle.cdb_values.specs.declared.rows.Version.{Version}
-use Rattle.sql_answer.specs.Worked.{int, version}
+use Rattle.sql_answer.specs.Worked.{int, version_of_two}
 use Rattle.table_store.specs.Listings.{IsAmong}
 use Rattle.table_store.specs.Operations.{NoTwice}
 use Rattle.live_operations.specs.Live.{AreLive}
@@ -11,10 +11,10 @@ use Rattle.live_operations.proofs.LiveLaws.{gone_there}
 use Rattle.live_operations.proofs.StayLaws.{live_stay_live}
 
 abbrev first : Version
-first = version 3 (int 1) (int 10)
+first = version_of_two 3 (int 1) (int 10)
 
 abbrev second : Version
-second = version 5 (int 2) (int 20)
+second = version_of_two 5 (int 2) (int 20)
 
 genids_differ : second.genid ≡ first.genid → ⊥
 genids_differ same = omega (arith, same)

@@ -7,16 +7,16 @@ use Rattle.cdb_values.specs.declared.rows.RowOp.TheVariants.{Insert, Update, Del
 use Rattle.cdb_values.specs.declared.rows.RowRef.TheVariants.{Base}
 use Rattle.cdb_values.specs.declared.rows.Version.{Version}
 use Rattle.sql_answer.specs.Answers.{answer, ops_after}
-use Rattle.sql_answer.specs.Worked.{int, schema, version}
+use Rattle.sql_answer.specs.Worked.{int, schema, version_of_two}
 use Rattle.sql_bind.specs.Bound.{BoundStatement, DeleteFrom}
 
 -- t with two versions, and two tables without rows
 abbrev pub two : List (List Version)
-two = (version 3 (int 1) (int 10) ∷ version 5 (int 2) (int 20) ∷ []) ∷ [] ∷ [] ∷ []
+two = (version_of_two 3 (int 1) (int 10) ∷ version_of_two 5 (int 2) (int 20) ∷ []) ∷ [] ∷ [] ∷ []
 
 -- two rows under one genid
 abbrev pub twice : List (List Version)
-twice = (version 3 (int 1) (int 10) ∷ version 3 (int 2) (int 20) ∷ []) ∷ [] ∷ [] ∷ []
+twice = (version_of_two 3 (int 1) (int 10) ∷ version_of_two 3 (int 2) (int 20) ∷ []) ∷ [] ∷ [] ∷ []
 
 abbrev pub rows : Rows
 rows = record { tables = two; next = 6 }

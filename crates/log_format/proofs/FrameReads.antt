@@ -3,7 +3,7 @@ use Rattle.std.proofs.Common.{◌≡◌, ℕ, List, [], ◌∷◌, ◌++◌, len
 use Rattle.std.proofs.lemmas.List.{append-nil}
 use Rattle.frame_code.specs.declared.frames.Frame.TheVariants as frames
 use Rattle.frame_code.specs.Codes.{number, payload, kind_of, frame_code}
-use Rattle.frame_code.specs.Fronts.{IsFront}
+use Rattle.frame_code.specs.Fronts.{IsFrameFront}
 use Rattle.frame_code.specs.Tells.{Tells, Lacks, Begins}
 use Rattle.frame_code.proofs.FrameLaws.{envelopes_tell, header_parts, AreHeaderParts, frames_are_told}
 use Rattle.frame_code.proofs.FrontLaws.{no_frames, no_envelope}
@@ -41,7 +41,7 @@ no_payload_is_bad kind bytes whole env none = record {
       let parts = envelopes_tell (kind_of f) kind (payload f) bytes rest env.rest h.size env.fits (e ∙ sym env.whole) in
       none f (record { parts = h.parts; kind = parts.0; bytes = parts.1 });
   no_front = λ front.
-      no_envelope bytes env.rest ((number (length bytes) ++ bytes) ++ env.rest) env.fits (subst IsFront (sym env.whole) front).1 refl;
+      no_envelope bytes env.rest ((number (length bytes) ++ bytes) ++ env.rest) env.fits (subst IsFrameFront (sym env.whole) front).1 refl;
 }
 
 -- readings are apart

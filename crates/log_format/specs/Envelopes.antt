@@ -1,7 +1,7 @@
 -- What stands at the front of bytes, as an envelope.
 use Rattle.std.specs.Prelude.{◌≡◌, ℕ, ◌<◌, ◌^◌, List, ◌∷◌, ◌++◌, length}
 use Rattle.frame_code.specs.Codes.{envelope}
-use Rattle.frame_code.specs.Fronts.{IsKind, IsFront}
+use Rattle.frame_code.specs.Fronts.{IsKind, IsFrameFront}
 use Rattle.log_format.specs.declared.frames.Envelope.{Envelope}
 use Rattle.log_format.specs.declared.frames.Envelope.TheVariants.{Short, Unknown, Whole}
 
@@ -20,6 +20,6 @@ pub record HasEnvelope (kind : ℕ) (payload : List ℕ) (bytes : List ℕ) : Ty
   pub whole : envelope kind payload ++ rest ≡ bytes
 
 abbrev pub IsEnvelope : Envelope → List ℕ → Type 0
-IsEnvelope Short bytes = IsFront bytes
+IsEnvelope Short bytes = IsFrameFront bytes
 IsEnvelope Unknown bytes = HasUnknownKind bytes
 IsEnvelope (Whole kind payload) bytes = HasEnvelope kind payload.now bytes

@@ -1,7 +1,7 @@
 -- What stands at the front of bytes: a frame, less than an envelope, or neither.
 use Rattle.std.specs.Prelude.{◌≡◌, ℕ, List, ◌++◌, length}
 use Rattle.frame_code.specs.Codes.{frame_code}
-use Rattle.frame_code.specs.Fronts.{IsFront}
+use Rattle.frame_code.specs.Fronts.{IsFrameFront}
 use Rattle.frame_code.specs.Spelled.{IsSpelled}
 use Rattle.frame_code.specs.declared.frames.Frame.{Frame}
 use Rattle.log_format.specs.declared.frames.Reading.{Reading}
@@ -17,9 +17,9 @@ pub record IsWhole (frame : Frame) (n : ℕ) (bytes : List ℕ) : Type 0 where
 -- the bytes begin with no frame's spelling, and are not less than an envelope
 pub record IsBad (bytes : List ℕ) : Type 0 where
   pub no_frame : (frame : Frame) (rest : List ℕ) → IsSpelled frame → frame_code frame ++ rest ≡ bytes → ⊥
-  pub no_front : IsFront bytes → ⊥
+  pub no_front : IsFrameFront bytes → ⊥
 
 abbrev pub IsReading : Reading → List ℕ → Type 0
 IsReading (Whole frame size) bytes = IsWhole frame size bytes
-IsReading Short bytes = IsFront bytes
+IsReading Short bytes = IsFrameFront bytes
 IsReading Bad bytes = IsBad bytes

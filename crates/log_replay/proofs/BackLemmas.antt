@@ -5,7 +5,7 @@ use Rattle.page_store.specs.Image.{Image, HasRoom}
 use Rattle.page_store.specs.Edits.{IsAfter, before_edit}
 use Rattle.phys_log.specs.declared.entries.LogRecord.{LogRecord}
 use Rattle.phys_log.specs.declared.entries.Entry.{Entry}
-use Rattle.phys_log.specs.Logs.{records_in, written, replayed, pages_of, page_at, IsNext, AreNext, IsLog}
+use Rattle.phys_log.specs.Logs.{records_in, after_record, replayed, pages_of, page_at, IsNext, AreNext, IsLog}
 use Rattle.phys_log.specs.Undone.{newest_first, later_records, undone}
 use Rattle.phys_log.proofs.ReplayLaws.{written_here, written_other, newest_here, newest_other, undone_is}
 use Rattle.phys_log.proofs.LogLaws.{parts_next, parts_pages, undone_at}
@@ -23,7 +23,7 @@ can_undo_more image (x ∷ xs) r h k = (h.0, can_undo_more (before_edit image x.
 
 -- each page keeps the space rule after a record
 room_written : (pages : ℕ → Image) (lsn : ℕ) (r : LogRecord) → IsNext pages lsn r → ((n : ℕ) → HasRoom (pages n).cells)
-    → (n : ℕ) → HasRoom (written pages r n).cells
+    → (n : ℕ) → HasRoom (after_record pages r n).cells
 room_written pages lsn r next room n = elim (cases_eq n r.page) [
   | inl here ↦ subst (λ (i : Image). HasRoom i.cells) (sym (written_here pages r n here)) next.fits.fits
   | inr off ↦ subst (λ (i : Image). HasRoom i.cells) (sym (written_other pages r n off)) (room n)
@@ -34,12 +34,12 @@ can_undo_is : (pages : ℕ → Image) (lsn : ℕ) (rs : List LogRecord) (id : �
     → CanUndo (replayed pages rs id) (newest_first id rs)
 can_undo_is pages lsn [] id h room = tt
 can_undo_is pages lsn (r ∷ rs) id h room =
-    let image = replayed (written pages r) rs id in
+    let image = replayed (after_record pages r) rs id in
     let later : CanUndo image (newest_first id rs)
-    = can_undo_is (written pages r) (lsn + 1) rs id h.1 (room_written pages lsn r h.0 room) in
+    = can_undo_is (after_record pages r) (lsn + 1) rs id h.1 (room_written pages lsn r h.0 room) in
     elim (cases_eq id r.page) [
       | inl here ↦
-          let back : undone image (newest_first id rs) ≡ written pages r id = undone_is (written pages r) (lsn + 1) rs id h.1 in
+          let back : undone image (newest_first id rs) ≡ after_record pages r id = undone_is (after_record pages r) (lsn + 1) rs id h.1 in
           let made : IsAfter r.edit (undone image (newest_first id rs)) = record {
             before = pages r.page;
             lsn = r.lsn;

@@ -6,7 +6,7 @@ use Rattle.std.specs.List.{slice_get, AllByRecursion}
 use Rattle.page_store.specs.Image.{Image}
 use Rattle.phys_log.specs.declared.entries.LogRecord.{LogRecord}
 use Rattle.phys_log.specs.declared.entries.Entry.{Entry}
-use Rattle.phys_log.specs.Logs.{records_of, records_in, written, replayed, blank_pages, pages_of, AreNext, IsLog}
+use Rattle.phys_log.specs.Logs.{records_of, records_in, after_record, replayed, blank_pages, pages_of, AreNext, IsLog}
 use Rattle.phys_log.specs.Undone.{newest_first, later_records, IsLinked}
 use Rattle.phys_log.proofs.ReplayLaws.{next_front, next_behind, newest_here, newest_other, linked_is}
 use Rattle.log_replay.specs.declared.chains.ChainLink.{ChainLink}
@@ -177,7 +177,7 @@ granted_is entries position id h =
 newest_positive : (id : ℕ) (pages : ℕ → Image) (from : ℕ) (rs : List LogRecord) → AreNext pages from rs → 1 ≤ from → AllByRecursion (λ (r : LogRecord). 1 ≤ r.lsn) (newest_first id rs)
 newest_positive id pages from [] h k = tt
 newest_positive id pages from (r ∷ rs) h k =
-    let tail = newest_positive id (written pages r) (from + 1) rs h.1 (omega arith) in
+    let tail = newest_positive id (after_record pages r) (from + 1) rs h.1 (omega arith) in
     let number : r.lsn ≡ from = h.0.number in
     let mine : 1 ≤ r.lsn = omega arith in
     elim (cases_eq id r.page) [

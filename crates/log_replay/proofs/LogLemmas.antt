@@ -10,7 +10,7 @@ use Rattle.page_store.specs.Image.{Image, blank_image, HasRoom}
 use Rattle.page_store.proofs.EditLaws.{fit_prop}
 use Rattle.phys_log.specs.declared.entries.LogRecord.{LogRecord}
 use Rattle.phys_log.specs.declared.entries.Entry.{Entry}
-use Rattle.phys_log.specs.Logs.{records_of, records_in, written, replayed, blank_pages, pages_of, last_lsn_of, IsNext, AreNext, Fits, IsLog}
+use Rattle.phys_log.specs.Logs.{records_of, records_in, after_record, replayed, blank_pages, pages_of, last_lsn_of, IsNext, AreNext, Fits, IsLog}
 use Rattle.phys_log.specs.Undone.{later_records, IsLinked}
 use Rattle.phys_log.proofs.ReplayLaws.{next_front, linked_is, written_here, written_other}
 use Rattle.phys_log.proofs.LogLaws.{pages_more, log_more, log_parts, log_front, parts_next, parts_pages}
@@ -28,7 +28,7 @@ next_prop pages lsn r = hlevel (fit_prop, le_prop, props)
 
 all_next_prop : (pages : ℕ → Image) (lsn : ℕ) (rs : List LogRecord) → IsProp (AreNext pages lsn rs)
 all_next_prop pages lsn [] = Unit-prop
-all_next_prop pages lsn (r ∷ rs) = ×_prop (next_prop pages lsn r) (all_next_prop (written pages r) (lsn + 1) rs)
+all_next_prop pages lsn (r ∷ rs) = ×_prop (next_prop pages lsn r) (all_next_prop (after_record pages r) (lsn + 1) rs)
 
 -- that entries are a log is one fact
 pub log_out : (entries : List Entry) → ∥ IsLog entries ∥₁ → IsLog entries
@@ -146,13 +146,13 @@ pub zero_blank : (base : ℕ → Image) (lsn : ℕ) (rs : List LogRecord) (id : 
     → ((base id).lsn ≡ 0 → base id ≡ blank_image) → (replayed base rs id).lsn ≡ 0 → replayed base rs id ≡ blank_image
 zero_blank base lsn [] id some next plain h = plain h
 zero_blank base lsn (r ∷ rs) id some next plain h =
-    zero_blank (written base r) (lsn + 1) rs id (omega arith) next.1 (λ zero. elim (cases_eq id r.page) [
+    zero_blank (after_record base r) (lsn + 1) rs id (omega arith) next.1 (λ zero. elim (cases_eq id r.page) [
       | inl here ↦
-          let e : (written base r id).lsn ≡ r.lsn = ap (λ (i : Image). i.lsn) (written_here base r id here) in
+          let e : (after_record base r id).lsn ≡ r.lsn = ap (λ (i : Image). i.lsn) (written_here base r id here) in
           let k : r.lsn ≡ lsn = next.0.number in
           absurd (omega arith)
       | inr off ↦
-          let same : written base r id ≡ base id = written_other base r id off in
+          let same : after_record base r id ≡ base id = written_other base r id off in
           same ∙ plain (sym (ap (λ (i : Image). i.lsn) same) ∙ zero)
     ]) h
 

@@ -6,7 +6,7 @@ use mathlib.Core.Path.{fun_ext}
 use Rattle.page_store.specs.Image.{Image, blank_image}
 use Rattle.phys_log.specs.declared.entries.LogRecord.{LogRecord}
 use Rattle.phys_log.specs.declared.entries.Entry.{Entry}
-use Rattle.phys_log.specs.Logs.{records_of, records_in, written, replayed, last_lsn_of, IsNext, AreNext, IsLog}
+use Rattle.phys_log.specs.Logs.{records_of, records_in, after_record, replayed, last_lsn_of, IsNext, AreNext, IsLog}
 use Rattle.phys_log.proofs.LogLaws.{log_front, log_fits, last_is, records_more}
 use Rattle.log_replay.specs.declared.chains.ChainLink.{ChainLink}
 use Rattle.log_replay.specs.declared.kept.KeptPage.{KeptPage}
@@ -22,13 +22,13 @@ use Rattle.log_replay.proofs.LogLemmas.{log_out, kept_came, kept_pages, kept_cha
 pub made_first : (pages : ℕ → Image) (rest behind : List LogRecord) (r : LogRecord) → rest ≡ r ∷ behind → (m : AreMade pages rest) → IsNext pages m.lsn r
 made_first pages rest behind r is m = (subst (λ (l : List LogRecord). AreNext pages m.lsn l) is m.next).0
 
-pub made_behind : (pages after : ℕ → Image) (rest behind : List LogRecord) (r : LogRecord) → rest ≡ r ∷ behind → AreMade pages rest → ((n : ℕ) → after n ≡ written pages r n) → AreMade after behind
+pub made_behind : (pages after : ℕ → Image) (rest behind : List LogRecord) (r : LogRecord) → rest ≡ r ∷ behind → AreMade pages rest → ((n : ℕ) → after n ≡ after_record pages r n) → AreMade after behind
 made_behind pages after rest behind r is m made = record {
   lsn = m.lsn + 1;
   next = subst (λ (f : ℕ → Image). AreNext f (m.lsn + 1) behind) (sym (fun_ext made)) (subst (λ (l : List LogRecord). AreNext pages m.lsn l) is m.next).1;
 }
 
-pub whole_behind : (pages after : ℕ → Image) (rest behind : List LogRecord) (r : LogRecord) → rest ≡ r ∷ behind → ((n : ℕ) → after n ≡ written pages r n) → replayed after behind ≡ replayed pages rest
+pub whole_behind : (pages after : ℕ → Image) (rest behind : List LogRecord) (r : LogRecord) → rest ≡ r ∷ behind → ((n : ℕ) → after n ≡ after_record pages r n) → replayed after behind ≡ replayed pages rest
 whole_behind pages after rest behind r is made = ap (λ (f : ℕ → Image). replayed f behind) (fun_ext made) ∙ ap (replayed pages) (sym is)
 
 pub links_behind : (now after : ℕ → List ChainLink) (position : ℕ) (rest behind : List LogRecord) (r : LogRecord) → rest ≡ r ∷ behind

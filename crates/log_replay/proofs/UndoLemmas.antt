@@ -7,7 +7,7 @@ use Rattle.page_store.specs.Edits.{IsAfter, after_edit, before_edit}
 use Rattle.page_store.proofs.EditLaws.{edit_back}
 use Rattle.phys_log.specs.declared.entries.LogRecord.{LogRecord}
 use Rattle.phys_log.specs.declared.entries.Entry.{Entry}
-use Rattle.phys_log.specs.Logs.{written, replayed, IsNext, AreNext, records_of, records_in}
+use Rattle.phys_log.specs.Logs.{after_record, replayed, IsNext, AreNext, records_of, records_in}
 use Rattle.phys_log.proofs.ReplayLaws.{replayed-append, next_front, next_behind, written_here, written_other}
 use Rattle.phys_log.proofs.LogLaws.{records_more}
 use Rattle.log_replay.specs.declared.kept.KeptPage.{KeptPage}
@@ -20,7 +20,7 @@ use Rattle.log_replay.proofs.WriteLemmas.{Backs}
 pub room_replayed : (base : ℕ → Image) (lsn : ℕ) (records : List LogRecord) → AreNext base lsn records → ((n : ℕ) → HasRoom (base n).cells)
     → (n : ℕ) → HasRoom (replayed base records n).cells
 room_replayed base lsn [] h room n = room n
-room_replayed base lsn (r ∷ rs) h room n = room_replayed (written base r) (lsn + 1) rs h.1 (λ m. elim (cases_eq m r.page) [
+room_replayed base lsn (r ∷ rs) h room n = room_replayed (after_record base r) (lsn + 1) rs h.1 (λ m. elim (cases_eq m r.page) [
   | inl here ↦ subst (λ (i : Image). HasRoom i.cells) (sym (written_here base r m here)) h.0.fits.fits
   | inr off ↦ subst (λ (i : Image). HasRoom i.cells) (sym (written_other base r m off)) (room m)
 ]) n
@@ -32,7 +32,7 @@ last_next base lsn pages rest before r is b =
     (next_behind base lsn before (r ∷ []) (subst (λ (l : List LogRecord). AreNext base lsn l) is b.next)).0
 
 pub last_written : (base : ℕ → Image) (lsn : ℕ) (pages : ℕ → Image) (rest before : List LogRecord) (r : LogRecord) → rest ≡ before ++ r ∷ []
-    → Backs base lsn pages rest → pages ≡ written (replayed base before) r
+    → Backs base lsn pages rest → pages ≡ after_record (replayed base before) r
 last_written base lsn pages rest before r is b =
     b.is ∙ ap (replayed base) is ∙ replayed-append base before (r ∷ [])
 
@@ -66,7 +66,7 @@ last_held base lsn pages rest before r is some b = go (found pages r.page) refl
         absurd (omega arith)
 
 -- a record taken back
-pub one_undone : (base pages after : ℕ → Image) (lsn : ℕ) (r : LogRecord) → IsNext base lsn r → pages ≡ written base r
+pub one_undone : (base pages after : ℕ → Image) (lsn : ℕ) (r : LogRecord) → IsNext base lsn r → pages ≡ after_record base r
     → ((n : ℕ) → after n ≡ put_at pages r.page (before_edit (pages r.page) r.edit r.prev) n) → (n : ℕ) → after n ≡ base n
 one_undone base pages after lsn r next is undone n =
     let page : pages r.page ≡ after_edit (base r.page) r.edit r.lsn = ap (λ (f : ℕ → Image). f r.page) is ∙ written_here base r r.page refl in

@@ -3,7 +3,7 @@ use Rattle.std.proofs.Common.{◌≡◌, ℕ, ◌+◌, ◌<◌, List, [], ◌∷
 use mathlib.Core.Path.{fun_ext}
 use Rattle.page_store.specs.Image.{Image, HasRoom}
 use Rattle.phys_log.specs.declared.entries.LogRecord.{LogRecord}
-use Rattle.phys_log.specs.Logs.{written, replayed, IsNext, AreNext}
+use Rattle.phys_log.specs.Logs.{after_record, replayed, IsNext, AreNext}
 use Rattle.phys_log.proofs.ReplayLaws.{replayed-append, next_behind, next_both}
 use Rattle.page_store.specs.declared.edits.ApplyFault.{ApplyFault}
 use Rattle.page_store.specs.declared.edits.ApplyFault.TheVariants.{Unfit, NoMemory}
@@ -20,13 +20,13 @@ backs_none base lsn = record { next = tt; is = refl }
 
 -- one record more
 pub backs_more : (base : ℕ → Image) (lsn now : ℕ) (pages after : ℕ → Image) (done : List LogRecord) (r : LogRecord) → Backs base lsn pages done
-    → now ≡ lsn + length done → IsNext pages now r → ((n : ℕ) → after n ≡ written pages r n) → Backs base lsn after (done ++ r ∷ [])
+    → now ≡ lsn + length done → IsNext pages now r → ((n : ℕ) → after n ≡ after_record pages r n) → Backs base lsn after (done ++ r ∷ [])
 backs_more base lsn now pages after done r b at next made =
     let one : IsNext (replayed base done) (lsn + length done) r =
     subst (λ (f : ℕ → Image). IsNext f (lsn + length done) r) b.is (subst (λ (k : ℕ). IsNext pages k r) at next) in
     record {
       next = next_both base lsn done (r ∷ []) b.next (one, tt);
-      is = fun_ext made ∙ ap (λ (f : ℕ → Image). written f r) b.is ∙ sym (replayed-append base done (r ∷ []));
+      is = fun_ext made ∙ ap (λ (f : ℕ → Image). after_record f r) b.is ∙ sym (replayed-append base done (r ∷ []));
     }
 
 -- the record behind them is the next one

@@ -3,7 +3,7 @@ ghost use Rattle.std.specs.Ordering.{nat_cmp, is_eq};
 ghost use Rattle.std.specs.Prelude.{ℕ, ◌≡◌, ◌+◌, ◌++◌, ◌∷◌, [], ◌<◌, ◌≤◌, OnOk, OnErr, IsErrOf, IsSome, Some, None, length, false, vec_capacity};
 ghost use Rattle.std.specs.Option.{option_copied};
 ghost use Rattle.page_store.specs.Edits.{IsFit, IsAfter, after_edit, before_edit};
-ghost use Rattle.phys_log.specs.Logs.{written};
+ghost use Rattle.phys_log.specs.Logs.{after_record};
 ghost use Rattle.log_replay.specs.declared.chains.ChainLink.{ChainLink as Link};
 ghost use Rattle.log_replay.specs.Kept.{far_at, found, image_of, links_of, room_of, page_in, chain_in, room_in, link_of, put_at, HasSlot, Roomier, TellsWhether};
 ghost use Rattle.page_store.specs.declared.edits.ApplyFault.TheVariants as fault;
@@ -239,7 +239,7 @@ pub(crate) fn write_at(
     position: u64,
 ) -> Result<(), ApplyFault>
     requires { IsSome (found pages.old entry.now.page) }
-    ensures made { OnOk result ((n : ℕ) → page_in pages.new n ≡ written (page_in pages.old) entry.now n) }
+    ensures made { OnOk result ((n : ℕ) → page_in pages.new n ≡ after_record (page_in pages.old) entry.now n) }
     ensures linked { OnOk result ((n : ℕ) → chain_in pages.new n
         ≡ put_at (chain_in pages.old) entry.now.page
         (chain_in pages.old entry.now.page ++ link_of position entry.now ∷ []) n) }
@@ -300,7 +300,7 @@ pub(crate) fn undo_at(pages: &mut KeptPages, entry: &LogRecord)
 pub(crate) fn redo_at(pages: &mut KeptPages, entry: &LogRecord, position: u64)
     requires fits { IsFit (page_in pages.old entry.now.page) entry.now.edit }
     requires room { length (chain_in pages.old entry.now.page) < room_in pages.old entry.now.page }
-    ensures made { (n : ℕ) → page_in pages.new n ≡ written (page_in pages.old) entry.now n }
+    ensures made { (n : ℕ) → page_in pages.new n ≡ after_record (page_in pages.old) entry.now n }
     ensures linked { (n : ℕ) → chain_in pages.new n
         ≡ put_at (chain_in pages.old) entry.now.page
         (chain_in pages.old entry.now.page ++ link_of position entry.now ∷ []) n }

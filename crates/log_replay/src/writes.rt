@@ -1,6 +1,6 @@
 ghost use Rattle.std.specs.Prelude.{ℕ, ◌≡◌, ◌+◌, ◌++◌, ◌∷◌, [], ◌<◌, ◌≤◌, ◌^◌, OnOk, OnErr, length};
 ghost use Rattle.page_store.specs.Image.{HasRoom};
-ghost use Rattle.phys_log.specs.Logs.{IsNext, AreNext, written, replayed};
+ghost use Rattle.phys_log.specs.Logs.{IsNext, AreNext, after_record, replayed};
 ghost use Rattle.log_replay.specs.Chains.{links_on};
 ghost use Rattle.log_replay.specs.Kept.{page_in, chain_in, link_of, put_at, Roomier, TellsWhether};
 
@@ -20,7 +20,7 @@ fn write_next(
     position: u64,
     lsn: u64,
 ) -> Result<(), ApplyFault>
-    ensures made { OnOk result ((n : ℕ) → page_in pages.new n ≡ written (page_in pages.old) entry.now n) }
+    ensures made { OnOk result ((n : ℕ) → page_in pages.new n ≡ after_record (page_in pages.old) entry.now n) }
     ensures linked { OnOk result ((n : ℕ) → chain_in pages.new n
         ≡ put_at (chain_in pages.old) entry.now.page
         (chain_in pages.old entry.now.page ++ link_of position entry.now ∷ []) n) }

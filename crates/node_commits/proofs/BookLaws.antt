@@ -10,7 +10,7 @@ use Rattle.phys_log.specs.declared.requests.Decision.{Decision}
 use Rattle.node_state.specs.Calls.{Did, Falls, IsAppend}
 use Rattle.node_state.specs.Commits.{Enters, IsSettle, Settles}
 use Rattle.node_state.specs.Nodes.{Held, events_of}
-use Rattle.node_state.specs.Packets.{Sent}
+use Rattle.node_state.specs.Packets.{SentPacket}
 use Rattle.node_commits.specs.Ledgers.{Book, IsBookOf, Settlement, settlement, told_after, told_by}
 use Rattle.node_commits.proofs.HistoryLaws.{told_one_more}
 
@@ -70,7 +70,7 @@ settle_tells id d (event.FedAgain position) told is = absurd is
 one_more : (old new : Held) (e : Event) → Did (e ∷ []) old new → told_by (events_of new.actor.made) ≡ told_after (told_by (events_of old.actor.made)) e
 one_more old new e d = ap told_by d.made ∙ told_one_more [] (events_of old.actor.made) e
 
-pub book_entered : (b c : Book) (old new : Held) (next : Entry) (ps : List Sent) → IsBookOf b old → Enters next ps old new → c.told ≡ b.told → c.known ≡ identities_of (old.entries ++ next ∷ []) → IsBookOf c new
+pub book_entered : (b c : Book) (old new : Held) (next : Entry) (ps : List SentPacket) → IsBookOf b old → Enters next ps old new → c.told ≡ b.told → c.known ≡ identities_of (old.entries ++ next ∷ []) → IsBookOf c new
 book_entered b c old new next ps is enters told known = record {
   known = known ∙ ap identities_of (sym enters.entries);
   told = told ∙ (is.told ∙ (sym (append_tells next enters.event (told_by (events_of old.actor.made)) enters.appends) ∙ sym (one_more old new enters.event enters.did)));

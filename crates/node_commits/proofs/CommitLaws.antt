@@ -17,10 +17,10 @@ use Rattle.cluster_decisions.proofs.DecisionLaws.{duplicates, lacks_of}
 use Rattle.cluster_decisions.proofs.NamedLaws.{names}
 use Rattle.cluster_decisions.proofs.RefusalLaws.{refuses, repeats}
 use Rattle.cluster_events.specs.Guards.{MayDo as MayHappen, Refuses}
-use Rattle.cluster_events.specs.Parts.{Event as Step, field}
+use Rattle.cluster_events.specs.Parts.{ActorEvent, field}
 use Rattle.cluster_events.specs.Settings.{Setting}
 use Rattle.cluster_requests.specs.Requests.{May, Sent}
-use Rattle.cluster_requests.specs.Requests.Act.{Repeat as ToRepeat}
+use Rattle.cluster_requests.specs.Requests.FieldAct.{ToRepeat}
 use Rattle.cluster_steps.specs.Named.{duplicate_line, refusal_line, steps, world}
 use Rattle.core_lists.specs.Lists.{In, Each}
 use Rattle.core_lists.proofs.Lists.{nothing}
@@ -95,7 +95,7 @@ may_enter {G} {h} {b} {sent} {request} next c d =
 -- a refusal, or a repeat, may be told
 refused : {G : Setting} {h : Held} {b : Book} {sent : Sent} {request : CommitRequest} (d : Decision) (told : Reply) → Case G h b sent request
     → Decides (ground_of G h.actor.seen h.vote.node sent) request h.entries h.vote.accepted d → IsNew request h.entries → refusal_line G.tables d ≡ Some told
-    → MayHappen G (steps G h.actor.seen) h.vote.node (Step.Settle request.id (unwrap_or (refusal_line G.tables d) reply.NoMemory))
+    → MayHappen G (steps G h.actor.seen) h.vote.node (ActorEvent.Settle request.id (unwrap_or (refusal_line G.tables d) reply.NoMemory))
 refused {G} {h} {b} {sent} {request} d told c is_right new line =
     let f = field (steps G h.actor.seen) in
     let i = h.vote.node in
@@ -105,7 +105,7 @@ refused {G} {h} {b} {sent} {request} d told c is_right new line =
     let d' = subst (λ l. Decides footing request l h.vote.accepted d) is.log_is is_right in
     let n = subst (λ l. IsNew request l) is.log_is new in
     let r = refuses G log footing sent request (request_of c) f i h.vote.accepted d told c.is.asked.mem c.is.asked.to (gen c) d' line in
-    subst (λ why. MayHappen G (steps G h.actor.seen) i (Step.Settle request.id why)) (sym (ap (λ o. unwrap_or o reply.NoMemory) line))
+    subst (λ why. MayHappen G (steps G h.actor.seen) i (ActorEvent.Settle request.id why)) (sym (ap (λ o. unwrap_or o reply.NoMemory) line))
     ((up c, leading c, lacks_of log request request.id refl n), subst (λ id. Refuses G f i log id told) (sym c.is.asked.says.its_id) r)
 
 -- the line of a duplicate, whose key has a name

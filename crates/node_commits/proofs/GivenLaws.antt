@@ -4,11 +4,11 @@ use Rattle.std.specs.Prelude.{Vec}
 use Rattle.std.proofs.Common.{ℕ, ◌≡◌, ◌<◌, ◌∙◌, List, [], ◌∷◌, ◌++◌, inr, refl, sym, subst}
 use Rattle.block_processor.specs.Decided.{Decides}
 use Rattle.cluster_events.specs.Settings.{Setting}
-use Rattle.cluster_requests.specs.Requests.{Sent as ToCommit}
+use Rattle.cluster_requests.specs.Requests.{Sent}
 use Rattle.log_rows.specs.History.{Ground}
 use Rattle.node_state.specs.Commits.{Settles}
 use Rattle.node_state.specs.Nodes.{Held}
-use Rattle.node_state.specs.Packets.{Sent}
+use Rattle.node_state.specs.Packets.{SentPacket}
 use Rattle.phys_log.specs.declared.entries.CommitId.{CommitId}
 use Rattle.phys_log.specs.declared.entries.Entry.{Entry}
 use Rattle.phys_log.specs.declared.requests.CommitRequest.{CommitRequest}
@@ -17,11 +17,11 @@ use Rattle.phys_log.specs.declared.requests.Decision.TheVariants as decision
 use Rattle.node_commits.specs.declared.steps.CommitStep.{CommitStep}
 use Rattle.node_commits.specs.declared.steps.CommitStep.TheVariants as step
 use Rattle.node_commits.specs.Asked.{IsOver, IsSentTo, IsToAnswer, LeadsIn, log_at}
-use Rattle.node_commits.specs.Commits.{Does, IsAnswered, IsDecided, IsDone, IsFallen, IsFault, IsGiven, IsTelling}
+use Rattle.node_commits.specs.Commits.{DoesCommit, IsAnswered, IsDecided, IsDone, IsFallen, IsFault, IsGiven, IsTelling}
 use Rattle.node_commits.specs.Ledgers.{Book, IsBookOf, IsUntold, settlement}
 
 -- a leader of the generation in which the request was sent may answer it
-pub to_answer : (G : Setting) (h : Held) (b : Book) (sent : ToCommit) (request : CommitRequest) (g : ℕ) → 0 < h.actor.room → IsBookOf b h → LeadsIn h.vote g
+pub to_answer : (G : Setting) (h : Held) (b : Book) (sent : Sent) (request : CommitRequest) (g : ℕ) → 0 < h.actor.room → IsBookOf b h → LeadsIn h.vote g
     → IsSentTo G h.actor.seen h.vote.node g sent request → IsOver G (log_at G h.actor.seen h.vote.node) sent request → IsUntold b.told request.id → IsToAnswer G h b sent request
 to_answer G h b sent request g room book leads asked over untold = record {
   room = room;
@@ -39,7 +39,7 @@ tells (decision.Conflict position item) other = tt
 tells (decision.Duplicate position table key) other = tt
 tells (decision.Commit next) other = other next refl
 
-pub done_by_telling : (id : CommitId) (d : Decision) (ps : List Sent) (b c : Book) (old new : Held) → IsTelling d → Settles id d old new → ps ≡ []
+pub done_by_telling : (id : CommitId) (d : Decision) (ps : List SentPacket) (b c : Book) (old new : Held) → IsTelling d → Settles id d old new → ps ≡ []
     → c.told ≡ b.told ++ settlement id d ∷ [] → IsDone id d ps b c old new
 done_by_telling id (decision.Repeat position) ps b c old new telling settles none told = (settles, none, told)
 done_by_telling id (decision.Conflict position item) ps b c old new telling settles none told = (settles, none, told)
@@ -54,7 +54,7 @@ fallen footing request (decision.Duplicate position table key) b c old new untol
 fallen footing request (decision.Commit next) b c old new untold decides is = record { untold = untold; next = next; decides = decides; falls = is.0; book = is.1 }
 
 pub given : (footing : Ground) (request : CommitRequest) (id : CommitId) (d : Decision) (b c : Book) (old new : Held) → id ≡ request.id → IsUntold b.told request.id
-    → Decides footing request old.entries old.vote.accepted d → (s : CommitStep (Vec Sent Global)) → Does id d s b c old new → IsGiven footing request s b c old new
+    → Decides footing request old.entries old.vote.accepted d → (s : CommitStep (Vec SentPacket Global)) → DoesCommit id d s b c old new → IsGiven footing request s b c old new
 given footing request id d b c old new same untold decides step.Down does = does
 given footing request id d b c old new same untold decides (step.NotMaster h) does = does
 given footing request id d b c old new same untold decides step.Fault does = fallen footing request d b c old new untold decides does
@@ -63,7 +63,7 @@ given footing request id d b c old new same untold decides (step.Decided told ps
     (record { untold = untold; decides = decides; done = subst (λ (i : CommitId). IsDone i d ps.items b c old new) same does.1 })
 
 pub answered : (footing : Ground) (request : CommitRequest) (g : ℕ) (b c : Book) (old new : Held) → LeadsIn old.vote g
-    → (s : CommitStep (Vec Sent Global)) → IsGiven footing request s b c old new → IsAnswered footing request g s b c old new
+    → (s : CommitStep (Vec SentPacket Global)) → IsGiven footing request s b c old new → IsAnswered footing request g s b c old new
 answered footing request g b c old new leads step.Down is = absurd is
 answered footing request g b c old new leads (step.NotMaster h) is = absurd is
 answered footing request g b c old new leads step.Fault is = (leads, is)

@@ -3,8 +3,8 @@ use Rattle.std.proofs.Common.{ℕ, ◌≡◌, List, [], ◌∷◌, ◌++◌, len
 use Rattle.std.specs.Prelude.{◌==◌, Bool, true, false, cond, Option, Some, None, slice_get}
 use Rattle.actor_trace.specs.History.{entries_of}
 use Rattle.cdb_values.specs.declared.replies.Reply.{Reply}
-use Rattle.cluster_consensus.specs.Events.{Event as Core}
-use Rattle.cluster_events.specs.Parts.{Event as Step, field, part}
+use Rattle.cluster_consensus.specs.Events.{NodeEvent}
+use Rattle.cluster_events.specs.Parts.{ActorEvent, field, part}
 use Rattle.cluster_events.specs.Settings.{Setting}
 use Rattle.cluster_requests.specs.KeptEntries.{KeptEntry}
 use Rattle.cluster_requests.specs.Requests.{settled_with}
@@ -18,7 +18,7 @@ use Rattle.phys_log.specs.declared.entries.CommitId.{CommitId}
 use Rattle.phys_log.specs.declared.entries.Entry.{Entry}
 use Rattle.phys_log.specs.declared.requests.Decision.{Decision}
 use Rattle.phys_log.specs.declared.requests.Decision.TheVariants as decision
-use Rattle.report_laws.specs.Work.{Item, Does, Lone}
+use Rattle.report_laws.specs.Work.{WorkItem, Does, Lone}
 use Rattle.cdb_values.specs.declared.tables.TableDef.{TableDef}
 use Rattle.node_state.specs.Nodes.{events_of}
 use Rattle.node_state.proofs.CallLaws.{events_more}
@@ -38,57 +38,57 @@ told_one_more told [] e = refl
 told_one_more told (x ∷ es) e = told_one_more (told_after told x) es e
 
 -- what a step makes of the settled identities of its node
-abbrev step_ids : List CommitId → Step → List CommitId
-step_ids ids (Step.Node c) = settled_with ids c
-step_ids ids (Step.Settle id why) = id ∷ ids
-step_ids ids (Step.Repeat id position) = id ∷ ids
+abbrev step_ids : List CommitId → ActorEvent → List CommitId
+step_ids ids (ActorEvent.Node c) = settled_with ids c
+step_ids ids (ActorEvent.Settle id why) = id ∷ ids
+step_ids ids (ActorEvent.Repeat id position) = id ∷ ids
 step_ids ids _ = ids
 
 -- others' steps, and its own
-others_stay : (i j : ℕ) (s : Step) (g : List (ℕ × Step)) → (i == j) ≡ false → (field ((j, s) ∷ g)).settled i ≡ (field g).settled i
-others_stay i j (Step.Node c) g ne = ap (λ b. cond b (settled_with ((field g).settled i) c) ((field g).settled i)) ne
-others_stay i j Step.Stop g ne = ap (λ b. cond b ((field g).settled i) ((field g).settled i)) ne
-others_stay i j (Step.Settle id why) g ne = ap (λ b. cond b (id ∷ (field g).settled i) ((field g).settled i)) ne
-others_stay i j (Step.Repeat id position) g ne = ap (λ b. cond b (id ∷ (field g).settled i) ((field g).settled i)) ne
-others_stay i j (Step.Ask t) g ne = ap (λ b. cond b ((field g).settled i) ((field g).settled i)) ne
-others_stay i j (Step.Begun b gen) g ne = refl
-others_stay i j (Step.Say r) g ne = refl
-others_stay i j Step.Note g ne = refl
-others_stay i j (Step.Send x) g ne = refl
-others_stay i j (Step.Finish r) g ne = refl
-others_stay i j (Step.Move k) g ne = refl
-others_stay i j Step.Order g ne = refl
-others_stay i j Step.Obeyed g ne = refl
-others_stay i j (Step.Fire line node) g ne = refl
-others_stay i j Step.Barrier g ne = refl
-others_stay i j (Step.Fed d gen) g ne = refl
-others_stay i j (Step.FedAgain d) g ne = refl
+others_stay : (i j : ℕ) (s : ActorEvent) (g : List (ℕ × ActorEvent)) → (i == j) ≡ false → (field ((j, s) ∷ g)).settled i ≡ (field g).settled i
+others_stay i j (ActorEvent.Node c) g ne = ap (λ b. cond b (settled_with ((field g).settled i) c) ((field g).settled i)) ne
+others_stay i j ActorEvent.Stop g ne = ap (λ b. cond b ((field g).settled i) ((field g).settled i)) ne
+others_stay i j (ActorEvent.Settle id why) g ne = ap (λ b. cond b (id ∷ (field g).settled i) ((field g).settled i)) ne
+others_stay i j (ActorEvent.Repeat id position) g ne = ap (λ b. cond b (id ∷ (field g).settled i) ((field g).settled i)) ne
+others_stay i j (ActorEvent.Ask t) g ne = ap (λ b. cond b ((field g).settled i) ((field g).settled i)) ne
+others_stay i j (ActorEvent.Begun b gen) g ne = refl
+others_stay i j (ActorEvent.Say r) g ne = refl
+others_stay i j ActorEvent.Note g ne = refl
+others_stay i j (ActorEvent.Send x) g ne = refl
+others_stay i j (ActorEvent.Finish r) g ne = refl
+others_stay i j (ActorEvent.Move k) g ne = refl
+others_stay i j ActorEvent.Order g ne = refl
+others_stay i j ActorEvent.Obeyed g ne = refl
+others_stay i j (ActorEvent.Fire line node) g ne = refl
+others_stay i j ActorEvent.Barrier g ne = refl
+others_stay i j (ActorEvent.Fed d gen) g ne = refl
+others_stay i j (ActorEvent.FedAgain d) g ne = refl
 
-own_step : (i j : ℕ) (s : Step) (g : List (ℕ × Step)) → (i == j) ≡ true → (field ((j, s) ∷ g)).settled i ≡ step_ids ((field g).settled i) s
-own_step i j (Step.Node c) g e = ap (λ b. cond b (settled_with ((field g).settled i) c) ((field g).settled i)) e
-own_step i j Step.Stop g e = ap (λ b. cond b ((field g).settled i) ((field g).settled i)) e
-own_step i j (Step.Settle id why) g e = ap (λ b. cond b (id ∷ (field g).settled i) ((field g).settled i)) e
-own_step i j (Step.Repeat id position) g e = ap (λ b. cond b (id ∷ (field g).settled i) ((field g).settled i)) e
-own_step i j (Step.Ask t) g e = ap (λ b. cond b ((field g).settled i) ((field g).settled i)) e
-own_step i j (Step.Begun b gen) g e = refl
-own_step i j (Step.Say r) g e = refl
-own_step i j Step.Note g e = refl
-own_step i j (Step.Send x) g e = refl
-own_step i j (Step.Finish r) g e = refl
-own_step i j (Step.Move k) g e = refl
-own_step i j Step.Order g e = refl
-own_step i j Step.Obeyed g e = refl
-own_step i j (Step.Fire line node) g e = refl
-own_step i j Step.Barrier g e = refl
-own_step i j (Step.Fed d gen) g e = refl
-own_step i j (Step.FedAgain d) g e = refl
+own_step : (i j : ℕ) (s : ActorEvent) (g : List (ℕ × ActorEvent)) → (i == j) ≡ true → (field ((j, s) ∷ g)).settled i ≡ step_ids ((field g).settled i) s
+own_step i j (ActorEvent.Node c) g e = ap (λ b. cond b (settled_with ((field g).settled i) c) ((field g).settled i)) e
+own_step i j ActorEvent.Stop g e = ap (λ b. cond b ((field g).settled i) ((field g).settled i)) e
+own_step i j (ActorEvent.Settle id why) g e = ap (λ b. cond b (id ∷ (field g).settled i) ((field g).settled i)) e
+own_step i j (ActorEvent.Repeat id position) g e = ap (λ b. cond b (id ∷ (field g).settled i) ((field g).settled i)) e
+own_step i j (ActorEvent.Ask t) g e = ap (λ b. cond b ((field g).settled i) ((field g).settled i)) e
+own_step i j (ActorEvent.Begun b gen) g e = refl
+own_step i j (ActorEvent.Say r) g e = refl
+own_step i j ActorEvent.Note g e = refl
+own_step i j (ActorEvent.Send x) g e = refl
+own_step i j (ActorEvent.Finish r) g e = refl
+own_step i j (ActorEvent.Move k) g e = refl
+own_step i j ActorEvent.Order g e = refl
+own_step i j ActorEvent.Obeyed g e = refl
+own_step i j (ActorEvent.Fire line node) g e = refl
+own_step i j ActorEvent.Barrier g e = refl
+own_step i j (ActorEvent.Fed d gen) g e = refl
+own_step i j (ActorEvent.FedAgain d) g e = refl
 
 -- names of events: a choice between steps that settle nothing settles nothing
-choice : (b : Bool) (x y : Step) (ids : List CommitId) → step_ids ids x ≡ ids → step_ids ids y ≡ ids → step_ids ids (cond b x y) ≡ ids
+choice : (b : Bool) (x y : ActorEvent) (ids : List CommitId) → step_ids ids x ≡ ids → step_ids ids y ≡ ids → step_ids ids (cond b x y) ≡ ids
 choice true x y ids p q = p
 choice false x y ids p q = q
 
-core_choice : (b : Bool) (x y : Core KeptEntry) (ids : List CommitId) → settled_with ids x ≡ ids → settled_with ids y ≡ ids → settled_with ids (cond b x y) ≡ ids
+core_choice : (b : Bool) (x y : NodeEvent KeptEntry) (ids : List CommitId) → settled_with ids x ≡ ids → settled_with ids y ≡ ids → settled_with ids (cond b x y) ≡ ids
 core_choice true x y ids p q = p
 core_choice false x y ids p q = q
 
@@ -96,7 +96,7 @@ back_stays : (promised : ℕ) (log : List KeptEntry) (o : Option Entry) (ids : L
 back_stays promised log None ids = refl
 back_stays promised log (Some e) ids = refl
 
-reply_stays : (items : List Item) (r : Reply) (ids : List CommitId) → step_ids ids (named_reply items r) ≡ ids
+reply_stays : (items : List WorkItem) (r : Reply) (ids : List CommitId) → step_ids ids (named_reply items r) ≡ ids
 reply_stays [] r ids = refl
 reply_stays (Does t ∷ items) r ids = refl
 reply_stays (Lone x ∷ items) r ids = refl
@@ -108,7 +108,7 @@ settles tables id (decision.Duplicate position table key) ids = refl
 settles tables id (decision.Commit next) ids = refl
 
 -- an event tells what its name settles
-own_event : (G : Setting) (g : List (ℕ × Step)) (i : ℕ) (e : Event) (told : List Settlement) → step_ids (ids_behind [] told) (named G g i e) ≡ ids_behind [] (told_after told e)
+own_event : (G : Setting) (g : List (ℕ × ActorEvent)) (i : ℕ) (e : Event) (told : List Settlement) → step_ids (ids_behind [] told) (named G g i e) ≡ ids_behind [] (told_after told e)
 own_event G g i event.Order told = refl
 own_event G g i event.Obeyed told = refl
 own_event G g i (event.Fire place node) told = refl
@@ -117,19 +117,19 @@ own_event G g i (event.Up (woken.First rows) promised accepted entries) told = r
 own_event G g i (event.Up woken.AsLeft promised accepted entries) told = refl
 own_event G g i (event.Up woken.Led promised accepted entries) told = refl
 own_event G g i (event.Up woken.Took promised accepted entries) told =
-    core_choice (accepted == ((field g).core.nodes i).accepted) (Core.BackGrow (log_named G.nodes (field g).core accepted (length entries.value))) (Core.BackTake accepted (log_named G.nodes (field g).core accepted (length entries.value)))
+    core_choice (accepted == ((field g).core.nodes i).accepted) (NodeEvent.BackGrow (log_named G.nodes (field g).core accepted (length entries.value))) (NodeEvent.BackTake accepted (log_named G.nodes (field g).core accepted (length entries.value)))
     (ids_behind [] told) refl refl
 own_event G g i (event.Up woken.Appended promised accepted entries) told =
     back_stays promised ((field g).core.nodes i).log (slice_get entries.value (length ((field g).core.nodes i).log)) (ids_behind [] told)
-own_event G g i (event.Down fault) told = choice fault (Step.Node Core.Down) Step.Stop (ids_behind [] told) refl refl
+own_event G g i (event.Down fault) told = choice fault (ActorEvent.Node NodeEvent.Down) ActorEvent.Stop (ids_behind [] told) refl refl
 own_event G g i (event.Stand generation) told = refl
 own_event G g i (event.Grant generation to) told = refl
 own_event G g i (event.Lead generation) told = refl
 own_event G g i (event.Take generation l) told =
-    core_choice (generation == ((field g).core.nodes i).accepted) (Core.Grow (log_named G.nodes (field g).core generation l)) (Core.Take generation (log_named G.nodes (field g).core generation l)) (ids_behind [] told) refl refl
+    core_choice (generation == ((field g).core.nodes i).accepted) (NodeEvent.Grow (log_named G.nodes (field g).core generation l)) (NodeEvent.Take generation (log_named G.nodes (field g).core generation l)) (ids_behind [] told) refl refl
 own_event G g i (event.Append next) told = refl
 own_event G g i (event.Settle id d) told = settles G.tables id.value d.value (ids_behind [] told) ∙ sym (ids_more [] told (settlement id.value d.value))
-own_event G g i (event.Learn l) told = core_choice ((field g).core.nodes i).leading (Core.LearnLead l) (Core.LearnFollow l) (ids_behind [] told) refl refl
+own_event G g i (event.Learn l) told = core_choice ((field g).core.nodes i).leading (NodeEvent.LearnLead l) (NodeEvent.LearnFollow l) (ids_behind [] told) refl refl
 own_event G g i (event.Probe ask) told = refl
 own_event G g i (event.Confirm ask generation) told = refl
 own_event G g i event.Ask told = refl
@@ -146,10 +146,10 @@ pub settled_is : (G : Setting) (i : ℕ) (h : List (ℕ × Event)) → (field (s
 settled_is G i [] = refl
 settled_is G i (x ∷ h) = go (i == x.0) refl (settled_is G i h)
   where
-    g : List (ℕ × Step)
+    g : List (ℕ × ActorEvent)
     g = steps G h
 
-    s : Step
+    s : ActorEvent
     s = named G g x.0 x.1
 
     mine : List (ℕ × Event)

@@ -8,7 +8,7 @@ use Rattle.cdb_outside.specs.Faults.{Rose}
 use Rattle.node_state.specs.Calls.{Falls, IsAsBefore}
 use Rattle.node_state.specs.Commits.{Enters, Settles}
 use Rattle.node_state.specs.Nodes.{Held}
-use Rattle.node_state.specs.Packets.{Sent}
+use Rattle.node_state.specs.Packets.{SentPacket}
 use Rattle.phys_log.specs.declared.entries.CommitId.{CommitId}
 use Rattle.phys_log.specs.declared.entries.Entry.{Entry}
 use Rattle.phys_log.specs.declared.requests.CommitRequest.{CommitRequest}
@@ -25,7 +25,7 @@ pub record IsIdle (b c : Book) (old new : Held) : Type 0 where
   pub book : c ≡ b
 
 -- it told that decision before, in the generation that it leads: it gives it again
-pub record IsToldAgain (request : CommitRequest) (d : Decision) (ps : List Sent) (b c : Book) (old new : Held) : Type 0 where
+pub record IsToldAgain (request : CommitRequest) (d : Decision) (ps : List SentPacket) (b c : Book) (old new : Held) : Type 0 where
   pub told : IsTold b.told request.id d
   pub none : ps ≡ []
   pub idle : IsIdle b c old new
@@ -36,7 +36,7 @@ IsTelling (decision.Commit next) = ⊥
 IsTelling d = Unit {0}
 
 -- an entry is appended and shipped; another decision is told, and kept
-abbrev pub IsDone : CommitId → Decision → List Sent → Book → Book → Held → Held → Type 0
+abbrev pub IsDone : CommitId → Decision → List SentPacket → Book → Book → Held → Held → Type 0
 IsDone id (decision.Commit next) ps b c old new = Enters next ps old new × (c.told ≡ b.told)
 IsDone id d ps b c old new = Settles id d old new × (ps ≡ []) × (c.told ≡ b.told ++ settlement id d ∷ [])
 
@@ -46,19 +46,19 @@ IsFault (decision.Commit next) b c old new = Falls true old new × (c ≡ b)
 IsFault d b c old new = ⊥
 
 -- an entry is appended and shipped, or the store failed at it
-abbrev pub IsPutIn : Entry → Option (Vec Sent Global) → Book → Book → Held → Held → Type 0
+abbrev pub IsPutIn : Entry → Option (Vec SentPacket Global) → Book → Book → Held → Held → Type 0
 IsPutIn next (Some ps) b c old new = Enters next ps.items old new × (c.told ≡ b.told)
 IsPutIn next None b c old new = Falls true old new × (c ≡ b)
 
 -- it gives this decision, and does that
-abbrev pub Does : CommitId → Decision → CommitStep (Vec Sent Global) → Book → Book → Held → Held → Type 0
-Does id d step.Down b c old new = ⊥
-Does id d (step.NotMaster h) b c old new = ⊥
-Does id d step.Fault b c old new = IsFault d b c old new
-Does id d (step.Decided told ps) b c old new = (told ≡ d) × IsDone id d ps.items b c old new
+abbrev pub DoesCommit : CommitId → Decision → CommitStep (Vec SentPacket Global) → Book → Book → Held → Held → Type 0
+DoesCommit id d step.Down b c old new = ⊥
+DoesCommit id d (step.NotMaster h) b c old new = ⊥
+DoesCommit id d step.Fault b c old new = IsFault d b c old new
+DoesCommit id d (step.Decided told ps) b c old new = (told ≡ d) × IsDone id d ps.items b c old new
 
 -- it told nothing of the request; it decides, and does that
-pub record IsDecided (footing : Ground) (request : CommitRequest) (d : Decision) (ps : List Sent) (b c : Book) (old new : Held) : Type 0 where
+pub record IsDecided (footing : Ground) (request : CommitRequest) (d : Decision) (ps : List SentPacket) (b c : Book) (old new : Held) : Type 0 where
   pub untold : IsUntold b.told request.id
   pub decides : Decides footing request old.entries old.vote.accepted d
   pub done : IsDone request.id d ps b c old new
@@ -71,14 +71,15 @@ pub record IsFallen (footing : Ground) (request : CommitRequest) (b c : Book) (o
   pub falls : Falls true old new
   pub book : c ≡ b
 
-abbrev pub IsGiven : Ground → CommitRequest → CommitStep (Vec Sent Global) → Book → Book → Held → Held → Type 0
+abbrev pub IsGiven : Ground → CommitRequest → CommitStep (Vec SentPacket Global) → Book → Book → Held → Held → Type 0
 IsGiven footing request step.Down b c old new = ⊥
 IsGiven footing request (step.NotMaster h) b c old new = ⊥
 IsGiven footing request step.Fault b c old new = IsFallen footing request b c old new
 IsGiven footing request (step.Decided d ps) b c old new = IsDecided footing request d ps.items b c old new
 
 -- each answer exactly where it is so
-abbrev pub IsAnswered : Ground → CommitRequest → ℕ → CommitStep (Vec Sent Global) → Book → Book → Held → Held → Type 0
+abbrev pub IsAnswered : Ground → CommitRequest → ℕ → CommitStep (Vec SentPacket Global) → Book → Book → Held → Held
+    → Type 0
 IsAnswered footing request g step.Down b c old new = (old.vote.up ≡ false) × IsIdle b c old new
 IsAnswered footing request g (step.NotMaster h) b c old new = (old.vote.up ≡ true) × (LeadsIn old.vote g → ⊥) × (h ≡ old.vote.promised) × IsIdle b c old new
 IsAnswered footing request g step.Fault b c old new = LeadsIn old.vote g × IsFallen footing request b c old new
@@ -86,12 +87,12 @@ IsAnswered footing request g (step.Decided d ps) b c old new = LeadsIn old.vote 
 
 -- what the call did to the store: no call of it failed where there is a decision, it was not asked where there is none, and where
 -- the node tells a fault, its count of faults rose
-abbrev pub AsksAtCommit : CommitStep (Vec Sent Global) → OverStore → OverStore → Type 0
+abbrev pub AsksAtCommit : CommitStep (Vec SentPacket Global) → OverStore → OverStore → Type 0
 AsksAtCommit step.Down old new = new ≡ old
 AsksAtCommit (step.NotMaster h) old new = new ≡ old
 AsksAtCommit step.Fault old new = Rose old.faults new.faults
 AsksAtCommit (step.Decided d ps) old new = new.faults ≡ old.faults
 
-abbrev pub AsksAtEntry : Option (Vec Sent Global) → OverStore → OverStore → Type 0
+abbrev pub AsksAtEntry : Option (Vec SentPacket Global) → OverStore → OverStore → Type 0
 AsksAtEntry None old new = Rose old.faults new.faults
 AsksAtEntry (Some ps) old new = new.faults ≡ old.faults

@@ -9,7 +9,7 @@ ghost use Rattle.log_rows.specs.History.{Ground};
 ghost use Rattle.node_state.specs.Commits.{MayEnter, MaySettle};
 ghost use Rattle.node_state.specs.Stores.{held_of};
 ghost use Rattle.node_commits.specs.Asked.{IsOver, IsSentTo, IsToAnswer, LeadsIn, ground_of, log_at};
-ghost use Rattle.node_commits.specs.Commits.{AsksAtCommit, AsksAtEntry, Does, IsAnswered, IsGiven, IsPutIn, IsTelling};
+ghost use Rattle.node_commits.specs.Commits.{AsksAtCommit, AsksAtEntry, DoesCommit, IsAnswered, IsGiven, IsPutIn, IsTelling};
 ghost use Rattle.node_commits.specs.Ledgers.{IsBookOf, IsUntold};
 ghost use Rattle.phys_log.specs.Logs.{Fits};
 ghost use Rattle.phys_log.specs.declared.requests.Decision.TheVariants as decision;
@@ -130,7 +130,7 @@ impl Ledger {
         requires fits { Fits node.old.entries entry }
         requires its { id_of entry ≡ Some id }
         requires absent { IsAbsent self.old.known id }
-        ensures does { IfOk result (λ s. Does id (decision.Commit entry) s self.old self.new
+        ensures does { IfOk result (λ s. DoesCommit id (decision.Commit entry) s self.old self.new
             (held_of node.old) (held_of node.new)) }
         ensures store { IfOk result (λ s. AsksAtCommit s node.old.over node.new.over) }
         ensures book { IsBookOf self.new (held_of node.new) }
@@ -198,7 +198,8 @@ impl Ledger {
         requires untold { IsUntold self.old.told id }
         requires telling { IsTelling decision }
         requires may { MaySettle J.setting node.old.actor.seen node.old.vote.node id decision }
-        ensures does { IfOk result (λ s. Does id decision s self.old self.new (held_of node.old) (held_of node.new)) }
+        ensures does { IfOk result (λ s. DoesCommit id decision s self.old self.new (held_of node.old)
+            (held_of node.new)) }
         ensures store { IfOk result (λ s. AsksAtCommit s node.old.over node.new.over) }
         ensures book { IsBookOf self.new (held_of node.new) }
         ensures unchanged { OnErr result ((self.new ≡ self.old) × (node.new ≡ node.old)) }

@@ -11,7 +11,7 @@ use Rattle.report_laws.specs.History.{Basis, view_of}
 use Rattle.report_laws.specs.Spelled.{IsSpelled, SaysAsNamed}
 use Rattle.report_laws.specs.Told.{numbered, told, Along, Numbered}
 use Rattle.report_laws.specs.View.{View}
-use Rattle.report_laws.specs.Work.{Does, Item, Lone, Transaction, items_at, number_of, place_from, said, said_by, start, work}
+use Rattle.report_laws.specs.Work.{Does, WorkItem, Lone, Transaction, items_at, number_of, place_from, said, said_by, start, work}
 use Rattle.report_laws.proofs.EntryToldLaws.{told_stands}
 use Rattle.report_laws.proofs.SoFarLemmas.{same_name}
 use Rattle.report_laws.proofs.SpelledLaws.{IsNamedLine, SpellsItem, cut_spelled, lines_are, lines_spelled, numbered_spelled, ran_spelled, whole_spelled, work_spelled}
@@ -46,12 +46,12 @@ module _ (basis : Basis) (spelled : IsSpelled basis) where
       let all : AllByRecursion SpellsReply (c.front ++ c.rest) = subst (AllByRecursion SpellsReply) (sym c.fits) (tt, ran_spelled basis spelled es t c.begin c.ran are c.is_ran) in
       subst (AllByRecursion SpellsReply) (sym c.says) (all_append SpellsReply c.front (c.cause ∷ []) (all_front SpellsReply c.front c.rest all) (cut_spelled c.cause c.is_cause, tt))
 
-  told_spelled : (es : List EntryLine) (name : List ℕ) (item : Item) (mine : List Reply) → SpellsItem item → IsToldAlong basis (view_of basis es) name item mine → AllByRecursion SpellsReply mine
+  told_spelled : (es : List EntryLine) (name : List ℕ) (item : WorkItem) (mine : List Reply) → SpellsItem item → IsToldAlong basis (view_of basis es) name item mine → AllByRecursion SpellsReply mine
   told_spelled es name (Does t) mine is (inl whole) = whole_spelled basis spelled es name t mine is whole
   told_spelled es name (Does t) mine is (inr cut) = cut_short es name t mine is cut
   told_spelled es name (Lone answer) mine is told = subst (AllByRecursion SpellsReply) (sym told) (is, tt)
 
-  along_spelled : (es : List EntryLine) (name : List ℕ) (items : List Item) (lines : List Numbered) → AllByRecursion SpellsItem items → Along (IsToldAlong basis (view_of basis es) name) items lines → AllByRecursion (λ (n : Numbered). SpellsReply n.1) lines
+  along_spelled : (es : List EntryLine) (name : List ℕ) (items : List WorkItem) (lines : List Numbered) → AllByRecursion SpellsItem items → Along (IsToldAlong basis (view_of basis es) name) items lines → AllByRecursion (λ (n : Numbered). SpellsReply n.1) lines
   along_spelled es name [] lines all is = subst (AllByRecursion (λ (n : Numbered). SpellsReply n.1)) (sym is) tt
   along_spelled es name (item ∷ items) lines all (mine, others, splits, told, rest) =
       subst (AllByRecursion (λ (n : Numbered). SpellsReply n.1)) (sym splits)
@@ -76,7 +76,7 @@ named_or_silent name (b ∷ bs) all = by b.act all.0 (named_or_silent name bs al
     by act.Feed is later = later
 
 silent_told : (basis : Basis) (view : View) (name : List ℕ) (lines : List Line) → said name basis.script.body ≡ [] → Along (IsToldAlong basis view name) (work basis.language name basis.script.body) (told name lines) → told name lines ≡ []
-silent_told basis view name lines silent is = subst (λ (items : List Item). Along (IsToldAlong basis view name) items (told name lines)) (ap (λ (texts : List (List ℕ)). items_at (place_from basis.language start texts)) silent) is
+silent_told basis view name lines silent is = subst (λ (items : List WorkItem). Along (IsToldAlong basis view name) items (told name lines)) (ap (λ (texts : List (List ℕ)). items_at (place_from basis.language start texts)) silent) is
 
 told_named : (basis : Basis) (view : View) (lines : List Line) (name : List ℕ) (txn : ℕ) (answer : Reply) → IsSpelled basis → ((other : List ℕ) → Along (IsToldAlong basis view other) (work basis.language other basis.script.body) (told other lines)) → StandsIn lines (line.Session name txn answer) → IsName name
 told_named basis view lines name txn answer spelled replies (front, back, is) = go (named_or_silent name basis.script.body spelled.body)

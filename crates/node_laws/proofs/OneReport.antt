@@ -25,7 +25,7 @@ use Rattle.session_language.specs.Each.{EachAfter}
 use Rattle.node_reports.specs.Arms.{of_commit, waiting_by, waiting_from}
 use Rattle.node_reports.specs.Fed.{AreFeeds, IsFeedTold, events}
 use Rattle.node_reports.specs.Lawful.{LawfulOfNodes}
-use Rattle.node_reports.specs.Order.{Changes, InNodesOrder, InTurns, IsFault, IsOpened, IsStarted, IsStopped, IsTurnOf, is_fault, is_up_line, last_fed}
+use Rattle.node_reports.specs.Order.{Changes, InNodesOrder, InTurnsOfNodes, IsFault, IsOpened, IsStarted, IsStopped, IsTurnOfNodes, is_fault, is_up_line, last_fed}
 use Rattle.node_laws.specs.Unhurt.{HasNoCommitArms, IsNoCommitArm, IsOfARow, IsUnhurt, IsUnhurtLine}
 use Rattle.node_laws.proofs.Known.{BeginUpTo, IsAcknowledged, Known, begin_told, known_more}
 use Rattle.node_laws.proofs.SamePiece.{Whole, one_piece}
@@ -162,7 +162,7 @@ module _ (basis : Basis) (answers : Answers basis.language) where
         )
 
     one_step : (a : Act) (mine mine' others others' : List Line) (added added' later later' : List EntryLine) → IsNoCommitArm a → Whole basis (before ++ (mine ++ others)) (history ++ (added ++ later)) → Whole basis (before ++ (mine' ++ others')) (history ++ (added' ++ later')) →
-        IsTurnOf basis (view_of basis (history ++ (added ++ later))) done before history a mine others added → IsTurnOf basis (view_of basis (history ++ (added' ++ later'))) done before history a mine' others' added' → Step mine mine' added added'
+        IsTurnOfNodes basis (view_of basis (history ++ (added ++ later))) done before history a mine others added → IsTurnOfNodes basis (view_of basis (history ++ (added' ++ later'))) done before history a mine' others' added' → Step mine mine' added added'
     one_step (act.Say session text) mine mine' others others' added added' later later' arm whole whole' turn turn' =
         one_piece basis answers done before history session text known mine mine' others others' added added' later later' (rows_wait session [] done no_arms refl) whole whole' turn turn'
     one_step (act.Stop node) mine mine' others others' added added' later later' arm whole whole' turn turn' =
@@ -178,24 +178,24 @@ module _ (basis : Basis) (answers : Answers basis.language) where
   -- the lines and entries that are left are the same where those before are
   one_rest : (bs done : List BodyLine) (before : List Line) (history : List EntryLine) → AllByRecursion (λ (b : BodyLine). IsNoCommitArm b.act) done → AllByRecursion (λ (b : BodyLine). IsNoCommitArm b.act) bs → Known basis.origin before history →
       (lines lines' : List Line) (entries entries' : List EntryLine) → Whole basis (before ++ lines) (history ++ entries) → Whole basis (before ++ lines') (history ++ entries') →
-      InTurns basis (view_of basis (history ++ entries)) done before history bs lines entries → InTurns basis (view_of basis (history ++ entries')) done before history bs lines' entries' → (lines ≡ lines') × (entries ≡ entries')
+      InTurnsOfNodes basis (view_of basis (history ++ entries)) done before history bs lines entries → InTurnsOfNodes basis (view_of basis (history ++ entries')) done before history bs lines' entries' → (lines ≡ lines') × (entries ≡ entries')
   one_rest [] done before history no_arms none known lines lines' entries entries' whole whole' turns turns' = (turns.0 ∙ sym turns'.0, turns.1 ∙ sym turns'.1)
   one_rest (b ∷ bs) done before history no_arms none known lines lines' entries entries' whole whole' (mine, others, added, later, ls_are, es_are, turn, rest) (mine', others', added', later', ls_are', es_are', turn', rest') =
       let split : Whole basis (before ++ (mine ++ others)) (history ++ (added ++ later)) = whole_on _ _ _ _ (ap (λ (ls : List Line). before ++ ls) ls_are) (ap (λ (es : List EntryLine). history ++ es) es_are) whole in
       let split' : Whole basis (before ++ (mine' ++ others')) (history ++ (added' ++ later')) = whole_on _ _ _ _ (ap (λ (ls : List Line). before ++ ls) ls_are') (ap (λ (es : List EntryLine). history ++ es) es_are') whole' in
       let step : (mine ≡ mine') × (added ≡ added') × Known basis.origin (before ++ mine) (history ++ added) =
       one_step done before history no_arms known b.act mine mine' others others' added added' later later' none.0 split split'
-      (subst (λ (es : List EntryLine). IsTurnOf basis (view_of basis (history ++ es)) done before history b.act mine others added) es_are turn)
-      (subst (λ (es : List EntryLine). IsTurnOf basis (view_of basis (history ++ es)) done before history b.act mine' others' added') es_are' turn') in
+      (subst (λ (es : List EntryLine). IsTurnOfNodes basis (view_of basis (history ++ es)) done before history b.act mine others added) es_are turn)
+      (subst (λ (es : List EntryLine). IsTurnOfNodes basis (view_of basis (history ++ es)) done before history b.act mine' others' added') es_are' turn') in
       let further : (others ≡ others') × (later ≡ later') =
       one_rest bs (done ++ b ∷ []) (before ++ mine) (history ++ added) (all_append (λ (c : BodyLine). IsNoCommitArm c.act) done (b ∷ []) no_arms (none.0, tt)) none.1 step.2 others others' later later'
       (whole_on _ _ _ _ (sym (append_assoc before mine others)) (sym (append_assoc history added later)) split)
       (whole_on _ _ _ _ (ap (λ (ls : List Line). before ++ (ls ++ others')) (sym step.0) ∙ sym (append_assoc before mine others'))
       (ap (λ (es : List EntryLine). history ++ (es ++ later')) (sym step.1) ∙ sym (append_assoc history added later')) split')
-      (subst (λ (es : List EntryLine). InTurns basis (view_of basis es) (done ++ b ∷ []) (before ++ mine) (history ++ added) bs others later) (ap (λ (es : List EntryLine). history ++ es) es_are ∙ sym (append_assoc history added later)) rest)
-      (subst (λ (ls : List Line). InTurns basis (view_of basis ((history ++ added) ++ later')) (done ++ b ∷ []) (before ++ ls) (history ++ added) bs others' later') (sym step.0)
-      (subst (λ (es : List EntryLine). InTurns basis (view_of basis ((history ++ es) ++ later')) (done ++ b ∷ []) (before ++ mine') (history ++ es) bs others' later') (sym step.1)
-      (subst (λ (es : List EntryLine). InTurns basis (view_of basis es) (done ++ b ∷ []) (before ++ mine') (history ++ added') bs others' later') (ap (λ (es : List EntryLine). history ++ es) es_are' ∙ sym (append_assoc history added' later')) rest'))) in (
+      (subst (λ (es : List EntryLine). InTurnsOfNodes basis (view_of basis es) (done ++ b ∷ []) (before ++ mine) (history ++ added) bs others later) (ap (λ (es : List EntryLine). history ++ es) es_are ∙ sym (append_assoc history added later)) rest)
+      (subst (λ (ls : List Line). InTurnsOfNodes basis (view_of basis ((history ++ added) ++ later')) (done ++ b ∷ []) (before ++ ls) (history ++ added) bs others' later') (sym step.0)
+      (subst (λ (es : List EntryLine). InTurnsOfNodes basis (view_of basis ((history ++ es) ++ later')) (done ++ b ∷ []) (before ++ mine') (history ++ es) bs others' later') (sym step.1)
+      (subst (λ (es : List EntryLine). InTurnsOfNodes basis (view_of basis es) (done ++ b ∷ []) (before ++ mine') (history ++ added') bs others' later') (ap (λ (es : List EntryLine). history ++ es) es_are' ∙ sym (append_assoc history added' later')) rest'))) in (
         ls_are ∙ ap (λ (ls : List Line). mine ++ ls) further.0 ∙ ap (λ (ls : List Line). ls ++ others') step.0 ∙ sym ls_are',
         es_are ∙ ap (λ (es : List EntryLine). added ++ es) further.1 ∙ ap (λ (es : List EntryLine). es ++ later') step.1 ∙ sym es_are',
       )
@@ -206,7 +206,7 @@ module _ (basis : Basis) (answers : Answers basis.language) where
     later : List EntryLine
     opened : IsOpened basis [] [] [] opening
     entries_are : report.entries ≡ opening ++ later
-    order : InTurns basis (view_of basis (opening ++ later)) [] [] opening basis.script.body report.lines later
+    order : InTurnsOfNodes basis (view_of basis (opening ++ later)) [] [] opening basis.script.body report.lines later
     whole : Whole basis report.lines (opening ++ later)
 
   from_first : (report : Report) → LawfulOfNodes basis report → InNodesOrder basis report → IsUnhurt report → FromFirst report
@@ -215,9 +215,9 @@ module _ (basis : Basis) (answers : Answers basis.language) where
     later = order.later;
     opened = subst (λ (ls : List Line). IsOpened basis [] [] ls order.opening) none order.opened;
     entries_are = order.entries_are;
-    order = subst (λ (es : List EntryLine). InTurns basis (view_of basis es) [] [] order.opening basis.script.body report.lines order.later) order.entries_are
-        (subst (λ (ls : List Line). InTurns basis (view_of basis report.entries) [] [] order.opening basis.script.body ls order.later) (sym lines)
-        (subst (λ (ls : List Line). InTurns basis (view_of basis report.entries) [] ls order.opening basis.script.body order.rest order.later) none order.order));
+    order = subst (λ (es : List EntryLine). InTurnsOfNodes basis (view_of basis es) [] [] order.opening basis.script.body report.lines order.later) order.entries_are
+        (subst (λ (ls : List Line). InTurnsOfNodes basis (view_of basis report.entries) [] [] order.opening basis.script.body ls order.later) (sym lines)
+        (subst (λ (ls : List Line). InTurnsOfNodes basis (view_of basis report.entries) [] ls order.opening basis.script.body order.rest order.later) none order.order));
     whole = whole_on report.lines report.lines report.entries (order.opening ++ order.later) refl order.entries_are (record { replies = lawful.replies; history = lawful.history; answered = lawful.answered; unhurt = unhurt.lines });
   }
     where
@@ -272,7 +272,7 @@ module _ (basis : Basis) (answers : Answers basis.language) where
       same : (report.lines ≡ other.lines) × (w.later ≡ w'.later)
       same = one_rest basis.script.body [] [] w.opening tt none known report.lines other.lines w.later w'.later w.whole
           (subst (λ (es : List EntryLine). Whole basis other.lines (es ++ w'.later)) (sym openings) w'.whole) w.order
-          (subst (λ (es : List EntryLine). InTurns basis (view_of basis (es ++ w'.later)) [] [] es basis.script.body other.lines w'.later) (sym openings) w'.order)
+          (subst (λ (es : List EntryLine). InTurnsOfNodes basis (view_of basis (es ++ w'.later)) [] [] es basis.script.body other.lines w'.later) (sym openings) w'.order)
 
       entries : report.entries ≡ other.entries
       entries = w.entries_are ∙ ap (λ (es : List EntryLine). w.opening ++ es) same.1 ∙ ap (λ (es : List EntryLine). es ++ w'.later) openings ∙ sym w'.entries_are

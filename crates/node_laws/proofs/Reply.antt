@@ -16,7 +16,7 @@ use Rattle.report_laws.specs.Places.{survives}
 use Rattle.report_laws.specs.Play.{HasChanges, IsOrMemory, IsTimely}
 use Rattle.report_laws.specs.Told.{alone_at, told, Along}
 use Rattle.report_laws.specs.View.{View}
-use Rattle.report_laws.specs.Work.{numbered_among, transaction_of, work, ByCommit, ByRollback, Does, End, Item, Lone, Nowhere, Transaction, WithItsLine}
+use Rattle.report_laws.specs.Work.{numbered_among, transaction_of, work, ByCommit, ByRollback, Does, End, WorkItem, Lone, Nowhere, Transaction, WithItsLine}
 use Rattle.report_laws.proofs.DecideLemmas.{Decides, IsOutcomes, decided, one_decision}
 use Rattle.report_laws.proofs.FrontLemmas.{entry_front, rows_front}
 use Rattle.report_laws.proofs.PieceLaws.{all_at, under}
@@ -129,7 +129,7 @@ pub not_some : (d : ℕ) → Some d ≡ None → ⊥
 not_some d is = cc
 
 -- no transaction has the number 0
-pub none_zero : (items : List Item) (bound : ℕ) (t : Transaction) → 1 ≤ bound → Rising bound items → numbered_among 0 items ≡ Some t → ⊥
+pub none_zero : (items : List WorkItem) (bound : ℕ) (t : Transaction) → 1 ≤ bound → Rising bound items → numbered_among 0 items ≡ Some t → ⊥
 none_zero [] bound t first rising is = cc
 none_zero (Lone answer ∷ items) bound t first rising is = none_zero items bound t first rising is
 none_zero (Does d ∷ items) bound t first rising is =

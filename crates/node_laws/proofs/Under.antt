@@ -10,7 +10,7 @@ use Rattle.cdb_values.specs.declared.rows.Level.{Level}
 use Rattle.report_laws.specs.Cut.{cuts}
 use Rattle.report_laws.specs.Play.{is_cut_of, was_cut}
 use Rattle.report_laws.specs.Told.{told, numbered, Along, Numbered}
-use Rattle.report_laws.specs.Work.{numbered_among, open_item, said, start, work, Does, Item, Lone, Place, Transaction, next_place}
+use Rattle.report_laws.specs.Work.{numbered_among, open_item, said, start, work, Does, WorkItem, Lone, Place, Transaction, next_place}
 use Rattle.report_laws.proofs.AlongLaws.{AllOther, none_of, of_another, of_its, of_number}
 use Rattle.report_laws.proofs.PieceLaws.{under, under_append, under_own}
 use Rattle.report_laws.proofs.RestLemmas.{items_are, lones, lones_append, over_by, rest_of, rest_rises, told_lones, Rising}
@@ -23,7 +23,7 @@ use Rattle.session_language.specs.Each.{StandsIn}
 use Rattle.session_language.specs.Language.{Language, Kind, BeginText, CommitText, RollbackText, LevelText, OtherText}
 
 -- transactions with numbers from a bound on have no number below it
-others_above : (bound n : ℕ) (items : List Item) → 1 ≤ n → n < bound → Rising bound items → AllOther n items
+others_above : (bound n : ℕ) (items : List WorkItem) → 1 ≤ n → n < bound → Rising bound items → AllOther n items
 others_above bound n [] first less rising = tt
 others_above bound n (Does t ∷ items) first less rising =
     let least : bound ≤ t.number = rising.0 in
@@ -32,13 +32,13 @@ others_above bound n (Lone answer ∷ items) first less rising = (ne_eqb 0 n (λ
 
 -- one transaction of a number, and what it is told
 
-pub record IsIts (P : Item → List Reply → Type 0) (items : List Item) (n : ℕ) (mine : List Reply) : Type 0 where
+pub record IsIts (P : WorkItem → List Reply → Type 0) (items : List WorkItem) (n : ℕ) (mine : List Reply) : Type 0 where
   pub transaction : Transaction
   pub number : transaction.number ≡ n
   pub among : numbered_among n items ≡ Some transaction
   pub told : P (Does transaction) mine
 
-its_of : (P : Item → List Reply → Type 0) (items : List Item) (lines : List Numbered) (bound n : ℕ) → 1 ≤ n → Rising bound items → Along P items lines → (of_number n lines ≡ []) ⊎ IsIts P items n (of_number n lines)
+its_of : (P : WorkItem → List Reply → Type 0) (items : List WorkItem) (lines : List Numbered) (bound n : ℕ) → 1 ≤ n → Rising bound items → Along P items lines → (of_number n lines ≡ []) ⊎ IsIts P items n (of_number n lines)
 its_of P [] lines bound n first rising is = inl (ap (of_number n) is)
 its_of P (Lone answer ∷ items) lines bound n first rising (mine, others, splits, p, rest) = go (its_of P items others bound n first rising rest)
   where
@@ -71,14 +71,14 @@ its_of P (Does t ∷ items) lines bound n first rising (mine, others, splits, p,
 
 module _ (language : Language) (name : List ℕ) (body : List BodyLine) where
   pub work_rises : Rising 1 (work language name body)
-  work_rises = subst (λ (all : List Item). Rising 1 all) (sym (items_are language start (said name body))) (rest_rises language start (said name body))
+  work_rises = subst (λ (all : List WorkItem). Rising 1 all) (sym (items_are language start (said name body))) (rest_rises language start (said name body))
 
   -- under a number from 1 on
-  pub told_under : (P : Item → List Reply → Type 0) (lines : List Line) (n : ℕ) → 1 ≤ n → Along P (work language name body) (told name lines) → (under name n lines ≡ []) ⊎ IsIts P (work language name body) n (under name n lines)
+  pub told_under : (P : WorkItem → List Reply → Type 0) (lines : List Line) (n : ℕ) → 1 ≤ n → Along P (work language name body) (told name lines) → (under name n lines ≡ []) ⊎ IsIts P (work language name body) n (under name n lines)
   told_under P lines n first is = its_of P (work language name body) (told name lines) 1 n first work_rises is
 
   -- and under 0
-  pub told_outside : (P : Item → List Reply → Type 0) (lines : List Line) → ((answer : Reply) (mine : List Reply) → P (Lone answer) mine → mine ≡ answer ∷ []) → Along P (work language name body) (told name lines) → under name 0 lines ≡ lones (work language name body)
+  pub told_outside : (P : WorkItem → List Reply → Type 0) (lines : List Line) → ((answer : Reply) (mine : List Reply) → P (Lone answer) mine → mine ≡ answer ∷ []) → Along P (work language name body) (told name lines) → under name 0 lines ≡ lones (work language name body)
   told_outside P lines one is = told_lones P one (work language name body) (told name lines) 1 (omega arith) work_rises is
 
 -- no reply outside transactions cuts one short
@@ -109,7 +109,7 @@ rest_uncut language p (text ∷ texts) =
     (all_append (λ (r : Reply). cuts r ≡ false) (lones (over_by p.number p.level text (language.kind text) p.pending)) _ (over_uncut p.number p.level text (language.kind text) p.pending) (rest_uncut language (next_place language p text) texts))
 
 pub lones_uncut : (language : Language) (name : List ℕ) (body : List BodyLine) → AllByRecursion (λ (r : Reply). cuts r ≡ false) (lones (work language name body))
-lones_uncut language name body = subst (λ (items : List Item). AreUncut (lones items)) (sym (items_are language start (said name body))) (rest_uncut language start (said name body))
+lones_uncut language name body = subst (λ (items : List WorkItem). AreUncut (lones items)) (sym (items_are language start (said name body))) (rest_uncut language start (said name body))
 
 -- lines
 

@@ -9,7 +9,7 @@ use Rattle.frame_code.specs.declared.frames.Frame.TheVariants as frame
 use Rattle.phys_log.specs.Logs.{Fits}
 use Rattle.phys_log.specs.declared.entries.Entry.{Entry}
 use Rattle.store_log.specs.Cuts.{StandsAfter}
-use Rattle.store_log.specs.Follows.{AreNext}
+use Rattle.store_log.specs.Follows.{AreNextFrames}
 use Rattle.store_log.specs.Held.{generation_of, AllMay, after_all, IsLogOf}
 use Rattle.store_log.specs.Holds.{Holds, plain}
 use Rattle.store_log.specs.Keeps.{Stored, AreKept, AreLeft}
@@ -27,7 +27,7 @@ entry_may p a es e x = ((x.generation, x.fits), tt)
 
 -- so its frame may be kept
 pub entry_next : (node cluster : ℕ) (store : Stored) (p a : ℕ) (es : List Entry) (e : Entry) → IsNextOf p a es e
-    → IsInStep node cluster store p a es → ∥ AreNext store.synced (frame_code (frame.Entry e)) ∥₁
+    → IsInStep node cluster store p a es → ∥ AreNextFrames store.synced (frame_code (frame.Entry e)) ∥₁
 entry_next node cluster store p a es e x i = ∥∥₁_map i.holds (λ h. record {
   frames = frame.Entry e ∷ [];
   follow = record { node = node; cluster = cluster; held = plain p a es; holds = h; spelled = (x.spelled, tt); may = entry_may p a es e x };

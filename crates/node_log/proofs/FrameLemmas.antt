@@ -7,7 +7,7 @@ use Rattle.frame_code.specs.Spelled.{IsSpelled}
 use Rattle.frame_code.specs.declared.frames.Frame.{Frame}
 use Rattle.phys_log.specs.declared.entries.Entry.{Entry}
 use Rattle.store_log.specs.Cuts.{StandsAfter}
-use Rattle.store_log.specs.Follows.{AreNext, MayFollow}
+use Rattle.store_log.specs.Follows.{AreNextFrames, MayFollow}
 use Rattle.store_log.specs.Held.{Held, AllMay, after_all, IsLogOf}
 use Rattle.store_log.specs.Holds.{Holds, plain}
 use Rattle.store_log.specs.Keeps.{Stored, AreKept, AreLeft}
@@ -25,7 +25,7 @@ frames_follow node cluster store p a es gs x i =
     ∥∥₁_map i.holds (λ h. record { node = node; cluster = cluster; held = plain p a es; holds = h; spelled = x.spelled; may = x.may })
 
 pub frames_next : (node cluster : ℕ) (store : Stored) (p a : ℕ) (es : List Entry) (gs : List Frame) (bytes : List ℕ) → MayStand p a es gs
-    → bytes ≡ flat_map frame_code gs → IsInStep node cluster store p a es → ∥ AreNext store.synced bytes ∥₁
+    → bytes ≡ flat_map frame_code gs → IsInStep node cluster store p a es → ∥ AreNextFrames store.synced bytes ∥₁
 frames_next node cluster store p a es gs bytes x code i =
     ∥∥₁_map (frames_follow node cluster store p a es gs x i) (λ f. record { frames = gs; follow = f; code = code })
 

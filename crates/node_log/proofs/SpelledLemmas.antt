@@ -5,7 +5,7 @@ use Rattle.frame_code.specs.Spelled.{IsSpelled}
 use Rattle.frame_code.specs.declared.frames.Frame.{Frame}
 use Rattle.frame_code.specs.declared.frames.Frame.TheVariants as frame
 use Rattle.phys_log.specs.declared.entries.Entry.{Entry}
-use Rattle.store_log.specs.Held.{Held, at_first, after, after_all, with_entry, adopted_or}
+use Rattle.store_log.specs.Held.{Held, at_first, after, after_all, held_with_entry, adopted_or}
 use Rattle.store_log.specs.Holds.{Holds, plain}
 use Rattle.node_log.specs.Logged.{AreSpelled}
 
@@ -34,7 +34,7 @@ spelled_adopted es None all adopts = all
 spelled_adopted es (Some adopted) all adopts = adopts
 
 spelled_entry : (p a : ℕ) (es : List Entry) (e : Entry) (adopting : Option (List Entry)) → p < 2 ^ 62 → a < 2 ^ 62 → AreSpelled es
-    → AdoptsSpelled adopting → IsSpelled (frame.Entry e) → HoldsSpelled (with_entry p a es e adopting)
+    → AdoptsSpelled adopting → IsSpelled (frame.Entry e) → HoldsSpelled (held_with_entry p a es e adopting)
 spelled_entry p a es e None pn an all adopts s = record { promised = pn; accepted = an; entries = spelled_more es e all s; adopting = tt }
 spelled_entry p a es e (Some adopted) pn an all adopts s =
     record { promised = pn; accepted = an; entries = all; adopting = spelled_more adopted e adopts s }

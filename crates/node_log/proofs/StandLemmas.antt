@@ -34,7 +34,7 @@ bytes_are g = ap (λ (code : List ℕ). frame_code (frame.Promise g) ++ code) (a
 abbrev pub Rises : Held → Type 0
 Rises h = h.accepted ≤ h.promised
 
-entry_rises : (p a : ℕ) (es : List Entry) (e : Entry) (adopting : Option (List Entry)) → a ≤ p → Rises (held.with_entry p a es e adopting)
+entry_rises : (p a : ℕ) (es : List Entry) (e : Entry) (adopting : Option (List Entry)) → a ≤ p → Rises (held.held_with_entry p a es e adopting)
 entry_rises p a es e None n = n
 entry_rises p a es e (Some adopted) n = n
 

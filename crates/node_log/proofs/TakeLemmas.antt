@@ -10,11 +10,11 @@ use Rattle.frame_code.specs.declared.frames.Frame.TheVariants as frame
 use Rattle.phys_log.specs.declared.entries.Entry.{Entry}
 use Rattle.phys_log.specs.Logs.{IsLog}
 use Rattle.phys_log.proofs.LogLaws.{log_front, log_fits}
-use Rattle.store_log.specs.Cuts.{IsSameLog}
+use Rattle.store_log.specs.Cuts.{HoldSameLog}
 use Rattle.store_log.specs.Held.{Held, AllMay, after_all, IsLogOf}
 use Rattle.store_log.specs.Holds.{plain}
 use Rattle.store_log.specs.Keeps.{Stored, AreKept, AreLeft}
-use Rattle.store_log.specs.Follows.{AreNext}
+use Rattle.store_log.specs.Follows.{AreNextFrames}
 use Rattle.store_log.proofs.StepLemmas.{one_code}
 use Rattle.node_log.specs.Logged.{Logged, IsInStep, Leaves, StandForOne, AreSpelled, with_promise}
 use Rattle.node_log.specs.Taken.{with_taken, promise_frames, adoption_frames, take_frames}
@@ -48,7 +48,7 @@ tail_spelled g (e ∷ more) n s = (s.0, tail_spelled g more n s.1)
 
 -- after some of them the log is as before, or they are all
 tail_cut : (p a : ℕ) (es adopted more : List Entry) (some others : List Frame) → some ++ others ≡ tail_frames p more
-    → IsSameLog (plain p a es) (after_all (open_held p a es adopted) some) ⊎ (some ≡ tail_frames p more)
+    → HoldSameLog (plain p a es) (after_all (open_held p a es adopted) some) ⊎ (some ≡ tail_frames p more)
 tail_cut p a es adopted more [] others split = inl record { promised = refl; accepted = refl; entries = refl }
 tail_cut p a es adopted [] (f ∷ []) others split = inr (let is : f ≡ frame.Accept p = cc in ap (λ (x : Frame). x ∷ []) is)
 tail_cut p a es adopted [] (f ∷ g ∷ some) others split = absurd (cc split)
@@ -57,9 +57,9 @@ tail_cut p a es adopted (e ∷ more) (f ∷ some) others split =
     let rest : some ++ others ≡ tail_frames p more = cc split in
     go is (tail_cut p a es (adopted ++ e ∷ []) more some others rest)
   where
-    go : f ≡ frame.Entry e → IsSameLog (plain p a es) (after_all (open_held p a es (adopted ++ e ∷ [])) some) ⊎ (some ≡ tail_frames p more)
-        → IsSameLog (plain p a es) (after_all (open_held p a es adopted) (f ∷ some)) ⊎ (f ∷ some ≡ tail_frames p (e ∷ more))
-    go is (inl s) = inl (subst (λ (x : Frame). IsSameLog (plain p a es) (after_all (open_held p a es adopted) (x ∷ some))) (sym is) s)
+    go : f ≡ frame.Entry e → HoldSameLog (plain p a es) (after_all (open_held p a es (adopted ++ e ∷ [])) some) ⊎ (some ≡ tail_frames p more)
+        → HoldSameLog (plain p a es) (after_all (open_held p a es adopted) (f ∷ some)) ⊎ (f ∷ some ≡ tail_frames p (e ∷ more))
+    go is (inl s) = inl (subst (λ (x : Frame). HoldSameLog (plain p a es) (after_all (open_held p a es adopted) (x ∷ some))) (sym is) s)
     go is (inr s) = inr (ap (λ (x : Frame). x ∷ some) is ∙ ap (λ (xs : List Frame). frame.Entry e ∷ xs) s)
 
 -- the whole adoption
@@ -73,16 +73,16 @@ adoption_spelled : (g kept : ℕ) (more : List Entry) → g < 2 ^ 62 → kept < 
 adoption_spelled g kept more n k s = (record { parts = k; size = omega arith }, tail_spelled g more n s)
 
 adoption_cut : (p a kept : ℕ) (es more : List Entry) (some others : List Frame) → some ++ others ≡ adoption_frames p kept more
-    → IsSameLog (plain p a es) (after_all (plain p a es) some) ⊎ (some ≡ adoption_frames p kept more)
+    → HoldSameLog (plain p a es) (after_all (plain p a es) some) ⊎ (some ≡ adoption_frames p kept more)
 adoption_cut p a kept es more [] others split = inl record { promised = refl; accepted = refl; entries = refl }
 adoption_cut p a kept es more (f ∷ some) others split =
     let is : f ≡ frame.Cut kept = cc split in
     let rest : some ++ others ≡ tail_frames p more = cc split in
     go is (tail_cut p a es (take kept es) more some others rest)
   where
-    go : f ≡ frame.Cut kept → IsSameLog (plain p a es) (after_all (open_held p a es (take kept es)) some) ⊎ (some ≡ tail_frames p more)
-        → IsSameLog (plain p a es) (after_all (plain p a es) (f ∷ some)) ⊎ (f ∷ some ≡ adoption_frames p kept more)
-    go is (inl s) = inl (subst (λ (x : Frame). IsSameLog (plain p a es) (after_all (plain p a es) (x ∷ some))) (sym is) s)
+    go : f ≡ frame.Cut kept → HoldSameLog (plain p a es) (after_all (open_held p a es (take kept es)) some) ⊎ (some ≡ tail_frames p more)
+        → HoldSameLog (plain p a es) (after_all (plain p a es) (f ∷ some)) ⊎ (f ∷ some ≡ adoption_frames p kept more)
+    go is (inl s) = inl (subst (λ (x : Frame). HoldSameLog (plain p a es) (after_all (plain p a es) (x ∷ some))) (sym is) s)
     go is (inr s) = inr (ap (λ (x : Frame). x ∷ some) is ∙ ap (λ (xs : List Frame). frame.Cut kept ∷ xs) s)
 
 -- what a call of `take_over` asks
@@ -130,7 +130,7 @@ take_after p a g kept es more = go (p == g) refl
     go false e = ap (after_all (plain p a es)) (frames_above p g kept more e) ∙ adoption_after g a kept es more
 
 -- the log after frames that are the same to it
-stands_same : (node cluster : ℕ) (stopped : List ℕ) (h k : Held) → IsSameLog h k → IsLogOf node cluster stopped k.promised k.accepted k.entries
+stands_same : (node cluster : ℕ) (stopped : List ℕ) (h k : Held) → HoldSameLog h k → IsLogOf node cluster stopped k.promised k.accepted k.entries
     → IsLogOf node cluster stopped h.promised h.accepted h.entries
 stands_same node cluster stopped h k s i = record {
   frames = i.frames;
@@ -163,7 +163,7 @@ take_cut l g kept more stopped some others split i = go (l.promised == g) refl s
         inr (inr (inl (inr (subst (λ (h : Held). IsLogOf l.node l.cluster stopped h.promised h.accepted h.entries) at s))))
 
     same : (p : ℕ) (fs rest : List Frame) → l.promised ≡ p → p ≡ g → fs ++ rest ≡ adoption_frames g kept more → take_frames l.promised g kept more ≡ adoption_frames g kept more
-        → Left fs → IsSameLog (plain g l.accepted l.entries) (after_all (plain g l.accepted l.entries) fs) ⊎ (fs ≡ adoption_frames g kept more) → Found
+        → Left fs → HoldSameLog (plain g l.accepted l.entries) (after_all (plain g l.accepted l.entries) fs) ⊎ (fs ≡ adoption_frames g kept more) → Found
     same p fs rest e f split frames s (inl b) =
         inr (inl (inr (stands_same l.node l.cluster stopped (plain g l.accepted l.entries) (after_all (plain g l.accepted l.entries) fs) b
         (subst (λ (k : ℕ). IsLogOf l.node l.cluster stopped (after_all (plain k l.accepted l.entries) fs).promised
@@ -171,7 +171,7 @@ take_cut l g kept more stopped some others split i = go (l.promised == g) refl s
     same p fs rest e f split frames s (inr b) = whole fs (b ∙ sym frames) s
 
     above : (f : Frame) (fs : List Frame) → f ≡ frame.Promise g → take_frames l.promised g kept more ≡ frame.Promise g ∷ adoption_frames g kept more → Left (f ∷ fs)
-        → IsSameLog (plain g l.accepted l.entries) (after_all (plain g l.accepted l.entries) fs) ⊎ (fs ≡ adoption_frames g kept more) → Found
+        → HoldSameLog (plain g l.accepted l.entries) (after_all (plain g l.accepted l.entries) fs) ⊎ (fs ≡ adoption_frames g kept more) → Found
     above f fs is frames s (inl b) =
         let t : Left (frame.Promise g ∷ fs) = subst (λ (x : Frame). Left (x ∷ fs)) is s in
         inr (inl (inr (stands_same l.node l.cluster stopped (plain g l.accepted l.entries) (after_all (plain g l.accepted l.entries) fs) b t)))
@@ -191,7 +191,7 @@ take_cut l g kept more stopped some others split i = go (l.promised == g) refl s
         above f fs is frames s (adoption_cut g l.accepted kept l.entries more fs others rest)
 
 pub take_next : (node cluster : ℕ) (store : Stored) (p a g kept : ℕ) (es more : List Entry) (bytes : List ℕ) → IsTaken p a g kept es more
-    → bytes ≡ flat_map frame_code (take_frames p g kept more) → IsInStep node cluster store p a es → ∥ AreNext store.synced bytes ∥₁
+    → bytes ≡ flat_map frame_code (take_frames p g kept more) → IsInStep node cluster store p a es → ∥ AreNextFrames store.synced bytes ∥₁
 take_next node cluster store p a g kept es more bytes x code i =
     frames_next node cluster store p a es (take_frames p g kept more) bytes (take_stands p a g kept es more x) code i
 

@@ -4,7 +4,7 @@ ghost use Rattle.frame_code.specs.Codes.{frame_code};
 ghost use Rattle.frame_code.specs.Spelled.{IsSpelled};
 ghost use Rattle.frame_code.specs.declared.frames.Frame.TheVariants as frame;
 ghost use Rattle.phys_log.specs.Logs.{Fits};
-ghost use Rattle.store_log.specs.Follows.{AreNext, MayFollow};
+ghost use Rattle.store_log.specs.Follows.{AreNextFrames, MayFollow};
 ghost use Rattle.store_log.specs.Keeps.{IsKept};
 
 use cdb_outside::LogStore;
@@ -41,7 +41,7 @@ pub(crate) fn keep_entry<D: LogStore>(
     requires settled { held.old.pending ≡ [] }
     requires fits { Fits log.old entry }
     requires spelled { IsSpelled (frame.Entry entry) }
-    requires next { ∥ AreNext held.old.synced (frame_code (frame.Entry entry)) ∥₁ }
+    requires next { ∥ AreNextFrames held.old.synced (frame_code (frame.Entry entry)) ∥₁ }
     ensures kept { IsKept result held.old held.new (frame_code (frame.Entry entry)) }
     ensures added { OnOk result (log.new ≡ log.old ++ entry ∷ []) }
     ensures under_way { IsErrOf result KeepFault.StoreFault → log.new ≡ log.old ++ entry ∷ [] }

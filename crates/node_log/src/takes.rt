@@ -6,7 +6,7 @@ ghost use Rattle.frame_code.specs.Codes.{frame_code};
 ghost use Rattle.frame_code.specs.Spelled.{IsSpelled};
 ghost use Rattle.frame_code.specs.declared.frames.Frame.TheVariants as frame;
 ghost use Rattle.phys_log.specs.Logs.{IsLog};
-ghost use Rattle.store_log.specs.Follows.{AreNext};
+ghost use Rattle.store_log.specs.Follows.{AreNextFrames};
 ghost use Rattle.store_log.specs.Keeps.{IsKept};
 ghost use Rattle.node_log.specs.Logged.{AreSpelled, Leaves, with_promise};
 ghost use Rattle.node_log.specs.Taken.{promise_frames, take_frames, with_taken};
@@ -102,7 +102,7 @@ fn keep_taken<D: LogStore>(
     requires cut { kept < 2 ^ 62 }
     requires within { kept ≤ length log.old }
     requires spelled { AreSpelled entries.items }
-    requires next { ∥ AreNext held.old.synced
+    requires next { ∥ AreNextFrames held.old.synced
         (flat_map frame_code (take_frames promised generation kept entries.items)) ∥₁ }
     ensures kept { IsKept result held.old held.new
         (flat_map frame_code (take_frames promised generation kept entries.items)) }

@@ -10,7 +10,7 @@ use Rattle.log_replay.specs.Answers.{schema_of}
 use Rattle.log_rows.specs.History.{tables_of}
 use Rattle.table_store.specs.Stored.{Stands}
 use Rattle.sound_log.specs.Identities.{ids_in}
-use Rattle.sound_log.specs.Sound.{IsBegunBy as HasBegunBy, IsSound, IsStateOf}
+use Rattle.sound_log.specs.Sound.{HasBegunBy, IsSound, IsStateOf}
 use Rattle.store_log.specs.declared.opens.OpenFault.{OpenFault}
 use Rattle.store_log.specs.declared.opens.OpenFault.TheVariants as fault
 use Rattle.store_log.specs.declared.standings.Standing.TheVariants.{Log}

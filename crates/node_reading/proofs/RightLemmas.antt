@@ -7,7 +7,7 @@ use Rattle.phys_log.specs.Logs.{IsLog}
 use Rattle.phys_log.specs.declared.entries.Entry.{Entry}
 use Rattle.phys_log.proofs.LogLaws.{log_front, log_more}
 use Rattle.store_log.specs.declared.standings.Standing.TheVariants.{Log}
-use Rattle.store_log.specs.Held.{AllMay, Held, May, MayAdd, StandsFor, adopted_or, after, after_all, at_first, with_entry}
+use Rattle.store_log.specs.Held.{AllMay, Held, May, MayAdd, StandsFor, adopted_or, after, after_all, at_first, held_with_entry}
 
 record IsRight (h : Held) : Type 0 where
   below : h.accepted ≤ h.promised
@@ -17,7 +17,7 @@ record IsRight (h : Held) : Type 0 where
 right_first : IsRight at_first
 right_first = record { below = omega arith; logged = tt; adopted = tt }
 
-right_entry : (p a : ℕ) (es : List Entry) (e : Entry) (ad : Option (List Entry)) → MayAdd a es e ad → a ≤ p → IsLog es → IsLog (adopted_or es ad) → IsRight (with_entry p a es e ad)
+right_entry : (p a : ℕ) (es : List Entry) (e : Entry) (ad : Option (List Entry)) → MayAdd a es e ad → a ≤ p → IsLog es → IsLog (adopted_or es ad) → IsRight (held_with_entry p a es e ad)
 right_entry p a es e (Some adopted) may below logged is = record { below = below; logged = logged; adopted = log_more adopted e is may }
 right_entry p a es e None may below logged is = record { below = below; logged = log_more es e logged may.1; adopted = log_more es e logged may.1 }
 

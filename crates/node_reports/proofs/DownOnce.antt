@@ -19,7 +19,7 @@ use Rattle.report_text.specs.declared.reports.Report.{Report}
 use Rattle.report_text.specs.declared.reports.EntryLine.{EntryLine}
 use Rattle.report_text.specs.declared.reports.Line.{Line}
 use Rattle.report_text.specs.declared.reports.Line.TheVariants as line
-use Rattle.node_reports.specs.OneNode.{IsPlain, ArePlain, IsOfOneNode}
+use Rattle.node_reports.specs.OneNode.{IsForOneNode, AreForOneNode, IsOfOneNode}
 use Rattle.node_reports.specs.Order as new
 use Rattle.node_reports.specs.Piece.{Saying, IsDue}
 use Rattle.node_reports.proofs.OneNode.{IsOnes, WasUp}
@@ -47,8 +47,8 @@ fault_up script before (l ∷ ls) each = (here l each.0, fault_up script (before
     here line.Barrier is = tt
     here (line.Fed position) is = tt
 
-turn_up : (basis : Basis) (view : View) (done : List BodyLine) (before : List Line) (history : List EntryLine) (a : Act) (mine others : List Line) (added : List EntryLine) → IsPlain basis.script a →
-    new.IsTurnOf basis view done before history a mine others added → EachAfter WasUp (before ++ []) mine
+turn_up : (basis : Basis) (view : View) (done : List BodyLine) (before : List Line) (history : List EntryLine) (a : Act) (mine others : List Line) (added : List EntryLine) → IsForOneNode basis.script a →
+    new.IsTurnOfNodes basis view done before history a mine others added → EachAfter WasUp (before ++ []) mine
 turn_up basis view done before history (act.Say session text) mine others added plain is = piece_up (new.saying basis view done before session text) (view_of basis history).last ((view_of basis history).last + length added) [] mine is.each
 turn_up basis view done before history (act.Stop node) mine others added plain is = absurd plain
 turn_up basis view done before history (act.Start node) mine others added plain is = absurd plain
@@ -56,8 +56,8 @@ turn_up basis view done before history (act.Arm session when) mine others added 
 turn_up basis view done before history act.Barrier mine others added plain is = absurd plain
 turn_up basis view done before history act.Feed mine others added plain is = absurd plain
 
-turns_up : (basis : Basis) (view : View) (done : List BodyLine) (before : List Line) (history : List EntryLine) (bs : List BodyLine) (lines : List Line) (entries : List EntryLine) → basis.script.watches ≡ [] → ArePlain basis.script bs →
-    new.InTurns basis view done before history bs lines entries → EachAfter WasUp before lines
+turns_up : (basis : Basis) (view : View) (done : List BodyLine) (before : List Line) (history : List EntryLine) (bs : List BodyLine) (lines : List Line) (entries : List EntryLine) → basis.script.watches ≡ [] → AreForOneNode basis.script bs →
+    new.InTurnsOfNodes basis view done before history bs lines entries → EachAfter WasUp before lines
 turns_up basis view done before history [] lines entries unwatched plain is = subst (EachAfter WasUp before) (sym (is.0 ∙ ap (new.fed_of _) unwatched)) tt
 turns_up basis view done before history (b ∷ bs) lines entries unwatched plain (mine, others, added, later, lines_are, entries_are, turn, rest) =
     subst (EachAfter WasUp before) (sym lines_are) (each_append WasUp before mine others

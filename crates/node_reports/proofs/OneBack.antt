@@ -28,7 +28,7 @@ use Rattle.report_laws.specs.Nodes.{are_few}
 use Rattle.report_laws.specs.Told as today
 use Rattle.report_laws.specs.Told.{alone_at, lines_of, numbered, told, Along, Numbered}
 use Rattle.report_laws.specs.View.{View}
-use Rattle.report_laws.specs.Work.{start, said, work, numbered_among, transaction_of, ByCommit, ByRollback, Does, End, Item, Lone, Nowhere, Transaction, WithItsLine, number_of}
+use Rattle.report_laws.specs.Work.{start, said, work, numbered_among, transaction_of, ByCommit, ByRollback, Does, End, WorkItem, Lone, Nowhere, Transaction, WithItsLine, number_of}
 use Rattle.report_laws.proofs.AlongLaws.{of_number, of_its, of_another}
 use Rattle.report_laws.proofs.PieceLaws.{under, under_append}
 use Rattle.report_laws.proofs.PlainLaws.{plain_alone}
@@ -58,7 +58,7 @@ none_survives name (s ∷ ss) all = go (bytes_eq s.name name) s.hasql all.0 (non
     go true b is more = ap (λ (x : Bool). x || list_any (λ s. bytes_eq s.name name && s.hasql) ss) is ∙ more
     go false b is more = more
 
-told_back : (basis : Basis) (view : View) (name : List ℕ) → survives basis.script name ≡ false → (item : Item) (mine : List Reply) → IsToldAlong basis view name item mine → today.IsTold basis view name item mine
+told_back : (basis : Basis) (view : View) (name : List ℕ) → survives basis.script name ≡ false → (item : WorkItem) (mine : List Reply) → IsToldAlong basis view name item mine → today.IsTold basis view name item mine
 told_back basis view name stays (Does t) mine (inl whole) = inl whole
 told_back basis view name stays (Does t) mine (inr cut) = inr (record {
   begin = cut.begin;
@@ -185,7 +185,7 @@ opened_in basis first lines = go (are_few basis.script.nodes first) (basis.origi
     go false false = tt
 
 -- what a transaction is told, under its number
-none_above : (P : Item → List Reply → Type 0) (items : List Item) (lines : List Numbered) (bound n : ℕ) → Rising bound items → 1 ≤ n → n < bound → Along P items lines → of_number n lines ≡ []
+none_above : (P : WorkItem → List Reply → Type 0) (items : List WorkItem) (lines : List Numbered) (bound n : ℕ) → Rising bound items → 1 ≤ n → n < bound → Along P items lines → of_number n lines ≡ []
 none_above P [] lines bound n rises first below is = ap (of_number n) is
 none_above P (Does u ∷ items) lines bound n rises first below (mine, others, splits, p, rest) =
     let least : bound ≤ u.number = rises.0 in
@@ -193,7 +193,7 @@ none_above P (Does u ∷ items) lines bound n rises first below (mine, others, s
 none_above P (Lone answer ∷ items) lines bound n rises first below (mine, others, splits, p, rest) =
     ap (of_number n) splits ∙ of_another n 0 mine others (ne_eqb 0 n (λ (same : 0 ≡ n). omega (arith, first, same))) ∙ none_above P items others bound n rises first below rest
 
-its_lines : (P : Item → List Reply → Type 0) (items : List Item) (lines : List Numbered) (bound n : ℕ) (t : Transaction) → 1 ≤ bound → Rising bound items → numbered_among n items ≡ Some t → Along P items lines → (bound ≤ n) × P (Does t) (of_number n lines)
+its_lines : (P : WorkItem → List Reply → Type 0) (items : List WorkItem) (lines : List Numbered) (bound n : ℕ) (t : Transaction) → 1 ≤ bound → Rising bound items → numbered_among n items ≡ Some t → Along P items lines → (bound ≤ n) × P (Does t) (of_number n lines)
 its_lines P [] lines bound n t first rises is along = absurd (let no_such : None ≡ Some t = is in cc)
 its_lines P (Does u ∷ items) lines bound n t first rises is (mine, others, splits, p, rest) = go (u.number == n) refl is (λ e. its_lines P items others (u.number + 1) n t (omega arith) rises.1 e rest)
   where
@@ -315,7 +315,7 @@ heard_back basis answers view lines replies (Commit position session txn begin l
   where
     its : (1 ≤ txn) × IsToldAlong basis view session (Does is.transaction) (of_number txn (told session lines))
     its = its_lines (IsToldAlong basis view session) (work basis.language session basis.script.body) (told session lines) 1 txn is.transaction (omega arith)
-        (subst (λ (all : List Item). Rising 1 all) (sym (items_are basis.language start (said session basis.script.body))) (rest_rises basis.language start (said session basis.script.body)))
+        (subst (λ (all : List WorkItem). Rising 1 all) (sym (items_are basis.language start (said session basis.script.body))) (rest_rises basis.language start (said session basis.script.body)))
         is.is_its (replies session)
 
     outcome_stands : StandsIn (of_number txn (told session lines)) is.outcome

@@ -17,7 +17,7 @@ use Rattle.report_laws.specs.Places.{HasItsPlace}
 use Rattle.report_laws.specs.Told as today
 use Rattle.report_laws.specs.Told.{Along, Numbered}
 use Rattle.report_laws.specs.View.{View}
-use Rattle.report_laws.specs.Work.{Item, Does, Lone, number_of}
+use Rattle.report_laws.specs.Work.{WorkItem, Does, Lone, number_of}
 use Rattle.report_text.specs.declared.reports.EntryLine.{EntryLine}
 use Rattle.report_text.specs.declared.reports.EntryLine.TheVariants.{Setup, Commit}
 use Rattle.report_text.specs.declared.reports.Report.{Report}
@@ -25,13 +25,13 @@ use Rattle.report_text.specs.declared.reports.Line.{Line}
 use Rattle.report_text.specs.declared.reports.Line.TheVariants as line
 use Rattle.node_reports.specs.Fed.{AreFeeds}
 use Rattle.node_reports.specs.Lawful.{LawfulOfNodes}
-use Rattle.node_reports.specs.OneNode.{IsPlain, ArePlain, IsOfOneNode}
+use Rattle.node_reports.specs.OneNode.{IsForOneNode, AreForOneNode, IsOfOneNode}
 use Rattle.node_reports.specs.Operator.{operators, AreHeeded, Closes, IsHeeded}
 use Rattle.node_reports.specs.Order.{last_fed}
 use Rattle.node_reports.specs.Places.{HasPlace}
 use Rattle.node_reports.specs.Told.{IsToldAlong, IsHeard}
 
-pub along_each : (P Q : Item → List Reply → Type 0) → ((item : Item) (mine : List Reply) → P item mine → Q item mine) → (items : List Item) (lines : List Numbered) → Along P items lines → Along Q items lines
+pub along_each : (P Q : WorkItem → List Reply → Type 0) → ((item : WorkItem) (mine : List Reply) → P item mine → Q item mine) → (items : List WorkItem) (lines : List Numbered) → Along P items lines → Along Q items lines
 along_each P Q more [] lines is = is
 along_each P Q more (item ∷ items) lines (mine, others, splits, p, rest) = (mine, others, splits, more item mine p, along_each P Q more items others rest)
 
@@ -39,7 +39,7 @@ pub each_each : {A : Type 0} (P Q : List A → A → Type 0) → ((before : List
 each_each P Q more before [] is = tt
 each_each P Q more before (x ∷ xs) is = (more before x is.0, each_each P Q more (before ++ x ∷ []) xs is.1)
 
-told_along : (basis : Basis) (view : View) (name : List ℕ) (item : Item) (mine : List Reply) → today.IsTold basis view name item mine → IsToldAlong basis view name item mine
+told_along : (basis : Basis) (view : View) (name : List ℕ) (item : WorkItem) (mine : List Reply) → today.IsTold basis view name item mine → IsToldAlong basis view name item mine
 told_along basis view name (Does t) mine (inl whole) = inl whole
 told_along basis view name (Does t) mine (inr cut) = inr (record {
   begin = cut.begin;
@@ -95,7 +95,7 @@ none_operates script before (line.Up node ∷ ls) is = absurd is.0
 none_operates script before (line.Barrier ∷ ls) is = absurd is.0
 none_operates script before (line.Fed position ∷ ls) is = absurd is.0
 
-plain_heeded : (basis : Basis) (view : View) (done : List BodyLine) (before : List Line) (a : Act) → IsPlain basis.script a → IsHeeded basis view no_arms done before a []
+plain_heeded : (basis : Basis) (view : View) (done : List BodyLine) (before : List Line) (a : Act) → IsForOneNode basis.script a → IsHeeded basis view no_arms done before a []
 plain_heeded basis view done before (act.Say session text) plain = refl
 plain_heeded basis view done before (act.Stop node) plain = absurd plain
 plain_heeded basis view done before (act.Start node) plain = absurd plain
@@ -107,7 +107,7 @@ closed : (basis : Basis) (view : View) (watches : List ℕ) (before rest : List 
 closed basis view [] before rest none is = is
 closed basis view (w ∷ ws) before rest none is = absurd (let no_such : w ∷ ws ≡ [] = none in cc)
 
-all_heeded : (basis : Basis) (view : View) (done bs : List BodyLine) (before rest : List Line) → basis.script.watches ≡ [] → ArePlain basis.script bs → operators no_arms rest ≡ [] → AreHeeded basis view no_arms done bs before rest
+all_heeded : (basis : Basis) (view : View) (done bs : List BodyLine) (before rest : List Line) → basis.script.watches ≡ [] → AreForOneNode basis.script bs → operators no_arms rest ≡ [] → AreHeeded basis view no_arms done bs before rest
 all_heeded basis view done [] before rest unwatched plain none = closed basis view basis.script.watches before rest unwatched none
 all_heeded basis view done (b ∷ bs) before rest unwatched plain none =
     ([], rest, refl, plain_heeded basis view done before b.act plain.0, all_heeded basis view (done ++ b ∷ []) bs (before ++ []) rest unwatched plain.1 none)

@@ -22,7 +22,7 @@ use Rattle.report_text.specs.declared.reports.Line.{Line}
 use Rattle.report_text.specs.declared.reports.Line.TheVariants as line
 use Rattle.report_laws.proofs.NodesLaws.{IsNoUp}
 use Rattle.node_reports.specs.Arms.{waiting_by, waiting_from}
-use Rattle.node_reports.specs.OneNode.{IsPlain, ArePlain, IsOfOneNode}
+use Rattle.node_reports.specs.OneNode.{IsForOneNode, AreForOneNode, IsOfOneNode}
 use Rattle.node_reports.specs.Order as new
 use Rattle.node_reports.specs.Piece.{Saying, IsDue}
 use Rattle.node_reports.proofs.OneNode.{IsFirstIfBegin, IsOnes}
@@ -30,7 +30,7 @@ use Rattle.node_reports.proofs.OnePiece.{one_piece, back_piece}
 use Rattle.node_reports.proofs.PieceLines.{FallAtChanges, falls_are, and_one, each_front, each_back}
 
 -- no arm waits
-no_arms : (script : Script) (session : List ℕ) (arms : List Moment) (done : List BodyLine) → arms ≡ [] → ArePlain script done → waiting_from session arms done ≡ []
+no_arms : (script : Script) (session : List ℕ) (arms : List Moment) (done : List BodyLine) → arms ≡ [] → AreForOneNode script done → waiting_from session arms done ≡ []
 no_arms script session arms [] none plain = none
 no_arms script session arms (b ∷ bs) none plain = go b.act plain.0 (λ next is. no_arms script session next bs is plain.1)
   where
@@ -38,7 +38,7 @@ no_arms script session arms (b ∷ bs) none plain = go b.act plain.0 (λ next is
     pick true = refl
     pick false = none
 
-    go : (a : Act) → IsPlain script a → ((next : List Moment) → next ≡ [] → waiting_from session next bs ≡ []) → waiting_from session (waiting_by session arms a) bs ≡ []
+    go : (a : Act) → IsForOneNode script a → ((next : List Moment) → next ≡ [] → waiting_from session next bs ≡ []) → waiting_from session (waiting_by session arms a) bs ≡ []
     go (act.Say name text) is more = more _ (pick (bytes_eq name session))
     go (act.Stop node) is more = absurd is
     go (act.Start node) is more = absurd is
@@ -90,8 +90,8 @@ no_up_line (line.Up node ∷ ls) all = absurd all.0
 no_up_line (line.Barrier ∷ ls) all = absurd all.0
 no_up_line (line.Fed position ∷ ls) all = absurd all.0
 
-turn_ones : (basis : Basis) (view : View) (done : List BodyLine) (before : List Line) (history : List EntryLine) (a : Act) (mine others : List Line) (added : List EntryLine) → basis.script.nodes ≡ 1 → IsPlain basis.script a →
-    new.IsTurnOf basis view done before history a mine others added → AllByRecursion IsOnes mine
+turn_ones : (basis : Basis) (view : View) (done : List BodyLine) (before : List Line) (history : List EntryLine) (a : Act) (mine others : List Line) (added : List EntryLine) → basis.script.nodes ≡ 1 → IsForOneNode basis.script a →
+    new.IsTurnOfNodes basis view done before history a mine others added → AllByRecursion IsOnes mine
 turn_ones basis view done before history (act.Say session text) mine others added one plain is = piece_ones (new.saying basis view done before session text) (view_of basis history).last ((view_of basis history).last + length added) [] mine one is.each
 turn_ones basis view done before history (act.Stop node) mine others added one plain is = absurd plain
 turn_ones basis view done before history (act.Start node) mine others added one plain is = absurd plain
@@ -99,14 +99,14 @@ turn_ones basis view done before history (act.Arm session when) mine others adde
 turn_ones basis view done before history act.Barrier mine others added one plain is = absurd plain
 turn_ones basis view done before history act.Feed mine others added one plain is = absurd plain
 
-pub turns_ones : (basis : Basis) (view : View) (done : List BodyLine) (before : List Line) (history : List EntryLine) (bs : List BodyLine) (lines : List Line) (entries : List EntryLine) → basis.script.nodes ≡ 1 → basis.script.watches ≡ [] → ArePlain basis.script bs →
-    new.InTurns basis view done before history bs lines entries → AllByRecursion IsOnes lines
+pub turns_ones : (basis : Basis) (view : View) (done : List BodyLine) (before : List Line) (history : List EntryLine) (bs : List BodyLine) (lines : List Line) (entries : List EntryLine) → basis.script.nodes ≡ 1 → basis.script.watches ≡ [] → AreForOneNode basis.script bs →
+    new.InTurnsOfNodes basis view done before history bs lines entries → AllByRecursion IsOnes lines
 turns_ones basis view done before history [] lines entries one unwatched plain is = subst (AllByRecursion IsOnes) (sym (is.0 ∙ ap (new.fed_of _) unwatched)) tt
 turns_ones basis view done before history (b ∷ bs) lines entries one unwatched plain (mine, others, added, later, lines_are, entries_are, turn, rest) =
     subst (AllByRecursion IsOnes) (sym lines_are) (all_append IsOnes mine others (turn_ones basis view done before history b.act mine others added one plain.0 turn) (turns_ones basis view (done ++ b ∷ []) (before ++ mine) (history ++ added) bs others later one unwatched plain.1 rest))
 
-one_turn : (basis : Basis) (view : View) (done : List BodyLine) (before : List Line) (history : List EntryLine) (a : Act) (mine others : List Line) (added : List EntryLine) → basis.script.nodes ≡ 1 → ArePlain basis.script done → IsPlain basis.script a →
-    AllByRecursion IsOnes before → AllByRecursion IsNoUp others → new.IsTurnOf basis view done before history a mine others added → today.IsTurnOf basis (view_of basis history).last done before a mine added × ((later : List Line) → FallAtChanges basis view (before ++ mine) later → FallAtChanges basis view before (mine ++ later))
+one_turn : (basis : Basis) (view : View) (done : List BodyLine) (before : List Line) (history : List EntryLine) (a : Act) (mine others : List Line) (added : List EntryLine) → basis.script.nodes ≡ 1 → AreForOneNode basis.script done → IsForOneNode basis.script a →
+    AllByRecursion IsOnes before → AllByRecursion IsNoUp others → new.IsTurnOfNodes basis view done before history a mine others added → today.IsTurnOf basis (view_of basis history).last done before a mine added × ((later : List Line) → FallAtChanges basis view (before ++ mine) later → FallAtChanges basis view before (mine ++ later))
 one_turn basis view done before history (act.Say session text) mine others added one was plain ones no_up is =
     one_piece (new.saying basis view done before session text) one plain.0 plain.1 (no_arms basis.script session [] done refl was) ones (view_of basis history).last added mine others is no_up
 one_turn basis view done before history (act.Stop node) mine others added one was plain ones no_up is = absurd plain
@@ -122,13 +122,13 @@ one_more : (basis : Basis) (view : View) (done : List BodyLine) (before : List L
 one_more basis view done before history b bs lines entries mine others added later lines_are entries_are here more =
     ((mine, others, added, later, lines_are, entries_are, here.0, more.0), subst (FallAtChanges basis view before) (sym lines_are) (here.1 others more.1))
 
-pub one_turns : (basis : Basis) (view : View) (done : List BodyLine) (before : List Line) (history : List EntryLine) (bs : List BodyLine) (lines : List Line) (entries : List EntryLine) → basis.script.nodes ≡ 1 → basis.script.watches ≡ [] → ArePlain basis.script done → ArePlain basis.script bs →
-    AllByRecursion IsOnes before → new.InTurns basis view done before history bs lines entries → today.InTurns basis done before history bs lines entries × FallAtChanges basis view before lines
+pub one_turns : (basis : Basis) (view : View) (done : List BodyLine) (before : List Line) (history : List EntryLine) (bs : List BodyLine) (lines : List Line) (entries : List EntryLine) → basis.script.nodes ≡ 1 → basis.script.watches ≡ [] → AreForOneNode basis.script done → AreForOneNode basis.script bs →
+    AllByRecursion IsOnes before → new.InTurnsOfNodes basis view done before history bs lines entries → today.InTurns basis done before history bs lines entries × FallAtChanges basis view before lines
 one_turns basis view done before history [] lines entries one unwatched was plain ones is = ((is.0 ∙ ap (new.fed_of _) unwatched, is.1), subst (FallAtChanges basis view before) (sym (is.0 ∙ ap (new.fed_of _) unwatched)) tt)
 one_turns basis view done before history (b ∷ bs) lines entries one unwatched was plain ones (mine, others, added, later, lines_are, entries_are, turn, rest) =
     one_more basis view done before history b bs lines entries mine others added later lines_are entries_are
     (one_turn basis view done before history b.act mine others added one was plain.0 ones (no_ups others (turns_ones basis view (done ++ b ∷ []) (before ++ mine) (history ++ added) bs others later one unwatched plain.1 rest)) turn)
-    (one_turns basis view (done ++ b ∷ []) (before ++ mine) (history ++ added) bs others later one unwatched (all_append (λ b. IsPlain basis.script b.act) done (b ∷ []) was (plain.0, tt)) plain.1
+    (one_turns basis view (done ++ b ∷ []) (before ++ mine) (history ++ added) bs others later one unwatched (all_append (λ b. IsForOneNode basis.script b.act) done (b ∷ []) was (plain.0, tt)) plain.1
     (all_append IsOnes before mine ones (turn_ones basis view done before history b.act mine others added one plain.0 turn)) rest)
 
 -- at the opening: few are none, so the schema's entry stands where not few are up
@@ -204,8 +204,8 @@ changes_back basis view before mine others changes front back count node fault s
     subst (λ (ls : List Line). today.HasChanges basis view ls session number) (sym (append_assoc before mine front))
     (changes (mine ++ front) back count node fault session number told (ap (λ (ls : List Line). mine ++ ls) is ∙ sym (append_assoc mine front (line.Down count node fault ∷ line.Session session number told ∷ back))))
 
-back_turn : (basis : Basis) (view : View) (done : List BodyLine) (before : List Line) (history : List EntryLine) (a : Act) (mine others : List Line) (added : List EntryLine) → basis.script.nodes ≡ 1 → ArePlain basis.script done → IsPlain basis.script a →
-    AllByRecursion IsOnes before → EachAfter IsFirstIfBegin before mine → today.GoDownAtChanges basis view before mine → today.IsTurnOf basis (view_of basis history).last done before a mine added → new.IsTurnOf basis view done before history a mine others added
+back_turn : (basis : Basis) (view : View) (done : List BodyLine) (before : List Line) (history : List EntryLine) (a : Act) (mine others : List Line) (added : List EntryLine) → basis.script.nodes ≡ 1 → AreForOneNode basis.script done → IsForOneNode basis.script a →
+    AllByRecursion IsOnes before → EachAfter IsFirstIfBegin before mine → today.GoDownAtChanges basis view before mine → today.IsTurnOf basis (view_of basis history).last done before a mine added → new.IsTurnOfNodes basis view done before history a mine others added
 back_turn basis view done before history (act.Say session text) mine others added one was plain ones firsts changes is =
     back_piece (new.saying basis view done before session text) one plain.0 plain.1 (no_arms basis.script session [] done refl was) ones (view_of basis history).last mine others added firsts changes is
 back_turn basis view done before history (act.Stop node) mine others added one was plain ones firsts changes is = absurd plain
@@ -214,8 +214,8 @@ back_turn basis view done before history (act.Arm session when) mine others adde
 back_turn basis view done before history act.Barrier mine others added one was plain ones firsts changes is = absurd plain
 back_turn basis view done before history act.Feed mine others added one was plain ones firsts changes is = absurd plain
 
-back_turns : (basis : Basis) (view : View) (done : List BodyLine) (before : List Line) (history : List EntryLine) (bs : List BodyLine) (lines : List Line) (entries : List EntryLine) → basis.script.nodes ≡ 1 → basis.script.watches ≡ [] → ArePlain basis.script done → ArePlain basis.script bs →
-    AllByRecursion IsOnes before → EachAfter (HasItsPlace basis.script) before lines → EachAfter IsFirstIfBegin before lines → today.GoDownAtChanges basis view before lines → today.InTurns basis done before history bs lines entries → new.InTurns basis view done before history bs lines entries
+back_turns : (basis : Basis) (view : View) (done : List BodyLine) (before : List Line) (history : List EntryLine) (bs : List BodyLine) (lines : List Line) (entries : List EntryLine) → basis.script.nodes ≡ 1 → basis.script.watches ≡ [] → AreForOneNode basis.script done → AreForOneNode basis.script bs →
+    AllByRecursion IsOnes before → EachAfter (HasItsPlace basis.script) before lines → EachAfter IsFirstIfBegin before lines → today.GoDownAtChanges basis view before lines → today.InTurns basis done before history bs lines entries → new.InTurnsOfNodes basis view done before history bs lines entries
 back_turns basis view done before history [] lines entries one unwatched was plain ones places firsts changes is = (is.0 ∙ sym (ap (new.fed_of _) unwatched), is.1)
 back_turns basis view done before history (b ∷ bs) lines entries one unwatched was plain ones places firsts changes (mine, others, added, later, lines_are, entries_are, turn, rest) = (
   mine,
@@ -225,7 +225,7 @@ back_turns basis view done before history (b ∷ bs) lines entries one unwatched
   lines_are,
   entries_are,
   back_turn basis view done before history b.act mine others added one was plain.0 ones (each_front IsFirstIfBegin before mine others (subst (EachAfter IsFirstIfBegin before) lines_are firsts)) (changes_front basis view before mine others (subst (today.GoDownAtChanges basis view before) lines_are changes)) turn,
-  back_turns basis view (done ++ b ∷ []) (before ++ mine) (history ++ added) bs others later one unwatched (all_append (λ b. IsPlain basis.script b.act) done (b ∷ []) was (plain.0, tt)) plain.1
+  back_turns basis view (done ++ b ∷ []) (before ++ mine) (history ++ added) bs others later one unwatched (all_append (λ b. IsForOneNode basis.script b.act) done (b ∷ []) was (plain.0, tt)) plain.1
       (all_append IsOnes before mine ones (place_ones basis.script before mine one (each_front (HasItsPlace basis.script) before mine others (subst (EachAfter (HasItsPlace basis.script) before) lines_are places))))
       (each_back (HasItsPlace basis.script) before mine others (subst (EachAfter (HasItsPlace basis.script) before) lines_are places)) (each_back IsFirstIfBegin before mine others (subst (EachAfter IsFirstIfBegin before) lines_are firsts)) (changes_back basis view before mine others (subst (today.GoDownAtChanges basis view before) lines_are changes)) rest,
 )

@@ -8,19 +8,19 @@ use Rattle.script_form.specs.declared.scripts.Script.{Script}
 use Rattle.report_laws.specs.Places.{survives}
 use Rattle.report_laws.specs.Play.{node_of}
 
-abbrev pub IsPlain : Script → Act → Type 0
-IsPlain script (act.Say session text) = (node_of script session ≡ 1) × (survives script session ≡ false)
-IsPlain script (act.Stop node) = ⊥
-IsPlain script (act.Start node) = ⊥
-IsPlain script (act.Arm session moment) = ⊥
-IsPlain script act.Barrier = ⊥
-IsPlain script act.Feed = ⊥
+abbrev pub IsForOneNode : Script → Act → Type 0
+IsForOneNode script (act.Say session text) = (node_of script session ≡ 1) × (survives script session ≡ false)
+IsForOneNode script (act.Stop node) = ⊥
+IsForOneNode script (act.Start node) = ⊥
+IsForOneNode script (act.Arm session moment) = ⊥
+IsForOneNode script act.Barrier = ⊥
+IsForOneNode script act.Feed = ⊥
 
-abbrev pub ArePlain : Script → List BodyLine → Type 0
-ArePlain script body = AllByRecursion (λ b. IsPlain script b.act) body
+abbrev pub AreForOneNode : Script → List BodyLine → Type 0
+AreForOneNode script body = AllByRecursion (λ b. IsForOneNode script b.act) body
 
 pub record IsOfOneNode (script : Script) : Type 0 where
   pub one : script.nodes ≡ 1
   pub unwatched : script.watches ≡ []
   pub unmoved : AllByRecursion (λ s. s.hasql ≡ false) script.sessions
-  pub plain : ArePlain script script.body
+  pub plain : AreForOneNode script script.body

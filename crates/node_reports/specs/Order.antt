@@ -106,13 +106,13 @@ saying basis view done before session text = record {
 }
 
 -- the piece of a line of the script, and the entries that it appends
-abbrev pub IsTurnOf : Basis → View → List BodyLine → List Line → List EntryLine → Act → List Line → List Line → List EntryLine → Type 0
-IsTurnOf basis view done before history (act.Say session text) mine others added = IsPiece (saying basis view done before session text) (view_of basis history).last mine others added
-IsTurnOf basis view done before history (act.Stop node) mine others added = IsStopped basis.script before node mine × IsOpened basis history before mine added
-IsTurnOf basis view done before history (act.Start node) mine others added = IsStarted basis.script before node mine × IsOpened basis history before mine added
-IsTurnOf basis view done before history (act.Arm session moment) mine others added = (mine ≡ []) × (added ≡ [])
-IsTurnOf basis view done before history act.Barrier mine others added = (mine ≡ line.Barrier ∷ []) × (added ≡ [])
-IsTurnOf basis view done before history act.Feed mine others added = (mine ≡ line.Fed (fed_at basis.script (view_of basis history).last before) ∷ []) × (added ≡ [])
+abbrev pub IsTurnOfNodes : Basis → View → List BodyLine → List Line → List EntryLine → Act → List Line → List Line → List EntryLine → Type 0
+IsTurnOfNodes basis view done before history (act.Say session text) mine others added = IsPiece (saying basis view done before session text) (view_of basis history).last mine others added
+IsTurnOfNodes basis view done before history (act.Stop node) mine others added = IsStopped basis.script before node mine × IsOpened basis history before mine added
+IsTurnOfNodes basis view done before history (act.Start node) mine others added = IsStarted basis.script before node mine × IsOpened basis history before mine added
+IsTurnOfNodes basis view done before history (act.Arm session moment) mine others added = (mine ≡ []) × (added ≡ [])
+IsTurnOfNodes basis view done before history act.Barrier mine others added = (mine ≡ line.Barrier ∷ []) × (added ≡ [])
+IsTurnOfNodes basis view done before history act.Feed mine others added = (mine ≡ line.Fed (fed_at basis.script (view_of basis history).last before) ∷ []) × (added ≡ [])
 
 -- the feed at the end, where a table is watched
 abbrev pub fed_of : {W : Type 0} → ℕ → List W → List Line
@@ -124,13 +124,13 @@ closing basis before history = fed_of (fed_at basis.script (view_of basis histor
 
 -- lines and entries are those of the script's lines in turn, behind the script's lines `done`, of which
 -- the lines `before` were printed and the entries `history` stood then
-abbrev pub InTurns : Basis → View → List BodyLine → List Line → List EntryLine → List BodyLine → List Line → List EntryLine → Type 0
-InTurns basis view done before history [] lines entries = (lines ≡ closing basis before history) × (entries ≡ [])
-InTurns basis view done before history (b ∷ bs) lines entries =
+abbrev pub InTurnsOfNodes : Basis → View → List BodyLine → List Line → List EntryLine → List BodyLine → List Line → List EntryLine → Type 0
+InTurnsOfNodes basis view done before history [] lines entries = (lines ≡ closing basis before history) × (entries ≡ [])
+InTurnsOfNodes basis view done before history (b ∷ bs) lines entries =
     (mine : List Line) × (others : List Line) × (added : List EntryLine) × (later : List EntryLine)
     × (lines ≡ mine ++ others) × (entries ≡ added ++ later)
-    × IsTurnOf basis view done before history b.act mine others added
-    × InTurns basis view (done ++ b ∷ []) (before ++ mine) (history ++ added) bs others later
+    × IsTurnOfNodes basis view done before history b.act mine others added
+    × InTurnsOfNodes basis view (done ++ b ∷ []) (before ++ mine) (history ++ added) bs others later
 
 pub record InNodesOrder (basis : Basis) (report : Report) : Type 0 where
   -- the nodes that go down before the first line of the script, and the schema's entry where it comes in then
@@ -142,4 +142,4 @@ pub record InNodesOrder (basis : Basis) (report : Report) : Type 0 where
   pub lines_are : report.lines ≡ first ++ rest
   pub later : List EntryLine
   pub entries_are : report.entries ≡ opening ++ later
-  pub order : InTurns basis (view_of basis report.entries) [] first opening basis.script.body rest later
+  pub order : InTurnsOfNodes basis (view_of basis report.entries) [] first opening basis.script.body rest later

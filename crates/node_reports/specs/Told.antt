@@ -12,7 +12,7 @@ use Rattle.report_laws.specs.History.{Basis}
 use Rattle.report_laws.specs.Places.{survives}
 use Rattle.report_laws.specs.Told.{told, numbered, Numbered, alone_at, IsWhole, IsToCommit, MayCut, EndsAt}
 use Rattle.report_laws.specs.View.{View}
-use Rattle.report_laws.specs.Work.{Transaction, End, Item, Does, Lone, transaction_of}
+use Rattle.report_laws.specs.Work.{Transaction, End, WorkItem, Does, Lone, transaction_of}
 use Rattle.report_text.specs.declared.reports.EntryLine.{EntryLine}
 use Rattle.report_text.specs.declared.reports.EntryLine.TheVariants.{Setup, Commit}
 use Rattle.report_text.specs.declared.reports.Line.{Line}
@@ -44,7 +44,7 @@ pub record IsCutShort (basis : Basis) (view : View) (name : List ℕ) (t : Trans
   pub says : mine ≡ front ++ cause ∷ []
 
 -- the lines of a transaction are its replies and its end; a line outside one has its one reply
-abbrev pub IsToldAlong : Basis → View → List ℕ → Item → List Reply → Type 0
+abbrev pub IsToldAlong : Basis → View → List ℕ → WorkItem → List Reply → Type 0
 IsToldAlong basis view name (Does t) mine = IsWhole basis view name t mine ⊎ IsCutShort basis view name t mine
 IsToldAlong basis view name (Lone answer) mine = mine ≡ answer ∷ []
 

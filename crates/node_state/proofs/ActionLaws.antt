@@ -5,7 +5,7 @@ use Rattle.actor_trace.specs.Steps.{Adds}
 use Rattle.cluster_events.specs.Settings.{Setting}
 use Rattle.cluster_steps.specs.declared.events.Event.{Event}
 use Rattle.cluster_steps.specs.declared.events.Event.TheVariants as event
-use Rattle.election_core.specs.Allowed.{Decides}
+use Rattle.election_core.specs.Allowed.{AllowsExactly}
 use Rattle.election_core.specs.Counted.{acted, counted}
 use Rattle.election_core.proofs.Keeping.{same_after}
 use Rattle.election_core.specs.declared.messages.Action.{Action}
@@ -55,11 +55,11 @@ single old new u m es a b e is events whole same q d v l = subst (λ t. Acts old
   entries = l ∙ sym same;
 })
 
-decided : (v : NodeVote) (m : Message) (a b : Action) → a ≡ b → Decides v m a → Decides v m b
-decided v m a b is d = subst (λ t. Decides v m t) is d
+decided : (v : NodeVote) (m : Message) (a b : Action) → a ≡ b → AllowsExactly v m a → AllowsExactly v m b
+decided v m a b is d = subst (λ t. AllowsExactly v m t) is d
 
 -- it gives its vote
-pub grant_follows : (G : Setting) (old : Held) (u : NodeVote) (m : Message) (es : List Entry) (a : Action) (g to : ℕ) → IsOwn G old → IsPacket G m es old.actor.seen → a ≡ action.Promise g to → Decides old.vote m a
+pub grant_follows : (G : Setting) (old : Held) (u : NodeVote) (m : Message) (es : List Entry) (a : Action) (g to : ℕ) → IsOwn G old → IsPacket G m es old.actor.seen → a ≡ action.Promise g to → AllowsExactly old.vote m a
     → u ≡ acted (counted old.vote m) a → Follows G old.vote.node (event.Grant g to) u old.entries old.actor.seen
 grant_follows G old u m es a g to own p is d q =
     subst (λ t. Follows G old.vote.node (event.Grant g to) t old.entries old.actor.seen) (sym (q ∙ ap (λ t. acted (counted old.vote m) t) is))
@@ -70,7 +70,7 @@ pub grant_acts : (old new : Held) (u : NodeVote) (m : Message) (es : List Entry)
 grant_acts old new u m es a g to is q d v l = single old new u m es a (action.Promise g to) (event.Grant g to) is refl refl refl q d v l
 
 pub grant_sends : (G : Setting) (old new : Held) (u : NodeVote) (m : Message) (es : List Entry) (a : Action) (g to s : ℕ) → IsOwn G old → IsOwn G new → IsPacket G m es old.actor.seen → a ≡ action.Promise g to
-    → Decides old.vote m a → u ≡ acted (counted old.vote m) a → new.vote ≡ u → Adds old.actor.number (event.Grant g to) old.actor.seen new.actor.seen
+    → AllowsExactly old.vote m a → u ≡ acted (counted old.vote m) a → new.vote ≡ u → Adds old.actor.number (event.Grant g to) old.actor.seen new.actor.seen
     → AreSent G new.actor.seen (packets_of new.vote (through m a) new.entries s)
 grant_sends G old new u m es a g to s own after p is d q v add =
     let x = grant_sent old.vote old.entries old.actor.seen new.actor.seen m es g to s own.node p (decided old.vote m a (action.Promise g to) is d) (own_adds_of old own add) after.node.legal in
@@ -79,7 +79,7 @@ grant_sends G old new u m es a g to s own after p is d q v add =
     (subst (λ k. AreSent G new.actor.seen (packet to (Granted k g to) [] ∷ [])) (sym same) x)
 
 -- it leads
-pub lead_follows : (G : Setting) (old : Held) (u : NodeVote) (m : Message) (es : List Entry) (a : Action) (g : ℕ) → IsOwn G old → IsPacket G m es old.actor.seen → a ≡ action.Lead g → Decides old.vote m a
+pub lead_follows : (G : Setting) (old : Held) (u : NodeVote) (m : Message) (es : List Entry) (a : Action) (g : ℕ) → IsOwn G old → IsPacket G m es old.actor.seen → a ≡ action.Lead g → AllowsExactly old.vote m a
     → u ≡ acted (counted old.vote m) a → Follows G old.vote.node (event.Lead g) u old.entries old.actor.seen
 lead_follows G old u m es a g own p is d q =
     subst (λ t. Follows G old.vote.node (event.Lead g) t old.entries old.actor.seen) (sym (q ∙ ap (λ t. acted (counted old.vote m) t) is))
@@ -90,7 +90,7 @@ pub lead_acts : (old new : Held) (u : NodeVote) (m : Message) (es : List Entry) 
 lead_acts old new u m es a g is q d v l = single old new u m es a (action.Lead g) (event.Lead g) is refl refl refl q d v l
 
 pub lead_sends : (G : Setting) (old new : Held) (u : NodeVote) (m : Message) (es : List Entry) (a : Action) (g s : ℕ) → IsOwn G old → IsOwn G new → IsPacket G m es old.actor.seen → a ≡ action.Lead g
-    → Decides old.vote m a → u ≡ acted (counted old.vote m) a → new.vote ≡ u → new.entries ≡ old.entries → Adds old.actor.number (event.Lead g) old.actor.seen new.actor.seen
+    → AllowsExactly old.vote m a → u ≡ acted (counted old.vote m) a → new.vote ≡ u → new.entries ≡ old.entries → Adds old.actor.number (event.Lead g) old.actor.seen new.actor.seen
     → AreSent G new.actor.seen (packets_of new.vote (through m a) new.entries s)
 lead_sends G old new u m es a g s own after p is d q v l add =
     let x = lead_sent old.vote old.entries old.actor.seen new.actor.seen m es g s own.node p (decided old.vote m a (action.Lead g) is d) (own_adds_of old own add) after.node.legal in
@@ -100,7 +100,7 @@ lead_sends G old new u m es a g s own after p is d q v l add =
     (subst (λ t. AreSent G new.actor.seen (packets_of t (action.Lead g) old.entries s)) w x))
 
 -- it knows more as durable
-pub learn_follows : (G : Setting) (old : Held) (u : NodeVote) (m : Message) (es : List Entry) (a : Action) (k : ℕ) → IsOwn G old → IsPacket G m es old.actor.seen → a ≡ action.Know k → Decides old.vote m a
+pub learn_follows : (G : Setting) (old : Held) (u : NodeVote) (m : Message) (es : List Entry) (a : Action) (k : ℕ) → IsOwn G old → IsPacket G m es old.actor.seen → a ≡ action.Know k → AllowsExactly old.vote m a
     → u ≡ acted (counted old.vote m) a → Follows G old.vote.node (event.Learn k) u old.entries old.actor.seen
 learn_follows G old u m es a k own p is d q =
     subst (λ t. Follows G old.vote.node (event.Learn k) t old.entries old.actor.seen) (sym (q ∙ ap (λ t. acted (counted old.vote m) t) is))
@@ -111,7 +111,7 @@ pub learn_acts : (old new : Held) (u : NodeVote) (m : Message) (es : List Entry)
 learn_acts old new u m es a k is q d v l = single old new u m es a (action.Know k) (event.Learn k) is refl refl refl q d v l
 
 pub learn_sends : (G : Setting) (old new : Held) (u : NodeVote) (m : Message) (es : List Entry) (a : Action) (k s : ℕ) → IsOwn G old → IsOwn G new → IsPacket G m es old.actor.seen → a ≡ action.Know k
-    → Decides old.vote m a → u ≡ acted (counted old.vote m) a → new.vote ≡ u → Adds old.actor.number (event.Learn k) old.actor.seen new.actor.seen
+    → AllowsExactly old.vote m a → u ≡ acted (counted old.vote m) a → new.vote ≡ u → Adds old.actor.number (event.Learn k) old.actor.seen new.actor.seen
     → AreSent G new.actor.seen (packets_of new.vote (through m a) new.entries s)
 learn_sends G old new u m es a k s own after p is d q v add =
     let x = know_sent old.vote old.entries old.actor.seen new.actor.seen m es k s own.node p (decided old.vote m a (action.Know k) is d) (own_adds_of old own add) after.node.legal in
@@ -121,7 +121,7 @@ learn_sends G old new u m es a k s own after p is d q v add =
 
 -- it confirms a generation
 pub confirm_follows : (G : Setting) (old : Held) (u : NodeVote) (m : Message) (es : List Entry) (a : Action) (g t to : ℕ) → IsOwn G old → IsPacket G m es old.actor.seen → a ≡ action.Answer (Pong old.vote.node g t) to
-    → Decides old.vote m a → u ≡ acted (counted old.vote m) a → Follows G old.vote.node (event.Confirm t g) u old.entries old.actor.seen
+    → AllowsExactly old.vote m a → u ≡ acted (counted old.vote m) a → Follows G old.vote.node (event.Confirm t g) u old.entries old.actor.seen
 confirm_follows G old u m es a g t to own p is d q =
     let b = action.Answer (Pong old.vote.node g t) to in
     subst (λ x. Follows G old.vote.node (event.Confirm t g) x old.entries old.actor.seen) (sym (q ∙ ap (λ x. acted (counted old.vote m) x) is))
@@ -132,7 +132,7 @@ pub confirm_acts : (old new : Held) (u : NodeVote) (m : Message) (es : List Entr
 confirm_acts old new u m es a g t to is q d v l = single old new u m es a (action.Answer (Pong old.vote.node g t) to) (event.Confirm t g) is refl refl refl q d v l
 
 pub confirm_sends : (G : Setting) (old new : Held) (u : NodeVote) (m : Message) (es : List Entry) (a : Action) (g t to s : ℕ) → IsOwn G old → IsOwn G new → IsPacket G m es old.actor.seen
-    → a ≡ action.Answer (Pong old.vote.node g t) to → Decides old.vote m a → Adds old.actor.number (event.Confirm t g) old.actor.seen new.actor.seen
+    → a ≡ action.Answer (Pong old.vote.node g t) to → AllowsExactly old.vote m a → Adds old.actor.number (event.Confirm t g) old.actor.seen new.actor.seen
     → AreSent G new.actor.seen (packets_of new.vote (through m a) new.entries s)
 confirm_sends G old new u m es a g t to s own after p is d add =
     let b = action.Answer (Pong old.vote.node g t) to in
@@ -140,7 +140,7 @@ confirm_sends G old new u m es a g t to s own after p is d add =
     subst (λ y. AreSent G new.actor.seen (packets_of new.vote (through m y) new.entries s)) (sym is) x
 
 -- an answer to a message is the confirmation that it asks for
-pong_of : (v : NodeVote) (m x : Message) (to : ℕ) → Decides v m (action.Answer x to) → x ≡ Pong v.node (asked_in m) (ask_of m)
+pong_of : (v : NodeVote) (m x : Message) (to : ℕ) → AllowsExactly v m (action.Answer x to) → x ≡ Pong v.node (asked_in m) (ask_of m)
 pong_of v (Ping f g t d) x to may = may.1
 pong_of v (Vote f g a l) x to may = absurd may
 pong_of v (Granted f g k) x to may = absurd may
@@ -150,27 +150,27 @@ pong_of v (Ack f g l) x to may = absurd may
 pong_of v (Durable f g l) x to may = absurd may
 pong_of v (Pong f g t) x to may = absurd may
 
-pub is_pong : (v : NodeVote) (m x : Message) (a : Action) (to : ℕ) → a ≡ action.Answer x to → Decides v m a → a ≡ action.Answer (Pong v.node (asked_in m) (ask_of m)) to
+pub is_pong : (v : NodeVote) (m x : Message) (a : Action) (to : ℕ) → a ≡ action.Answer x to → AllowsExactly v m a → a ≡ action.Answer (Pong v.node (asked_in m) (ask_of m)) to
 is_pong v m x a to is d = is ∙ ap (λ y. action.Answer y to) (pong_of v m x to (decided v m a (action.Answer x to) is d))
 
 -- what is judged to be done was decided, and joins
-judged_decides : (v : NodeVote) (m : Message) (es : List Entry) (a : Action) → Judges v m es a → (a ≡ action.Nothing → ⊥) → Joins v m es × Decides v m a
+judged_decides : (v : NodeVote) (m : Message) (es : List Entry) (a : Action) → Judges v m es a → (a ≡ action.Nothing → ⊥) → Joins v m es × AllowsExactly v m a
 judged_decides v m es a (inl x) none = (x.0, x.1)
 judged_decides v m es a (inr x) none = absurd (none x.1)
 
-pub judged_grant : (v : NodeVote) (m : Message) (es : List Entry) (a : Action) (g to : ℕ) → Judges v m es a → a ≡ action.Promise g to → Decides v m a
+pub judged_grant : (v : NodeVote) (m : Message) (es : List Entry) (a : Action) (g to : ℕ) → Judges v m es a → a ≡ action.Promise g to → AllowsExactly v m a
 judged_grant v m es a g to j is = (judged_decides v m es a j (λ n. (let f : action.Promise g to ≡ action.Nothing = sym is ∙ n in absurd (cc)))).1
 
-pub judged_lead : (v : NodeVote) (m : Message) (es : List Entry) (a : Action) (g : ℕ) → Judges v m es a → a ≡ action.Lead g → Decides v m a
+pub judged_lead : (v : NodeVote) (m : Message) (es : List Entry) (a : Action) (g : ℕ) → Judges v m es a → a ≡ action.Lead g → AllowsExactly v m a
 judged_lead v m es a g j is = (judged_decides v m es a j (λ n. (let f : action.Lead g ≡ action.Nothing = sym is ∙ n in absurd (cc)))).1
 
-pub judged_know : (v : NodeVote) (m : Message) (es : List Entry) (a : Action) (d : ℕ) → Judges v m es a → a ≡ action.Know d → Decides v m a
+pub judged_know : (v : NodeVote) (m : Message) (es : List Entry) (a : Action) (d : ℕ) → Judges v m es a → a ≡ action.Know d → AllowsExactly v m a
 judged_know v m es a d j is = (judged_decides v m es a j (λ n. (let f : action.Know d ≡ action.Nothing = sym is ∙ n in absurd (cc)))).1
 
-pub judged_answer : (v : NodeVote) (m x : Message) (es : List Entry) (a : Action) (to : ℕ) → Judges v m es a → a ≡ action.Answer x to → Decides v m a
+pub judged_answer : (v : NodeVote) (m x : Message) (es : List Entry) (a : Action) (to : ℕ) → Judges v m es a → a ≡ action.Answer x to → AllowsExactly v m a
 judged_answer v m x es a to j is = (judged_decides v m es a j (λ n. (let f : action.Answer x to ≡ action.Nothing = sym is ∙ n in absurd (cc)))).1
 
-pub judged_take : (v : NodeVote) (m : Message) (es : List Entry) (a : Action) (g l : ℕ) → Judges v m es a → a ≡ action.Take g l → Decides v m a
+pub judged_take : (v : NodeVote) (m : Message) (es : List Entry) (a : Action) (g l : ℕ) → Judges v m es a → a ≡ action.Take g l → AllowsExactly v m a
 judged_take v m es a g l j is = (judged_decides v m es a j (λ n. (let f : action.Take g l ≡ action.Nothing = sym is ∙ n in absurd (cc)))).1
 
 pub judged_joins : (v : NodeVote) (m : Message) (es : List Entry) (a : Action) (g l : ℕ) → Judges v m es a → a ≡ action.Take g l → Joins v m es

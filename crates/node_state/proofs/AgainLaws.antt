@@ -17,7 +17,7 @@ use Rattle.phys_log.specs.Logs.{IsLog}
 use Rattle.phys_log.specs.declared.entries.Entry.{Entry}
 use Rattle.node_state.specs.Calls.{IsAsBefore}
 use Rattle.node_state.specs.Nodes.{Held, IsNode, IsOwn, events_of}
-use Rattle.node_state.specs.Packets.{Sent, AreSent, IsPacket, packet}
+use Rattle.node_state.specs.Packets.{SentPacket, AreSent, IsPacket, packet}
 use Rattle.node_state.specs.Ships.{Leads, ShipsAgain, again_packets, learned_by}
 use Rattle.node_state.proofs.LearnedLaws.{telling}
 use Rattle.node_state.proofs.LogLists.{map_size}
@@ -73,7 +73,7 @@ again_sent G h to learned own made leads low high is = (record { to_low = low; t
     go true e = (record { to_low = low; to_high = high; packet = tells_durable G h.vote h.entries h.actor.seen h.actor.made own.node mine leads.1 e }, tt)
     go false e = tt
 
-pub ships_again : (old new : Held) (to : ℕ) (learned : Bool) (before ds ps : List Sent) → Leads old.vote → learned ≡ learned_by (events_of old.actor.made) → IsAsBefore old new → before ≡ []
+pub ships_again : (old new : Held) (to : ℕ) (learned : Bool) (before ds ps : List SentPacket) → Leads old.vote → learned ≡ learned_by (events_of old.actor.made) → IsAsBefore old new → before ≡ []
     → ds ≡ again_packets old.vote learned to old.entries → ps ≡ before ++ ds → ShipsAgain to ps old new
 ships_again old new to learned before ds ps leads is same none made all = record {
   same = same;
@@ -81,5 +81,5 @@ ships_again old new to learned before ds ps leads is same none made all = record
   follows = λ idle. absurd (idle leads);
 }
 
-pub ships_nothing : (h : Held) (to : ℕ) (ps : List Sent) → (Leads h.vote → ⊥) → IsAsBefore h h → ps ≡ [] → ShipsAgain to ps h h
+pub ships_nothing : (h : Held) (to : ℕ) (ps : List SentPacket) → (Leads h.vote → ⊥) → IsAsBefore h h → ps ≡ [] → ShipsAgain to ps h h
 ships_nothing h to ps idle same none = record { same = same; leads = λ l. absurd (idle l); follows = λ l. none }

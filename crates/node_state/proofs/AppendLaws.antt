@@ -3,13 +3,13 @@ use Rattle.std.proofs.Common.{ℕ, ◌≡◌, ◌+◌, List, [], ◌∷◌, ◌+
 use Rattle.std.specs.Prelude.{true}
 use Rattle.std.specs.declared.snapshot.Snapshot.{Snapshot}
 use Rattle.actor_trace.specs.Steps.{Adds}
-use Rattle.cluster_consensus.specs.Events.{Event as Core, change}
+use Rattle.cluster_consensus.specs.Events.{NodeEvent, change}
 use Rattle.cluster_consensus.specs.Facts.{Own, Claim}
 use Rattle.cluster_events.specs.Arms.{HasFallen}
-use Rattle.cluster_events.specs.Parts.{Event as Step}
+use Rattle.cluster_events.specs.Parts.{ActorEvent}
 use Rattle.cluster_events.specs.Settings.{Setting}
 use Rattle.cluster_requests.specs.KeptEntries.{KeptEntry, plain}
-use Rattle.cluster_steps.specs.Guards.{IsAllowed, Lawful}
+use Rattle.cluster_steps.specs.Guards.{IsAllowed, AreLegalSteps}
 use Rattle.cluster_steps.specs.Named.{kept_over, named, steps, world}
 use Rattle.cluster_steps.specs.declared.events.Event.{Event}
 use Rattle.cluster_steps.specs.declared.events.Event.TheVariants.{Append}
@@ -27,14 +27,14 @@ use Rattle.phys_log.specs.declared.entries.Entry.TheVariants as entry
 use Rattle.node_state.specs.Calls.{Did, IsAsBefore}
 use Rattle.node_state.specs.Commits.{Enters, MayEnter, appends}
 use Rattle.node_state.specs.Nodes.{IsNode, Held, Follows}
-use Rattle.node_state.specs.Packets.{Sent, IsPacket, IsTailOf, AreSent, packet, others, appending_packets}
+use Rattle.node_state.specs.Packets.{SentPacket, IsPacket, IsTailOf, AreSent, packet, others, appending_packets}
 use Rattle.node_state.proofs.CallLaws.{did_behind}
 use Rattle.node_state.proofs.LogLists.{map_size}
 use Rattle.node_state.proofs.SentLaws.{sent_more, others_sent, one_sent}
 
 -- the event's name, and what it makes of the log
 name_of : (G : Setting) (seen : List (ℕ × Event)) (i : ℕ) (next : Snapshot Entry) (x : Entry) → next.value ≡ x → named G (steps G seen) i (Append next) ≡ appends G seen i x
-name_of G seen i next x e = ap (λ y. Step.Node (Core.Append (kept_over ((world G seen).nodes i).log y))) e
+name_of G seen i next x e = ap (λ y. ActorEvent.Node (NodeEvent.Append (kept_over ((world G seen).nodes i).log y))) e
 
 plain_kept : (l : List KeptEntry) (x : Entry) → plain (kept_over l x) ≡ x
 plain_kept l (entry.Setup generation schema records) = refl
@@ -81,7 +81,7 @@ append_follows G v u log log' seen next x is may fits value new q = subst (λ t.
           few = is.few;
           may = record { plan = is.plan; exact = tt; allowed = subst (λ s. IsAllowed G (steps G seen) v.node s) (sym name) ok };
           silent = λ g. refl;
-          core = Core.Append (kept_over o.log x);
+          core = NodeEvent.Append (kept_over o.log x);
           name = name;
           part = record { promised = p.promised ∙ sym h.0; accepted = p.accepted; length = size_of o.log log x is.log_is; adopted = p.adopted; durable = p.durable; leading = p.leading; up = p.up };
           log_is = new ∙ sym (whole_log o.log log x is.log_is);
@@ -92,7 +92,7 @@ append_follows G v u log log' seen next x is may fits value new q = subst (λ t.
         }
 
 pub append_sent : (G : Setting) (v u : NodeVote) (log : List Entry) (seen now : List (ℕ × Event)) (next : Snapshot Entry) (x : Entry) → IsNode G v log seen → Fits log x → next.value ≡ x
-    → u ≡ record v { length = length log + 1 } → Adds v.node (Append next) seen now → Lawful G now → AreSent G now (appending_packets u (x ∷ []))
+    → u ≡ record v { length = length log + 1 } → Adds v.node (Append next) seen now → AreLegalSteps G now → AreSent G now (appending_packets u (x ∷ []))
 append_sent G v u log seen now next x is fits value q d legal =
     subst (λ w. AreSent G now (appending_packets w (x ∷ []))) (sym q)
     (subst (λ n. AreSent G now (others n v.node (Ship v.node v.accepted (length log + 1)) (x ∷ []) ++ packet v.node (Ack v.node v.accepted (length log + 1)) [] ∷ [])) (sym is.nodes_is) sends)
@@ -106,8 +106,8 @@ append_sent G v u log seen now next x is fits value q d legal =
     k : KeptEntry
     k = kept_over o.log x
 
-    own : (world G now).nodes v.node ≡ change v.node o (Core.Append k)
-    own = own_adds G v.node (Append next) (Core.Append k) seen now (name_of G seen v.node next x value) tt d legal
+    own : (world G now).nodes v.node ≡ change v.node o (NodeEvent.Append k)
+    own = own_adds G v.node (Append next) (NodeEvent.Append k) seen now (name_of G seen v.node next x value) tt d legal
 
     c : Claim KeptEntry
     c = record { gen = o.accepted; log = o.log ++ k ∷ [] }
@@ -141,7 +141,7 @@ append_sent G v u log seen now next x is fits value q d legal =
     sends = sent_more G now (others G.nodes v.node (Ship v.node v.accepted (length log + 1)) (x ∷ [])) (packet v.node (Ack v.node v.accepted (length log + 1)) [] ∷ [])
         (others_sent G G.nodes v.node (Ship v.node v.accepted (length log + 1)) (x ∷ []) now ship (omega arith)) (one_sent G now v.node (Ack v.node v.accepted (length log + 1)) is.low is.high ack)
 
-pub entered : (old mid new : Held) (u : NodeVote) (next : Snapshot Entry) (x : Entry) (es : List Entry) (before ds ps : List Sent) → next.value ≡ x → Did (Append next ∷ []) old mid → mid.vote ≡ u
+pub entered : (old mid new : Held) (u : NodeVote) (next : Snapshot Entry) (x : Entry) (es : List Entry) (before ds ps : List SentPacket) → next.value ≡ x → Did (Append next ∷ []) old mid → mid.vote ≡ u
     → u ≡ record old.vote { length = length old.entries + 1 } → mid.entries ≡ old.entries ++ x ∷ [] → IsAsBefore mid new → before ≡ [] → es ≡ x ∷ [] → ds ≡ appending_packets u es → ps ≡ before ++ ds → Enters x ps old new
 entered old mid new u next x es before ds ps value d v q l b none own made all = record {
   event = Append next;

@@ -3,7 +3,7 @@ use Rattle.std.proofs.Common.{ℕ, ◌≡◌, ◌≢◌, ◌+◌, ◌<◌, ◌�
 use Rattle.std.specs.Prelude.{zero, suc, ◌==◌, Bool, true, false, cond}
 use Rattle.std.proofs.lemmas.Bool.Decides.{Decides-eqb}
 use mathlib.Core.Logic.{inl, inr}
-use Rattle.election_core.specs.Allowed.{Decides}
+use Rattle.election_core.specs.Allowed.{AllowsExactly}
 use Rattle.election_core.specs.Counted.{acted, counted}
 use Rattle.election_core.specs.Senders.{sender_of}
 use Rattle.election_core.specs.declared.messages.Action.{Action}
@@ -14,13 +14,13 @@ use Rattle.election_core.specs.declared.votes.NodeVote.{NodeVote}
 use Rattle.phys_log.specs.declared.entries.Entry.{Entry}
 use Rattle.node_state.specs.Calls.{Answers, Judges, through}
 use Rattle.node_state.specs.Nodes.{Held}
-use Rattle.node_state.specs.Packets.{Sent, AllBehind, AreBehind, packet, packets_of, others, place_of, sent_to}
+use Rattle.node_state.specs.Packets.{SentPacket, AllBehind, AreBehind, packet, packets_of, others, place_of, sent_to}
 
-behind_more : (m : Message) (ps qs : List Sent) → AllBehind m ps → AllBehind m qs → AllBehind m (ps ++ qs)
+behind_more : (m : Message) (ps qs : List SentPacket) → AllBehind m ps → AllBehind m qs → AllBehind m (ps ++ qs)
 behind_more m [] qs x y = y
 behind_more m (p ∷ ps) qs x y = (x.0, behind_more m ps qs x.1 y)
 
-sent_more : (k : ℕ) (ps qs : List Sent) → sent_to k (ps ++ qs) ≡ sent_to k ps + sent_to k qs
+sent_more : (k : ℕ) (ps qs : List SentPacket) → sent_to k (ps ++ qs) ≡ sent_to k ps + sent_to k qs
 sent_more k [] qs = let e : sent_to k qs ≡ 0 + sent_to k qs = omega arith in e
 sent_more k (p ∷ ps) qs =
     let r : sent_to k (ps ++ qs) ≡ sent_to k ps + sent_to k qs = sent_more k ps qs in
@@ -114,7 +114,7 @@ single : (m x : Message) (to : ℕ) → place_of m < place_of x → AreBehind m 
 single m x to lt = record { later = (lt, tt); once = λ k. one_once k to x [] }
 
 -- by each action that a message allows
-sends : (v u : NodeVote) (m : Message) (a : Action) (log : List Entry) (s : ℕ) → Decides v m a → u ≡ acted (counted v m) (through m a) → AreBehind m (packets_of u (through m a) log s)
+sends : (v u : NodeVote) (m : Message) (a : Action) (log : List Entry) (s : ℕ) → AllowsExactly v m a → u ≡ acted (counted v m) (through m a) → AreBehind m (packets_of u (through m a) log s)
 sends v u m action.Nothing log s d q = none m
 sends v u (Vote f h a l) (action.Promise g to) log s d q = single (Vote f h a l) (Granted u.node g to) to (omega arith)
 sends v u (Granted f h k) (action.Promise g to) log s d q = absurd d
@@ -161,7 +161,7 @@ sends v u (Durable f h l) (action.Answer x to) log s d q = absurd d
 sends v u (Ping f h t d1) (action.Answer x to) log s d q = subst (λ y. AreBehind (Ping f h t d1) (packet to y [] ∷ [])) (sym d.1) (single (Ping f h t d1) (Pong v.node h t) to (omega arith))
 sends v u (Pong f h t) (action.Answer x to) log s d q = absurd d
 
-pub answers_behind : (m : Message) (es : List Entry) (ps : List Sent) (old new : Held) → Answers m es ps old new → AreBehind m ps
+pub answers_behind : (m : Message) (es : List Entry) (ps : List SentPacket) (old new : Held) → Answers m es ps old new → AreBehind m ps
 answers_behind m es ps old new a = subst (λ x. AreBehind m x) (sym a.sends) (go a.judged)
   where
     go : Judges old.vote m es a.action → AreBehind m (packets_of new.vote (through m a.action) new.entries (sender_of m))

@@ -7,7 +7,7 @@ use Rattle.actor_trace.specs.Steps.{Adds, Rests}
 use Rattle.cluster_events.specs.Settings.{Setting}
 use Rattle.cluster_steps.specs.declared.events.Event.{Event}
 use Rattle.cluster_steps.specs.declared.events.Event.TheVariants as event
-use Rattle.cluster_steps.specs.Guards.{Lawful}
+use Rattle.cluster_steps.specs.Guards.{AreLegalSteps}
 use Rattle.election_core.specs.Allowed.{MayStand}
 use Rattle.election_core.specs.Counted.{acted, counted}
 use Rattle.election_core.specs.Senders.{sender_of}
@@ -16,9 +16,9 @@ use Rattle.election_core.specs.declared.messages.Action.TheVariants as action
 use Rattle.election_core.specs.declared.messages.Message.{Message}
 use Rattle.election_core.specs.declared.votes.NodeVote.{NodeVote}
 use Rattle.phys_log.specs.declared.entries.Entry.{Entry}
-use Rattle.node_state.specs.Calls.{Did, Falls, IsAsBefore, Judges, Acts, Answers, FallsPartly, IsPartly, Stands, Probes, takes, events_by, through, left_of, log_by, down_vote, vote_taken}
+use Rattle.node_state.specs.Calls.{Did, Falls, IsAsBefore, Judges, Acts, Answers, FallsPartly, IsPartly, StandsAsCandidate, Probes, takes, events_by, through, left_of, log_by, down_vote, vote_taken}
 use Rattle.node_state.specs.Nodes.{IsNode, IsOwn, Held, Follows, events_of}
-use Rattle.node_state.specs.Packets.{Sent, packets_of, standing_packets, probing_packets, shipped_in}
+use Rattle.node_state.specs.Packets.{SentPacket, packets_of, standing_packets, probing_packets, shipped_in}
 use Rattle.node_state.proofs.NodeLaws.{after_adds, after_rests}
 use Rattle.node_state.proofs.LogLists.{none_behind}
 
@@ -54,7 +54,7 @@ pub did_one : (old new : Held) (e : Event) (t : ℕ) → new.actor.number ≡ ol
 did_one old new e t n m d r = record { number = n; made = ap events_of m ∙ events_more old.actor.made ((t, e) ∷ []); more = begins_adds d; room = one_less old.actor.room new.actor.room (e ∷ []) refl r }
 
 pub own_one : (G : Setting) (old new : Held) (e : Event) → old.vote.node ≡ old.actor.number → Follows G old.vote.node e new.vote new.entries old.actor.seen
-    → Adds old.actor.number e old.actor.seen new.actor.seen → Lawful G new.actor.seen → new.actor.number ≡ old.actor.number → IsOwn G new
+    → Adds old.actor.number e old.actor.seen new.actor.seen → AreLegalSteps G new.actor.seen → new.actor.number ≡ old.actor.number → IsOwn G new
 own_one G old new e n f d legal same = record {
   node = after_adds G old.vote new.vote new.entries old.actor.number e old.actor.seen new.actor.seen n f d legal;
   number_is = f.same ∙ (n ∙ sym same);
@@ -77,7 +77,7 @@ as_reserved old new v l n m s r = record {
   entries = l;
 }
 
-pub own_rests : (G : Setting) (old new : Held) → IsOwn G old → new.vote ≡ old.vote → new.entries ≡ old.entries → new.actor.number ≡ old.actor.number → Rests old.actor.number old.actor.seen new.actor.seen → Lawful G new.actor.seen → IsOwn G new
+pub own_rests : (G : Setting) (old new : Held) → IsOwn G old → new.vote ≡ old.vote → new.entries ≡ old.entries → new.actor.number ≡ old.actor.number → Rests old.actor.number old.actor.seen new.actor.seen → AreLegalSteps G new.actor.seen → IsOwn G new
 own_rests G old new own v l n d legal =
     let is = after_rests G old.vote old.entries old.actor.number old.actor.seen new.actor.seen own.node own.number_is d legal in
     record {
@@ -103,7 +103,7 @@ did_behind es old mid new a b = subst (λ t. Did t old new) (none_behind es) (di
 pub before_then : (old mid new : Held) → IsAsBefore old mid → IsAsBefore mid new → IsAsBefore old new
 before_then old mid new a b = record { did = did_before [] old mid new a b.did; vote = b.vote ∙ a.vote; entries = b.entries ∙ a.entries }
 
-pub answers_before : (m : Message) (es : List Entry) (ps : List Sent) (old mid new : Held) → IsAsBefore old mid → Answers m es ps mid new → Answers m es ps old new
+pub answers_before : (m : Message) (es : List Entry) (ps : List SentPacket) (old mid new : Held) → IsAsBefore old mid → Answers m es ps mid new → Answers m es ps old new
 answers_before m es ps old mid new a b = record {
   action = b.action;
   judged = subst (λ v. Judges v m es b.action) a.vote b.judged;
@@ -152,7 +152,7 @@ same_packets v m es (action.Take g l) u old new s e = refl
 same_packets v m es (action.Know d) u old new s e = refl
 same_packets v m es (action.Answer x to) u old new s e = refl
 
-pub answers_made : (m : Message) (es : List Entry) (a : Action) (ps ds : List Sent) (old mid new : Held) → Judges old.vote m es a → Acts old.vote m es a old mid → IsAsBefore mid new
+pub answers_made : (m : Message) (es : List Entry) (a : Action) (ps ds : List SentPacket) (old mid new : Held) → Judges old.vote m es a → Acts old.vote m es a old mid → IsAsBefore mid new
     → ds ≡ packets_of (acted (counted old.vote m) (through m a)) (through m a) old.entries (sender_of m) → ps ≡ ds → Answers m es ps old new
 answers_made m es a ps ds old mid new j acts b d p = record {
   action = a;
@@ -162,11 +162,11 @@ answers_made m es a ps ds old mid new j acts b d p = record {
 }
 
 -- packets that go out one after the other
-put_step : (ps : List Sent) (p : Sent) (rest : List Sent) → (ps ++ p ∷ []) ++ rest ≡ ps ++ p ∷ rest
+put_step : (ps : List SentPacket) (p : SentPacket) (rest : List SentPacket) → (ps ++ p ∷ []) ++ rest ≡ ps ++ p ∷ rest
 put_step [] p rest = refl
 put_step (x ∷ ps) p rest = ap (λ t. x ∷ t) (put_step ps p rest)
 
-pub put_on : (ps : List Sent) (p d : Sent) (rest all new left : List Sent) → new ≡ ps ++ p ∷ [] → p ≡ d → left ≡ d ∷ rest → ps ++ left ≡ all → new ++ rest ≡ all
+pub put_on : (ps : List SentPacket) (p d : SentPacket) (rest all new left : List SentPacket) → new ≡ ps ++ p ∷ [] → p ≡ d → left ≡ d ∷ rest → ps ++ left ≡ all → new ++ rest ≡ all
 put_on ps p d rest all new left a b e i = ap (λ t. t ++ rest) a ∙ (put_step ps p rest ∙ (ap (λ q. ps ++ q ∷ rest) b ∙ (ap (λ t. ps ++ t) (sym e) ∙ i)))
 
 -- what standing and asking for a confirmation do
@@ -175,8 +175,8 @@ pub stood_by : (v u : NodeVote) (g : ℕ) (a : Action) → ((a ≡ action.Promis
 stood_by v u g a (inl x) up above q = q ∙ ap (λ t. acted v t) x.0
 stood_by v u g a (inr x) up above q = absurd (x.1 (up, above))
 
-pub stood : (g : ℕ) (old mid new : Held) (u : NodeVote) (before ds ps : List Sent) → Did (event.Stand g ∷ []) old mid → mid.vote ≡ u → u ≡ acted old.vote (action.Promise g old.vote.node) → mid.entries ≡ old.entries → IsAsBefore mid new
-    → before ≡ [] → ds ≡ standing_packets u g → ps ≡ before ++ ds → Stands g ps old new
+pub stood : (g : ℕ) (old mid new : Held) (u : NodeVote) (before ds ps : List SentPacket) → Did (event.Stand g ∷ []) old mid → mid.vote ≡ u → u ≡ acted old.vote (action.Promise g old.vote.node) → mid.entries ≡ old.entries → IsAsBefore mid new
+    → before ≡ [] → ds ≡ standing_packets u g → ps ≡ before ++ ds → StandsAsCandidate g ps old new
 stood g old mid new u before ds ps d v q l b none made all = record {
   did = did_behind (event.Stand g ∷ []) old mid new d b;
   vote = b.vote ∙ (v ∙ q);
@@ -184,7 +184,7 @@ stood g old mid new u before ds ps d v q l b none made all = record {
   sends = all ∙ (ap (λ x. x ++ ds) none ∙ (made ∙ ap (λ x. standing_packets x g) (sym (b.vote ∙ v))));
 }
 
-pub probed : (t : ℕ) (old mid new : Held) (before ds ps : List Sent) → Did (event.Probe t ∷ []) old mid → mid.vote ≡ old.vote → mid.entries ≡ old.entries → IsAsBefore mid new
+pub probed : (t : ℕ) (old mid new : Held) (before ds ps : List SentPacket) → Did (event.Probe t ∷ []) old mid → mid.vote ≡ old.vote → mid.entries ≡ old.entries → IsAsBefore mid new
     → before ≡ [] → ds ≡ probing_packets old.vote t → ps ≡ before ++ ds → Probes t ps old new
 probed t old mid new before ds ps d v l b none made all = record {
   did = did_behind (event.Probe t ∷ []) old mid new d b;
@@ -202,7 +202,7 @@ through_packets v m (action.Take g l) log s = refl
 through_packets v m (action.Know d) log s = refl
 through_packets v m (action.Answer x to) log s = refl
 
-pub drafts_made : (v u : NodeVote) (m : Message) (a w : Action) (log given : List Entry) (s from : ℕ) (ds : List Sent) → u ≡ acted v a → w ≡ through m a → given ≡ log → from ≡ s → ds ≡ packets_of u w given from
+pub drafts_made : (v u : NodeVote) (m : Message) (a w : Action) (log given : List Entry) (s from : ℕ) (ds : List SentPacket) → u ≡ acted v a → w ≡ through m a → given ≡ log → from ≡ s → ds ≡ packets_of u w given from
     → ds ≡ packets_of (acted v (through m a)) (through m a) log s
 drafts_made v u m a w log given s from ds q e l f d =
     d ∙ (ap (λ x. packets_of x w given from) q ∙ (ap (λ x. packets_of (acted v a) x given from) e ∙ (ap (λ x. packets_of (acted v a) (through m a) x from) l

@@ -3,16 +3,16 @@ use Rattle.std.proofs.Common.{ℕ, ◌≡◌, ◌≤◌, List, [], ◌∷◌, �
 use Rattle.std.specs.Prelude.{◌==◌, Bool, true, false, cond}
 use Rattle.std.proofs.lemmas.Bool.Decides.{Decides-eqb}
 use Rattle.actor_trace.specs.Steps.{Adds}
-use Rattle.cluster_consensus.specs.Events.{Event as Core, change}
+use Rattle.cluster_consensus.specs.Events.{NodeEvent, change}
 use Rattle.cluster_consensus.specs.Facts.{Own, World}
 use Rattle.cluster_consensus.proofs.Kept.{self_row}
 use Rattle.cluster_events.specs.Arms.{HasFallen}
-use Rattle.cluster_events.specs.Operator.{Count, count_of, counted as counted_turn, turn}
-use Rattle.cluster_events.specs.Parts.{Event as Step, add_act, acts, field}
+use Rattle.cluster_events.specs.Operator.{Count, count_of, turn_counted, turn}
+use Rattle.cluster_events.specs.Parts.{ActorEvent, add_act, acts, field}
 use Rattle.cluster_events.specs.Settings.{Setting}
 use Rattle.cluster_requests.specs.KeptEntries.{KeptEntry, plain}
 use Rattle.cluster_requests.specs.Requests.{field_after}
-use Rattle.cluster_steps.specs.Guards.{MayDo, Lawful}
+use Rattle.cluster_steps.specs.Guards.{MayTakeStep, AreLegalSteps}
 use Rattle.cluster_steps.specs.Named.{steps, world}
 use Rattle.cluster_steps.specs.declared.events.Event.{Event}
 use Rattle.cluster_steps.specs.declared.events.Event.TheVariants as event
@@ -28,45 +28,45 @@ use Rattle.node_state.specs.Restarts.{Falls, IsStopTold, down_vote}
 use Rattle.node_state.proofs.NodeLaws.{fired_adds}
 
 -- whether a node is up, by how often it came up and went down, and by its part
-turned : (i : ℕ) (o : Own KeptEntry) (c : Count) (e : Core KeptEntry) → c.up ≡ o.up → (counted_turn c (turn (Step.Node e))).up ≡ (change i o e).up
-turned i o c (Core.Boot p a l) q = refl
-turned i o c Core.Down q = refl
-turned i o c (Core.Back p) q = refl
-turned i o c Core.BackLead q = refl
-turned i o c (Core.BackTake g l) q = refl
-turned i o c (Core.BackGrow l) q = refl
-turned i o c (Core.BackAppend e) q = refl
+turned : (i : ℕ) (o : Own KeptEntry) (c : Count) (e : NodeEvent KeptEntry) → c.up ≡ o.up → (turn_counted c (turn (ActorEvent.Node e))).up ≡ (change i o e).up
+turned i o c (NodeEvent.Boot p a l) q = refl
+turned i o c NodeEvent.Down q = refl
+turned i o c (NodeEvent.Back p) q = refl
+turned i o c NodeEvent.BackLead q = refl
+turned i o c (NodeEvent.BackTake g l) q = refl
+turned i o c (NodeEvent.BackGrow l) q = refl
+turned i o c (NodeEvent.BackAppend e) q = refl
 turned i o c _ q = q
 
 either : (b : Bool) (c : Count) (u : Bool) → c.up ≡ u → (cond b c c).up ≡ u
 either true c u q = q
 either false c u q = q
 
-count_step : (k j : ℕ) (e : Step) (h : List (ℕ × Step)) → (count_of k h).up ≡ ((field h).core.nodes k).up
-    → (cond (k == j) (counted_turn (count_of k h) (turn e)) (count_of k h)).up ≡ ((field_after (add_act j e (acts h))).core.nodes k).up
-count_step k j (Step.Node e) h q = go (k == j) refl
+count_step : (k j : ℕ) (e : ActorEvent) (h : List (ℕ × ActorEvent)) → (count_of k h).up ≡ ((field h).core.nodes k).up
+    → (cond (k == j) (turn_counted (count_of k h) (turn e)) (count_of k h)).up ≡ ((field_after (add_act j e (acts h))).core.nodes k).up
+count_step k j (ActorEvent.Node e) h q = go (k == j) refl
   where
-    go : (b : Bool) → (k == j) ≡ b → (cond b (counted_turn (count_of k h) (turn (Step.Node e))) (count_of k h)).up ≡ (cond b (change j ((field h).core.nodes j) e) ((field h).core.nodes k)).up
+    go : (b : Bool) → (k == j) ≡ b → (cond b (turn_counted (count_of k h) (turn (ActorEvent.Node e))) (count_of k h)).up ≡ (cond b (change j ((field h).core.nodes j) e) ((field h).core.nodes k)).up
     go true t = turned j ((field h).core.nodes j) (count_of k h) e (subst (λ i. (count_of k h).up ≡ ((field h).core.nodes i).up) ((Decides-eqb k j).0 t) q)
     go false t = q
-count_step k j Step.Stop h q = go (k == j)
+count_step k j ActorEvent.Stop h q = go (k == j)
   where
-    go : (b : Bool) → (cond b (counted_turn (count_of k h) (turn Step.Stop)) (count_of k h)).up ≡ (cond b (change j ((field h).core.nodes j) Core.Down) ((field h).core.nodes k)).up
+    go : (b : Bool) → (cond b (turn_counted (count_of k h) (turn ActorEvent.Stop)) (count_of k h)).up ≡ (cond b (change j ((field h).core.nodes j) NodeEvent.Down) ((field h).core.nodes k)).up
     go true = refl
     go false = q
-count_step k j (Step.Ask t) h q = go (k == j) refl
+count_step k j (ActorEvent.Ask t) h q = go (k == j) refl
   where
     go : (b : Bool) → (k == j) ≡ b → (cond b (count_of k h) (count_of k h)).up ≡ (cond b ((field h).core.nodes j) ((field h).core.nodes k)).up
     go true s = subst (λ i. (count_of k h).up ≡ ((field h).core.nodes i).up) ((Decides-eqb k j).0 s) q
     go false s = q
 count_step k j _ h q = either (k == j) (count_of k h) ((field h).core.nodes k).up q
 
-pub counts : (k : ℕ) (h : List (ℕ × Step)) → (count_of k h).up ≡ ((field h).core.nodes k).up
+pub counts : (k : ℕ) (h : List (ℕ × ActorEvent)) → (count_of k h).up ≡ ((field h).core.nodes k).up
 counts k [] = refl
 counts k (x ∷ h) = count_step k x.0 x.1 h (counts k h)
 
 -- only that it is up is changed
-down_part : (i : ℕ) (v : NodeVote) (o : Own KeptEntry) → IsPart v o → IsPart (down_vote v) (change i o Core.Down)
+down_part : (i : ℕ) (v : NodeVote) (o : Own KeptEntry) → IsPart v o → IsPart (down_vote v) (change i o NodeEvent.Down)
 down_part i v o p = record { promised = p.promised; accepted = p.accepted; length = p.length; adopted = p.adopted; durable = p.durable; leading = p.leading; up = refl }
 
 down_counted : (w : World KeptEntry) (v : NodeVote) → IsCounted w v → IsCounted w (down_vote v)
@@ -91,7 +91,7 @@ fault_follows G v u log seen is q = subst (λ t. Follows G v.node (event.Down tr
         };
       };
       silent = λ g. refl;
-      core = Core.Down;
+      core = NodeEvent.Down;
       name = refl;
       part = down_part v.node v ((world G seen).nodes v.node) is.part;
       log_is = is.log_is;
@@ -102,13 +102,13 @@ fault_follows G v u log seen is q = subst (λ t. Follows G v.node (event.Down tr
     }
 
 -- a stop
-pub stop_may : (G : Setting) (v : NodeVote) (log : List Entry) (i : ℕ) (seen : List (ℕ × Event)) → IsNode G v log seen → v.node ≡ i → v.up ≡ true → IsStopTold G seen v.node → MayDo G seen i (event.Down false)
-stop_may G v log i seen is vi up told = subst (λ k. MayDo G seen k (event.Down false)) vi may
+pub stop_may : (G : Setting) (v : NodeVote) (log : List Entry) (i : ℕ) (seen : List (ℕ × Event)) → IsNode G v log seen → v.node ≡ i → v.up ≡ true → IsStopTold G seen v.node → MayTakeStep G seen i (event.Down false)
+stop_may G v log i seen is vi up told = subst (λ k. MayTakeStep G seen k (event.Down false)) vi may
   where
     here : ((world G seen).nodes v.node).up ≡ true
     here = sym is.part.up ∙ up
 
-    may : MayDo G seen v.node (event.Down false)
+    may : MayTakeStep G seen v.node (event.Down false)
     may = record {
       plan = is.plan;
       exact = tt;
@@ -119,15 +119,15 @@ stop_may G v log i seen is vi up told = subst (λ k. MayDo G seen k (event.Down 
       };
     }
 
-pub stop_part : (G : Setting) (i : ℕ) (old new : List (ℕ × Event)) → Adds i (event.Down false) old new → (world G new).nodes i ≡ change i ((world G old).nodes i) Core.Down
+pub stop_part : (G : Setting) (i : ℕ) (old new : List (ℕ × Event)) → Adds i (event.Down false) old new → (world G new).nodes i ≡ change i ((world G old).nodes i) NodeEvent.Down
 stop_part G i old new d =
     let x = world G (d.between ++ old) in
-    ap (λ t. (world G t).nodes i) d.whole ∙ (self_row x i Core.Down ∙ ap (λ (o : Own KeptEntry). change i o Core.Down) (idle G i d.between old d.none))
+    ap (λ t. (world G t).nodes i) d.whole ∙ (self_row x i NodeEvent.Down ∙ ap (λ (o : Own KeptEntry). change i o NodeEvent.Down) (idle G i d.between old d.none))
 
-after_stop : (G : Setting) (v : NodeVote) (log : List Entry) (i : ℕ) (old new : List (ℕ × Event)) → IsNode G v log old → v.node ≡ i → Adds i (event.Down false) old new → Lawful G new → IsNode G (down_vote v) log new
+after_stop : (G : Setting) (v : NodeVote) (log : List Entry) (i : ℕ) (old new : List (ℕ × Event)) → IsNode G v log old → v.node ≡ i → Adds i (event.Down false) old new → AreLegalSteps G new → IsNode G (down_vote v) log new
 after_stop G v log i old new is vi d legal =
     let dv : Adds v.node (event.Down false) old new = subst (λ t. Adds t (event.Down false) old new) (sym vi) d in
-    let now : (world G new).nodes v.node ≡ change v.node ((world G old).nodes v.node) Core.Down = stop_part G v.node old new dv in
+    let now : (world G new).nodes v.node ≡ change v.node ((world G old).nodes v.node) NodeEvent.Down = stop_part G v.node old new dv in
     record {
       low = is.low;
       high = is.high;
@@ -143,7 +143,7 @@ after_stop G v log i old new is vi d legal =
     }
 
 pub own_stop : (G : Setting) (old new : Held) → IsOwn G old → new.vote ≡ down_vote old.vote → new.entries ≡ old.entries → new.actor.number ≡ old.actor.number
-    → Adds old.actor.number (event.Down false) old.actor.seen new.actor.seen → Lawful G new.actor.seen → IsOwn G new
+    → Adds old.actor.number (event.Down false) old.actor.seen new.actor.seen → AreLegalSteps G new.actor.seen → IsOwn G new
 own_stop G old new own v l n d legal =
     let is = after_stop G old.vote old.entries old.actor.number old.actor.seen new.actor.seen own.node own.number_is d legal in
     record {

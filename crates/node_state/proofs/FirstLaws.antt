@@ -7,7 +7,7 @@ use mathlib.Core.Logic.{◌⊎◌, inl, inr}
 use Rattle.actor_trace.specs.History.{entries_of}
 use Rattle.actor_trace.proofs.Entries.{idle_step, not_eq}
 use Rattle.cdb_values.specs.Rows.{Rows, no_rows}
-use Rattle.cluster_consensus.specs.Events.{Event as Core}
+use Rattle.cluster_consensus.specs.Events.{NodeEvent}
 use Rattle.cluster_consensus.specs.Facts.{Admit, Own, blank}
 use Rattle.cluster_events.specs.Guards.{BeganBy}
 use Rattle.cluster_events.specs.Parts.{field, lines, lines_by, part}

@@ -4,20 +4,20 @@ use Rattle.std.specs.Prelude.{◌==◌, Bool, true, false, cond}
 use Rattle.std.proofs.lemmas.Bool.Decides.{Decides-eqb}
 use mathlib.Core.Logic.{◌⊎◌, inl, inr}
 use Rattle.cluster_consensus.specs.Enabled.{CanGrow, Enabled}
-use Rattle.cluster_consensus.specs.Events.{Event as Core, change}
+use Rattle.cluster_consensus.specs.Events.{NodeEvent, change}
 use Rattle.cluster_consensus.specs.Facts.{Claim, Own, World}
 use Rattle.cluster_consensus.proofs.FactSteps.{grown, holds}
 use Rattle.cluster_consensus.proofs.Generations.{one_leader, one_log}
 use Rattle.cluster_consensus.proofs.Invariant.{Inv, Follows as Led}
-use Rattle.cluster_events.specs.Parts.{Event as Step, field}
+use Rattle.cluster_events.specs.Parts.{ActorEvent, field}
 use Rattle.cluster_events.specs.Settings.{Setting}
 use Rattle.cluster_events.proofs.HistoryLaws.{good_of}
 use Rattle.cluster_requests.specs.Identities.{generation_of as made_in}
 use Rattle.cluster_requests.specs.KeptEntries.{KeptEntry, plain}
-use Rattle.cluster_requests.specs.KeptEntries.KeptEntry.{Setup, Commit}
+use Rattle.cluster_requests.specs.KeptEntries.KeptEntry.{SetupKept, CommitKept}
 use Rattle.cluster_requests.specs.Requests.{Field}
 use Rattle.cluster_requests.proofs.Settled.{Added, Good}
-use Rattle.cluster_steps.specs.Guards.{Lawful}
+use Rattle.cluster_steps.specs.Guards.{AreLegalSteps}
 use Rattle.cluster_steps.specs.Named.{kept_over, log_named, named, steps, world}
 use Rattle.cluster_steps.specs.declared.events.Event.{Event}
 use Rattle.cluster_steps.specs.declared.events.Event.TheVariants as event
@@ -34,8 +34,8 @@ use Rattle.node_state.proofs.LeftLaws.{plain_kept}
 use Rattle.node_state.proofs.LogLists.{map_size}
 
 plain_gen : (e : KeptEntry) → generation_of (plain e) ≡ made_in e
-plain_gen (Setup generation schema records reached) = refl
-plain_gen (Commit generation id begin level changes records reached) = refl
+plain_gen (SetupKept generation schema records reached) = refl
+plain_gen (CommitKept generation id begin level changes records reached) = refl
 
 -- a list with one more
 one_behind : {A : Type 0} (xs zs ys : List A) → xs ++ zs ≡ ys → length ys ≡ length xs + 1 → (x : A) × (ys ≡ xs ++ x ∷ [])
@@ -85,8 +85,8 @@ grown_gen {n} {f} good i l log e can is whole long =
     let same : e ≡ plain x.0 = last_same (map plain o.log) e (plain x.0) (ap (λ t. t ++ e ∷ []) (sym is) ∙ (whole ∙ (ap (map plain) x.1 ∙ map_last o.log x.0))) in
     ap generation_of same ∙ (plain_gen x.0 ∙ (gen ∙ s.is.0))
 
-abbrev core_of : Core KeptEntry → Step → Core KeptEntry
-core_of c (Step.Node e) = e
+abbrev core_of : NodeEvent KeptEntry → ActorEvent → NodeEvent KeptEntry
+core_of c (ActorEvent.Node e) = e
 core_of c _ = c
 
 -- an entry that it takes so
@@ -110,13 +110,13 @@ taken_gen G v u log e seen g n is f acc =
     yes : (g == o.accepted) ≡ true
     yes = (Decides-eqb g o.accepted).1 (sym acc ∙ is.part.accepted)
 
-    core : f.core ≡ Core.Grow l
-    core = sym (ap (core_of f.core) f.name) ∙ ap (λ b. cond b (Core.Grow l) (Core.Take g l)) yes
+    core : f.core ≡ NodeEvent.Grow l
+    core = sym (ap (core_of f.core) f.name) ∙ ap (λ b. cond b (NodeEvent.Grow l) (NodeEvent.Take g l)) yes
 
     can : CanGrow w o l
     can =
-        let en : Enabled G.nodes w v.node o (cond (g == o.accepted) (Core.Grow l) (Core.Take g l)) = f.may.allowed.may.0.0 in
-        (subst (λ b. Enabled G.nodes w v.node o (cond b (Core.Grow l) (Core.Take g l))) yes en).1
+        let en : Enabled G.nodes w v.node o (cond (g == o.accepted) (NodeEvent.Grow l) (NodeEvent.Take g l)) = f.may.allowed.may.0.0 in
+        (subst (λ b. Enabled G.nodes w v.node o (cond b (NodeEvent.Grow l) (NodeEvent.Take g l))) yes en).1
 
     whole : log ++ e ∷ [] ≡ map plain l
     whole = f.log_is ∙ ap (λ c. map plain (change v.node o c).log) core

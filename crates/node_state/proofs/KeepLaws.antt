@@ -7,12 +7,12 @@ use mathlib.Core.Logic.{◌⊎◌, inl, inr, ∥∥₁_map}
 use Rattle.actor_trace.specs.Actors.{Knows}
 use Rattle.actor_trace.specs.Steps.{Adds}
 use Rattle.cdb_outside.specs.Faults.{Rose}
-use Rattle.cluster_consensus.specs.Events.{Event as Core}
+use Rattle.cluster_consensus.specs.Events.{NodeEvent}
 use Rattle.cluster_consensus.specs.Facts.{Own}
 use Rattle.cluster_events.specs.Parts.{field}
 use Rattle.cluster_events.specs.Settings.{Setting}
 use Rattle.cluster_requests.specs.KeptEntries.{KeptEntry}
-use Rattle.cluster_steps.specs.Guards.{Lawful}
+use Rattle.cluster_steps.specs.Guards.{AreLegalSteps}
 use Rattle.cluster_steps.specs.Named.{steps, world}
 use Rattle.cluster_steps.specs.declared.events.Event.{Event}
 use Rattle.cluster_steps.specs.declared.events.Event.TheVariants as event
@@ -79,15 +79,15 @@ pub kept_stopped : (v u : NodeVote) (o p q : OverStore) → IsKeptBy v o → p �
 kept_stopped v u o p q k e same fell = kept_fallen v u o p q k (e ∙ ap (λ f. stopped_from o p.synced f) (sym (ap (λ (x : OverStore). x.faults) e))) same fell
 
 -- it was up when it fell
-fell_was : (G : Setting) (v : NodeVote) (log : List Entry) (seen now : List (ℕ × Event)) → IsNode G v log seen → v.up ≡ true → Adds v.node (event.Down true) seen now → Lawful G now → ((world G now).nodes v.node).was_up ≡ true
+fell_was : (G : Setting) (v : NodeVote) (log : List Entry) (seen now : List (ℕ × Event)) → IsNode G v log seen → v.up ≡ true → Adds v.node (event.Down true) seen now → AreLegalSteps G now → ((world G now).nodes v.node).was_up ≡ true
 fell_was G v log seen now is up d legal =
-    ap (λ (o : Own KeptEntry). o.was_up) (own_adds G v.node (event.Down true) Core.Down seen now refl tt d legal) ∙ awake G v log seen is up
+    ap (λ (o : Own KeptEntry). o.was_up) (own_adds G v.node (event.Down true) NodeEvent.Down seen now refl tt d legal) ∙ awake G v log seen is up
 
 -- a call of the store failed, and left one of these
 falls_over : (G : Setting) (v : NodeVote) (a : Knows Event) (o p q : OverStore) (w : NodeVote) (b : Knows Event) (u : UnderWay) (ks : List Kept) (promise : ℕ) (next : Option Kept)
     → IsOwn G (held v o.entries a) → v.up ≡ true → Fails o p ks → q ≡ p → Falls true (held v p.entries a) (held w q.entries b) → Adds a.number (event.Down true) a.seen b.seen → IsOwn G (held w q.entries b)
     → v.promised ≤ promise → ((s : OverStore) → HoldsAny s ks → HoldsAny s (lasting v.promised v.accepted o.entries promise next))
-    → (Adds v.node (event.Down true) a.seen b.seen → Lawful G b.seen → MayBeNext G (field (steps G b.seen)) (down_vote v) (woken_of u) next)
+    → (Adds v.node (event.Down true) a.seen b.seen → AreLegalSteps G b.seen → MayBeNext G (field (steps G b.seen)) (down_vote v) (woken_of u) next)
     → FallsOver G (held v o.entries a) (held w q.entries b) o q u
 falls_over G v a o p q w b u ks promise next own up f same falls d after least holds may = record {
   falls = subst (λ es. Falls true (held v es a) (held w q.entries b)) (ap (λ (x : OverStore). x.entries) f.stopped) falls;

@@ -4,14 +4,14 @@ use Rattle.std.proofs.lemmas.Bool.Decides.{Decides-eqb}
 use Rattle.std.specs.Prelude.{◌==◌, Bool, true, false, cond, Option, Some, None, slice_get}
 use Rattle.actor_trace.specs.History.{entries_of}
 use Rattle.cdb_values.specs.declared.replies.Reply.{Reply}
-use Rattle.cluster_consensus.specs.Events.{Event as Core, change}
+use Rattle.cluster_consensus.specs.Events.{NodeEvent, change}
 use Rattle.cluster_consensus.specs.Facts.{Own, World}
 use Rattle.cluster_consensus.specs.Histories.{happens}
 use Rattle.cluster_consensus.proofs.Kept.{self_row}
-use Rattle.cluster_events.specs.Parts.{Event as Step, field}
+use Rattle.cluster_events.specs.Parts.{ActorEvent, field}
 use Rattle.cluster_events.specs.Settings.{Setting}
 use Rattle.cluster_requests.specs.KeptEntries.{KeptEntry}
-use Rattle.cluster_steps.specs.Guards.{Lawful}
+use Rattle.cluster_steps.specs.Guards.{AreLegalSteps}
 use Rattle.cluster_steps.specs.Named.{back_append, kept_all, kept_over, log_named, named, named_reply, named_up, steps, world}
 use Rattle.cluster_steps.specs.declared.events.Event.{Event}
 use Rattle.cluster_steps.specs.declared.events.Event.TheVariants as event
@@ -21,7 +21,7 @@ use Rattle.core_lists.specs.Lists.{Has}
 use Rattle.core_lists.specs.Lists.In.{here}
 use Rattle.core_lists.proofs.Fronts.{length_take, take_length}
 use Rattle.phys_log.specs.declared.entries.Entry.{Entry}
-use Rattle.report_laws.specs.Work.{Item, Does, Lone}
+use Rattle.report_laws.specs.Work.{WorkItem, Does, Lone}
 use Rattle.node_state.specs.Nodes.{events_of}
 use Rattle.node_state.specs.Ships.{learned_by, learned_after, learned_behind}
 use Rattle.node_state.proofs.CallLaws.{events_more}
@@ -65,45 +65,45 @@ neither b (event.FedAgain position) lead learn = refl
 abbrev pub Telling : Own KeptEntry → Bool → Type 0
 Telling o b = o.leading ≡ true → b ≡ true → Has (λ d. (d.gen ≡ o.accepted) × (length d.log ≡ o.durable)) o.durables
 
-by_core : (w : World KeptEntry) (i : ℕ) (c : Core KeptEntry) (b : Bool) → Telling (change i (w.nodes i) c) b → Telling ((happens w i c).nodes i) b
+by_core : (w : World KeptEntry) (i : ℕ) (c : NodeEvent KeptEntry) (b : Bool) → Telling (change i (w.nodes i) c) b → Telling ((happens w i c).nodes i) b
 by_core w i c b t = subst (λ (o : Own KeptEntry). Telling o b) (sym (self_row w i c)) t
 
 -- who does not lead tells nothing
 silent : (o : Own KeptEntry) (b : Bool) → o.leading ≡ false → Telling o b
 silent o b q = λ t. absurd (let f : false ≡ true = sym q ∙ t in cc)
 
-reply_stays : (items : List Item) (r : Reply) (i : ℕ) (g : List (ℕ × Step)) → (field ((i, named_reply items r) ∷ g)).core ≡ (field g).core
+reply_stays : (items : List WorkItem) (r : Reply) (i : ℕ) (g : List (ℕ × ActorEvent)) → (field ((i, named_reply items r) ∷ g)).core ≡ (field g).core
 reply_stays [] r i g = refl
 reply_stays (Does t ∷ items) r i g = refl
 reply_stays (Lone x ∷ items) r i g = refl
 
-same_core : (i : ℕ) (s : Step) (g : List (ℕ × Step)) (b : Bool) → (field ((i, s) ∷ g)).core ≡ (field g).core → Telling ((field g).core.nodes i) b → Telling ((field ((i, s) ∷ g)).core.nodes i) b
+same_core : (i : ℕ) (s : ActorEvent) (g : List (ℕ × ActorEvent)) (b : Bool) → (field ((i, s) ∷ g)).core ≡ (field g).core → Telling ((field g).core.nodes i) b → Telling ((field ((i, s) ∷ g)).core.nodes i) b
 same_core i s g b q t = subst (λ (w : World KeptEntry). Telling (w.nodes i) b) (sym q) t
 
 -- it takes a log, learns a length, goes down, comes up
-takes : (w : World KeptEntry) (i g : ℕ) (l : List KeptEntry) (b c : Bool) → Telling (w.nodes i) b → Telling ((happens w i (cond c (Core.Grow l) (Core.Take g l))).nodes i) b
-takes w i g l b true t = by_core w i (Core.Grow l) b t
-takes w i g l b false t = by_core w i (Core.Take g l) b (silent (change i (w.nodes i) (Core.Take g l)) b refl)
+takes : (w : World KeptEntry) (i g : ℕ) (l : List KeptEntry) (b c : Bool) → Telling (w.nodes i) b → Telling ((happens w i (cond c (NodeEvent.Grow l) (NodeEvent.Take g l))).nodes i) b
+takes w i g l b true t = by_core w i (NodeEvent.Grow l) b t
+takes w i g l b false t = by_core w i (NodeEvent.Take g l) b (silent (change i (w.nodes i) (NodeEvent.Take g l)) b refl)
 
-learns : (w : World KeptEntry) (i l : ℕ) (c : Bool) → (w.nodes i).leading ≡ c → ((happens w i (cond c (Core.LearnLead l) (Core.LearnFollow l))).nodes i).durable ≤ length ((happens w i (cond c (Core.LearnLead l) (Core.LearnFollow l))).nodes i).log
-    → Telling ((happens w i (cond c (Core.LearnLead l) (Core.LearnFollow l))).nodes i) true
-learns w i l true q fits = by_core w i (Core.LearnLead l) true (λ t u. record { it = record { gen = (w.nodes i).accepted; log = take l (w.nodes i).log }; mem = here; is = (refl, size) })
+learns : (w : World KeptEntry) (i l : ℕ) (c : Bool) → (w.nodes i).leading ≡ c → ((happens w i (cond c (NodeEvent.LearnLead l) (NodeEvent.LearnFollow l))).nodes i).durable ≤ length ((happens w i (cond c (NodeEvent.LearnLead l) (NodeEvent.LearnFollow l))).nodes i).log
+    → Telling ((happens w i (cond c (NodeEvent.LearnLead l) (NodeEvent.LearnFollow l))).nodes i) true
+learns w i l true q fits = by_core w i (NodeEvent.LearnLead l) true (λ t u. record { it = record { gen = (w.nodes i).accepted; log = take l (w.nodes i).log }; mem = here; is = (refl, size) })
   where
     within : l ≤ length (w.nodes i).log
-    within = subst (λ (o : Own KeptEntry). o.durable ≤ length o.log) (self_row w i (Core.LearnLead l)) fits
+    within = subst (λ (o : Own KeptEntry). o.durable ≤ length o.log) (self_row w i (NodeEvent.LearnLead l)) fits
 
     size : length (take l (w.nodes i).log) ≡ l
     size = let a = length_take l (w.nodes i).log in let b = take_length l (w.nodes i).log within in omega arith
-learns w i l false q fits = by_core w i (Core.LearnFollow l) true (silent (change i (w.nodes i) (Core.LearnFollow l)) true q)
+learns w i l false q fits = by_core w i (NodeEvent.LearnFollow l) true (silent (change i (w.nodes i) (NodeEvent.LearnFollow l)) true q)
 
-downs : (i : ℕ) (g : List (ℕ × Step)) (b fault : Bool) → Telling ((field g).core.nodes i) b → Telling ((field ((i, cond fault (Step.Node Core.Down) Step.Stop) ∷ g)).core.nodes i) b
-downs i g b true t = by_core (field g).core i Core.Down b t
-downs i g b false t = by_core (field g).core i Core.Down b t
+downs : (i : ℕ) (g : List (ℕ × ActorEvent)) (b fault : Bool) → Telling ((field g).core.nodes i) b → Telling ((field ((i, cond fault (ActorEvent.Node NodeEvent.Down) ActorEvent.Stop) ∷ g)).core.nodes i) b
+downs i g b true t = by_core (field g).core i NodeEvent.Down b t
+downs i g b false t = by_core (field g).core i NodeEvent.Down b t
 
-wakes : (w : World KeptEntry) (i : ℕ) (c : Core KeptEntry) (b : Bool) → (change i (w.nodes i) c).leading ≡ false → Telling ((happens w i c).nodes i) b
+wakes : (w : World KeptEntry) (i : ℕ) (c : NodeEvent KeptEntry) (b : Bool) → (change i (w.nodes i) c).leading ≡ false → Telling ((happens w i c).nodes i) b
 wakes w i c b q = by_core w i c b (silent (change i (w.nodes i) c) b q)
 
-woken_took : (o : Own KeptEntry) (i g : ℕ) (l : List KeptEntry) (c : Bool) → (change i o (cond c (Core.BackGrow l) (Core.BackTake g l))).leading ≡ false
+woken_took : (o : Own KeptEntry) (i g : ℕ) (l : List KeptEntry) (c : Bool) → (change i o (cond c (NodeEvent.BackGrow l) (NodeEvent.BackTake g l))).leading ≡ false
 woken_took o i g l true = refl
 woken_took o i g l false = refl
 
@@ -112,30 +112,30 @@ woken_append o i promised log None = refl
 woken_append o i promised log (Some e) = refl
 
 -- an event of its own
-own_telling : (G : Setting) (g : List (ℕ × Step)) (i : ℕ) (e : Event) (b : Bool) → ((field ((i, named G g i e) ∷ g)).core.nodes i).durable ≤ length ((field ((i, named G g i e) ∷ g)).core.nodes i).log
+own_telling : (G : Setting) (g : List (ℕ × ActorEvent)) (i : ℕ) (e : Event) (b : Bool) → ((field ((i, named G g i e) ∷ g)).core.nodes i).durable ≤ length ((field ((i, named G g i e) ∷ g)).core.nodes i).log
     → Telling ((field g).core.nodes i) b → Telling ((field ((i, named G g i e) ∷ g)).core.nodes i) (learned_after b e)
 own_telling G g i event.Order b fits t = t
 own_telling G g i event.Obeyed b fits t = t
 own_telling G g i (event.Fire place node) b fits t = t
-own_telling G g i (event.Admit node promised accepted) b fits t = by_core (field g).core i (Core.Admits node promised accepted) b t
-own_telling G g i (event.Up (woken.First rows) promised accepted entries) b fits t = wakes (field g).core i (Core.Boot promised accepted (kept_all rows.value entries.value)) b refl
-own_telling G g i (event.Up woken.AsLeft promised accepted entries) b fits t = wakes (field g).core i (Core.Back promised) b refl
-own_telling G g i (event.Up woken.Led promised accepted entries) b fits t = wakes (field g).core i Core.BackLead b refl
+own_telling G g i (event.Admit node promised accepted) b fits t = by_core (field g).core i (NodeEvent.Admits node promised accepted) b t
+own_telling G g i (event.Up (woken.First rows) promised accepted entries) b fits t = wakes (field g).core i (NodeEvent.Boot promised accepted (kept_all rows.value entries.value)) b refl
+own_telling G g i (event.Up woken.AsLeft promised accepted entries) b fits t = wakes (field g).core i (NodeEvent.Back promised) b refl
+own_telling G g i (event.Up woken.Led promised accepted entries) b fits t = wakes (field g).core i NodeEvent.BackLead b refl
 own_telling G g i (event.Up woken.Took promised accepted entries) b fits t = wakes (field g).core i (named_up G.nodes (field g).core ((field g).core.nodes i) woken.Took promised accepted entries.value) b
     (woken_took ((field g).core.nodes i) i accepted (log_named G.nodes (field g).core accepted (length entries.value)) (accepted == ((field g).core.nodes i).accepted))
 own_telling G g i (event.Up woken.Appended promised accepted entries) b fits t = wakes (field g).core i (named_up G.nodes (field g).core ((field g).core.nodes i) woken.Appended promised accepted entries.value) b
     (woken_append ((field g).core.nodes i) i promised ((field g).core.nodes i).log (slice_get entries.value (length ((field g).core.nodes i).log)))
 own_telling G g i (event.Down fault) b fits t = downs i g b fault t
-own_telling G g i (event.Stand generation) b fits t = wakes (field g).core i (Core.Stand generation) b refl
-own_telling G g i (event.Grant generation to) b fits t = wakes (field g).core i (Core.Grants generation to) b refl
-own_telling G g i (event.Lead generation) b fits t = by_core (field g).core i Core.Lead false (λ l (u : false ≡ true). absurd (cc))
+own_telling G g i (event.Stand generation) b fits t = wakes (field g).core i (NodeEvent.Stand generation) b refl
+own_telling G g i (event.Grant generation to) b fits t = wakes (field g).core i (NodeEvent.Grants generation to) b refl
+own_telling G g i (event.Lead generation) b fits t = by_core (field g).core i NodeEvent.Lead false (λ l (u : false ≡ true). absurd (cc))
 own_telling G g i (event.Take generation l) b fits t = takes (field g).core i generation _ b (generation == ((field g).core.nodes i).accepted) t
-own_telling G g i (event.Append next) b fits t = by_core (field g).core i (Core.Append (kept_over ((field g).core.nodes i).log next.value)) b t
+own_telling G g i (event.Append next) b fits t = by_core (field g).core i (NodeEvent.Append (kept_over ((field g).core.nodes i).log next.value)) b t
 own_telling G g i (event.Settle id d) b fits t = same_core i _ g b (core_stays G.tables i id.value d.value g) t
 own_telling G g i (event.Learn l) b fits t = learns (field g).core i l ((field g).core.nodes i).leading refl fits
-own_telling G g i (event.Probe ask) b fits t = by_core (field g).core i (Core.Probe ask) b t
-own_telling G g i (event.Confirm ask generation) b fits t = by_core (field g).core i (Core.Confirm ask generation) b t
-own_telling G g i event.Ask b fits t = by_core (field g).core i (Core.Asks (length g)) b t
+own_telling G g i (event.Probe ask) b fits t = by_core (field g).core i (NodeEvent.Probe ask) b t
+own_telling G g i (event.Confirm ask generation) b fits t = by_core (field g).core i (NodeEvent.Confirm ask generation) b t
+own_telling G g i event.Ask b fits t = by_core (field g).core i (NodeEvent.Asks (length g)) b t
 own_telling G g i (event.Begun position generation) b fits t = t
 own_telling G g i (event.Reply line) b fits t = same_core i _ g b (reply_stays _ _ i g) t
 own_telling G g i (event.Send master generation) b fits t = t
@@ -145,7 +145,7 @@ own_telling G g i event.Barrier b fits t = t
 own_telling G g i (event.Fed position generation) b fits t = t
 own_telling G g i (event.FedAgain position) b fits t = t
 
-pub telling : (G : Setting) (i : ℕ) (h : List (ℕ × Event)) → Lawful G h → Telling ((world G h).nodes i) (learned_by (events_of (entries_of i h)))
+pub telling : (G : Setting) (i : ℕ) (h : List (ℕ × Event)) → AreLegalSteps G h → Telling ((world G h).nodes i) (learned_by (events_of (entries_of i h)))
 telling G i [] legal = λ (t : false ≡ true). absurd (cc)
 telling G i (x ∷ h) legal = go (i == x.0) refl (telling G i h legal.1)
   where

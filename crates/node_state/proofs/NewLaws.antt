@@ -7,7 +7,7 @@ use Rattle.cluster_consensus.specs.Facts.{Own, blank}
 use Rattle.cluster_events.specs.Arms.{last_fired}
 use Rattle.cluster_events.specs.Settings.{Setting}
 use Rattle.cluster_requests.specs.KeptEntries.{KeptEntry, plain}
-use Rattle.cluster_steps.specs.Guards.{IsPlan, Lawful}
+use Rattle.cluster_steps.specs.Guards.{IsPlan, AreLegalSteps}
 use Rattle.cluster_steps.specs.Named.{steps, world}
 use Rattle.cluster_steps.specs.declared.events.Event.{Event}
 use Rattle.cluster_steps.proofs.StepLaws.{idle}
@@ -28,7 +28,7 @@ nothing_done i seen e = ap (entries_of i) (none_behind seen) ∙ e
 pub blank_part : (G : Setting) (i : ℕ) (seen : List (ℕ × Event)) → entries_of i seen ≡ [] → (world G seen).nodes i ≡ blank
 blank_part G i seen e = ap (λ t. (world G t).nodes i) (sym (none_behind seen)) ∙ idle G i seen [] (nothing_done i seen e)
 
-pub new_own : (G : Setting) (node nodes : ℕ) (a : Knows Event) → IsPlan G → nodes ≡ G.nodes → nodes ≤ 7 → 1 ≤ node → node ≤ nodes → a.number ≡ node → a.made ≡ [] → a.made ≡ entries_of a.number a.seen → Lawful G a.seen
+pub new_own : (G : Setting) (node nodes : ℕ) (a : Knows Event) → IsPlan G → nodes ≡ G.nodes → nodes ≤ 7 → 1 ≤ node → node ≤ nodes → a.number ≡ node → a.made ≡ [] → a.made ≡ entries_of a.number a.seen → AreLegalSteps G a.seen
     → IsOwn G (held (blank_vote node nodes) [] a)
 new_own G node nodes a plan n few low high number made own legal =
     let none : entries_of node a.seen ≡ [] = ap (λ i. entries_of i a.seen) (sym number) ∙ (sym own ∙ made) in

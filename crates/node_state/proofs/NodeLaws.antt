@@ -7,13 +7,13 @@ use Rattle.actor_trace.specs.History.{entries_of}
 use Rattle.actor_trace.specs.Steps.{Adds, Rests}
 use Rattle.actor_trace.proofs.Entries.{idle_step, not_eq}
 use Rattle.cluster_consensus.specs.Enabled.{Enabled}
-use Rattle.cluster_consensus.specs.Events.{Event as Core, change}
+use Rattle.cluster_consensus.specs.Events.{NodeEvent, change}
 use Rattle.cluster_consensus.specs.Facts.{Own, World}
 use Rattle.cluster_events.specs.Arms.{last_fired, fired_by, HasFallen}
-use Rattle.cluster_events.specs.Parts.{Event as Step}
+use Rattle.cluster_events.specs.Parts.{ActorEvent}
 use Rattle.cluster_events.specs.Settings.{Setting}
 use Rattle.cluster_requests.specs.KeptEntries.{KeptEntry, plain}
-use Rattle.cluster_steps.specs.Guards.{IsAllowed, IsExact, IsPlan, MayDo, Lawful}
+use Rattle.cluster_steps.specs.Guards.{IsAllowed, IsExact, IsPlan, MayTakeStep, AreLegalSteps}
 use Rattle.cluster_steps.specs.Named.{named, steps, world}
 use Rattle.cluster_steps.specs.declared.events.Event.{Event}
 use Rattle.cluster_steps.specs.declared.events.Event.TheVariants.{Stand, Grant, Lead, Learn, Probe, Confirm}
@@ -22,7 +22,7 @@ use Rattle.core_lists.specs.Lists.{In}
 use Rattle.election_core.specs.Allowed.{MayStand, Allows}
 use Rattle.election_core.specs.Counted.{acted, counted}
 use Rattle.election_core.specs.Senders.{sender_of}
-use Rattle.election_core.specs.Told.{IsPart, IsNamed}
+use Rattle.election_core.specs.Told.{IsPart, IsEventOf}
 use Rattle.election_core.proofs.Acted.{acted_counted, counted_on}
 use Rattle.election_core.proofs.Allowing.{allowed_enabled}
 use Rattle.election_core.proofs.Enabling.{stand_enabled}
@@ -38,52 +38,52 @@ use Rattle.node_state.specs.Nodes.{IsNode, Follows}
 use Rattle.node_state.specs.Packets.{IsPacket}
 
 -- the events of elections and shipping: nothing of requests, scripts or pages is asked of them
-abbrev pub IsPlain : Core KeptEntry → Type 0
-IsPlain (Core.Admits k p a) = ⊥
-IsPlain (Core.Boot p a l) = ⊥
-IsPlain Core.Down = ⊥
-IsPlain (Core.Back p) = ⊥
-IsPlain Core.BackLead = ⊥
-IsPlain (Core.BackTake g l) = ⊥
-IsPlain (Core.BackGrow l) = ⊥
-IsPlain (Core.BackAppend e) = ⊥
-IsPlain (Core.Stand g) = Unit {0}
-IsPlain (Core.Grants g to) = Unit {0}
-IsPlain Core.Lead = Unit {0}
-IsPlain (Core.Take g l) = Unit {0}
-IsPlain (Core.Grow l) = Unit {0}
-IsPlain (Core.Append e) = ⊥
-IsPlain (Core.LearnLead l) = Unit {0}
-IsPlain (Core.LearnFollow l) = Unit {0}
-IsPlain (Core.Asks t) = ⊥
-IsPlain (Core.Probe t) = Unit {0}
-IsPlain (Core.Confirm t g) = Unit {0}
+abbrev pub IsPlain : NodeEvent KeptEntry → Type 0
+IsPlain (NodeEvent.Admits k p a) = ⊥
+IsPlain (NodeEvent.Boot p a l) = ⊥
+IsPlain NodeEvent.Down = ⊥
+IsPlain (NodeEvent.Back p) = ⊥
+IsPlain NodeEvent.BackLead = ⊥
+IsPlain (NodeEvent.BackTake g l) = ⊥
+IsPlain (NodeEvent.BackGrow l) = ⊥
+IsPlain (NodeEvent.BackAppend e) = ⊥
+IsPlain (NodeEvent.Stand g) = Unit {0}
+IsPlain (NodeEvent.Grants g to) = Unit {0}
+IsPlain NodeEvent.Lead = Unit {0}
+IsPlain (NodeEvent.Take g l) = Unit {0}
+IsPlain (NodeEvent.Grow l) = Unit {0}
+IsPlain (NodeEvent.Append e) = ⊥
+IsPlain (NodeEvent.LearnLead l) = Unit {0}
+IsPlain (NodeEvent.LearnFollow l) = Unit {0}
+IsPlain (NodeEvent.Asks t) = ⊥
+IsPlain (NodeEvent.Probe t) = Unit {0}
+IsPlain (NodeEvent.Confirm t g) = Unit {0}
 
 -- such an event of a node may happen where the core allows it
-pub plain_allowed : (G : Setting) (seen : List (ℕ × Event)) (i : ℕ) (c : Core KeptEntry) → IsPlain c → 1 ≤ i → i ≤ G.nodes → last_fired i (steps G seen) ≡ None
-    → Enabled G.nodes (world G seen) i ((world G seen).nodes i) c → IsAllowed G (steps G seen) i (Step.Node c)
-plain_allowed G seen i (Core.Admits k p a) simple low high none en = absurd simple
-plain_allowed G seen i (Core.Boot p a l) simple low high none en = absurd simple
-plain_allowed G seen i Core.Down simple low high none en = absurd simple
-plain_allowed G seen i (Core.Back p) simple low high none en = absurd simple
-plain_allowed G seen i Core.BackLead simple low high none en = absurd simple
-plain_allowed G seen i (Core.BackTake g l) simple low high none en = absurd simple
-plain_allowed G seen i (Core.BackGrow l) simple low high none en = absurd simple
-plain_allowed G seen i (Core.BackAppend e) simple low high none en = absurd simple
-plain_allowed G seen i (Core.Stand g) simple low high none en = record { may = ((en, tt), tt, (low, high)); by_script = record { heeds = tt; goes_on = subst (λ f. HasFallen G (steps G seen) i f) (sym none) tt }; pages = (tt, tt) }
-plain_allowed G seen i (Core.Grants g to) simple low high none en = record { may = ((en, tt), tt, (low, high)); by_script = record { heeds = tt; goes_on = subst (λ f. HasFallen G (steps G seen) i f) (sym none) tt }; pages = (tt, tt) }
-plain_allowed G seen i Core.Lead simple low high none en = record { may = ((en, tt), tt, (low, high)); by_script = record { heeds = tt; goes_on = subst (λ f. HasFallen G (steps G seen) i f) (sym none) tt }; pages = (tt, tt) }
-plain_allowed G seen i (Core.Take g l) simple low high none en = record { may = ((en, tt), tt, (low, high)); by_script = record { heeds = tt; goes_on = subst (λ f. HasFallen G (steps G seen) i f) (sym none) tt }; pages = (tt, tt) }
-plain_allowed G seen i (Core.Grow l) simple low high none en = record { may = ((en, tt), tt, (low, high)); by_script = record { heeds = tt; goes_on = subst (λ f. HasFallen G (steps G seen) i f) (sym none) tt }; pages = (tt, tt) }
-plain_allowed G seen i (Core.Append e) simple low high none en = absurd simple
-plain_allowed G seen i (Core.LearnLead l) simple low high none en = record { may = ((en, tt), tt, (low, high)); by_script = record { heeds = tt; goes_on = subst (λ f. HasFallen G (steps G seen) i f) (sym none) tt }; pages = (tt, tt) }
-plain_allowed G seen i (Core.LearnFollow l) simple low high none en = record { may = ((en, tt), tt, (low, high)); by_script = record { heeds = tt; goes_on = subst (λ f. HasFallen G (steps G seen) i f) (sym none) tt }; pages = (tt, tt) }
-plain_allowed G seen i (Core.Asks t) simple low high none en = absurd simple
-plain_allowed G seen i (Core.Probe t) simple low high none en = record { may = ((en, tt), tt, (low, high)); by_script = record { heeds = tt; goes_on = subst (λ f. HasFallen G (steps G seen) i f) (sym none) tt }; pages = (tt, tt) }
-plain_allowed G seen i (Core.Confirm t g) simple low high none en = record { may = ((en, tt), tt, (low, high)); by_script = record { heeds = tt; goes_on = subst (λ f. HasFallen G (steps G seen) i f) (sym none) tt }; pages = (tt, tt) }
+pub plain_allowed : (G : Setting) (seen : List (ℕ × Event)) (i : ℕ) (c : NodeEvent KeptEntry) → IsPlain c → 1 ≤ i → i ≤ G.nodes → last_fired i (steps G seen) ≡ None
+    → Enabled G.nodes (world G seen) i ((world G seen).nodes i) c → IsAllowed G (steps G seen) i (ActorEvent.Node c)
+plain_allowed G seen i (NodeEvent.Admits k p a) simple low high none en = absurd simple
+plain_allowed G seen i (NodeEvent.Boot p a l) simple low high none en = absurd simple
+plain_allowed G seen i NodeEvent.Down simple low high none en = absurd simple
+plain_allowed G seen i (NodeEvent.Back p) simple low high none en = absurd simple
+plain_allowed G seen i NodeEvent.BackLead simple low high none en = absurd simple
+plain_allowed G seen i (NodeEvent.BackTake g l) simple low high none en = absurd simple
+plain_allowed G seen i (NodeEvent.BackGrow l) simple low high none en = absurd simple
+plain_allowed G seen i (NodeEvent.BackAppend e) simple low high none en = absurd simple
+plain_allowed G seen i (NodeEvent.Stand g) simple low high none en = record { may = ((en, tt), tt, (low, high)); by_script = record { heeds = tt; goes_on = subst (λ f. HasFallen G (steps G seen) i f) (sym none) tt }; pages = (tt, tt) }
+plain_allowed G seen i (NodeEvent.Grants g to) simple low high none en = record { may = ((en, tt), tt, (low, high)); by_script = record { heeds = tt; goes_on = subst (λ f. HasFallen G (steps G seen) i f) (sym none) tt }; pages = (tt, tt) }
+plain_allowed G seen i NodeEvent.Lead simple low high none en = record { may = ((en, tt), tt, (low, high)); by_script = record { heeds = tt; goes_on = subst (λ f. HasFallen G (steps G seen) i f) (sym none) tt }; pages = (tt, tt) }
+plain_allowed G seen i (NodeEvent.Take g l) simple low high none en = record { may = ((en, tt), tt, (low, high)); by_script = record { heeds = tt; goes_on = subst (λ f. HasFallen G (steps G seen) i f) (sym none) tt }; pages = (tt, tt) }
+plain_allowed G seen i (NodeEvent.Grow l) simple low high none en = record { may = ((en, tt), tt, (low, high)); by_script = record { heeds = tt; goes_on = subst (λ f. HasFallen G (steps G seen) i f) (sym none) tt }; pages = (tt, tt) }
+plain_allowed G seen i (NodeEvent.Append e) simple low high none en = absurd simple
+plain_allowed G seen i (NodeEvent.LearnLead l) simple low high none en = record { may = ((en, tt), tt, (low, high)); by_script = record { heeds = tt; goes_on = subst (λ f. HasFallen G (steps G seen) i f) (sym none) tt }; pages = (tt, tt) }
+plain_allowed G seen i (NodeEvent.LearnFollow l) simple low high none en = record { may = ((en, tt), tt, (low, high)); by_script = record { heeds = tt; goes_on = subst (λ f. HasFallen G (steps G seen) i f) (sym none) tt }; pages = (tt, tt) }
+plain_allowed G seen i (NodeEvent.Asks t) simple low high none en = absurd simple
+plain_allowed G seen i (NodeEvent.Probe t) simple low high none en = record { may = ((en, tt), tt, (low, high)); by_script = record { heeds = tt; goes_on = subst (λ f. HasFallen G (steps G seen) i f) (sym none) tt }; pages = (tt, tt) }
+plain_allowed G seen i (NodeEvent.Confirm t g) simple low high none en = record { may = ((en, tt), tt, (low, high)); by_script = record { heeds = tt; goes_on = subst (λ f. HasFallen G (steps G seen) i f) (sym none) tt }; pages = (tt, tt) }
 
-pub may_do : (G : Setting) (seen : List (ℕ × Event)) (i : ℕ) (e : Event) (c : Core KeptEntry) → IsPlan G → IsPlain c → 1 ≤ i → i ≤ G.nodes → last_fired i (steps G seen) ≡ None
-    → IsExact G (steps G seen) i e → named G (steps G seen) i e ≡ Step.Node c → Enabled G.nodes (world G seen) i ((world G seen).nodes i) c → MayDo G seen i e
+pub may_do : (G : Setting) (seen : List (ℕ × Event)) (i : ℕ) (e : Event) (c : NodeEvent KeptEntry) → IsPlan G → IsPlain c → 1 ≤ i → i ≤ G.nodes → last_fired i (steps G seen) ≡ None
+    → IsExact G (steps G seen) i e → named G (steps G seen) i e ≡ ActorEvent.Node c → Enabled G.nodes (world G seen) i ((world G seen).nodes i) c → MayTakeStep G seen i e
 may_do G seen i e c plan p low high none exact name en = record {
   plan = plan;
   exact = exact;
@@ -104,7 +104,7 @@ fired_more G i (x ∷ between) old own =
 pub fired_rests : (G : Setting) (i : ℕ) (old new : List (ℕ × Event)) → Rests i old new → last_fired i (steps G old) ≡ None → last_fired i (steps G new) ≡ None
 fired_rests G i old new d e = ap (λ t. last_fired i (steps G t)) d.whole ∙ (fired_more G i d.between old d.none ∙ e)
 
-pub fired_adds : (G : Setting) (i : ℕ) (e : Event) (old new : List (ℕ × Event)) → ((g : List (ℕ × Step)) → fired_by g i (named G g i e) ≡ None) → Adds i e old new
+pub fired_adds : (G : Setting) (i : ℕ) (e : Event) (old new : List (ℕ × Event)) → ((g : List (ℕ × ActorEvent)) → fired_by g i (named G g i e) ≡ None) → Adds i e old new
     → last_fired i (steps G new) ≡ None
 fired_adds G i e old new silent d =
     let k = steps G (d.between ++ old) in
@@ -113,7 +113,7 @@ fired_adds G i e old new silent d =
 
 -- after an event of its own
 pub after_adds : (G : Setting) (v u : NodeVote) (log' : List Entry) (i : ℕ) (e : Event) (old new : List (ℕ × Event)) → v.node ≡ i → Follows G v.node e u log' old
-    → Adds i e old new → Lawful G new → IsNode G u log' new
+    → Adds i e old new → AreLegalSteps G new → IsNode G u log' new
 after_adds G v u log' i e old new vi f d legal =
     let dv : Adds v.node e old new = subst (λ t. Adds t e old new) (sym vi) d in
     let own = own_adds G v.node e f.core old new f.name f.may.exact dv legal in
@@ -133,7 +133,7 @@ after_adds G v u log' i e old new vi f d legal =
     }
 
 -- when it hears more
-pub after_rests : (G : Setting) (v : NodeVote) (log : List Entry) (i : ℕ) (old new : List (ℕ × Event)) → IsNode G v log old → v.node ≡ i → Rests i old new → Lawful G new → IsNode G v log new
+pub after_rests : (G : Setting) (v : NodeVote) (log : List Entry) (i : ℕ) (old new : List (ℕ × Event)) → IsNode G v log old → v.node ≡ i → Rests i old new → AreLegalSteps G new → IsNode G v log new
 after_rests G v log i old new is vi d legal =
     let dv : Rests v.node old new = subst (λ t. Rests t old new) (sym vi) d in
     let still : (world G new).nodes v.node ≡ (world G old).nodes v.node = own_rests G v.node old new dv in
@@ -155,8 +155,8 @@ pub seven : {G : Setting} {v : NodeVote} {log es : List Entry} {m : Message} {se
 seven {G} {m = m} is p = let a : sender_of m ≤ G.nodes = p.high in let b : G.nodes ≤ 7 = is.few in omega arith
 
 -- an event that is an action's, with the log that it leaves
-pub follows : {G : Setting} (v : NodeVote) (log log' : List Entry) (seen : List (ℕ × Event)) (m : Message) (es : List Entry) (a : Action) (e : Event) (c : Core KeptEntry) → IsNode G v log seen → IsPacket G m es seen
-    → IsPlain c → IsExact G (steps G seen) v.node e → named G (steps G seen) v.node e ≡ Step.Node c → ((g : List (ℕ × Step)) → fired_by g v.node (named G g v.node e) ≡ None)
+pub follows : {G : Setting} (v : NodeVote) (log log' : List Entry) (seen : List (ℕ × Event)) (m : Message) (es : List Entry) (a : Action) (e : Event) (c : NodeEvent KeptEntry) → IsNode G v log seen → IsPacket G m es seen
+    → IsPlain c → IsExact G (steps G seen) v.node e → named G (steps G seen) v.node e ≡ ActorEvent.Node c → ((g : List (ℕ × ActorEvent)) → fired_by g v.node (named G g v.node e) ≡ None)
     → Enabled G.nodes (world G seen) v.node ((world G seen).nodes v.node) c → IsPart (acted (counted v m) a) (change v.node ((world G seen).nodes v.node) c)
     → log' ≡ map plain (change v.node ((world G seen).nodes v.node) c).log → IsLog log'
     → Follows G v.node e (acted (counted v m) a) log' seen
@@ -181,7 +181,7 @@ follows {G} v log log' seen m es a e c is p simple exact name silent en part l l
 
 -- what a message allows, as an event of the core
 abbrev pub Allowed : Setting → List (ℕ × Event) → NodeVote → Message → Action → Type 0
-Allowed G seen v m a = (e : Core KeptEntry) × IsNamed (counted v m) a e × Enabled G.nodes (world G seen) v.node ((world G seen).nodes v.node) e × IsPart (acted (counted v m) a) (change v.node ((world G seen).nodes v.node) e)
+Allowed G seen v m a = (e : NodeEvent KeptEntry) × IsEventOf (counted v m) a e × Enabled G.nodes (world G seen) v.node ((world G seen).nodes v.node) e × IsPart (acted (counted v m) a) (change v.node ((world G seen).nodes v.node) e)
 
 pub allowed : {G : Setting} (v : NodeVote) (log : List Entry) (seen : List (ℕ × Event)) (m : Message) (es : List Entry) (a : Action) → IsNode G v log seen → IsPacket G m es seen → Allows v m a → Allowed G seen v m a
 allowed {G} v log seen m es a is p may = allowed_enabled G.nodes (world G seen) v m a is.nodes_is is.part is.counted p.told p.low (seven is p) may
@@ -192,7 +192,7 @@ grants {G} v log seen m es g to is p may =
     let w = world G seen in
     let o = w.nodes v.node in
     let x = allowed v log seen m es (action.Promise g to) is p may in
-    follows v log log seen m es (action.Promise g to) (Grant g to) (Core.Grants g to) is p tt tt refl (λ g. refl)
+    follows v log log seen m es (action.Promise g to) (Grant g to) (NodeEvent.Grants g to) is p tt tt refl (λ g. refl)
     (subst (λ t. Enabled G.nodes w v.node o t) x.1 x.2) (subst (λ t. IsPart (acted (counted v m) (action.Promise g to)) (change v.node o t)) x.1 x.3) is.log_is is.logged
 
 pub leads : {G : Setting} (v : NodeVote) (log : List Entry) (seen : List (ℕ × Event)) (m : Message) (es : List Entry) (g : ℕ) → IsNode G v log seen → IsPacket G m es seen → Allows v m (action.Lead g)
@@ -202,7 +202,7 @@ leads {G} v log seen m es g is p may =
     let o = w.nodes v.node in
     let x = allowed v log seen m es (action.Lead g) is p may in
     let q = part_kept v m o is.part in
-    follows v log log seen m es (action.Lead g) (Lead g) Core.Lead is p tt (x.1.0 ∙ q.promised) refl (λ g. refl)
+    follows v log log seen m es (action.Lead g) (Lead g) NodeEvent.Lead is p tt (x.1.0 ∙ q.promised) refl (λ g. refl)
     (subst (λ t. Enabled G.nodes w v.node o t) x.1.1 x.2) (subst (λ t. IsPart (acted (counted v m) (action.Lead g)) (change v.node o t)) x.1.1 x.3) is.log_is is.logged
 
 pub learns : {G : Setting} (v : NodeVote) (log : List Entry) (seen : List (ℕ × Event)) (m : Message) (es : List Entry) (d : ℕ) → IsNode G v log seen → IsPacket G m es seen → Allows v m (action.Know d)
@@ -218,15 +218,15 @@ learns {G} v log seen m es d is p may = go x.1
     x : Allowed G seen v m (action.Know d)
     x = allowed v log seen m es (action.Know d) is p may
 
-    by : (c : Core KeptEntry) → IsPlain c → x.0 ≡ c → (Enabled G.nodes w v.node o c → cond o.leading (Core.LearnLead d) (Core.LearnFollow d) ≡ c) → log ≡ map plain (change v.node o c).log
+    by : (c : NodeEvent KeptEntry) → IsPlain c → x.0 ≡ c → (Enabled G.nodes w v.node o c → cond o.leading (NodeEvent.LearnLead d) (NodeEvent.LearnFollow d) ≡ c) → log ≡ map plain (change v.node o c).log
         → Follows G v.node (Learn d) (acted (counted v m) (action.Know d)) log seen
     by c simple q name l =
         let en = subst (λ t. Enabled G.nodes w v.node o t) q x.2 in
-        follows v log log seen m es (action.Know d) (Learn d) c is p simple tt (ap Step.Node (name en)) (λ g. refl) en (subst (λ t. IsPart (acted (counted v m) (action.Know d)) (change v.node o t)) q x.3) l is.logged
+        follows v log log seen m es (action.Know d) (Learn d) c is p simple tt (ap ActorEvent.Node (name en)) (λ g. refl) en (subst (λ t. IsPart (acted (counted v m) (action.Know d)) (change v.node o t)) q x.3) l is.logged
 
-    go : (x.0 ≡ Core.LearnLead d) ⊎ (x.0 ≡ Core.LearnFollow d) → Follows G v.node (Learn d) (acted (counted v m) (action.Know d)) log seen
-    go (inl q) = by (Core.LearnLead d) tt q (λ en. ap (λ b. cond b (Core.LearnLead d) (Core.LearnFollow d)) en.1) is.log_is
-    go (inr q) = by (Core.LearnFollow d) tt q (λ en. ap (λ b. cond b (Core.LearnLead d) (Core.LearnFollow d)) en.1) is.log_is
+    go : (x.0 ≡ NodeEvent.LearnLead d) ⊎ (x.0 ≡ NodeEvent.LearnFollow d) → Follows G v.node (Learn d) (acted (counted v m) (action.Know d)) log seen
+    go (inl q) = by (NodeEvent.LearnLead d) tt q (λ en. ap (λ b. cond b (NodeEvent.LearnLead d) (NodeEvent.LearnFollow d)) en.1) is.log_is
+    go (inr q) = by (NodeEvent.LearnFollow d) tt q (λ en. ap (λ b. cond b (NodeEvent.LearnLead d) (NodeEvent.LearnFollow d)) en.1) is.log_is
 
 pub confirms : {G : Setting} (v : NodeVote) (log : List Entry) (seen : List (ℕ × Event)) (m : Message) (es : List Entry) (g t to : ℕ) → IsNode G v log seen → IsPacket G m es seen
     → Allows v m (action.Answer (Pong v.node g t) to) → Follows G v.node (Confirm t g) (acted (counted v m) (action.Answer (Pong v.node g t) to)) log seen
@@ -235,7 +235,7 @@ confirms {G} v log seen m es g t to is p may =
     let o = w.nodes v.node in
     let a = action.Answer (Pong v.node g t) to in
     let x = allowed v log seen m es a is p may in
-    follows v log log seen m es a (Confirm t g) (Core.Confirm t g) is p tt tt refl (λ g. refl)
+    follows v log log seen m es a (Confirm t g) (NodeEvent.Confirm t g) is p tt tt refl (λ g. refl)
     (subst (λ y. Enabled G.nodes w v.node o y) x.1 x.2) (subst (λ y. IsPart (acted (counted v m) a) (change v.node o y)) x.1 x.3) is.log_is is.logged
 
 pub stands : {G : Setting} (v : NodeVote) (log : List Entry) (seen : List (ℕ × Event)) (g : ℕ) → IsNode G v log seen → MayStand v g
@@ -247,9 +247,9 @@ stands {G} v log seen g is may =
       low = is.low;
       high = is.high;
       few = is.few;
-      may = may_do G seen v.node (Stand g) (Core.Stand g) is.plan tt is.low is.high is.unarmed tt refl x.0;
+      may = may_do G seen v.node (Stand g) (NodeEvent.Stand g) is.plan tt is.low is.high is.unarmed tt refl x.0;
       silent = λ g. refl;
-      core = Core.Stand g;
+      core = NodeEvent.Stand g;
       name = refl;
       part = x.1;
       log_is = is.log_is;
@@ -272,9 +272,9 @@ probes {G} v log seen t is asked up leading one adopted =
       low = is.low;
       high = is.high;
       few = is.few;
-      may = may_do G seen v.node (Probe t) (Core.Probe t) is.plan tt is.low is.high is.unarmed tt refl (sym q.up ∙ up, sym q.leading ∙ leading, record { it = t; mem = asked; is = refl }, low, reaches);
+      may = may_do G seen v.node (Probe t) (NodeEvent.Probe t) is.plan tt is.low is.high is.unarmed tt refl (sym q.up ∙ up, sym q.leading ∙ leading, record { it = t; mem = asked; is = refl }, low, reaches);
       silent = λ g. refl;
-      core = Core.Probe t;
+      core = NodeEvent.Probe t;
       name = refl;
       part = record { promised = q.promised; accepted = q.accepted; length = q.length; adopted = q.adopted; durable = q.durable; leading = q.leading; up = q.up };
       log_is = is.log_is;

@@ -6,7 +6,7 @@ use Rattle.cluster_events.specs.Settings.{Setting}
 use Rattle.cluster_steps.specs.Named.{world}
 use Rattle.cluster_steps.specs.declared.events.Event.{Event}
 use Rattle.cluster_steps.proofs.StepLaws.{inv_of}
-use Rattle.election_core.specs.Allowed.{Allows, Decides, Takes}
+use Rattle.election_core.specs.Allowed.{Allows, AllowsExactly, Takes}
 use Rattle.election_core.specs.Counted.{acted, counted, counts_vote, counts_length, with_length}
 use Rattle.election_core.specs.Counts.{with_bit}
 use Rattle.election_core.specs.declared.messages.Action.{Action}
@@ -143,13 +143,13 @@ granted v (Durable f h l) g to may = absurd may
 granted v (Ping f h t d) g to may = absurd may
 granted v (Pong f h t) g to may = absurd may
 
-pub grant_up : (v : NodeVote) (m : Message) (a : Action) (g to : ℕ) → a ≡ action.Promise g to → Decides v m a → v.up ≡ true
-grant_up v m a g to is d = (granted v m g to (subst (λ t. Decides v m t) is d)).0
+pub grant_up : (v : NodeVote) (m : Message) (a : Action) (g to : ℕ) → a ≡ action.Promise g to → AllowsExactly v m a → v.up ≡ true
+grant_up v m a g to is d = (granted v m g to (subst (λ t. AllowsExactly v m t) is d)).0
 
-pub grant_above : (v : NodeVote) (m : Message) (a : Action) (g to : ℕ) → a ≡ action.Promise g to → Decides v m a → v.promised < g
-grant_above v m a g to is d = (granted v m g to (subst (λ t. Decides v m t) is d)).1
+pub grant_above : (v : NodeVote) (m : Message) (a : Action) (g to : ℕ) → a ≡ action.Promise g to → AllowsExactly v m a → v.promised < g
+grant_above v m a g to is d = (granted v m g to (subst (λ t. AllowsExactly v m t) is d)).1
 
-pub grant_numbers : (v u : NodeVote) (m : Message) (a : Action) (g to : ℕ) → a ≡ action.Promise g to → Decides v m a → u ≡ acted (counted v m) a → HasNumbers v g v.accepted u
+pub grant_numbers : (v u : NodeVote) (m : Message) (a : Action) (g to : ℕ) → a ≡ action.Promise g to → AllowsExactly v m a → u ≡ acted (counted v m) a → HasNumbers v g v.accepted u
 grant_numbers v u m a g to is d e =
     let c = counted_keeps v m in
     subst (λ t. HasNumbers v g v.accepted t) (sym (e ∙ ap (λ t. acted (counted v m) t) is))
@@ -171,16 +171,16 @@ led v (Durable f h l) g may = absurd may
 led v (Ping f h t d) g may = absurd may
 led v (Pong f h t) g may = absurd may
 
-pub lead_up : (v : NodeVote) (m : Message) (a : Action) (g : ℕ) → a ≡ action.Lead g → Decides v m a → v.up ≡ true
-lead_up v m a g is d = (led v m g (subst (λ t. Decides v m t) is d)).0
+pub lead_up : (v : NodeVote) (m : Message) (a : Action) (g : ℕ) → a ≡ action.Lead g → AllowsExactly v m a → v.up ≡ true
+lead_up v m a g is d = (led v m g (subst (λ t. AllowsExactly v m t) is d)).0
 
-pub lead_above : (v : NodeVote) (m : Message) (a : Action) (g : ℕ) → a ≡ action.Lead g → Decides v m a → v.accepted < v.promised
-lead_above v m a g is d = (led v m g (subst (λ t. Decides v m t) is d)).1
+pub lead_above : (v : NodeVote) (m : Message) (a : Action) (g : ℕ) → a ≡ action.Lead g → AllowsExactly v m a → v.accepted < v.promised
+lead_above v m a g is d = (led v m g (subst (λ t. AllowsExactly v m t) is d)).1
 
-pub lead_numbers : (v u : NodeVote) (m : Message) (a : Action) (g : ℕ) → a ≡ action.Lead g → Decides v m a → u ≡ acted (counted v m) a → HasNumbers v v.promised v.promised u
+pub lead_numbers : (v u : NodeVote) (m : Message) (a : Action) (g : ℕ) → a ≡ action.Lead g → AllowsExactly v m a → u ≡ acted (counted v m) a → HasNumbers v v.promised v.promised u
 lead_numbers v u m a g is d e =
     let c = counted_keeps v m in
-    let l = led v m g (subst (λ t. Decides v m t) is d) in
+    let l = led v m g (subst (λ t. AllowsExactly v m t) is d) in
     subst (λ t. HasNumbers v v.promised v.promised t) (sym (e ∙ ap (λ t. acted (counted v m) t) is))
     (record { node = c.node; up = c.up ∙ l.0; promise = c.promised; acceptance = l.2 })
 

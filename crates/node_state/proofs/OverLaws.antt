@@ -12,10 +12,10 @@ use Rattle.election_core.specs.declared.votes.NodeVote.{NodeVote}
 use Rattle.kept_log.specs.Kept.{OverStore}
 use Rattle.phys_log.specs.declared.entries.Entry.{Entry}
 use Rattle.node_state.specs.declared.faults.UnderWay.{UnderWay}
-use Rattle.node_state.specs.Calls.{Answers, FallsPartly, IsAsBefore, SetsUp, Stands, Probes, through}
+use Rattle.node_state.specs.Calls.{Answers, FallsPartly, IsAsBefore, SetsUp, StandsAsCandidate, Probes, through}
 use Rattle.node_state.specs.Commits.{Enters}
 use Rattle.node_state.specs.Nodes.{Held, IsOwn}
-use Rattle.node_state.specs.Packets.{Sent}
+use Rattle.node_state.specs.Packets.{SentPacket}
 use Rattle.node_state.specs.Stores.{FallsAfter, IsKeptBy, IsStored, StopsShort}
 use Rattle.node_state.proofs.CallLaws.{partly_before}
 use Rattle.node_state.proofs.NumberLaws.{counted_keeps}
@@ -30,19 +30,19 @@ acted_up v (action.Take g l) = refl
 acted_up v (action.Know d) = refl
 acted_up v (action.Answer m to) = refl
 
-pub stored_stood : (G : Setting) (g : ℕ) (ps : List Sent) (old new : Held) (o : OverStore) (u : UnderWay) → IsOwn G new → IsKeptBy new.vote o → old.vote.up ≡ true → Stands g ps old new → IsStored G new o u
+pub stored_stood : (G : Setting) (g : ℕ) (ps : List SentPacket) (old new : Held) (o : OverStore) (u : UnderWay) → IsOwn G new → IsKeptBy new.vote o → old.vote.up ≡ true → StandsAsCandidate g ps old new → IsStored G new o u
 stored_stood G g ps old new o u own k up s = stored_up G new o u own k (ap (λ (v : NodeVote). v.up) s.vote ∙ up)
 
-pub stored_probed : (G : Setting) (t : ℕ) (ps : List Sent) (old new : Held) (o : OverStore) (u : UnderWay) → IsOwn G new → IsKeptBy new.vote o → old.vote.up ≡ true → Probes t ps old new → IsStored G new o u
+pub stored_probed : (G : Setting) (t : ℕ) (ps : List SentPacket) (old new : Held) (o : OverStore) (u : UnderWay) → IsOwn G new → IsKeptBy new.vote o → old.vote.up ≡ true → Probes t ps old new → IsStored G new o u
 stored_probed G t ps old new o u own k up s = stored_up G new o u own k (ap (λ (v : NodeVote). v.up) s.vote ∙ up)
 
-pub stored_set_up : (G : Setting) (tables : List TableDef) (ps : List Sent) (old new : Held) (o : OverStore) (u : UnderWay) → IsOwn G new → IsKeptBy new.vote o → old.vote.up ≡ true → SetsUp tables ps old new → IsStored G new o u
+pub stored_set_up : (G : Setting) (tables : List TableDef) (ps : List SentPacket) (old new : Held) (o : OverStore) (u : UnderWay) → IsOwn G new → IsKeptBy new.vote o → old.vote.up ≡ true → SetsUp tables ps old new → IsStored G new o u
 stored_set_up G tables ps old new o u own k up s = stored_up G new o u own k (ap (λ (v : NodeVote). v.up) s.vote ∙ up)
 
-pub stored_entered : (G : Setting) (next : Entry) (ps : List Sent) (old new : Held) (o : OverStore) (u : UnderWay) → IsOwn G new → IsKeptBy new.vote o → old.vote.up ≡ true → Enters next ps old new → IsStored G new o u
+pub stored_entered : (G : Setting) (next : Entry) (ps : List SentPacket) (old new : Held) (o : OverStore) (u : UnderWay) → IsOwn G new → IsKeptBy new.vote o → old.vote.up ≡ true → Enters next ps old new → IsStored G new o u
 stored_entered G next ps old new o u own k up s = stored_up G new o u own k (ap (λ (v : NodeVote). v.up) s.vote ∙ up)
 
-pub stored_answered : (G : Setting) (m : Message) (es : List Entry) (ps : List Sent) (old new : Held) (o : OverStore) (u : UnderWay) → IsOwn G new → IsKeptBy new.vote o → old.vote.up ≡ true → Answers m es ps old new → IsStored G new o u
+pub stored_answered : (G : Setting) (m : Message) (es : List Entry) (ps : List SentPacket) (old new : Held) (o : OverStore) (u : UnderWay) → IsOwn G new → IsKeptBy new.vote o → old.vote.up ≡ true → Answers m es ps old new → IsStored G new o u
 stored_answered G m es ps old new o u own k up a =
     stored_up G new o u own k (ap (λ (v : NodeVote). v.up) a.acts.vote ∙ (acted_up (counted old.vote m) (through m a.action) ∙ ((counted_keeps old.vote m).up ∙ up)))
 

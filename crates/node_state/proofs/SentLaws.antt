@@ -3,18 +3,18 @@ use Rattle.std.proofs.Common.{ℕ, ◌≡◌, ◌≤◌, List, [], ◌∷◌, �
 use Rattle.std.specs.Prelude.{zero, suc, ◌==◌, Bool, true, false, cond}
 use Rattle.actor_trace.specs.Lists.{Begins}
 use Rattle.actor_trace.specs.Steps.{Adds, Rests}
-use Rattle.cluster_consensus.specs.Events.{Event as Core, change}
+use Rattle.cluster_consensus.specs.Events.{NodeEvent, change}
 use Rattle.cluster_consensus.specs.Facts.{Own, World}
 use Rattle.cluster_consensus.proofs.Laws.{known_within}
 use Rattle.cluster_events.specs.Settings.{Setting}
-use Rattle.cluster_events.specs.Parts.{Event as Step}
+use Rattle.cluster_events.specs.Parts.{ActorEvent}
 use Rattle.cluster_requests.specs.KeptEntries.{KeptEntry, plain}
 use Rattle.cluster_steps.specs.Named.{named, steps, world}
 use Rattle.cluster_steps.specs.declared.events.Event.{Event}
 use Rattle.cluster_steps.specs.declared.events.Event.TheVariants.{Stand, Grant, Lead, Take, Learn, Probe, Confirm}
 use Rattle.cluster_steps.proofs.OwnLaws.{own_adds, tells_rests, tells_begins}
 use Rattle.cluster_steps.proofs.StepLaws.{core_legal, world_is}
-use Rattle.cluster_steps.specs.Guards.{Lawful}
+use Rattle.cluster_steps.specs.Guards.{AreLegalSteps}
 use Rattle.core_lists.specs.Lists.{Has}
 use Rattle.core_lists.specs.Lists.In.{here}
 use Rattle.core_lists.proofs.Fronts.{length_take, take_length}
@@ -22,7 +22,7 @@ use Rattle.election_core.specs.Allowed.{Allows}
 use Rattle.election_core.specs.Counted.{acted, counted, counts_vote, counts_length, with_length}
 use Rattle.election_core.specs.Counts.{with_bit}
 use Rattle.election_core.specs.More.{TellsMore}
-use Rattle.election_core.specs.Told.{IsTold}
+use Rattle.election_core.specs.Told.{IsMessageTold}
 use Rattle.election_core.proofs.Keeping.{part_kept, same_after}
 use Rattle.election_core.specs.declared.messages.Action.{Action}
 use Rattle.election_core.specs.declared.messages.Action.TheVariants as action
@@ -33,12 +33,12 @@ use Rattle.election_core.proofs.Acted.{has_in}
 use Rattle.phys_log.specs.Logs.{IsLog}
 use Rattle.phys_log.specs.declared.entries.Entry.{Entry}
 use Rattle.node_state.specs.Nodes.{IsNode}
-use Rattle.node_state.specs.Packets.{Sent, IsPacket, IsTail, IsTailOf, AreSent, packet, others, packets_of, standing_packets, probing_packets}
+use Rattle.node_state.specs.Packets.{SentPacket, IsPacket, IsTail, IsTailOf, AreSent, packet, others, packets_of, standing_packets, probing_packets}
 use Rattle.node_state.proofs.LogLists.{map_size}
 use Rattle.node_state.proofs.NodeLaws.{allowed}
 use Rattle.node_state.proofs.ShipLaws.{taken}
 
-told_on : {w u : World KeptEntry} (m : Message) → TellsMore w u → IsTold w m → IsTold u m
+told_on : {w u : World KeptEntry} (m : Message) → TellsMore w u → IsMessageTold w m → IsMessageTold u m
 told_on (Vote f g a l) t x = has_in (t.nodes f).votes x
 told_on (Granted f g to) t x = has_in (t.nodes f).grants x
 told_on (Adopt f g l) t x = has_in (t.nodes f).ships x
@@ -61,7 +61,7 @@ tail_on (Pong f g a) es t x = x
 pub packet_on : {G : Setting} {m : Message} {es : List Entry} {old new : List (ℕ × Event)} → TellsMore (world G old) (world G new) → IsPacket G m es old → IsPacket G m es new
 packet_on {m = m} {es = es} t p = record { low = p.low; high = p.high; told = told_on m t p.told; tail = tail_on m es t p.tail }
 
-pub sent_on : (G : Setting) (old new : List (ℕ × Event)) (ps : List Sent) → TellsMore (world G old) (world G new) → AreSent G old ps → AreSent G new ps
+pub sent_on : (G : Setting) (old new : List (ℕ × Event)) (ps : List SentPacket) → TellsMore (world G old) (world G new) → AreSent G old ps → AreSent G new ps
 sent_on G old new [] more x = tt
 sent_on G old new (p ∷ ps) more x =
     let y = x.0 in
@@ -74,10 +74,10 @@ packet_heard G m es note seen b p = packet_on (tells_begins G note seen b) p
 pub packet_rests : (G : Setting) (i : ℕ) (m : Message) (es : List Entry) (old new : List (ℕ × Event)) → Rests i old new → IsPacket G m es old → IsPacket G m es new
 packet_rests G i m es old new d p = packet_on (tells_rests G i old new d) p
 
-pub sent_rests : (G : Setting) (i : ℕ) (ps : List Sent) (old new : List (ℕ × Event)) → Rests i old new → AreSent G old ps → AreSent G new ps
+pub sent_rests : (G : Setting) (i : ℕ) (ps : List SentPacket) (old new : List (ℕ × Event)) → Rests i old new → AreSent G old ps → AreSent G new ps
 sent_rests G i ps old new d x = sent_on G old new ps (tells_rests G i old new d) x
 
-pub sent_more : (G : Setting) (seen : List (ℕ × Event)) (ps qs : List Sent) → AreSent G seen ps → AreSent G seen qs → AreSent G seen (ps ++ qs)
+pub sent_more : (G : Setting) (seen : List (ℕ × Event)) (ps qs : List SentPacket) → AreSent G seen ps → AreSent G seen qs → AreSent G seen (ps ++ qs)
 sent_more G seen [] qs x y = y
 sent_more G seen (p ∷ ps) qs x y = (x.0, sent_more G seen ps qs x.1 y)
 
@@ -96,12 +96,12 @@ who : (v : NodeVote) (m : Message) (a : Action) → ((acted (counted v m) a).nod
 who v m a = same_after v (acted (counted v m) a) m a refl
 
 pub grant_sent : {G : Setting} (v : NodeVote) (log : List Entry) (seen new : List (ℕ × Event)) (m : Message) (es : List Entry) (g to s : ℕ) → IsNode G v log seen → IsPacket G m es seen → Allows v m (action.Promise g to)
-    → Adds v.node (Grant g to) seen new → Lawful G new → AreSent G new (packet to (Granted v.node g to) [] ∷ [])
+    → Adds v.node (Grant g to) seen new → AreLegalSteps G new → AreSent G new (packet to (Granted v.node g to) [] ∷ [])
 grant_sent {G} v log seen new (Vote f h a l) es g to s is p may d legal =
     let o = (world G seen).nodes v.node in
     let w = world G new in
-    let own = own_adds G v.node (Grant g to) (Core.Grants g to) seen new refl tt d legal in
-    let told : IsTold w (Granted v.node g to) = subst (λ (t : Own KeptEntry). Has (λ x. (x.gen ≡ g) × (x.to ≡ to)) t.grants) (sym own) (record { it = record { gen = g; to = to; accepted = o.accepted; log = o.log }; mem = here; is = (refl, refl) }) in
+    let own = own_adds G v.node (Grant g to) (NodeEvent.Grants g to) seen new refl tt d legal in
+    let told : IsMessageTold w (Granted v.node g to) = subst (λ (t : Own KeptEntry). Has (λ x. (x.gen ≡ g) × (x.to ≡ to)) t.grants) (sym own) (record { it = record { gen = g; to = to; accepted = o.accepted; log = o.log }; mem = here; is = (refl, refl) }) in
     let e : to ≡ f = may.2 in
     one_sent G new to (Granted v.node g to) (subst (λ k. 1 ≤ k) (sym e) p.low) (subst (λ k. k ≤ G.nodes) (sym e) p.high) (record { low = is.low; high = is.high; told = told; tail = refl })
 grant_sent v log seen new (Granted f h a) es g to s is p may step legal = absurd may
@@ -113,11 +113,11 @@ grant_sent v log seen new (Ping f h t d) es g to s is p may step legal = absurd 
 grant_sent v log seen new (Pong f h t) es g to s is p may step legal = absurd may
 
 pub confirm_sent : {G : Setting} (v : NodeVote) (log : List Entry) (seen new : List (ℕ × Event)) (m : Message) (es : List Entry) (g t to : ℕ) → IsNode G v log seen → IsPacket G m es seen
-    → Allows v m (action.Answer (Pong v.node g t) to) → Adds v.node (Confirm t g) seen new → Lawful G new → AreSent G new (packet to (Pong v.node g t) [] ∷ [])
+    → Allows v m (action.Answer (Pong v.node g t) to) → Adds v.node (Confirm t g) seen new → AreLegalSteps G new → AreSent G new (packet to (Pong v.node g t) [] ∷ [])
 confirm_sent {G} v log seen new (Ping f h a d) es g t to is p may add legal =
     let o = (world G seen).nodes v.node in
-    let own = own_adds G v.node (Confirm t g) (Core.Confirm t g) seen new refl tt add legal in
-    let told : IsTold (world G new) (Pong v.node g t) = subst (λ (x : Own KeptEntry). Has (λ y. (y.ask ≡ t) × (y.gen ≡ g)) x.pongs) (sym own) (record { it = record { ask = t; gen = g }; mem = here; is = (refl, refl) }) in
+    let own = own_adds G v.node (Confirm t g) (NodeEvent.Confirm t g) seen new refl tt add legal in
+    let told : IsMessageTold (world G new) (Pong v.node g t) = subst (λ (x : Own KeptEntry). Has (λ y. (y.ask ≡ t) × (y.gen ≡ g)) x.pongs) (sym own) (record { it = record { ask = t; gen = g }; mem = here; is = (refl, refl) }) in
     let e : to ≡ f = may.2 in
     one_sent G new to (Pong v.node g t) (subst (λ k. 1 ≤ k) (sym e) p.low) (subst (λ k. k ≤ G.nodes) (sym e) p.high) (record { low = is.low; high = is.high; told = told; tail = refl })
 confirm_sent v log seen new (Vote f h a l) es g t to is p may d legal = absurd may
@@ -130,18 +130,18 @@ confirm_sent v log seen new (Pong f h a) es g t to is p may d legal = absurd may
 
 -- the length that it took is acknowledged
 pub take_acked : {G : Setting} (v : NodeVote) (log : List Entry) (seen new : List (ℕ × Event)) (m : Message) (es : List Entry) (g l : ℕ) → IsNode G v log seen → IsPacket G m es seen → Allows v m (action.Take g l)
-    → Adds v.node (Take g l) seen new → Lawful G new → IsPacket G (Ack v.node g l) [] new
+    → Adds v.node (Take g l) seen new → AreLegalSteps G new → IsPacket G (Ack v.node g l) [] new
 take_acked {G} v log seen new m es g l is p may d legal =
     let t = taken v log seen m es g l is p may in
     let own = own_adds G v.node (Take g l) t.event seen new t.name t.is_exact d legal in
-    let told : IsTold (world G new) (Ack v.node g l) = subst (λ (x : Own KeptEntry). Has (λ c. (c.gen ≡ g) × (length c.log ≡ l)) x.acks) (sym own) t.acked in
+    let told : IsMessageTold (world G new) (Ack v.node g l) = subst (λ (x : Own KeptEntry). Has (λ c. (c.gen ≡ g) × (length c.log ≡ l)) x.acks) (sym own) t.acked in
     record { low = is.low; high = is.high; told = told; tail = refl }
 
 pub ack_sent : {G : Setting} (seen : List (ℕ × Event)) (node g l s : ℕ) → 1 ≤ s → s ≤ G.nodes → IsPacket G (Ack node g l) [] seen → AreSent G seen (packet s (Ack node g l) [] ∷ [])
 ack_sent {G} seen node g l s low high p = one_sent G seen s (Ack node g l) low high p
 
 pub lead_sent : {G : Setting} (v : NodeVote) (log : List Entry) (seen new : List (ℕ × Event)) (m : Message) (es : List Entry) (g s : ℕ) → IsNode G v log seen → IsPacket G m es seen → Allows v m (action.Lead g)
-    → Adds v.node (Lead g) seen new → Lawful G new → AreSent G new (packets_of (acted (counted v m) (action.Lead g)) (action.Lead g) log s)
+    → Adds v.node (Lead g) seen new → AreLegalSteps G new → AreSent G new (packets_of (acted (counted v m) (action.Lead g)) (action.Lead g) log s)
 lead_sent {G} v log seen new m es g s is p may d legal = at (acted (counted v m) (action.Lead g)) same.0 (same.1 ∙ is.nodes_is)
   where
     same : ((acted (counted v m) (action.Lead g)).node ≡ v.node) × ((acted (counted v m) (action.Lead g)).nodes ≡ v.nodes)
@@ -153,8 +153,8 @@ lead_sent {G} v log seen new m es g s is p may d legal = at (acted (counted v m)
     gen : o.promised ≡ g
     gen = sym ((allowed v log seen m es (action.Lead g) is p may).1.0 ∙ (part_kept v m o is.part).promised)
 
-    own : (world G new).nodes v.node ≡ change v.node o Core.Lead
-    own = own_adds G v.node (Lead g) Core.Lead seen new refl (sym gen) d legal
+    own : (world G new).nodes v.node ≡ change v.node o NodeEvent.Lead
+    own = own_adds G v.node (Lead g) NodeEvent.Lead seen new refl (sym gen) d legal
 
     size : length o.log ≡ length log
     size = sym (ap length is.log_is ∙ map_size plain o.log)
@@ -205,7 +205,7 @@ counted_leads v (Ping f g t d) = (refl, refl)
 counted_leads v (Pong f g t) = (refl, refl)
 
 pub know_sent : {G : Setting} (v : NodeVote) (log : List Entry) (seen new : List (ℕ × Event)) (m : Message) (es : List Entry) (d s : ℕ) → IsNode G v log seen → IsPacket G m es seen → Allows v m (action.Know d)
-    → Adds v.node (Learn d) seen new → Lawful G new → AreSent G new (packets_of (acted (counted v m) (action.Know d)) (action.Know d) log s)
+    → Adds v.node (Learn d) seen new → AreLegalSteps G new → AreSent G new (packets_of (acted (counted v m) (action.Know d)) (action.Know d) log s)
 know_sent {G} v log seen new m es d s is p may add legal = at (acted (counted v m) (action.Know d)) same.0 (same.1 ∙ is.nodes_is) (counted_leads v m).0 (counted_leads v m).1
   where
     same : ((acted (counted v m) (action.Know d)).node ≡ v.node) × ((acted (counted v m) (action.Know d)).nodes ≡ v.nodes)
@@ -217,14 +217,14 @@ know_sent {G} v log seen new m es d s is p may add legal = at (acted (counted v 
     leads : v.leading ≡ true → AreSent G new (others G.nodes v.node (Durable v.node v.accepted d) [])
     leads lead =
         let ol : o.leading ≡ true = sym is.part.leading ∙ lead in
-        let name : named G (steps G seen) v.node (Learn d) ≡ Step.Node (Core.LearnLead d) = ap (λ b. Step.Node (cond b (Core.LearnLead d) (Core.LearnFollow d))) ol in
-        let own = own_adds G v.node (Learn d) (Core.LearnLead d) seen new name tt add legal in
+        let name : named G (steps G seen) v.node (Learn d) ≡ ActorEvent.Node (NodeEvent.LearnLead d) = ap (λ b. ActorEvent.Node (cond b (NodeEvent.LearnLead d) (NodeEvent.LearnFollow d))) ol in
+        let own = own_adds G v.node (Learn d) (NodeEvent.LearnLead d) seen new name tt add legal in
         let known : ((world G new).nodes v.node).durable ≤ length ((world G new).nodes v.node).log = subst (λ (w : World KeptEntry). (w.nodes v.node).durable ≤ length (w.nodes v.node).log) (sym (world_is G new)) (known_within G.nodes v.node _ (core_legal G new legal)) in
         let within : d ≤ length o.log = subst (λ (x : Own KeptEntry). x.durable ≤ length x.log) own known in
         let a = length_take d o.log in
         let b = take_length d o.log within in
         let size : length (take d o.log) ≡ d = omega arith in
-        let told : IsTold (world G new) (Durable v.node v.accepted d) = subst (λ (x : Own KeptEntry). Has (λ c. (c.gen ≡ v.accepted) × (length c.log ≡ d)) x.durables) (sym own) (record { it = record { gen = o.accepted; log = take d o.log }; mem = here; is = (sym is.part.accepted, size) }) in
+        let told : IsMessageTold (world G new) (Durable v.node v.accepted d) = subst (λ (x : Own KeptEntry). Has (λ c. (c.gen ≡ v.accepted) × (length c.log ≡ d)) x.durables) (sym own) (record { it = record { gen = o.accepted; log = take d o.log }; mem = here; is = (sym is.part.accepted, size) }) in
         others_sent G G.nodes v.node (Durable v.node v.accepted d) [] new (record { low = is.low; high = is.high; told = told; tail = refl }) (omega arith)
 
     go : (b : Bool) → v.leading ≡ b → AreSent G new (cond b (others G.nodes v.node (Durable v.node v.accepted d) []) [])
@@ -240,14 +240,14 @@ know_sent {G} v log seen new m es d s is p may add legal = at (acted (counted v 
 
 -- it stands, and tells its vote for itself
 pub stand_sent : {G : Setting} (v : NodeVote) (log : List Entry) (seen new : List (ℕ × Event)) (g : ℕ) → IsNode G v log seen
-    → Adds v.node (Stand g) seen new → Lawful G new → AreSent G new (standing_packets (acted v (action.Promise g v.node)) g)
+    → Adds v.node (Stand g) seen new → AreLegalSteps G new → AreSent G new (standing_packets (acted v (action.Promise g v.node)) g)
 stand_sent {G} v log seen new g is d legal = subst (λ k. AreSent G new (others k v.node (Vote v.node g v.accepted v.length) [] ++ packet v.node (Granted v.node g v.node) [] ∷ [])) (sym is.nodes_is) sends
   where
     o : Own KeptEntry
     o = (world G seen).nodes v.node
 
-    own : (world G new).nodes v.node ≡ change v.node o (Core.Stand g)
-    own = own_adds G v.node (Stand g) (Core.Stand g) seen new refl tt d legal
+    own : (world G new).nodes v.node ≡ change v.node o (NodeEvent.Stand g)
+    own = own_adds G v.node (Stand g) (NodeEvent.Stand g) seen new refl tt d legal
 
     ask : IsPacket G (Vote v.node g v.accepted v.length) [] new
     ask = record {
@@ -271,14 +271,14 @@ stand_sent {G} v log seen new g is d legal = subst (λ k. AreSent G new (others 
 
 -- it asks for its generation to be confirmed
 pub probe_sent : {G : Setting} (v : NodeVote) (log : List Entry) (seen new : List (ℕ × Event)) (t : ℕ) → IsNode G v log seen
-    → Adds v.node (Probe t) seen new → Lawful G new → AreSent G new (probing_packets v t)
+    → Adds v.node (Probe t) seen new → AreLegalSteps G new → AreSent G new (probing_packets v t)
 probe_sent {G} v log seen new t is d legal = subst (λ k. AreSent G new (others k v.node (Ping v.node v.accepted t v.durable) [])) (sym is.nodes_is) (others_sent G G.nodes v.node (Ping v.node v.accepted t v.durable) [] new ping (omega arith))
   where
     o : Own KeptEntry
     o = (world G seen).nodes v.node
 
-    own : (world G new).nodes v.node ≡ change v.node o (Core.Probe t)
-    own = own_adds G v.node (Probe t) (Core.Probe t) seen new refl tt d legal
+    own : (world G new).nodes v.node ≡ change v.node o (NodeEvent.Probe t)
+    own = own_adds G v.node (Probe t) (NodeEvent.Probe t) seen new refl tt d legal
 
     ping : IsPacket G (Ping v.node v.accepted t v.durable) [] new
     ping = record {

@@ -5,14 +5,14 @@ use Rattle.std.proofs.lemmas.Bool.Decides.{Decides-eqb}
 use mathlib.Core.Logic.{◌⊎◌, inl, inr}
 use Rattle.actor_trace.proofs.Entries.{not_eq}
 use Rattle.cluster_consensus.specs.Enabled.{Enabled}
-use Rattle.cluster_consensus.specs.Events.{Event as Core, change}
+use Rattle.cluster_consensus.specs.Events.{NodeEvent, change}
 use Rattle.cluster_consensus.specs.Facts.{Own, World, Claim}
 use Rattle.cluster_consensus.specs.Shipped.{find_log}
 use Rattle.cluster_consensus.proofs.Invariant.{Inv}
 use Rattle.cluster_consensus.proofs.FactSteps.{grown}
 use Rattle.cluster_consensus.proofs.Lengths.{front_found}
 use Rattle.cluster_events.specs.Settings.{Setting}
-use Rattle.cluster_events.specs.Parts.{Event as Step}
+use Rattle.cluster_events.specs.Parts.{ActorEvent}
 use Rattle.cluster_requests.specs.KeptEntries.{KeptEntry, plain}
 use Rattle.cluster_steps.specs.Guards.{IsExact}
 use Rattle.cluster_steps.specs.Named.{log_named, named, steps, world}
@@ -25,7 +25,7 @@ use Rattle.core_lists.specs.Lists.In.{here}
 use Rattle.core_lists.proofs.Fronts.{front_refl, front_take, front_trans, front_same}
 use Rattle.election_core.specs.Allowed.{Takes, Allows}
 use Rattle.election_core.specs.Counted.{acted, counted}
-use Rattle.election_core.specs.Told.{IsPart, IsNamed}
+use Rattle.election_core.specs.Told.{IsPart, IsEventOf}
 use Rattle.election_core.proofs.Keeping.{part_kept}
 use Rattle.election_core.specs.declared.messages.Action.TheVariants as action
 use Rattle.election_core.specs.declared.messages.Message.{Message}
@@ -134,9 +134,9 @@ enough v g k l (inr (inr t)) = let e : l ≡ k = t.1.1 in omega arith
 -- the log that a take leaves is the front of the shipped one, whether it is a new one or the same one grown
 pub record Taken (G : Setting) (v : NodeVote) (seen : List (ℕ × Event)) (m : Message) (g l : ℕ) (log : List KeptEntry) : Type 0 where
   pub is_exact : IsExact G (steps G seen) v.node (Take g l)
-  pub event : Core KeptEntry
+  pub event : NodeEvent KeptEntry
   pub is_plain : IsPlain event
-  pub name : named G (steps G seen) v.node (Take g l) ≡ Step.Node event
+  pub name : named G (steps G seen) v.node (Take g l) ≡ ActorEvent.Node event
   pub enabled : Enabled G.nodes (world G seen) v.node ((world G seen).nodes v.node) event
   pub part : IsPart (acted (counted v m) (action.Take g l)) (change v.node ((world G seen).nodes v.node) event)
   pub leaves : log ≡ (change v.node ((world G seen).nodes v.node) event).log
@@ -180,20 +180,20 @@ taken {G} v log seen m es g l is p may = go x.1
     exact : find_log w g l n ≡ Some (log_named n w g l)
     exact = found ∙ ap Some (sym log_is)
 
-    grows : (y : List KeptEntry) → (counted v m).accepted ≡ g → x.0 ≡ Core.Grow y → length y ≡ l → Taken G v seen m g l front
+    grows : (y : List KeptEntry) → (counted v m).accepted ≡ g → x.0 ≡ NodeEvent.Grow y → length y ≡ l → Taken G v seen m g l front
     grows y acc q len =
-        let en : Enabled n w v.node o (Core.Grow y) = subst (λ t. Enabled n w v.node o t) q x.2 in
+        let en : Enabled n w v.node o (NodeEvent.Grow y) = subst (λ t. Enabled n w v.node o t) q x.2 in
         let h = en.1.2 in
         let og : o.accepted ≡ g = sym (part_kept v m o is.part).accepted ∙ acc in
         let same : y ≡ front = one_ship inv en.1.1 s.from h.it s.ship h.mem s.mem (h.is.0 ∙ (og ∙ sym s.gen)) y front h.is.1 (front_take l s.ship.log) (len ∙ sym long) in
         let yes : (g == o.accepted) ≡ true = (Decides-eqb g o.accepted).1 (sym og) in
-        let r : x.0 ≡ Core.Grow front = q ∙ ap Core.Grow same in
-        let en2 : Enabled n w v.node o (Core.Grow front) = subst (λ t. Enabled n w v.node o t) r x.2 in
+        let r : x.0 ≡ NodeEvent.Grow front = q ∙ ap NodeEvent.Grow same in
+        let en2 : Enabled n w v.node o (NodeEvent.Grow front) = subst (λ t. Enabled n w v.node o t) r x.2 in
         record {
           is_exact = exact;
-          event = Core.Grow front;
+          event = NodeEvent.Grow front;
           is_plain = tt;
-          name = ap Step.Node (ap (λ b. cond b (Core.Grow (log_named n w g l)) (Core.Take g (log_named n w g l))) yes ∙ ap Core.Grow log_is);
+          name = ap ActorEvent.Node (ap (λ b. cond b (NodeEvent.Grow (log_named n w g l)) (NodeEvent.Take g (log_named n w g l))) yes ∙ ap NodeEvent.Grow log_is);
           enabled = en2;
           part = subst (λ t. IsPart (acted (counted v m) (action.Take g l)) (change v.node o t)) r x.3;
           leaves = refl;
@@ -201,20 +201,20 @@ taken {G} v log seen m es g l is p may = go x.1
           onto = λ z. (grown inv v.node front en2.1).0;
         }
 
-    takes : (y : List KeptEntry) → x.0 ≡ Core.Take g y → length y ≡ l → Taken G v seen m g l front
+    takes : (y : List KeptEntry) → x.0 ≡ NodeEvent.Take g y → length y ≡ l → Taken G v seen m g l front
     takes y q len =
-        let en : Enabled n w v.node o (Core.Take g y) = subst (λ t. Enabled n w v.node o t) q x.2 in
+        let en : Enabled n w v.node o (NodeEvent.Take g y) = subst (λ t. Enabled n w v.node o t) q x.2 in
         let h = en.1.2.1 in
         let lt : o.accepted < g = en.1.1 in
         let whole : Front y h.it.log = subst (λ t. Front t h.it.log) h.is.1 (front_refl h.it.log) in
         let same : y ≡ front = one_ship inv en.1.2.0 s.from h.it s.ship h.mem s.mem (h.is.0 ∙ sym s.gen) y front whole (front_take l s.ship.log) (len ∙ sym long) in
         let other : (g == o.accepted) ≡ false = not_eq g o.accepted (λ e. omega arith) in
-        let r : x.0 ≡ Core.Take g front = q ∙ ap (Core.Take g) same in
+        let r : x.0 ≡ NodeEvent.Take g front = q ∙ ap (NodeEvent.Take g) same in
         record {
           is_exact = exact;
-          event = Core.Take g front;
+          event = NodeEvent.Take g front;
           is_plain = tt;
-          name = ap Step.Node (ap (λ b. cond b (Core.Grow (log_named n w g l)) (Core.Take g (log_named n w g l))) other ∙ ap (Core.Take g) log_is);
+          name = ap ActorEvent.Node (ap (λ b. cond b (NodeEvent.Grow (log_named n w g l)) (NodeEvent.Take g (log_named n w g l))) other ∙ ap (NodeEvent.Take g) log_is);
           enabled = subst (λ t. Enabled n w v.node o t) r x.2;
           part = subst (λ t. IsPart (acted (counted v m) (action.Take g l)) (change v.node o t)) r x.3;
           leaves = refl;
@@ -222,7 +222,7 @@ taken {G} v log seen m es g l is p may = go x.1
           onto = λ z. absurd (omega arith);
         }
 
-    go : IsNamed (counted v m) (action.Take g l) x.0 → Taken G v seen m g l front
+    go : IsEventOf (counted v m) (action.Take g l) x.0 → Taken G v seen m g l front
     go (inl (acc, y, q, len)) = grows y acc q len
     go (inr (y, q, len)) = takes y q len
 

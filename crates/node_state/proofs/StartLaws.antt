@@ -11,14 +11,14 @@ use mathlib.Core.Path.{fun_ext}
 use Rattle.actor_trace.specs.Actors.{Knows}
 use Rattle.actor_trace.specs.Steps.{Adds, Rests}
 use Rattle.cdb_outside.specs.Faults.{Rose}
-use Rattle.cluster_consensus.specs.Events.{Event as Core}
+use Rattle.cluster_consensus.specs.Events.{NodeEvent}
 use Rattle.cluster_consensus.specs.Facts.{Own}
 use Rattle.cluster_events.specs.Operator.{IsStartOrdered}
 use Rattle.cluster_events.specs.Parts.{field}
 use Rattle.cluster_events.specs.Settings.{Setting, lines_to_do}
 use Rattle.cluster_requests.specs.KeptEntries.{KeptEntry}
 use Rattle.cluster_requests.specs.Requests.{Field}
-use Rattle.cluster_steps.specs.Guards.{IsPlan, Lawful}
+use Rattle.cluster_steps.specs.Guards.{IsPlan, AreLegalSteps}
 use Rattle.cluster_steps.specs.Named.{steps, world}
 use Rattle.cluster_steps.specs.declared.events.Event.{Event}
 use Rattle.cluster_steps.specs.declared.events.Event.TheVariants as event
@@ -51,7 +51,7 @@ abbrev entries_code : Coded (List Entry)
 entries_code = coded_list (entry_row.the_row).coded
 
 -- whatever others do
-next_stays : (G : Setting) (v : NodeVote) (how : Woken) (old new : List (ℕ × Event)) (n : Option Kept) → IsPlan G → Rests v.node old new → Lawful G new → MayBeNext G (field (steps G old)) v how n → MayBeNext G (field (steps G new)) v how n
+next_stays : (G : Setting) (v : NodeVote) (how : Woken) (old new : List (ℕ × Event)) (n : Option Kept) → IsPlan G → Rests v.node old new → AreLegalSteps G new → MayBeNext G (field (steps G old)) v how n → MayBeNext G (field (steps G new)) v how n
 next_stays G v how old new None plan d legal m = tt
 next_stays G v how old new (Some k) plan d legal m = (m.0, wake_stays G v.node old new how k plan d legal m.1)
 
@@ -138,8 +138,8 @@ returns_again G v w es fs a b o q u z own down d after fell_so se su on r =
     mid : List (ℕ × Event)
     mid = dv.between ++ a.seen
 
-    law : Lawful G mid
-    law = let l : Lawful G ((v.node, event.Down true) ∷ mid) = subst (λ t. Lawful G t) dv.whole after.node.legal in l.1
+    law : AreLegalSteps G mid
+    law = let l : AreLegalSteps G ((v.node, event.Down true) ∷ mid) = subst (λ t. AreLegalSteps G t) dv.whole after.node.legal in l.1
 
     still : (world G mid).nodes v.node ≡ (world G a.seen).nodes v.node
     still = idle G v.node dv.between a.seen dv.none
@@ -273,8 +273,8 @@ stored_still G v es a o q u s down of_log shut =
     })
 
 -- a call of its store failed there
-fell_still : (G : Setting) (v : NodeVote) (a b : Knows Event) → v.node ≡ a.number → Adds a.number (event.Down true) a.seen b.seen → Lawful G b.seen → ((world G b.seen).nodes v.node).was_up ≡ ((world G a.seen).nodes v.node).was_up
-fell_still G v a b n d legal = ap (λ (o : Own KeptEntry). o.was_up) (own_adds G v.node (event.Down true) Core.Down a.seen b.seen refl tt (subst (λ t. Adds t (event.Down true) a.seen b.seen) (sym n) d) legal)
+fell_still : (G : Setting) (v : NodeVote) (a b : Knows Event) → v.node ≡ a.number → Adds a.number (event.Down true) a.seen b.seen → AreLegalSteps G b.seen → ((world G b.seen).nodes v.node).was_up ≡ ((world G a.seen).nodes v.node).was_up
+fell_still G v a b n d legal = ap (λ (o : Own KeptEntry). o.was_up) (own_adds G v.node (event.Down true) NodeEvent.Down a.seen b.seen refl tt (subst (λ t. Adds t (event.Down true) a.seen b.seen) (sym n) d) legal)
 
 pub stored_again : (G : Setting) (v w : NodeVote) (es fs : List Entry) (a b : Knows Event) (o q r : OverStore) (u z : UnderWay) → IsStored G (held v es a) o u → v.up ≡ false → StaysShut o q → Adds a.number (event.Down true) a.seen b.seen
     → IsOwn G (held w fs b) → w ≡ down_vote v → fs ≡ es → r ≡ q → z ≡ u → IsStored G (held w fs b) r z

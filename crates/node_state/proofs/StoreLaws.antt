@@ -6,7 +6,7 @@ use Rattle.std.specs.declared.snapshot.Snapshot.{Snapshot}
 use Rattle.actor_trace.specs.Steps.{Adds, Rests}
 use Rattle.cluster_events.specs.Parts.{field}
 use Rattle.cluster_events.specs.Settings.{Setting}
-use Rattle.cluster_steps.specs.Guards.{IsPlan, Lawful, MayDo}
+use Rattle.cluster_steps.specs.Guards.{IsPlan, AreLegalSteps, MayTakeStep}
 use Rattle.cluster_steps.specs.Named.{steps}
 use Rattle.cluster_steps.specs.declared.events.Event.{Event}
 use Rattle.cluster_steps.specs.declared.events.Event.TheVariants as event
@@ -33,15 +33,15 @@ promise_left G v log g fault seen now is up le d =
     (s.0, ((woken.AsLeft, fallen_as_left G v log g fault seen now is up le d), tt))
 
 -- it was to lead
-pub lead_left : (G : Setting) (v : NodeVote) (log : List Entry) (g : ℕ) (fault : Bool) (seen now : List (ℕ × Event)) → IsNode G v log seen → v.up ≡ true → MayDo G seen v.node (event.Lead g) → Adds v.node (event.Down fault) seen now
-    → Lawful G now → MayWakeAny G (field (steps G now)) v.node (kept v.promised v.accepted log ∷ kept v.promised v.promised log ∷ [])
+pub lead_left : (G : Setting) (v : NodeVote) (log : List Entry) (g : ℕ) (fault : Bool) (seen now : List (ℕ × Event)) → IsNode G v log seen → v.up ≡ true → MayTakeStep G seen v.node (event.Lead g) → Adds v.node (event.Down fault) seen now
+    → AreLegalSteps G now → MayWakeAny G (field (steps G now)) v.node (kept v.promised v.accepted log ∷ kept v.promised v.promised log ∷ [])
 lead_left G v log g fault seen now is up may d legal =
     let s = stop_left G v log fault seen now is up d in
     (s.0, ((woken.Led, fallen_leading G v log g fault seen now is up may d legal), tt))
 
 -- it was to take a log over in a generation that it promises
 pub take_left : (G : Setting) (v u : NodeVote) (log taken : List Entry) (g n : ℕ) (fault : Bool) (seen now : List (ℕ × Event)) → IsNode G v log seen → v.up ≡ true → v.promised ≤ g → Follows G v.node (event.Take g n) u taken seen
-    → u.promised ≡ g → u.accepted ≡ g → Adds v.node (event.Down fault) seen now → Lawful G now
+    → u.promised ≡ g → u.accepted ≡ g → Adds v.node (event.Down fault) seen now → AreLegalSteps G now
     → MayWakeAny G (field (steps G now)) v.node (kept v.promised v.accepted log ∷ kept g v.accepted log ∷ kept g g taken ∷ [])
 take_left G v u log taken g n fault seen now is up le f p a d legal =
     let s = promise_left G v log g fault seen now is up le d in
@@ -50,7 +50,7 @@ take_left G v u log taken g n fault seen now is up le f p a d legal =
 
 -- it was to take one entry more in the generation that it accepted
 pub grow_left : (G : Setting) (v u : NodeVote) (log longer : List Entry) (g n : ℕ) (fault : Bool) (seen now : List (ℕ × Event)) → IsNode G v log seen → v.up ≡ true → Follows G v.node (event.Take g n) u longer seen
-    → u.promised ≡ v.promised → u.accepted ≡ v.accepted → Adds v.node (event.Down fault) seen now → Lawful G now
+    → u.promised ≡ v.promised → u.accepted ≡ v.accepted → Adds v.node (event.Down fault) seen now → AreLegalSteps G now
     → MayWakeAny G (field (steps G now)) v.node (kept v.promised v.accepted log ∷ kept v.promised v.accepted longer ∷ [])
 grow_left G v u log longer g n fault seen now is up f p a d legal =
     let s = stop_left G v log fault seen now is up d in
@@ -59,7 +59,7 @@ grow_left G v u log longer g n fault seen now is up f p a d legal =
 
 -- it was to append an entry
 pub append_left : (G : Setting) (v u : NodeVote) (log longer : List Entry) (next : Snapshot Entry) (fault : Bool) (seen now : List (ℕ × Event)) → IsNode G v log seen → v.up ≡ true → Follows G v.node (event.Append next) u longer seen
-    → u.promised ≡ v.promised → u.accepted ≡ v.accepted → Adds v.node (event.Down fault) seen now → Lawful G now
+    → u.promised ≡ v.promised → u.accepted ≡ v.accepted → Adds v.node (event.Down fault) seen now → AreLegalSteps G now
     → MayWakeAny G (field (steps G now)) v.node (kept v.promised v.accepted log ∷ kept v.promised v.accepted longer ∷ [])
 append_left G v u log longer next fault seen now is up f p a d legal =
     let s = stop_left G v log fault seen now is up d in
@@ -67,6 +67,6 @@ append_left G v u log longer next fault seen now is up f p a d legal =
     (s.0, ((woken.Appended, subst (λ k. MayWake G (field (steps G now)) v.node woken.Appended k) same (fallen_appending G v u log longer next fault seen now is up f d legal)), tt))
 
 -- whatever others do
-pub any_stays : (G : Setting) (i : ℕ) (old new : List (ℕ × Event)) (ks : List Kept) → IsPlan G → Rests i old new → Lawful G new → MayWakeAny G (field (steps G old)) i ks → MayWakeAny G (field (steps G new)) i ks
+pub any_stays : (G : Setting) (i : ℕ) (old new : List (ℕ × Event)) (ks : List Kept) → IsPlan G → Rests i old new → AreLegalSteps G new → MayWakeAny G (field (steps G old)) i ks → MayWakeAny G (field (steps G new)) i ks
 any_stays G i old new [] plan d legal m = tt
 any_stays G i old new (k ∷ ks) plan d legal m = ((m.0.0, wake_stays G i old new m.0.0 k plan d legal m.0.1), any_stays G i old new ks plan d legal m.1)

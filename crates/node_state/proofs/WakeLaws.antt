@@ -3,19 +3,19 @@ use Rattle.std.proofs.Common.{ℕ, ◌≡◌, ◌≤◌, List, [], ◌∷◌, �
 use Rattle.std.specs.Prelude.{◌==◌, Bool, true, false, cond, Option, Some, None, slice_get}
 use Rattle.std.specs.declared.snapshot.Snapshot.{Snapshot}
 use Rattle.actor_trace.specs.Steps.{Rests}
-use Rattle.cluster_consensus.specs.Events.{Event as Core, change}
+use Rattle.cluster_consensus.specs.Events.{NodeEvent, change}
 use Rattle.cluster_consensus.specs.Facts.{Own, World}
 use Rattle.cluster_events.specs.Arms.{HasFallen}
 use Rattle.cluster_events.specs.ByScript.{Heeds}
-use Rattle.cluster_events.specs.Guards.{IsLegal as IsLegalWhole, MayDo as IsStep}
+use Rattle.cluster_events.specs.Guards.{IsLegalHistory, MayDo}
 use Rattle.cluster_events.specs.Operator.{count_of}
-use Rattle.cluster_events.specs.Parts.{Event as Step, field}
+use Rattle.cluster_events.specs.Parts.{ActorEvent, field}
 use Rattle.cluster_events.specs.Settings.{Setting, lines_to_do}
 use Rattle.cluster_events.proofs.Stays.{stays_long}
 use Rattle.cluster_masters.specs.WholeLogs.{Leaves}
 use Rattle.cluster_requests.specs.KeptEntries.{KeptEntry, plain}
 use Rattle.cluster_requests.specs.Requests.{Field}
-use Rattle.cluster_steps.specs.Guards.{HasSchema, IsFound, IsPlan, IsTold, MayDo, PagesStand, Lawful}
+use Rattle.cluster_steps.specs.Guards.{HasSchema, ComesUpWith, IsPlan, IsTakenLogFound, MayTakeStep, PagesStand, AreLegalSteps}
 use Rattle.cluster_steps.specs.Named.{back_append, kept_over, log_named, named_up, steps, world}
 use Rattle.cluster_steps.specs.declared.events.Event.{Event}
 use Rattle.cluster_steps.specs.declared.events.Event.TheVariants as event
@@ -35,13 +35,13 @@ use Rattle.node_state.proofs.FallLaws.{counts}
 use Rattle.node_state.proofs.LogLists.{map_size}
 
 -- the events by which a node comes up
-abbrev Rises : Core KeptEntry → Type 0
-Rises (Core.Boot p a l) = Unit {0}
-Rises (Core.Back p) = Unit {0}
-Rises Core.BackLead = Unit {0}
-Rises (Core.BackTake g l) = Unit {0}
-Rises (Core.BackGrow l) = Unit {0}
-Rises (Core.BackAppend e) = Unit {0}
+abbrev Rises : NodeEvent KeptEntry → Type 0
+Rises (NodeEvent.Boot p a l) = Unit {0}
+Rises (NodeEvent.Back p) = Unit {0}
+Rises NodeEvent.BackLead = Unit {0}
+Rises (NodeEvent.BackTake g l) = Unit {0}
+Rises (NodeEvent.BackGrow l) = Unit {0}
+Rises (NodeEvent.BackAppend e) = Unit {0}
 Rises _ = ⊥
 
 named_rises : (n : ℕ) (w : World KeptEntry) (o : Own KeptEntry) (how : Woken) (p a : ℕ) (es : List Entry) → Rises (named_up n w o how p a es)
@@ -50,7 +50,7 @@ named_rises n w o woken.AsLeft p a es = tt
 named_rises n w o woken.Led p a es = tt
 named_rises n w o woken.Took p a es = go (a == o.accepted)
   where
-    go : (b : Bool) → Rises (cond b (Core.BackGrow (log_named n w a (length es))) (Core.BackTake a (log_named n w a (length es))))
+    go : (b : Bool) → Rises (cond b (NodeEvent.BackGrow (log_named n w a (length es))) (NodeEvent.BackTake a (log_named n w a (length es))))
     go true = tt
     go false = tt
 named_rises n w o woken.Appended p a es = go (slice_get es (length o.log))
@@ -60,35 +60,35 @@ named_rises n w o woken.Appended p a es = go (slice_get es (length o.log))
     go (Some e) = tt
 
 -- what they all make of a part
-record Woke (i : ℕ) (o : Own KeptEntry) (c : Core KeptEntry) : Type 0 where
+record Woke (i : ℕ) (o : Own KeptEntry) (c : NodeEvent KeptEntry) : Type 0 where
   adopted : (change i o c).adopted ≡ o.adopted
   durable : (change i o c).durable ≡ 0
   leading : (change i o c).leading ≡ false
   up : (change i o c).up ≡ true
 
-woke : (i : ℕ) (o : Own KeptEntry) (c : Core KeptEntry) → Rises c → Woke i o c
-woke i o (Core.Boot p a l) r = record { adopted = refl; durable = refl; leading = refl; up = refl }
-woke i o (Core.Back p) r = record { adopted = refl; durable = refl; leading = refl; up = refl }
-woke i o Core.BackLead r = record { adopted = refl; durable = refl; leading = refl; up = refl }
-woke i o (Core.BackTake g l) r = record { adopted = refl; durable = refl; leading = refl; up = refl }
-woke i o (Core.BackGrow l) r = record { adopted = refl; durable = refl; leading = refl; up = refl }
-woke i o (Core.BackAppend e) r = record { adopted = refl; durable = refl; leading = refl; up = refl }
+woke : (i : ℕ) (o : Own KeptEntry) (c : NodeEvent KeptEntry) → Rises c → Woke i o c
+woke i o (NodeEvent.Boot p a l) r = record { adopted = refl; durable = refl; leading = refl; up = refl }
+woke i o (NodeEvent.Back p) r = record { adopted = refl; durable = refl; leading = refl; up = refl }
+woke i o NodeEvent.BackLead r = record { adopted = refl; durable = refl; leading = refl; up = refl }
+woke i o (NodeEvent.BackTake g l) r = record { adopted = refl; durable = refl; leading = refl; up = refl }
+woke i o (NodeEvent.BackGrow l) r = record { adopted = refl; durable = refl; leading = refl; up = refl }
+woke i o (NodeEvent.BackAppend e) r = record { adopted = refl; durable = refl; leading = refl; up = refl }
 woke i o _ r = absurd r
 
 -- the script has it come up
 heeds_up : (G : Setting) (seen : List (ℕ × Event)) (i : ℕ) (w : World KeptEntry) (o : Own KeptEntry) (how : Woken) (p a : ℕ) (es : List Entry) → (count_of i (steps G seen)).up ≡ false → IsStartTold G seen i how
-    → Heeds G (lines_to_do G) (steps G seen) i (Step.Node (named_up G.nodes w o how p a es))
+    → Heeds G (lines_to_do G) (steps G seen) i (ActorEvent.Node (named_up G.nodes w o how p a es))
 heeds_up G seen i w o (woken.First rows) p a es down told = (down, told)
 heeds_up G seen i w o woken.AsLeft p a es down told = (down, told)
 heeds_up G seen i w o woken.Led p a es down told = (down, told)
 heeds_up G seen i w o woken.Took p a es down told = go (a == o.accepted)
   where
-    go : (b : Bool) → Heeds G (lines_to_do G) (steps G seen) i (Step.Node (cond b (Core.BackGrow (log_named G.nodes w a (length es))) (Core.BackTake a (log_named G.nodes w a (length es)))))
+    go : (b : Bool) → Heeds G (lines_to_do G) (steps G seen) i (ActorEvent.Node (cond b (NodeEvent.BackGrow (log_named G.nodes w a (length es))) (NodeEvent.BackTake a (log_named G.nodes w a (length es)))))
     go true = (down, told)
     go false = (down, told)
 heeds_up G seen i w o woken.Appended p a es down told = go (slice_get es (length o.log))
   where
-    go : (x : Option Entry) → Heeds G (lines_to_do G) (steps G seen) i (Step.Node (back_append p o.log x))
+    go : (x : Option Entry) → Heeds G (lines_to_do G) (steps G seen) i (ActorEvent.Node (back_append p o.log x))
     go None = (down, told)
     go (Some e) = (down, told)
 
@@ -103,7 +103,7 @@ wake_follows G v u log log' seen how p a es is down k told q e = subst (λ t. Fo
     o : Own KeptEntry
     o = (world G seen).nodes v.node
 
-    c : Core KeptEntry
+    c : NodeEvent KeptEntry
     c = named_up G.nodes (world G seen) o how p a es.value
 
     w : Woke v.node o c
@@ -145,37 +145,37 @@ wake_follows G v u log log' seen how p a es is down k told q e = subst (λ t. Fo
       nodes = is.nodes_is;
     }
 
-no_ask : (c : Core KeptEntry) (t : ℕ) → Step.Node c ≡ Step.Ask t → ⊥
+no_ask : (c : NodeEvent KeptEntry) (t : ℕ) → ActorEvent.Node c ≡ ActorEvent.Ask t → ⊥
 no_ask c t z = let f : None ≡ Some t = ap ticket_of z in absurd (cc)
 
-rise_stays : (G : Setting) (i : ℕ) (g m k : List (ℕ × Step)) (c : Core KeptEntry) (x : Kept) → IsPlan G → k ≡ m ++ g → IsLegalWhole G k → ((t : List (ℕ × Step)) → t ≡ m ++ g → IsLegalWhole G t → IsStep G g i (Step.Node c) → IsStep G t i (Step.Node c))
+rise_stays : (G : Setting) (i : ℕ) (g m k : List (ℕ × ActorEvent)) (c : NodeEvent KeptEntry) (x : Kept) → IsPlan G → k ≡ m ++ g → IsLegalHistory G k → ((t : List (ℕ × ActorEvent)) → t ≡ m ++ g → IsLegalHistory G t → MayDo G g i (ActorEvent.Node c) → MayDo G t i (ActorEvent.Node c))
     → (field k).core.nodes i ≡ (field g).core.nodes i → MayRise G (field g) i c x → MayRise G (field k) i c x
 rise_stays G i g m k c x plan q whole on node r =
-    let s : IsStep G k i (Step.Node c) = on k q whole (r.may, r.right, r.by) in
+    let s : MayDo G k i (ActorEvent.Node c) = on k q whole (r.may, r.right, r.by) in
     record {
-      found = subst (λ (o : Own KeptEntry). IsFound (change i o c) x.promised x.accepted x.entries) (sym node) r.found;
+      found = subst (λ (o : Own KeptEntry). ComesUpWith (change i o c) x.promised x.accepted x.entries) (sym node) r.found;
       may = s.0;
       right = s.1;
       by = s.2;
       pages = subst (λ (o : Own KeptEntry). Leaves PagesStand o c × HasSchema G.tables c) (sym node) r.pages;
     }
 
-pub wake_stays : (G : Setting) (i : ℕ) (old new : List (ℕ × Event)) (how : Woken) (x : Kept) → IsPlan G → Rests i old new → Lawful G new → MayWake G (field (steps G old)) i how x → MayWake G (field (steps G new)) i how x
+pub wake_stays : (G : Setting) (i : ℕ) (old new : List (ℕ × Event)) (how : Woken) (x : Kept) → IsPlan G → Rests i old new → AreLegalSteps G new → MayWake G (field (steps G old)) i how x → MayWake G (field (steps G new)) i how x
 wake_stays G i old new how x plan d legal may = subst (λ t. MayWake G (field (steps G t)) i how x) (sym d.whole) stays
   where
     later : List (ℕ × Event)
     later = d.between
 
-    law : Lawful G (later ++ old)
-    law = subst (λ t. Lawful G t) d.whole legal
+    law : AreLegalSteps G (later ++ old)
+    law = subst (λ t. AreLegalSteps G t) d.whole legal
 
-    g : List (ℕ × Step)
+    g : List (ℕ × ActorEvent)
     g = steps G old
 
-    k : List (ℕ × Step)
+    k : List (ℕ × ActorEvent)
     k = steps G (later ++ old)
 
-    m : List (ℕ × Step)
+    m : List (ℕ × ActorEvent)
     m = more_steps G later old
 
     q : k ≡ m ++ g
@@ -184,14 +184,14 @@ wake_stays G i old new how x plan d legal may = subst (λ t. MayWake G (field (s
     node : (field k).core.nodes i ≡ (field g).core.nodes i
     node = idle G i later old d.none
 
-    same : (named_up G.nodes (field k).core ((field g).core.nodes i) how x.promised x.accepted x.entries ≡ woken_by G (field g) i how x) × IsTold G.nodes (field k).core how x.accepted x.entries
+    same : (named_up G.nodes (field k).core ((field g).core.nodes i) how x.promised x.accepted x.entries ≡ woken_by G (field g) i how x) × IsTakenLogFound G.nodes (field k).core how x.accepted x.entries
     same = up_same G.nodes (field g).core (field k).core ((field g).core.nodes i) how x.promised x.accepted x.entries (inv_of G (later ++ old) law) (tells G later old) may.told
 
     name : woken_by G (field k) i how x ≡ woken_by G (field g) i how x
     name = ap (λ (o : Own KeptEntry). named_up G.nodes (field k).core o how x.promised x.accepted x.entries) node ∙ same.0
 
-    on : (c : Core KeptEntry) (t : List (ℕ × Step)) → t ≡ m ++ g → IsLegalWhole G t → IsStep G g i (Step.Node c) → IsStep G t i (Step.Node c)
-    on c t e whole s = subst (λ z. IsStep G z i (Step.Node c)) (sym e) (stays_long G g m i (Step.Node c) plan.apart plan.steady (subst (λ z. IsLegalWhole G z) e whole) (idle_more G i later old d.none) (no_ask c) s)
+    on : (c : NodeEvent KeptEntry) (t : List (ℕ × ActorEvent)) → t ≡ m ++ g → IsLegalHistory G t → MayDo G g i (ActorEvent.Node c) → MayDo G t i (ActorEvent.Node c)
+    on c t e whole s = subst (λ z. MayDo G z i (ActorEvent.Node c)) (sym e) (stays_long G g m i (ActorEvent.Node c) plan.apart plan.steady (subst (λ z. IsLegalHistory G z) e whole) (idle_more G i later old d.none) (no_ask c) s)
 
     stays : MayWake G (field k) i how x
     stays = record {

@@ -8,7 +8,7 @@ use Rattle.cdb_values.specs.declared.tables.TableDef.{TableDef}
 use Rattle.cluster_events.specs.Settings.{Setting}
 use Rattle.cluster_steps.specs.declared.events.Event.{Event}
 use Rattle.cluster_steps.specs.declared.events.Event.TheVariants as event
-use Rattle.election_core.specs.Allowed.{Decides, IsMost}
+use Rattle.election_core.specs.Allowed.{AllowsExactly, IsMost}
 use Rattle.election_core.specs.Counted.{acted, counted}
 use Rattle.election_core.specs.Senders.{sender_of}
 use Rattle.election_core.specs.declared.messages.Action.{Action}
@@ -23,7 +23,7 @@ use Rattle.node_state.specs.declared.steps.BeginStep.TheVariants as begun
 use Rattle.node_state.specs.declared.steps.Step.{Step}
 use Rattle.node_state.specs.declared.steps.Step.TheVariants as step
 use Rattle.node_state.specs.Nodes.{Held, events_of}
-use Rattle.node_state.specs.Packets.{Sent, AreBehind, IsPacket, appending_packets, packets_of, standing_packets, probing_packets, shipped_length, shipped_in}
+use Rattle.node_state.specs.Packets.{SentPacket, AreBehind, IsPacket, appending_packets, packets_of, standing_packets, probing_packets, shipped_length, shipped_in}
 
 -- it did these events and no other, each of which takes room for one; it may know more
 pub record Did (es : List Event) (old new : Held) : Type 0 where
@@ -45,7 +45,7 @@ pub record Joins (v : NodeVote) (m : Message) (es : List Entry) : Type 0 where
 
 -- a message is dropped where its entries do not join, else by what the node decides about it, which is the most that it allows
 abbrev pub Judges : NodeVote → Message → List Entry → Action → Type 0
-Judges v m es a = (Joins v m es × Decides v m a × IsMost v m a) ⊎ ((Joins v m es → ⊥) × (a ≡ action.Nothing))
+Judges v m es a = (Joins v m es × AllowsExactly v m a × IsMost v m a) ⊎ ((Joins v m es → ⊥) × (a ≡ action.Nothing))
 
 -- entries are taken one by one behind the first ones, so many
 abbrev pub takes : ℕ → ℕ → ℕ → List Event
@@ -87,21 +87,21 @@ pub record Acts (v : NodeVote) (m : Message) (es : List Entry) (a : Action) (old
   pub entries : new.entries ≡ log_by v m es a old.entries
 
 -- a node that is up takes a message in with its entries, and sends these packets about it
-pub record Answers (m : Message) (es : List Entry) (ps : List Sent) (old new : Held) : Type 0 where
+pub record Answers (m : Message) (es : List Entry) (ps : List SentPacket) (old new : Held) : Type 0 where
   pub action : Action
   pub judged : Judges old.vote m es action
   pub acts : Acts old.vote m es action old new
   pub sends : ps ≡ packets_of new.vote (through m action) new.entries (sender_of m)
 
 -- it stands in a generation above its promise
-pub record Stands (g : ℕ) (ps : List Sent) (old new : Held) : Type 0 where
+pub record StandsAsCandidate (g : ℕ) (ps : List SentPacket) (old new : Held) : Type 0 where
   pub did : Did (event.Stand g ∷ []) old new
   pub vote : new.vote ≡ acted old.vote (action.Promise g old.vote.node)
   pub entries : new.entries ≡ old.entries
   pub sends : ps ≡ standing_packets new.vote g
 
 -- as a leader that knows all that it adopted as durable it asks the others to confirm its generation
-pub record Probes (ask : ℕ) (ps : List Sent) (old new : Held) : Type 0 where
+pub record Probes (ask : ℕ) (ps : List SentPacket) (old new : Held) : Type 0 where
   pub did : Did (event.Probe ask ∷ []) old new
   pub vote : new.vote ≡ old.vote
   pub entries : new.entries ≡ old.entries
@@ -167,26 +167,26 @@ pub record FallsPartly (m : Message) (es : List Entry) (old new : Held) : Type 0
   pub falls : Falls true mid new
 
 -- what comes of standing: nothing of a node that is down, and nothing where the generation is not above its promise
-abbrev pub IsStood : ℕ → Step (Vec Sent Global) → Held → Held → Type 0
+abbrev pub IsStood : ℕ → Step (Vec SentPacket Global) → Held → Held → Type 0
 IsStood g step.Down old new = (old.vote.up ≡ false) × IsAsBefore old new
 IsStood g step.Fault old new = (old.vote.up ≡ true) × (old.vote.promised < g) × Falls true old new
-IsStood g (step.Sent ps) old new = (old.vote.up ≡ true) × (((g ≤ old.vote.promised) × (ps.items ≡ []) × IsAsBefore old new) ⊎ ((old.vote.promised < g) × Stands g ps.items old new))
+IsStood g (step.Sent ps) old new = (old.vote.up ≡ true) × (((g ≤ old.vote.promised) × (ps.items ≡ []) × IsAsBefore old new) ⊎ ((old.vote.promised < g) × StandsAsCandidate g ps.items old new))
 
 -- what comes of a packet: nothing of a node that is down
-abbrev pub IsDelivered : Sent → Step (Vec Sent Global) → Held → Held → Type 0
+abbrev pub IsDelivered : SentPacket → Step (Vec SentPacket Global) → Held → Held → Type 0
 IsDelivered p step.Down old new = (old.vote.up ≡ false) × IsAsBefore old new
 IsDelivered p step.Fault old new = (old.vote.up ≡ true) × FallsPartly p.message p.entries old new
 IsDelivered p (step.Sent ps) old new = (old.vote.up ≡ true) × Answers p.message p.entries ps.items old new
 
 -- what comes of a begin's question: each answer exactly where it is so
-abbrev pub IsBegun : ℕ → BeginStep (Vec Sent Global) → Held → Held → Type 0
+abbrev pub IsBegun : ℕ → BeginStep (Vec SentPacket Global) → Held → Held → Type 0
 IsBegun ask begun.Down old new = (old.vote.up ≡ false) × IsAsBefore old new
 IsBegun ask (begun.NotMaster g) old new = (old.vote.up ≡ true) × (old.vote.leading ≡ false) × (g ≡ old.vote.promised) × IsAsBefore old new
 IsBegun ask (begun.NotYet d a) old new = (old.vote.up ≡ true) × (old.vote.leading ≡ true) × ((d ≡ 0) ⊎ (d < a)) × (d ≡ old.vote.durable) × (a ≡ old.vote.adopted) × IsAsBefore old new
 IsBegun ask (begun.Sent ps) old new = (old.vote.up ≡ true) × MayProbe old.vote × Probes ask ps.items old new
 
 -- what is sent about a packet
-abbrev pub IsBehind : Message → Step (Vec Sent Global) → Type 0
+abbrev pub IsBehind : Message → Step (Vec SentPacket Global) → Type 0
 IsBehind m step.Down = Unit {0}
 IsBehind m (step.Sent ps) = AreBehind m ps.items
 IsBehind m step.Fault = Unit {0}
@@ -204,7 +204,7 @@ pub record Appends (e : Entry) (old new : Held) : Type 0 where
   pub adds : Adds old.actor.number (event.Append next) old.actor.seen new.actor.seen
 
 -- the setup of these tables is the log, and is shipped
-pub record SetsUp (tables : List TableDef) (ps : List Sent) (old new : Held) : Type 0 where
+pub record SetsUp (tables : List TableDef) (ps : List SentPacket) (old new : Held) : Type 0 where
   pub entry : Entry
   pub made : IsSetup old.vote.accepted tables entry
   pub event : Event
@@ -215,7 +215,7 @@ pub record SetsUp (tables : List TableDef) (ps : List Sent) (old new : Held) : T
   pub sends : ps ≡ appending_packets new.vote (entry ∷ [])
 
 -- what comes of a setup: nothing of a node that is down
-abbrev pub IsSetUp : List TableDef → Step (Vec Sent Global) → Held → Held → Type 0
+abbrev pub IsSetUp : List TableDef → Step (Vec SentPacket Global) → Held → Held → Type 0
 IsSetUp tables step.Down old new = (old.vote.up ≡ false) × IsAsBefore old new
 IsSetUp tables step.Fault old new = (old.vote.up ≡ true) × Falls true old new
 IsSetUp tables (step.Sent ps) old new = (old.vote.up ≡ true) × SetsUp tables ps.items old new

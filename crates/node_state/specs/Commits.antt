@@ -7,9 +7,9 @@
 --   entry 2 is its own              Settle    a repeat of 2
 use Rattle.std.specs.declared.alloc.Global.{Global}
 use Rattle.std.specs.Prelude.{Vec, true, ℕ, ◌≡◌, List, [], ◌∷◌, ◌++◌, length}
-use Rattle.cluster_consensus.specs.Events.{Event as Core}
+use Rattle.cluster_consensus.specs.Events.{NodeEvent}
 use Rattle.cluster_events.specs.Guards.{MayDo as MayHappen}
-use Rattle.cluster_events.specs.Parts.{Event as Whole}
+use Rattle.cluster_events.specs.Parts.{ActorEvent}
 use Rattle.cluster_events.specs.Settings.{Setting}
 use Rattle.cluster_steps.specs.Guards.{LeavesPages}
 use Rattle.cluster_steps.specs.Named.{kept_over, named_settled, steps, world}
@@ -22,11 +22,11 @@ use Rattle.node_state.specs.declared.steps.Step.{Step}
 use Rattle.node_state.specs.declared.steps.Step.TheVariants as step
 use Rattle.node_state.specs.Calls.{Did, Falls, IsAppend}
 use Rattle.node_state.specs.Nodes.{Held}
-use Rattle.node_state.specs.Packets.{Sent, appending_packets}
+use Rattle.node_state.specs.Packets.{SentPacket, appending_packets}
 
 -- the event of whole histories by which a node appends an entry, kept with what it makes of the rows before it
-abbrev pub appends : Setting → List (ℕ × Event) → ℕ → Entry → Whole
-appends G seen i next = Whole.Node (Core.Append (kept_over ((world G seen).nodes i).log next))
+abbrev pub appends : Setting → List (ℕ × Event) → ℕ → Entry → ActorEvent
+appends G seen i next = ActorEvent.Node (NodeEvent.Append (kept_over ((world G seen).nodes i).log next))
 
 -- an entry may be appended by a node: the whole history allows it, and the pages of the log with it stand
 pub record MayEnter (G : Setting) (seen : List (ℕ × Event)) (i : ℕ) (next : Entry) : Type 0 where
@@ -38,7 +38,7 @@ pub record MaySettle (G : Setting) (seen : List (ℕ × Event)) (i : ℕ) (id : 
   pub may : MayHappen G (steps G seen) i (named_settled G.tables id d)
 
 -- it appends an entry, which it ships
-pub record Enters (next : Entry) (ps : List Sent) (old new : Held) : Type 0 where
+pub record Enters (next : Entry) (ps : List SentPacket) (old new : Held) : Type 0 where
   pub event : Event
   pub appends : IsAppend next event
   pub did : Did (event ∷ []) old new
@@ -47,7 +47,7 @@ pub record Enters (next : Entry) (ps : List Sent) (old new : Held) : Type 0 wher
   pub sends : ps ≡ appending_packets new.vote (next ∷ [])
 
 -- what comes of it, where the node is up
-abbrev pub IsEntered : Entry → Step (Vec Sent Global) → Held → Held → Type 0
+abbrev pub IsEntered : Entry → Step (Vec SentPacket Global) → Held → Held → Type 0
 IsEntered next step.Down old new = ⊥
 IsEntered next step.Fault old new = Falls true old new
 IsEntered next (step.Sent ps) old new = Enters next ps.items old new

@@ -1,12 +1,12 @@
 -- When a node is the history's node: its numbers and its log are those of its part after what its actor saw.
 use Rattle.std.specs.Prelude.{ℕ, ◌≡◌, ◌≤◌, List, [], ◌∷◌, None, map, replicate, false}
 use Rattle.actor_trace.specs.Actors.{Knows}
-use Rattle.cluster_consensus.specs.Events.{Event as Core, change}
+use Rattle.cluster_consensus.specs.Events.{NodeEvent, change}
 use Rattle.cluster_events.specs.Arms.{last_fired, fired_by}
-use Rattle.cluster_events.specs.Parts.{Event as Step}
+use Rattle.cluster_events.specs.Parts.{ActorEvent}
 use Rattle.cluster_events.specs.Settings.{Setting}
 use Rattle.cluster_requests.specs.KeptEntries.{KeptEntry, plain}
-use Rattle.cluster_steps.specs.Guards.{IsPlan, MayDo, Lawful}
+use Rattle.cluster_steps.specs.Guards.{IsPlan, MayTakeStep, AreLegalSteps}
 use Rattle.cluster_steps.specs.Named.{named, steps, world}
 use Rattle.cluster_steps.specs.declared.events.Event.{Event}
 use Rattle.election_core.specs.Told.{IsPart, IsCounted}
@@ -21,7 +21,7 @@ pub record IsNode (G : Setting) (v : NodeVote) (log : List Entry) (seen : List (
   pub nodes_is : v.nodes ≡ G.nodes
   pub few : G.nodes ≤ 7
   pub plan : IsPlan G
-  pub legal : Lawful G seen
+  pub legal : AreLegalSteps G seen
   -- no arm is its own
   pub unarmed : last_fired v.node (steps G seen) ≡ None
   pub part : IsPart v ((world G seen).nodes v.node)
@@ -57,11 +57,11 @@ pub record Follows (G : Setting) (i : ℕ) (e : Event) (u : NodeVote) (log : Lis
   pub low : 1 ≤ i
   pub high : i ≤ G.nodes
   pub few : G.nodes ≤ 7
-  pub may : MayDo G seen i e
+  pub may : MayTakeStep G seen i e
   -- it lets no arm fire
-  pub silent : (g : List (ℕ × Step)) → fired_by g i (named G g i e) ≡ None
-  pub core : Core KeptEntry
-  pub name : named G (steps G seen) i e ≡ Step.Node core
+  pub silent : (g : List (ℕ × ActorEvent)) → fired_by g i (named G g i e) ≡ None
+  pub core : NodeEvent KeptEntry
+  pub name : named G (steps G seen) i e ≡ ActorEvent.Node core
   pub part : IsPart u (change i ((world G seen).nodes i) core)
   pub log_is : log ≡ map plain (change i ((world G seen).nodes i) core).log
   pub logged : IsLog log

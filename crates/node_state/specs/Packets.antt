@@ -7,7 +7,7 @@ use Rattle.cluster_steps.specs.Named.{world}
 use Rattle.cluster_steps.specs.declared.events.Event.{Event}
 use Rattle.core_lists.specs.Lists.{Has}
 use Rattle.election_core.specs.Senders.{sender_of}
-use Rattle.election_core.specs.Told.{IsTold}
+use Rattle.election_core.specs.Told.{IsMessageTold}
 use Rattle.election_core.specs.declared.messages.Action.{Action}
 use Rattle.election_core.specs.declared.messages.Action.TheVariants as action
 use Rattle.election_core.specs.declared.messages.Message.{Message}
@@ -17,7 +17,7 @@ use Rattle.phys_log.specs.Logs.{IsLog}
 use Rattle.phys_log.specs.declared.entries.Entry.{Entry}
 
 -- a packet as contracts see it
-pub record Sent : Type 0 where
+pub record SentPacket : Type 0 where
   pub to : ℕ
   pub message : Message
   pub entries : List Entry
@@ -44,29 +44,29 @@ IsTail w _ es = es ≡ []
 pub record IsPacket (G : Setting) (m : Message) (es : List Entry) (seen : List (ℕ × Event)) : Type 0 where
   pub low : 1 ≤ sender_of m
   pub high : sender_of m ≤ G.nodes
-  pub told : IsTold (world G seen) m
+  pub told : IsMessageTold (world G seen) m
   pub tail : IsTail (world G seen) m es
 
 -- a packet of a message that was told, to a node
-pub record IsSent (G : Setting) (seen : List (ℕ × Event)) (p : Sent) : Type 0 where
+pub record IsSent (G : Setting) (seen : List (ℕ × Event)) (p : SentPacket) : Type 0 where
   pub to_low : 1 ≤ p.to
   pub to_high : p.to ≤ G.nodes
   pub packet : IsPacket G p.message p.entries seen
 
-abbrev pub AreSent : Setting → List (ℕ × Event) → List Sent → Type 0
+abbrev pub AreSent : Setting → List (ℕ × Event) → List SentPacket → Type 0
 AreSent G seen [] = Unit {0}
 AreSent G seen (p ∷ ps) = IsSent G seen p × AreSent G seen ps
 
-abbrev pub packet : ℕ → Message → List Entry → Sent
+abbrev pub packet : ℕ → Message → List Entry → SentPacket
 packet to m es = record { to = to; message = m; entries = es }
 
 -- to each of the nodes from 1 to k but one
-abbrev pub others : ℕ → ℕ → Message → List Entry → List Sent
+abbrev pub others : ℕ → ℕ → Message → List Entry → List SentPacket
 others zero node m es = []
 others (suc k) node m es = others k node m es ++ cond (suc k == node) [] (packet (suc k) m es ∷ [])
 
 -- what a node tells after an action, by its numbers and its log then, to whom; s is who sent the message that it answers
-abbrev pub packets_of : NodeVote → Action → List Entry → ℕ → List Sent
+abbrev pub packets_of : NodeVote → Action → List Entry → ℕ → List SentPacket
 packets_of u action.Nothing log s = []
 packets_of u (action.Promise g to) log s = packet to (Granted u.node g to) [] ∷ []
 packets_of u (action.Lead g) log s = others u.nodes u.node (Adopt u.node g (length log)) log ++ packet u.node (Ack u.node g (length log)) [] ∷ []
@@ -75,15 +75,15 @@ packets_of u (action.Know d) log s = cond u.leading (others u.nodes u.node (Dura
 packets_of u (action.Answer m to) log s = packet to m [] ∷ []
 
 -- where it stands in a generation: it asks the others for their votes, and has its own
-abbrev pub standing_packets : NodeVote → ℕ → List Sent
+abbrev pub standing_packets : NodeVote → ℕ → List SentPacket
 standing_packets u g = others u.nodes u.node (Vote u.node g u.accepted u.length) [] ++ packet u.node (Granted u.node g u.node) [] ∷ []
 
 -- where it appended these entries, it ships them to the others, and acknowledges its own log
-abbrev pub appending_packets : NodeVote → List Entry → List Sent
+abbrev pub appending_packets : NodeVote → List Entry → List SentPacket
 appending_packets u es = others u.nodes u.node (Ship u.node u.accepted u.length) es ++ packet u.node (Ack u.node u.accepted u.length) [] ∷ []
 
 -- for a begin that asks, it asks the others to confirm its generation
-abbrev pub probing_packets : NodeVote → ℕ → List Sent
+abbrev pub probing_packets : NodeVote → ℕ → List SentPacket
 probing_packets u ask = others u.nodes u.node (Ping u.node u.accepted ask u.durable) []
 
 -- the length, and the generation, of the log that a message ships
@@ -118,16 +118,16 @@ place_of (Ping f g t d) = 6
 place_of (Pong f g t) = 7
 
 -- each of these messages stands behind one
-abbrev pub AllBehind : Message → List Sent → Type 0
+abbrev pub AllBehind : Message → List SentPacket → Type 0
 AllBehind m [] = Unit {0}
 AllBehind m (p ∷ ps) = (place_of m < place_of p.message) × AllBehind m ps
 
 -- how many of them go to a node
-abbrev pub sent_to : ℕ → List Sent → ℕ
+abbrev pub sent_to : ℕ → List SentPacket → ℕ
 sent_to k [] = 0
 sent_to k (p ∷ ps) = cond (k == p.to) 1 0 + sent_to k ps
 
 -- all of them stand behind that message, and at most one goes to each node
-pub record AreBehind (m : Message) (ps : List Sent) : Type 0 where
+pub record AreBehind (m : Message) (ps : List SentPacket) : Type 0 where
   pub later : AllBehind m ps
   pub once : (k : ℕ) → sent_to k ps ≤ 1

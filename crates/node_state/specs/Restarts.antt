@@ -10,7 +10,7 @@
 --
 -- It comes up with any of these, by an event that says which it is.
 use Rattle.std.specs.Prelude.{ℕ, ◌≡◌, ◌⊎◌, ◌≤◌, Bool, true, false, List, [], ◌∷◌, length, replicate}
-use Rattle.cluster_consensus.specs.Events.{Event as Core, change}
+use Rattle.cluster_consensus.specs.Events.{NodeEvent, change}
 use Rattle.cluster_events.specs.Arms.{IsStopArmed}
 use Rattle.cluster_events.specs.Guards.{IsActedBy, MayStep}
 use Rattle.cluster_events.specs.Operator.{IsStartOrdered, IsStopOrdered}
@@ -18,8 +18,8 @@ use Rattle.cluster_events.specs.Parts.{field, lines}
 use Rattle.cluster_events.specs.Settings.{Setting, lines_to_do}
 use Rattle.cluster_masters.specs.WholeLogs.{Leaves}
 use Rattle.cluster_requests.specs.KeptEntries.{KeptEntry}
-use Rattle.cluster_requests.specs.Requests.{Act, Field, May}
-use Rattle.cluster_steps.specs.Guards.{HasSchema, IsFound, IsTold, PagesStand}
+use Rattle.cluster_requests.specs.Requests.{FieldAct, Field, May}
+use Rattle.cluster_steps.specs.Guards.{HasSchema, ComesUpWith, IsTakenLogFound, PagesStand}
 use Rattle.cluster_steps.specs.Named.{named_up, steps}
 use Rattle.cluster_steps.specs.declared.events.Event.{Event}
 use Rattle.cluster_steps.specs.declared.events.Event.TheVariants as event
@@ -41,20 +41,20 @@ abbrev pub woken_vote : NodeVote → ℕ → ℕ → ℕ → NodeVote
 woken_vote v p a l = record v { promised = p; accepted = a; length = l; durable = 0; granted = 0; acked = replicate 7 0; leading = false; up = true }
 
 -- the event of the core by which a node comes up so with it
-abbrev pub woken_by : Setting → Field → ℕ → Woken → Kept → Core KeptEntry
+abbrev pub woken_by : Setting → Field → ℕ → Woken → Kept → NodeEvent KeptEntry
 woken_by G f i how k = named_up G.nodes f.core (f.core.nodes i) how k.promised k.accepted k.entries
 
 -- an event of the core by which a node may come up, with exactly this; the pages of its log stand then
-pub record MayRise (G : Setting) (f : Field) (i : ℕ) (c : Core KeptEntry) (k : Kept) : Type 0 where
-  pub found : IsFound (change i (f.core.nodes i) c) k.promised k.accepted k.entries
-  pub may : May G.nodes f i (Act.Core c)
+pub record MayRise (G : Setting) (f : Field) (i : ℕ) (c : NodeEvent KeptEntry) (k : Kept) : Type 0 where
+  pub found : ComesUpWith (change i (f.core.nodes i) c) k.promised k.accepted k.entries
+  pub may : May G.nodes f i (FieldAct.Core c)
   pub right : MayStep G f i c
   pub by : IsActedBy G.nodes i c
   pub pages : Leaves PagesStand (f.core.nodes i) c × HasSchema G.tables c
 
 -- once its start is ordered, a node may come up so with what its store holds
 pub record MayWake (G : Setting) (f : Field) (i : ℕ) (how : Woken) (k : Kept) : Type 0 where
-  pub told : IsTold G.nodes f.core how k.accepted k.entries
+  pub told : IsTakenLogFound G.nodes f.core how k.accepted k.entries
   pub rises : MayRise G f i (woken_by G f i how k) k
   pub logged : IsLog k.entries
 

@@ -8,7 +8,7 @@ use Rattle.election_core.specs.declared.votes.NodeVote.{NodeVote}
 use Rattle.phys_log.specs.declared.entries.Entry.{Entry}
 use Rattle.node_state.specs.Calls.{IsAsBefore}
 use Rattle.node_state.specs.Nodes.{Held, events_of}
-use Rattle.node_state.specs.Packets.{Sent, packet}
+use Rattle.node_state.specs.Packets.{SentPacket, packet}
 
 -- whether a node learned a length since it leads, behind an event more, and by its events, the oldest first
 abbrev pub learned_after : Bool → Event → Bool
@@ -24,7 +24,7 @@ abbrev pub learned_by : List Event → Bool
 learned_by es = learned_behind false es
 
 -- what a leader with these numbers and this log ships to a node
-abbrev pub again_packets : NodeVote → Bool → ℕ → List Entry → List Sent
+abbrev pub again_packets : NodeVote → Bool → ℕ → List Entry → List SentPacket
 again_packets u learned to log = packet to (Adopt u.node u.accepted (length log)) log ∷ cond learned (packet to (Durable u.node u.accepted u.durable) [] ∷ []) []
 
 -- a node that is up and leads
@@ -32,7 +32,7 @@ abbrev pub Leads : NodeVote → Type 0
 Leads v = (v.up ≡ true) × (v.leading ≡ true)
 
 -- it ships so where it leads, else nothing
-pub record ShipsAgain (to : ℕ) (ps : List Sent) (old new : Held) : Type 0 where
+pub record ShipsAgain (to : ℕ) (ps : List SentPacket) (old new : Held) : Type 0 where
   pub same : IsAsBefore old new
   pub leads : Leads old.vote → ps ≡ again_packets old.vote (learned_by (events_of old.actor.made)) to old.entries
   pub follows : (Leads old.vote → ⊥) → ps ≡ []

@@ -6,12 +6,12 @@ ghost use Rattle.actor_trace.specs.Lists.{Begins};
 ghost use Rattle.actor_trace.specs.Steps.{Adds, Rests};
 ghost use Rattle.cluster_steps.specs.Named.{world};
 ghost use Rattle.core_lists.specs.Lists.{In};
-ghost use Rattle.election_core.specs.Allowed.{Decides};
+ghost use Rattle.election_core.specs.Allowed.{AllowsExactly};
 ghost use Rattle.election_core.specs.Counted.{acted, counted};
 ghost use Rattle.election_core.specs.Senders.{sender_of};
 ghost use Rattle.election_core.specs.declared.messages.Action.TheVariants as deed;
 ghost use Rattle.node_state.specs.Calls.{Acts, Answers, Did, IsAsBefore, Judges, MayProbe, Probes, Ships};
-ghost use Rattle.node_state.specs.Calls.{Stands, through};
+ghost use Rattle.node_state.specs.Calls.{StandsAsCandidate, through};
 ghost use Rattle.node_state.specs.Nodes.{Follows, IsOwn, held};
 ghost use Rattle.node_state.specs.Stores.{FallsAfter, FallsOver, IsKeptBy, StopsShort};
 ghost use Rattle.node_state.specs.Packets.{AreSent, IsPacket, IsSent, ask_of, asked_in, packets_of};
@@ -171,7 +171,7 @@ impl<D: LogStore + Drop, J: Plan, N: Naming> Body<D, J, N> {
         requires own { IsOwn J.setting (held self.old.vote self.old.log.entries self.old.actor) }
         requires kept { IsKeptBy self.old.vote self.old.log }
         requires packet { IsPacket J.setting message.now entries.now self.old.actor.seen }
-        requires decided { Decides self.old.vote message.now action }
+        requires decided { AllowsExactly self.old.vote message.now action }
         requires vote { vote ≡ acted (counted self.old.vote message.now) action }
         ensures own { IsOwn J.setting (held self.new.vote self.new.log.entries self.new.actor) }
         ensures kept { IsKeptBy self.new.vote self.new.log }
@@ -210,7 +210,7 @@ impl<D: LogStore + Drop, J: Plan, N: Naming> Body<D, J, N> {
         requires own { IsOwn J.setting (held self.old.vote self.old.log.entries self.old.actor) }
         requires kept { IsKeptBy self.old.vote self.old.log }
         requires packet { IsPacket J.setting message.now entries.now self.old.actor.seen }
-        requires decided { Decides self.old.vote message.now action }
+        requires decided { AllowsExactly self.old.vote message.now action }
         requires vote { vote ≡ acted (counted self.old.vote message.now) action }
         ensures own { IsOwn J.setting (held self.new.vote self.new.log.entries self.new.actor) }
         ensures kept { IsKeptBy self.new.vote self.new.log }
@@ -242,7 +242,7 @@ impl<D: LogStore + Drop, J: Plan, N: Naming> Body<D, J, N> {
         requires own { IsOwn J.setting (held self.old.vote self.old.log.entries self.old.actor) }
         requires kept { IsKeptBy self.old.vote self.old.log }
         requires packet { IsPacket J.setting message.now entries.now self.old.actor.seen }
-        requires decided { Decides self.old.vote message.now action }
+        requires decided { AllowsExactly self.old.vote message.now action }
         requires vote { vote ≡ acted (counted self.old.vote message.now) action }
         ensures own { IsOwn J.setting (held self.new.vote self.new.log.entries self.new.actor) }
         ensures kept { IsKeptBy self.new.vote self.new.log }
@@ -271,7 +271,7 @@ impl<D: LogStore + Drop, J: Plan, N: Naming> Body<D, J, N> {
         requires own { IsOwn J.setting (held self.old.vote self.old.log.entries self.old.actor) }
         requires kept { IsKeptBy self.old.vote self.old.log }
         requires packet { IsPacket J.setting message.now entries.now self.old.actor.seen }
-        requires decided { Decides self.old.vote message.now action }
+        requires decided { AllowsExactly self.old.vote message.now action }
         requires vote { vote ≡ acted (counted self.old.vote message.now) action }
         ensures own { IsOwn J.setting (held self.new.vote self.new.log.entries self.new.actor) }
         ensures kept { IsKeptBy self.new.vote self.new.log }
@@ -444,7 +444,7 @@ impl<D: LogStore + Drop, J: Plan, N: Naming> Body<D, J, N> {
         requires kept { IsKeptBy self.old.vote self.old.log }
         ensures own { IsOwn J.setting (held self.new.vote self.new.log.entries self.new.actor) }
         ensures kept { IsKeptBy self.new.vote self.new.log }
-        ensures stands { IfOk result (λ ps. Stands generation ps.items
+        ensures stands { IfOk result (λ ps. StandsAsCandidate generation ps.items
             (held self.old.vote self.old.log.entries self.old.actor)
             (held self.new.vote self.new.log.entries self.new.actor)) }
         ensures calm { OnOk result (self.new.log.faults ≡ self.old.log.faults) }

@@ -18,9 +18,9 @@ pub(crate) struct Draft {
 }
 
 impl Model for Draft {
-    ghost use Rattle.node_state.specs.Packets.{Sent};
+    ghost use Rattle.node_state.specs.Packets.{SentPacket};
 
-    ghost Value = { Sent };
+    ghost Value = { SentPacket };
 
     ghost view = { λ p. record { to = p.to; message = p.message; entries = p.entries.items } };
 }

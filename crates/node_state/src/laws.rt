@@ -7,7 +7,7 @@ ghost use Rattle.cdb_values.specs.Rows.{Rows};
 ghost use Rattle.cluster_events.specs.Parts.{field, lines};
 ghost use Rattle.cluster_events.specs.Settings.{Setting};
 ghost use Rattle.cluster_requests.specs.Requests.{Field};
-ghost use Rattle.cluster_steps.specs.Guards.{IsPlan, Lawful, MayDo};
+ghost use Rattle.cluster_steps.specs.Guards.{IsPlan, AreLegalSteps, MayTakeStep};
 ghost use Rattle.cluster_steps.specs.Named.{steps, world};
 ghost use Rattle.cluster_steps.specs.declared.events.Event.{Event};
 ghost use Rattle.cluster_steps.specs.declared.events.Event.TheVariants as event;
@@ -31,15 +31,15 @@ pub fn what_a_store_may_hold_may_come_up()
         → v.up ≡ false → ((world G seen).nodes v.node).was_up ≡ true → v.promised ≤ p
         → MayWake G (field (steps G seen)) v.node woken.AsLeft (kept p v.accepted log) }
     ensures leading { (G : Setting) (v : NodeVote) (log : List Entry) (g : ℕ) (fault : Bool) (seen now : List (ℕ × Event))
-        → IsNode G v log seen → v.up ≡ true → MayDo G seen v.node (event.Lead g) → Adds v.node (event.Down fault) seen now
-        → Lawful G now → MayWake G (field (steps G now)) v.node woken.Led (kept v.promised v.promised log) }
+        → IsNode G v log seen → v.up ≡ true → MayTakeStep G seen v.node (event.Lead g) → Adds v.node (event.Down fault) seen now
+        → AreLegalSteps G now → MayWake G (field (steps G now)) v.node woken.Led (kept v.promised v.promised log) }
     ensures taking { (G : Setting) (v u : NodeVote) (log taken : List Entry) (g n : ℕ) (fault : Bool) (seen now : List (ℕ × Event))
         → IsNode G v log seen → v.up ≡ true → Follows G v.node (event.Take g n) u taken seen
-        → Adds v.node (event.Down fault) seen now → Lawful G now
+        → Adds v.node (event.Down fault) seen now → AreLegalSteps G now
         → MayWake G (field (steps G now)) v.node woken.Took (kept u.promised u.accepted taken) }
     ensures appending { (G : Setting) (v u : NodeVote) (log longer : List Entry) (next : Snapshot Entry) (fault : Bool)
         (seen now : List (ℕ × Event)) → IsNode G v log seen → v.up ≡ true → Follows G v.node (event.Append next) u longer seen
-        → Adds v.node (event.Down fault) seen now → Lawful G now
+        → Adds v.node (event.Down fault) seen now → AreLegalSteps G now
         → MayWake G (field (steps G now)) v.node woken.Appended (kept u.promised u.accepted longer) }
 {}
 
@@ -53,31 +53,33 @@ pub fn what_a_call_may_leave_may_come_up()
         → IsNode G v log seen → v.up ≡ true → v.promised ≤ g → Adds v.node (event.Down fault) seen now
         → MayWakeAny G (field (steps G now)) v.node (kept v.promised v.accepted log ∷ kept g v.accepted log ∷ []) }
     ensures leading { (G : Setting) (v : NodeVote) (log : List Entry) (g : ℕ) (fault : Bool) (seen now : List (ℕ × Event))
-        → IsNode G v log seen → v.up ≡ true → MayDo G seen v.node (event.Lead g) → Adds v.node (event.Down fault) seen now
-        → Lawful G now → MayWakeAny G (field (steps G now)) v.node
+        → IsNode G v log seen → v.up ≡ true → MayTakeStep G seen v.node (event.Lead g) → Adds v.node (event.Down fault) seen now
+        → AreLegalSteps G now → MayWakeAny G (field (steps G now)) v.node
         (kept v.promised v.accepted log ∷ kept v.promised v.promised log ∷ []) }
     ensures taking { (G : Setting) (v u : NodeVote) (log taken : List Entry) (g n : ℕ) (fault : Bool) (seen now : List (ℕ × Event))
         → IsNode G v log seen → v.up ≡ true → v.promised ≤ g → Follows G v.node (event.Take g n) u taken seen
-        → u.promised ≡ g → u.accepted ≡ g → Adds v.node (event.Down fault) seen now → Lawful G now
+        → u.promised ≡ g → u.accepted ≡ g → Adds v.node (event.Down fault) seen now → AreLegalSteps G now
         → MayWakeAny G (field (steps G now)) v.node
         (kept v.promised v.accepted log ∷ kept g v.accepted log ∷ kept g g taken ∷ []) }
     ensures growing { (G : Setting) (v u : NodeVote) (log longer : List Entry) (g n : ℕ) (fault : Bool)
         (seen now : List (ℕ × Event)) → IsNode G v log seen → v.up ≡ true → Follows G v.node (event.Take g n) u longer seen
-        → u.promised ≡ v.promised → u.accepted ≡ v.accepted → Adds v.node (event.Down fault) seen now → Lawful G now
+        → u.promised ≡ v.promised → u.accepted ≡ v.accepted → Adds v.node (event.Down fault) seen now
+        → AreLegalSteps G now
         → MayWakeAny G (field (steps G now)) v.node
         (kept v.promised v.accepted log ∷ kept v.promised v.accepted longer ∷ []) }
     ensures appending { (G : Setting) (v u : NodeVote) (log longer : List Entry) (next : Snapshot Entry) (fault : Bool)
         (seen now : List (ℕ × Event)) → IsNode G v log seen → v.up ≡ true → Follows G v.node (event.Append next) u longer seen
-        → u.promised ≡ v.promised → u.accepted ≡ v.accepted → Adds v.node (event.Down fault) seen now → Lawful G now
+        → u.promised ≡ v.promised → u.accepted ≡ v.accepted → Adds v.node (event.Down fault) seen now
+        → AreLegalSteps G now
         → MayWakeAny G (field (steps G now)) v.node
         (kept v.promised v.accepted log ∷ kept v.promised v.accepted longer ∷ []) }
     ensures stays { (G : Setting) (i : ℕ) (old new : List (ℕ × Event)) (ks : List Kept) → IsPlan G → Rests i old new
-        → Lawful G new → MayWakeAny G (field (steps G old)) i ks → MayWakeAny G (field (steps G new)) i ks }
+        → AreLegalSteps G new → MayWakeAny G (field (steps G old)) i ks → MayWakeAny G (field (steps G new)) i ks }
 {}
 
 /// What a node may come up with it may come up with, whatever others do.
 pub fn what_may_come_up_stays()
-    ensures { (G : Setting) (i : ℕ) (old new : List (ℕ × Event)) (how : Woken) (k : Kept) → IsPlan G → Rests i old new → Lawful G new
+    ensures { (G : Setting) (i : ℕ) (old new : List (ℕ × Event)) (how : Woken) (k : Kept) → IsPlan G → Rests i old new → AreLegalSteps G new
         → MayWake G (field (steps G old)) i how k → MayWake G (field (steps G new)) i how k }
 {}
 

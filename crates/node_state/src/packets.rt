@@ -18,9 +18,9 @@ pub struct Packet<J: Plan, N: Naming> {
 }
 
 impl<J: Plan, N: Naming> Model for Packet<J, N> {
-    ghost use Rattle.node_state.specs.Packets.{Sent, IsPacket};
+    ghost use Rattle.node_state.specs.Packets.{SentPacket, IsPacket};
 
-    ghost Value = { Sent };
+    ghost Value = { SentPacket };
 
     ghost view = { λ p. record { to = p.to; message = p.message; entries = p.entries.items } };
 

@@ -2,7 +2,7 @@
 ghost use Rattle.std.specs.Prelude.{ℕ, ◌≡◌, ◌+◌, ◌-◌, ◌<◌, ◌≤◌, ◌↔◌, ◌++◌, ◌∷◌, [], List, length, true, IsTrue, IfOk};
 ghost use Rattle.std.specs.Prelude.{OnOk, IsErrOf};
 ghost use Rattle.cluster_steps.specs.declared.events.Event.TheVariants.{Take};
-ghost use Rattle.election_core.specs.Allowed.{Allows, Decides};
+ghost use Rattle.election_core.specs.Allowed.{Allows, AllowsExactly};
 ghost use Rattle.election_core.specs.Counted.{acted, counted};
 ghost use Rattle.election_core.specs.Senders.{sender_of};
 ghost use Rattle.election_core.specs.declared.messages.Action.TheVariants as deed;
@@ -86,7 +86,7 @@ impl<D: LogStore + Drop, J: Plan, N: Naming> Body<D, J, N> {
         requires kept { IsKeptBy self.old.vote self.old.log }
         requires packet { IsPacket J.setting message.now entries.now self.old.actor.seen }
         requires joins { Joins self.old.vote message.now entries.now }
-        requires decided { Decides self.old.vote message.now action }
+        requires decided { AllowsExactly self.old.vote message.now action }
         requires vote { vote ≡ acted (counted self.old.vote message.now) action }
         ensures own { IsOwn J.setting (held self.new.vote self.new.log.entries self.new.actor) }
         ensures kept { IsKeptBy self.new.vote self.new.log }

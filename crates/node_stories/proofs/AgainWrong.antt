@@ -10,7 +10,7 @@ use Rattle.session_language.specs.Language.{Answered}
 use Rattle.report_laws.specs.Cut.{cuts}
 use Rattle.report_laws.specs.History.{view_of}
 use Rattle.report_laws.specs.Told.{alone_at, numbered, Along, Numbered}
-use Rattle.report_laws.specs.Work.{transaction, Does, Item, Transaction, WithItsLine}
+use Rattle.report_laws.specs.Work.{transaction, Does, WorkItem, Transaction, WithItsLine}
 use Rattle.report_laws.proofs.AlongLaws.{of_number, of_its}
 use Rattle.report_laws.proofs.GrowLaws.{first_begin, first_rest, same_last}
 use Rattle.report_laws.proofs.NodesLaws.{short_needs_down}
@@ -50,7 +50,7 @@ not_again (inr c) =
 its_again : (mine : List Reply) (others : List Numbered) → numbered 1 again ≡ numbered 1 mine ++ others → others ≡ [] → again ≡ mine
 its_again mine others splits none = ap (of_number 1) splits ∙ of_its 1 mine others ∙ ap (λ (ls : List Numbered). mine ++ of_number 1 ls) none ∙ append-nil mine
 
-one_item : (P : Item → List Reply → Type 0) → Along P (Does selected ∷ []) (numbered 1 again) → P (Does selected) again
+one_item : (P : WorkItem → List Reply → Type 0) → Along P (Does selected ∷ []) (numbered 1 again) → P (Does selected) again
 one_item P (mine, others, splits, p, rest) = subst (λ (rs : List Reply). P (Does selected) rs) (sym (its_again mine others splits rest)) p
 
 pub told_again_is_refused : LawfulOfNodes (from_nothing insert_and_select) told_again → ⊥

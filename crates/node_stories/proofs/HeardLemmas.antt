@@ -14,7 +14,7 @@ use Rattle.report_laws.specs.History.{Basis}
 use Rattle.report_laws.specs.Lawful.{NameUpTo}
 use Rattle.report_laws.specs.Told.{told, Along}
 use Rattle.report_laws.specs.View.{View}
-use Rattle.report_laws.specs.Work.{Item, items_at, place_from, said, said_by, start, work}
+use Rattle.report_laws.specs.Work.{WorkItem, items_at, place_from, said, said_by, start, work}
 use Rattle.report_text.specs.declared.reports.Line.{Line}
 use Rattle.report_text.specs.declared.reports.Line.TheVariants as line
 use Rattle.report_worked.specs.Small.{small_language}
@@ -73,12 +73,12 @@ each_name P body lines theirs to_them of_a of_b others name = go (bytes_eq (code
     go false false is_a is_b = others name (nothing_said name body is_a is_b theirs) (nothing_told name lines is_a is_b to_them)
 
 -- a law along the work of each session
-pub along_them : (P : List ℕ → Item → List Reply → Type 0) (body : List BodyLine) (lines : List Line) → AllByRecursion (λ l. IsSaidByThem l.act) body → AllByRecursion IsToThem lines →
+pub along_them : (P : List ℕ → WorkItem → List Reply → Type 0) (body : List BodyLine) (lines : List Line) → AllByRecursion (λ l. IsSaidByThem l.act) body → AllByRecursion IsToThem lines →
     Along (P (codes "a")) (work small_language (codes "a") body) (told (codes "a") lines) → Along (P (codes "b")) (work small_language (codes "b") body) (told (codes "b") lines) →
     (name : List ℕ) → Along (P name) (work small_language name body) (told name lines)
 along_them P body lines theirs to_them of_a of_b =
     each_name (λ name. Along (P name) (work small_language name body) (told name lines)) body lines theirs to_them of_a of_b
-    (λ name none nothing. subst (λ (items : List Item). Along (P name) items (told name lines)) (sym (ap (λ (texts : List (List ℕ)). items_at (place_from small_language start texts)) none)) nothing)
+    (λ name none nothing. subst (λ (items : List WorkItem). Along (P name) items (told name lines)) (sym (ap (λ (texts : List (List ℕ)). items_at (place_from small_language start texts)) none)) nothing)
 
 -- each session was told its lines of the script
 pub told_them : (body : List BodyLine) (lines : List Line) → AllByRecursion (λ l. IsSaidByThem l.act) body → AllByRecursion IsToThem lines →

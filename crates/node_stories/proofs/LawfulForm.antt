@@ -36,7 +36,7 @@ use Rattle.report_text.specs.declared.reports.Line.{Line}
 use Rattle.report_text.specs.declared.reports.Line.TheVariants as line
 use Rattle.report_text.specs.declared.reports.Report.{Report}
 use Rattle.report_worked.specs.Small.{from_nothing, small_language}
-use Rattle.script_form.specs.CanRun.{tables_of}
+use Rattle.script_form.specs.CanRun.{script_tables}
 use Rattle.report_worked.proofs.WorkedLemmas.{IsTheirs}
 use Rattle.node_reports.specs.Fed.{AreFeeds}
 use Rattle.node_reports.specs.Lawful.{LawfulOfNodes}
@@ -520,7 +520,7 @@ heard {basis} {view} {lines} {position} {session} {txn} {begin} t outcome before
     record { transaction = t; is_its = its; within = within; ran = alone_at basis view t begin; is_ran = refl; outcome = outcome; ends = ends; before = before; after = after; says = says }
 
 -- the rows of two inserts are good
-pub good_two : IsGood (tables_of lost_stands) (rows_at (from_nothing lost_stands) lost_stands_report.entries 3).tables
+pub good_two : IsGood (script_tables lost_stands) (rows_at (from_nothing lost_stands) lost_stands_report.entries 3).tables
 good_two = record {
   rows_fit = ((record { columns = (refl, (refl, tt)); size = omega arith; keys = (omega arith, tt) }, (record { columns = (refl, (refl, tt)); size = omega arith; keys = (omega arith, tt) }, tt)), tt);
   keys_kept = refl;

@@ -20,7 +20,7 @@ use Rattle.report_laws.specs.Nodes.{up_count}
 use Rattle.report_laws.specs.Outcome.{IsOneDecision, IsDuplicate, IsEntered, IsRight, key_name}
 use Rattle.report_laws.specs.Places.{IsLost, IsShort}
 use Rattle.report_laws.specs.Told.{alone_at, Along, Numbered}
-use Rattle.report_laws.specs.Work.{transaction, ByCommit, Does, Item, Transaction, WithItsLine}
+use Rattle.report_laws.specs.Work.{transaction, ByCommit, Does, WorkItem, Transaction, WithItsLine}
 use Rattle.report_laws.proofs.AlongLaws.{along_its, of_number, of_its}
 use Rattle.report_laws.proofs.GrowLaws.{first_begin, first_rest, same_last}
 use Rattle.report_laws.proofs.PieceLaws.{all_at}
@@ -112,7 +112,7 @@ at_another_level_is_refused is =
     let no_such : Serializable ≡ Snapshot = entry.is_level ∙ ap (λ (t : Transaction). t.level) (sym its) in cc
 
 -- the one transaction of a session is told what the session is told
-only_item : (P : Item → List Reply → Type 0) (t : Transaction) (lines : List Numbered) (all : List Reply) → of_number t.number lines ≡ all → Along P (Does t ∷ []) lines → P (Does t) all
+only_item : (P : WorkItem → List Reply → Type 0) (t : Transaction) (lines : List Numbered) (all : List Reply) → of_number t.number lines ≡ all → Along P (Does t ∷ []) lines → P (Does t) all
 only_item P t lines all is (mine, others, splits, p, rest) =
     subst (λ (rs : List Reply). P (Does t) rs) (sym (sym is ∙ ap (of_number t.number) splits ∙ of_its t.number mine others ∙ ap (λ (ls : List Numbered). mine ++ of_number t.number ls) rest ∙ append-nil mine)) p
 

@@ -25,7 +25,7 @@ use Rattle.report_text.specs.declared.reports.Line.TheVariants as line
 use Rattle.cdb_values.specs.declared.replies.Reply.{Reply}
 use Rattle.cdb_values.specs.declared.replies.Reply.TheVariants as reply
 use Rattle.report_worked.specs.Small.{from_nothing}
-use Rattle.node_reports.specs.Order.{InNodesOrder, InTurns, IsFault, IsOpened, saying}
+use Rattle.node_reports.specs.Order.{InNodesOrder, InTurnsOfNodes, IsFault, IsOpened, saying}
 use Rattle.node_reports.specs.Piece.{Saying, Enters, IsPiece, IsDue, IsGiven, FallsAtCommit, StopsAtRow, Appends, IsUnacknowledged, loss_at, wanes_at, site_at, replies_in}
 use Rattle.node_reports.specs.Arms.{waiting, of_commit, stops, is_row_due, is_last_a_down}
 use Rattle.node_stories.specs.Stories.{armed_again, over_a_row}
@@ -51,7 +51,7 @@ insert_piece n node falls outcome order = go order.first (no_first (insert_at n 
     basis = from_nothing (insert_at n node)
 
     go : (first : List Line) → first ≡ [] → (insert_told falls outcome).lines ≡ first ++ order.rest → IsOpened basis [] [] first order.opening →
-        InTurns basis (view_of basis (insert_told falls outcome).entries) [] first order.opening basis.script.body order.rest order.later → OnePiece basis (insert_told falls outcome) (codes "a") (codes "insert into t values(1, 10)")
+        InTurnsOfNodes basis (view_of basis (insert_told falls outcome).entries) [] first order.opening basis.script.body order.rest order.later → OnePiece basis (insert_told falls outcome) (codes "a") (codes "insert into t values(1, 10)")
     go [] none lines_are opened (mine, others, added, later, parts, entries, turn, ends) = record {
       opening = order.opening;
       added = added;
@@ -182,7 +182,7 @@ no_schema_is_not_in_order order = go order.order
         let few : are_few 3 (before ++ ls) ≡ true = subst (IsOpened (from_nothing started) mine before ls) nothing is refl empty in
         both_ways (are_few 3 (before ++ ls)) (ap (are_few 3) are) few
 
-    go : InTurns (from_nothing started) (view_of (from_nothing started) no_schema.entries) [] order.first order.opening started.body order.rest order.later → ⊥
+    go : InTurnsOfNodes (from_nothing started) (view_of (from_nothing started) no_schema.entries) [] order.first order.opening started.body order.rest order.later → ⊥
     go (mine, others, added, later, parts, entries, turn, ends) =
         opened order.opening added none.0 (no_entries added later (sym none.1 ∙ entries)).0 order.first mine
         (ap (λ (ls : List Line). order.first ++ ls) (sym (append-nil mine) ∙ ap (λ (ls : List Line). mine ++ ls) (sym ends.0) ∙ sym parts) ∙ sym order.lines_are) turn.1
@@ -194,12 +194,12 @@ not_fired_is_not_in_order order = go order.first (no_first armed_select order.fi
     piece s now after mine due is each = let all : EachAfter (IsDue s now after) [] not_fired.lines = subst (EachAfter (IsDue s now after) []) (sym is) each in both_ways _ all.1.1.0.2 due
 
     last : (before : List Line) (history : List EntryLine) (rest : List Line) (later : List EntryLine) → before ≡ [] → not_fired.lines ≡ rest →
-        InTurns (from_nothing armed_select) (view_of (from_nothing armed_select) not_fired.entries) (take 1 armed_select.body) before history (drop 1 armed_select.body) rest later → ⊥
+        InTurnsOfNodes (from_nothing armed_select) (view_of (from_nothing armed_select) not_fired.entries) (take 1 armed_select.body) before history (drop 1 armed_select.body) rest later → ⊥
     last [] history rest later nothing is (mine, others, added, more, parts, entries, turn, ends) =
         piece (saying (from_nothing armed_select) (view_of (from_nothing armed_select) not_fired.entries) (take 1 armed_select.body) [] (codes "a") (codes "select * from t")) _ _ mine refl (is ∙ parts ∙ ap (λ (ls : List Line). mine ++ ls) ends.0 ∙ append-nil mine) turn.each
     last (x ∷ xs) history rest later nothing is turns = absurd (let no_such : x ∷ xs ≡ [] = nothing in cc)
 
-    go : (first : List Line) → first ≡ [] → not_fired.lines ≡ first ++ order.rest → InTurns (from_nothing armed_select) (view_of (from_nothing armed_select) not_fired.entries) [] first order.opening armed_select.body order.rest order.later → ⊥
+    go : (first : List Line) → first ≡ [] → not_fired.lines ≡ first ++ order.rest → InTurnsOfNodes (from_nothing armed_select) (view_of (from_nothing armed_select) not_fired.entries) [] first order.opening armed_select.body order.rest order.later → ⊥
     go [] none lines_are (mine, others, added, later, parts, entries, turn, rest) = last mine (order.opening ++ added) others later turn.0 (lines_are ∙ parts ∙ ap (λ (ls : List Line). ls ++ others) turn.0) rest
     go (x ∷ xs) none lines_are turns = absurd (let no_such : x ∷ xs ≡ [] = none in cc)
 
@@ -222,12 +222,12 @@ pub ship_not_fired_is_not_in_order : InNodesOrder (from_nothing armed_insert) sh
 ship_not_fired_is_not_in_order order = go order.first (no_first armed_insert order.first order.rest _ (codes "a") 1 (reply.Begin 1) order.lines_are order.go_down) order.lines_are order.opened order.order
   where
     last : (before : List Line) (history : List EntryLine) (rest : List Line) (later : List EntryLine) → before ≡ [] → length history ≡ 1 → ship_not_fired.lines ≡ rest →
-        InTurns (from_nothing armed_insert) (view_of (from_nothing armed_insert) ship_not_fired.entries) (take 1 armed_insert.body) before history (drop 1 armed_insert.body) rest later → ⊥
+        InTurnsOfNodes (from_nothing armed_insert) (view_of (from_nothing armed_insert) ship_not_fired.entries) (take 1 armed_insert.body) before history (drop 1 armed_insert.body) rest later → ⊥
     last before history rest later nothing one is (mine, others, added, more, parts, entries, turn, ends) =
         unfired mine (view_of (from_nothing armed_insert) history).last (let at : 0 + length history ≡ 1 = omega (arith, one) in at) (is ∙ parts ∙ ap (λ (ls : List Line). mine ++ ls) ends.0 ∙ append-nil mine) turn.fired
 
     go : (first : List Line) → first ≡ [] → ship_not_fired.lines ≡ first ++ order.rest → IsOpened (from_nothing armed_insert) [] [] first order.opening →
-        InTurns (from_nothing armed_insert) (view_of (from_nothing armed_insert) ship_not_fired.entries) [] first order.opening armed_insert.body order.rest order.later → ⊥
+        InTurnsOfNodes (from_nothing armed_insert) (view_of (from_nothing armed_insert) ship_not_fired.entries) [] first order.opening armed_insert.body order.rest order.later → ⊥
     go [] none lines_are opened (mine, others, added, later, parts, entries, turn, rest) =
         last mine (order.opening ++ added) others later turn.0 (let one : length order.opening ≡ 1 = opened_once order.opening opened in let all : length (order.opening ++ added) ≡ length order.opening + length added = length-append order.opening added in
         let nothing : length added ≡ 0 = ap length turn.1 in omega (arith, one, all, nothing)) (lines_are ∙ parts ∙ ap (λ (ls : List Line). ls ++ others) turn.0) rest
@@ -242,12 +242,12 @@ pub shipped_nothing_is_not_in_order : InNodesOrder (from_nothing armed_insert) s
 shipped_nothing_is_not_in_order order = go order.first (no_first armed_insert order.first order.rest _ (codes "a") 1 (reply.Begin 1) order.lines_are order.go_down) order.lines_are order.opened order.order
   where
     last : (before : List Line) (history : List EntryLine) (rest : List Line) (later : List EntryLine) → later ≡ [] → shipped_nothing.lines ≡ rest →
-        InTurns (from_nothing armed_insert) (view_of (from_nothing armed_insert) shipped_nothing.entries) (take 1 armed_insert.body) before history (drop 1 armed_insert.body) rest later → ⊥
+        InTurnsOfNodes (from_nothing armed_insert) (view_of (from_nothing armed_insert) shipped_nothing.entries) (take 1 armed_insert.body) before history (drop 1 armed_insert.body) rest later → ⊥
     last before history rest later none is (mine, others, added, more, parts, entries, turn, ends) =
         (turn.moment (omega arith) (take 2 shipped_nothing.lines) (drop 3 shipped_nothing.lines) 1 1 (sym (is ∙ parts ∙ ap (λ (ls : List Line). mine ++ ls) ends.0 ∙ append-nil mine)) refl).durable refl (no_entries added more (sym none ∙ entries)).0
 
     go : (first : List Line) → first ≡ [] → shipped_nothing.lines ≡ first ++ order.rest → IsOpened (from_nothing armed_insert) [] [] first order.opening →
-        InTurns (from_nothing armed_insert) (view_of (from_nothing armed_insert) shipped_nothing.entries) [] first order.opening armed_insert.body order.rest order.later → ⊥
+        InTurnsOfNodes (from_nothing armed_insert) (view_of (from_nothing armed_insert) shipped_nothing.entries) [] first order.opening armed_insert.body order.rest order.later → ⊥
     go [] none lines_are opened (mine, others, added, later, parts, entries, turn, rest) =
         let one : length order.opening ≡ 1 = opened_once order.opening opened in
         let all : 1 ≡ length (order.opening ++ order.later) = same_length shipped_nothing.entries (order.opening ++ order.later) order.entries_are in
@@ -282,13 +282,13 @@ stopped_at_a_duplicate_is_not_in_order order = go order.first (no_first armed_ag
     none = no_entries order.opening order.later order.entries_are
 
     last : (before : List Line) (history : List EntryLine) (rest : List Line) (later : List EntryLine) → history ≡ [] → stopped_at_a_duplicate.lines ≡ rest →
-        InTurns over_a_row (view_of over_a_row []) (take 1 armed_again.body) before history (drop 1 armed_again.body) rest later → ⊥
+        InTurnsOfNodes over_a_row (view_of over_a_row []) (take 1 armed_again.body) before history (drop 1 armed_again.body) rest later → ⊥
     last before history rest later empty is (mine, others, added, more, parts, entries, turn, ends) =
         never_enters before _ (view_of over_a_row history).last (ap (λ (es : List EntryLine). (view_of over_a_row es).last) empty)
         (turn.moment (omega arith) (take 2 stopped_at_a_duplicate.lines) (drop 3 stopped_at_a_duplicate.lines) 1 1 (sym (is ∙ parts ∙ ap (λ (ls : List Line). mine ++ ls) ends.0 ∙ append-nil mine)) refl).enters
 
     go : (first : List Line) → first ≡ [] → stopped_at_a_duplicate.lines ≡ first ++ order.rest →
-        InTurns over_a_row (view_of over_a_row stopped_at_a_duplicate.entries) [] first order.opening armed_again.body order.rest order.later → ⊥
+        InTurnsOfNodes over_a_row (view_of over_a_row stopped_at_a_duplicate.entries) [] first order.opening armed_again.body order.rest order.later → ⊥
     go [] nothing lines_are (mine, others, added, later, parts, entries, turn, rest) =
         last mine (order.opening ++ added) others later (ap (λ (es : List EntryLine). es ++ added) none.0 ∙ turn.1) (lines_are ∙ parts ∙ ap (λ (ls : List Line). ls ++ others) turn.0) rest
     go (x ∷ xs) nothing lines_are turns = absurd (let no_such : x ∷ xs ≡ [] = nothing in cc)

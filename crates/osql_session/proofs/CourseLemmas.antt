@@ -19,7 +19,7 @@ use Rattle.query_plan.specs.Views.{edge_in, interval_in}
 use Rattle.session_language.specs.Language.{alone_from}
 use Rattle.cdb_values.specs.declared.replies.Reply.{Reply}
 use Rattle.sql_answer.specs.Answers.{Outcome, Fails, Gives, Meaning, answer, ops_after}
-use Rattle.sql_answer.specs.Language.{meaning, bound_in, answered}
+use Rattle.sql_answer.specs.Language.{meaning, sql_binder, answered}
 use Rattle.sql_run.specs.Texts.{answer_to}
 use Rattle.osql_session.specs.Courses.{IsAfter, IsAlone, meanings_of}
 use Rattle.osql_session.specs.Sessions.{Session, new_session}
@@ -49,7 +49,7 @@ pub after_is_alone : (tables : List TableDef) (versions : List (List Version)) (
     IsAfter tables versions (meanings_of tables texts) told s → IsAlone tables versions texts told s
 after_is_alone tables versions texts told s after =
     let same : run_answered (run_from tables versions [] (meanings_of tables texts)) ≡ alone_from sql_language tables versions [] texts =
-    sym (alone_is_run bound_in tables versions [] texts) in
+    sym (alone_is_run sql_binder tables versions [] texts) in
     record {
       replies = after.replies ∙ ap (λ a. a.replies) same;
       ops = after.ops ∙ ap (λ a. a.ops) same;
@@ -139,9 +139,9 @@ one_statement_more tables versions m old new lines replies ops genids ranges ss 
 
 -- what texts mean, with a text more
 meanings_more : (tables : List TableDef) (texts : List (List ℕ)) (text : List ℕ) →
-    meanings_of tables (texts ++ text ∷ []) ≡ meanings_of tables texts ++ meaning bound_in tables text ∷ []
+    meanings_of tables (texts ++ text ∷ []) ≡ meanings_of tables texts ++ meaning sql_binder tables text ∷ []
 meanings_more tables [] text = refl
-meanings_more tables (t ∷ texts) text = ap (λ l. meaning bound_in tables t ∷ l) (meanings_more tables texts text)
+meanings_more tables (t ∷ texts) text = ap (λ l. meaning sql_binder tables t ∷ l) (meanings_more tables texts text)
 
 -- the same where it was answered
 pub goes_on : {E : Type 0} (result : Result (List Reply) E) (tables : List TableDef) (versions : List (List Version)) (m : Meaning) (old new : Session) →
@@ -157,7 +157,7 @@ goes_on (Err e) tables versions m old new replies ops genids ranges ss told is =
 
 -- and of a text
 pub goes_on_by_text : {E : Type 0} (result : Result (List Reply) E) (tables : List TableDef) (versions : List (List Version)) (text : List ℕ) (m : Meaning) (old new : Session) →
-    m ≡ meaning bound_in tables text →
+    m ≡ meaning sql_binder tables text →
     ((ss : List Meaning) (told : List Reply) → IsAfter tables versions ss told old → IfOk result (λ lines. IsAfter tables versions (ss ++ m ∷ []) (told ++ lines) new)) →
     (texts : List (List ℕ)) (told : List Reply) → IsAfter tables versions (meanings_of tables texts) told old →
     IfOk result (λ lines. IsAfter tables versions (meanings_of tables (texts ++ text ∷ [])) (told ++ lines) new)

@@ -9,7 +9,7 @@ use Rattle.query_laws.specs.Runs.{run_from}
 use Rattle.session_language.specs.Language.{alone_from}
 use Rattle.cdb_values.specs.declared.replies.Reply.{Reply}
 use Rattle.sql_answer.specs.Answers.{Meaning}
-use Rattle.sql_answer.specs.Language.{meaning, bound_in}
+use Rattle.sql_answer.specs.Language.{meaning, sql_binder}
 use Rattle.osql_session.specs.Sessions.{Session}
 
 -- after these statements it told these lines
@@ -21,7 +21,7 @@ pub record IsAfter (tables : List TableDef) (versions : List (List Version)) (st
 
 -- what texts mean
 abbrev pub meanings_of : List TableDef → List (List ℕ) → List Meaning
-meanings_of tables texts = map (meaning bound_in tables) texts
+meanings_of tables texts = map (meaning sql_binder tables) texts
 
 -- the same of a transaction of these texts that runs alone
 pub record IsAlone (tables : List TableDef) (versions : List (List Version)) (texts : List (List ℕ)) (told : List Reply) (s : Session) : Type 0 where

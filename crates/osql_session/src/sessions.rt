@@ -2,13 +2,13 @@
 ghost use Rattle.std.specs.Prelude.{◌≡◌, ◌<◌, ◌^◌, ◌++◌, ◌∷◌, [], ℕ, List as Many, true, length, IfOk, OnOk, OnErr, Ok};
 ghost use Rattle.std.specs.Str.{is_utf8};
 ghost use Rattle.plan_run.specs.PlanWalks.{intervals_in};
-ghost use Rattle.plan_run.specs.Sources.{IsExcused};
+ghost use Rattle.plan_run.specs.Sources.{AreRowsExcused};
 ghost use Rattle.query_laws.specs.Alone.{replies_of, uses_of};
 ghost use Rattle.query_laws.specs.Runs.{ranges_of, used_if};
 ghost use Rattle.query_plan.specs.Planned.{plan_of};
 ghost use Rattle.cdb_values.specs.declared.replies.Reply.{Reply as OneLine};
 ghost use Rattle.sql_answer.specs.Answers.{Meaning as OneMeaning, answer as answer_of, ops_after};
-ghost use Rattle.sql_answer.specs.Language.{meaning as meaning_of, bound_in as bound_as};
+ghost use Rattle.sql_answer.specs.Language.{meaning as meaning_of, sql_binder};
 ghost use Rattle.sql_answer_plain.specs.Views.{outcome_in};
 ghost use Rattle.sql_bind.specs.Views.{bound_in};
 ghost use Rattle.sql_run.specs.Texts.{plan_by, answer_to};
@@ -95,14 +95,14 @@ impl OsqlSession {
         requires utf8 { is_utf8 text.now ≡ true }
         requires short { length text.now < 2 ^ 32 }
         ensures replies { IfOk result (λ lines. lines
-            ≡ (answer_to schema.now (S.versions source.old) self.old.ops (meaning_of bound_as schema.now text.now)).replies) }
+            ≡ (answer_to schema.now (S.versions source.old) self.old.ops (meaning_of sql_binder schema.now text.now)).replies) }
         ensures ops { OnOk result (self.new.ops
-            ≡ (answer_to schema.now (S.versions source.old) self.old.ops (meaning_of bound_as schema.now text.now)).ops) }
+            ≡ (answer_to schema.now (S.versions source.old) self.old.ops (meaning_of sql_binder schema.now text.now)).ops) }
         ensures genids { OnOk result (self.new.genids ≡ self.old.genids
-            ++ (answer_to schema.now (S.versions source.old) self.old.ops (meaning_of bound_as schema.now text.now)).uses) }
+            ++ (answer_to schema.now (S.versions source.old) self.old.ops (meaning_of sql_binder schema.now text.now)).uses) }
         ensures ranges { OnOk result (intervals_in self.new.ranges ≡ intervals_in self.old.ranges
-            ++ used_if (answer_of schema.now (S.versions source.old) self.old.ops (meaning_of bound_as schema.now text.now))
-            (ranges_of schema.now (S.versions source.old) self.old.ops (meaning_of bound_as schema.now text.now))) }
+            ++ used_if (answer_of schema.now (S.versions source.old) self.old.ops (meaning_of sql_binder schema.now text.now))
+            (ranges_of schema.now (S.versions source.old) self.old.ops (meaning_of sql_binder schema.now text.now))) }
         ensures so_far { (texts : Many (Many ℕ)) (told : Many OneLine)
             → IsAfter schema.now (S.versions source.old) (meanings_of schema.now texts) told self.old
             → IfOk result (λ lines. IsAfter schema.now (S.versions source.old) (meanings_of schema.now (texts ++ text.now ∷ [])) (told ++ lines) self.new) }
@@ -112,7 +112,7 @@ impl OsqlSession {
         ensures unchanged { OnErr result (self.new ≡ self.old) }
         ensures tables { S.tables source.new ≡ S.tables source.old }
         ensures versions { S.versions source.new ≡ S.versions source.old }
-        ensures excused { IsExcused result (S.losses source.old) (S.losses source.new) }
+        ensures excused { AreRowsExcused result (S.losses source.old) (S.losses source.new) }
     {
         let prepared = prepare(alloc, schema, text)?;
         let answer = self.statement(alloc, schema, &prepared, source);
@@ -154,7 +154,7 @@ impl OsqlSession {
         ensures unchanged { OnErr result (self.new ≡ self.old) }
         ensures tables { S.tables source.new ≡ S.tables source.old }
         ensures versions { S.versions source.new ≡ S.versions source.old }
-        ensures excused { IsExcused result (S.losses source.old) (S.losses source.new) }
+        ensures excused { AreRowsExcused result (S.losses source.old) (S.losses source.new) }
     {
         self.answered(alloc, schema, prepared, source)
     }
@@ -211,7 +211,7 @@ impl OsqlSession {
         ensures unchanged { OnErr result (self.new ≡ self.old) }
         ensures tables { S.tables source.new ≡ S.tables source.old }
         ensures versions { S.versions source.new ≡ S.versions source.old }
-        ensures excused { IsExcused result (S.losses source.old) (S.losses source.new) }
+        ensures excused { AreRowsExcused result (S.losses source.old) (S.losses source.new) }
     {
         match prepared.meaning() {
             Meaning::Runs { statement, plan } => self.run(alloc, schema, statement, plan, source),
@@ -246,7 +246,7 @@ impl OsqlSession {
         ensures unchanged { OnErr result (self.new ≡ self.old) }
         ensures tables { S.tables source.new ≡ S.tables source.old }
         ensures versions { S.versions source.new ≡ S.versions source.old }
-        ensures excused { IsExcused result (S.losses source.old) (S.losses source.new) }
+        ensures excused { AreRowsExcused result (S.losses source.old) (S.losses source.new) }
     {
         let tables = schema.tables();
         let executed = execute(alloc, tables, statement, plan, source, self.ops.as_slice())?;

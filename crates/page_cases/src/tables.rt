@@ -12,7 +12,7 @@ use page_store::{Edit, PageFault, PageSource};
 use plan_run::RowSource;
 use std::alloc::{AllocError, Global};
 use table_edits::{OpsFault, ops_to_edits};
-use table_store::read_table;
+use table_store::table_versions;
 use test_cases::{all_fit, state_at_end};
 
 /// The row operation of a line.
@@ -82,7 +82,7 @@ pub(crate) fn put_rows<P: PageSource>(
     if table as usize >= schema.tables().len() {
         return out.push('?');
     }
-    match read_table(alloc, pages, schema, table) {
+    match table_versions(alloc, pages, schema, table) {
         Ok(versions) => put_versions(alloc, versions.as_slice(), out),
         Err(_) => Err(AllocError),
     }

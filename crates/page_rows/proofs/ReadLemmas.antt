@@ -8,7 +8,7 @@ use Rattle.std.specs.List.{AllByRecursion, filter, slice_get}
 use Rattle.byteorder.specs.Endian.{big_bytes}
 use Rattle.page_workspace.specs.Spare.{IsIn}
 use Rattle.btree_index.specs.Keys.{Key, before}
-use Rattle.btree_index.specs.Pairs.{is_between, between}
+use Rattle.btree_index.specs.Pairs.{is_key_between, between}
 use Rattle.cdb_values.specs.Good.{key_of}
 use Rattle.cdb_values.specs.declared.rows.Version.{Version}
 use Rattle.cdb_values.specs.declared.tables.TableDef.{TableDef}
@@ -29,15 +29,15 @@ use Rattle.page_rows.proofs.OrderLemmas.{no_tail, genid_tail}
 use Rattle.page_rows.proofs.PickLemmas.{Covers, merged}
 
 -- a pair that is between, among those that are
-between_among : (low : Key) (high : Option Key) (p : Pair) (list : List Pair) → IsAmong p list → is_between low high p.0 ≡ true → IsAmong p (between low high list)
+between_among : (low : Key) (high : Option Key) (p : Pair) (list : List Pair) → IsAmong p list → is_key_between low high p.0 ≡ true → IsAmong p (between low high list)
 between_among low high p [] i e = i
-between_among low high p (x ∷ xs) i e = go (is_between low high x.0) refl i (λ j. between_among low high p xs j e)
+between_among low high p (x ∷ xs) i e = go (is_key_between low high x.0) refl i (λ j. between_among low high p xs j e)
   where
-    go : (b : Bool) → is_between low high x.0 ≡ b → IsAmong p (x ∷ xs) → (IsAmong p xs → IsAmong p (between low high xs))
+    go : (b : Bool) → is_key_between low high x.0 ≡ b → IsAmong p (x ∷ xs) → (IsAmong p xs → IsAmong p (between low high xs))
         → IsAmong p (if b then x ∷ between low high xs else between low high xs)
     go true k (inl same) more = inl same
     go true k (inr j) more = inr (more j)
-    go false k (inl same) more = absurd (false≢true (sym k ∙ ap (λ (q : Pair). is_between low high q.0) (sym same) ∙ e))
+    go false k (inl same) more = absurd (false≢true (sym k ∙ ap (λ (q : Pair). is_key_between low high q.0) (sym same) ∙ e))
     go false k (inr j) more = more j
 
 -- the values of a key are in range
@@ -53,7 +53,7 @@ cells_ranged (c ∷ cs) row h = (cell_ranged row c h, cells_ranged cs row h)
 
 -- the pair of a version in the interval is between
 pair_between : (key : KeyDef) (interval : Interval) (low high : Key) (v : Version) → AreEnds key interval low high → AllByRecursion IsRowValue v.row
-    → lies_by (Some key) interval v.row ≡ true → is_between low (Some high) (pair_of_version (Some key) v).0 ≡ true
+    → lies_by (Some key) interval v.row ≡ true → is_key_between low (Some high) (pair_of_version (Some key) v).0 ≡ true
 pair_between key interval low high v ends ranged e = go key.unique
   where
     code : List ℕ
@@ -62,7 +62,7 @@ pair_between key interval low high v ends ranged e = go key.unique
     ok : (bytes : List ℕ) → (before bytes low ≡ false) × (before bytes high ≡ true) → (not (before bytes low) && before bytes high) ≡ true
     ok bytes h = ap (λ (b : Bool). not b && before bytes high) h.0 ∙ h.1
 
-    go : (u : Bool) → is_between low (Some high) (keyed u (key_code (key_of key v.row)) (big_bytes 8 v.genid)).0 ≡ true
+    go : (u : Bool) → is_key_between low (Some high) (keyed u (key_code (key_of key v.row)) (big_bytes 8 v.genid)).0 ≡ true
     go true =
         ap (λ (l : List ℕ). not (before l low) && before l high) (sym (append-nil (key_code (key_of key v.row))))
         ∙ ok (key_code (key_of key v.row) ++ []) (ends v.row [] no_tail (cells_ranged key.columns v.row ranged) e)

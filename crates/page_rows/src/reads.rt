@@ -20,7 +20,7 @@ use btree_index::scan;
 use cdb_values::{Interval, KeyDef, List, Schema, Version};
 use page_store::{PageFault, PageSource};
 use std::alloc::Global;
-use table_store::read_table;
+use table_store::table_versions;
 
 /// The versions of a table, by rising genid, from pages that stand for a state of the schema; none where the table is not
 /// there. `Gone` comes only where the source lost its pages; the other error is want of memory.
@@ -39,7 +39,7 @@ pub(crate) fn read_rows<P: PageSource>(
     if table as usize >= schema.tables().len() {
         return Ok(List::new(alloc));
     }
-    let versions = read_table(alloc, pages, schema, table)?;
+    let versions = table_versions(alloc, pages, schema, table)?;
     Ok(List::from_vec(versions))
 }
 

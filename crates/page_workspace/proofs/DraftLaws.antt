@@ -11,7 +11,7 @@ use Rattle.page_store.specs.declared.edits.Edit.{Edit}
 use Rattle.std.specs.Result.{IsErr}
 use Rattle.page_workspace.specs.declared.workspaces.EditFault.{EditFault}
 use Rattle.page_workspace.specs.declared.workspaces.EditFault.TheVariants.{Unfit, Gone, NoMemory}
-use Rattle.page_workspace.specs.Drafts.{edited, edited_by, AreFit, TellsFit, IsExcused, IsNotUnfit}
+use Rattle.page_workspace.specs.Drafts.{edited, edited_by, AreFit, TellsEditFit, IsEditExcused, IsNotUnfit}
 
 -- one edit more
 pub edited_by-more : (es : List (ℕ × Edit)) (pages : ℕ → Image) (id : ℕ) (e : Edit)
@@ -46,7 +46,7 @@ pub fit_out : (es : List (ℕ × Edit)) (pages : ℕ → Image) → ∥ AreFit e
 fit_out es pages h = ∥∥₁_elim h (all_fit_prop es pages) (λ f. f)
 
 -- an error of reading tells nothing of the edit
-pub reading_tells : {T : Type 0} (r : Result T EditFault) (fit : Type 0) → IsErr r → IsNotUnfit r → TellsFit r fit
+pub reading_tells : {T : Type 0} (r : Result T EditFault) (fit : Type 0) → IsErr r → IsNotUnfit r → TellsEditFit r fit
 reading_tells (Ok x) fit h k = absurd (false≢true h)
 reading_tells (Err Unfit) fit h k = absurd k
 reading_tells (Err Gone) fit h k = tt
@@ -58,14 +58,14 @@ rose_after a b h (inl less) = absurd (omega (arith, less))
 rose_after a b h (inr last) = inr last
 
 -- a call that lost nothing, after one that is excused
-pub excused_after : {T : Type 0} (r : Result T EditFault) (a b : ℕ) → a ≤ b → IsExcused r b b → IsExcused r a b
+pub excused_after : {T : Type 0} (r : Result T EditFault) (a b : ℕ) → a ≤ b → IsEditExcused r b b → IsEditExcused r a b
 excused_after (Ok x) a b h k = h
 excused_after (Err Unfit) a b h k = h
 excused_after (Err Gone) a b h k = (h, rose_after a b h k.1)
 excused_after (Err NoMemory) a b h k = h
 
 -- an edit that fits is not told as one that does not
-pub fit_told : {T : Type 0} (r : Result T EditFault) (fit : Type 0) → TellsFit r fit → fit → IsNotUnfit r
+pub fit_told : {T : Type 0} (r : Result T EditFault) (fit : Type 0) → TellsEditFit r fit → fit → IsNotUnfit r
 fit_told (Ok x) fit h f = tt
 fit_told (Err Unfit) fit h f = h f
 fit_told (Err Gone) fit h f = tt

@@ -33,18 +33,18 @@ abbrev pub meant : {P : Type 0} → (P → ℕ → Image) → Draft P → ℕ �
 meant pages draft = edited_by draft.edits (pages draft.base)
 
 -- what each answer tells of whether an edit fits: `Unfit` comes only where it does not
-abbrev pub TellsFit : {T : Type 0} → Result T EditFault → Type 0 → Type 0
-TellsFit (Ok x) fit = fit
-TellsFit (Err Unfit) fit = fit → ⊥
-TellsFit (Err Gone) fit = Unit {0}
-TellsFit (Err NoMemory) fit = Unit {0}
+abbrev pub TellsEditFit : {T : Type 0} → Result T EditFault → Type 0 → Type 0
+TellsEditFit (Ok x) fit = fit
+TellsEditFit (Err Unfit) fit = fit → ⊥
+TellsEditFit (Err Gone) fit = Unit {0}
+TellsEditFit (Err NoMemory) fit = Unit {0}
 
 -- each answer against the counts of losses before and after the call, which never fall: `Gone` comes only where they rose
-abbrev pub IsExcused : {T : Type 0} → Result T EditFault → ℕ → ℕ → Type 0
-IsExcused (Ok x) before now = before ≤ now
-IsExcused (Err Unfit) before now = before ≤ now
-IsExcused (Err Gone) before now = (before ≤ now) × Rose before now
-IsExcused (Err NoMemory) before now = before ≤ now
+abbrev pub IsEditExcused : {T : Type 0} → Result T EditFault → ℕ → ℕ → Type 0
+IsEditExcused (Ok x) before now = before ≤ now
+IsEditExcused (Err Unfit) before now = before ≤ now
+IsEditExcused (Err Gone) before now = (before ≤ now) × Rose before now
+IsEditExcused (Err NoMemory) before now = before ≤ now
 
 -- an answer other than `Unfit`
 abbrev pub IsNotUnfit : {T : Type 0} → Result T EditFault → Type 0

@@ -1,6 +1,6 @@
 //! The meta page: what it tells, as numbers, and the cell that tells it.
 ghost use Rattle.std.specs.Prelude.{ℕ, ◌≡◌, ◌^◌, IfOk, IfSome, None, OnErr, OnOk, false, length, true};
-ghost use Rattle.page_workspace.specs.Drafts.{meant, IsExcused, IsNotUnfit};
+ghost use Rattle.page_workspace.specs.Drafts.{meant, IsEditExcused, IsNotUnfit};
 ghost use Rattle.page_workspace.specs.Metas.{cell_of, meta_in, meta_of, IsSwap, SetsMeta, TellsMeta};
 ghost use Rattle.page_workspace.specs.Spare.{first_cell, is_meta, is_meta_kind, IsMeta};
 
@@ -57,7 +57,7 @@ impl<P: PageSource> Workspace<P> {
         ensures edits { self.new.edits ≡ self.old.edits }
         ensures pages { meant P.pages self.new ≡ meant P.pages self.old }
         ensures base { P.pages self.new.base ≡ P.pages self.old.base }
-        ensures excused { IsExcused result (P.losses self.old.base) (P.losses self.new.base) }
+        ensures excused { IsEditExcused result (P.losses self.old.base) (P.losses self.new.base) }
     {
         self.load_to_edit(0)?;
         match Meta::read(self.page()) {
@@ -73,7 +73,7 @@ impl<P: PageSource> Workspace<P> {
         ensures fit { IsMeta (meant P.pages self.old 0) → IsNotUnfit result }
         ensures unchanged { OnErr result (self.new.edits ≡ self.old.edits) }
         ensures base { P.pages self.new.base ≡ P.pages self.old.base }
-        ensures excused { IsExcused result (P.losses self.old.base) (P.losses self.new.base) }
+        ensures excused { IsEditExcused result (P.losses self.old.base) (P.losses self.new.base) }
     {
         self.load_to_edit(0)?;
         let swap = meta_swap(alloc, self.page(), meta)?;
@@ -123,7 +123,7 @@ fn split(cell: &[u8]) -> Meta
 fn meta_swap(alloc: Global, page: &Page, meta: Meta) -> Result<Edit, EditFault>
     ensures swap { IfOk result (IsSwap page.now meta) }
     ensures fit { IsMeta page.now → IsNotUnfit result }
-    ensures excused { (count : ℕ) → IsExcused result count count }
+    ensures excused { (count : ℕ) → IsEditExcused result count count }
 {
     let Some(cell) = meta_cell(page) else {
         return Err(EditFault::Unfit);

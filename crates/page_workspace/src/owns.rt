@@ -1,7 +1,7 @@
 ghost use Rattle.std.specs.Prelude.{ℕ, ◌≡◌, IsSome, OnOk, OnErr, option_copied};
 ghost use Rattle.page_store.specs.Image.{Image};
-ghost use Rattle.page_store.specs.Edits.{IsFit, TellsFit as TellsPageFit};
-ghost use Rattle.page_workspace.specs.Drafts.{edited, TellsFit, IsExcused, IsNotUnfit};
+ghost use Rattle.page_store.specs.Edits.{IsFit, TellsFit};
+ghost use Rattle.page_workspace.specs.Drafts.{edited, TellsEditFit, IsEditExcused, IsNotUnfit};
 ghost use Rattle.page_workspace.specs.Owned.{own_of, own_at, overlay};
 
 use crate::workspaces::EditFault;
@@ -19,7 +19,7 @@ pub(crate) fn own_page(owns: &HashMap<u64, Page>, id: Option<u64>) -> Option<&Pa
 fn load_below<P: PageSource>(base: &mut P, id: u64) -> Result<(), EditFault>
     ensures loaded { OnOk result (P.loaded base.new ≡ Some (P.pages base.old id)) }
     ensures pages { P.pages base.new ≡ P.pages base.old }
-    ensures excused { IsExcused result (P.losses base.old) (P.losses base.new) }
+    ensures excused { IsEditExcused result (P.losses base.old) (P.losses base.new) }
     ensures reading { IsNotUnfit result }
 {
     match base.load(id) {
@@ -38,7 +38,7 @@ pub(crate) fn hold<P: PageSource>(
     ensures held { OnOk result (IsSome (own_of owns.new.entries id)) }
     ensures same { (n : ℕ) → overlay owns.new.entries (P.pages base.old) n ≡ overlay owns.old.entries (P.pages base.old) n }
     ensures pages { P.pages base.new ≡ P.pages base.old }
-    ensures excused { IsExcused result (P.losses base.old) (P.losses base.new) }
+    ensures excused { IsEditExcused result (P.losses base.old) (P.losses base.new) }
     ensures reading { IsNotUnfit result }
 {
     if owns.contains_key(&id) {
@@ -56,9 +56,9 @@ pub(crate) fn hold<P: PageSource>(
 pub(crate) fn edit_own(owns: &mut HashMap<u64, Page>, id: u64, edit: &Edit) -> Result<(), EditFault>
     requires { IsSome (own_of owns.old.entries id) }
     ensures made { OnOk result ((pages : ℕ → Image) (n : ℕ) → overlay owns.new.entries pages n ≡ edited (overlay owns.old.entries pages) id edit.now n) }
-    ensures fits { (pages : ℕ → Image) → TellsFit result (IsFit (overlay owns.old.entries pages id) edit.now) }
+    ensures fits { (pages : ℕ → Image) → TellsEditFit result (IsFit (overlay owns.old.entries pages id) edit.now) }
     ensures unchanged { OnErr result (owns.new.entries ≡ owns.old.entries) }
-    ensures excused { (count : ℕ) → IsExcused result count count }
+    ensures excused { (count : ℕ) → IsEditExcused result count count }
 {
     match apply_own(owns, id, edit) {
         Ok(()) => Ok(()),
@@ -71,7 +71,7 @@ pub(crate) fn edit_own(owns: &mut HashMap<u64, Page>, id: u64, edit: &Edit) -> R
 fn apply_own(owns: &mut HashMap<u64, Page>, id: u64, edit: &Edit) -> Result<(), ApplyFault>
     requires { IsSome (own_of owns.old.entries id) }
     ensures made { OnOk result ((pages : ℕ → Image) (n : ℕ) → overlay owns.new.entries pages n ≡ edited (overlay owns.old.entries pages) id edit.now n) }
-    ensures fits { (pages : ℕ → Image) → TellsPageFit result (IsFit (overlay owns.old.entries pages id) edit.now) }
+    ensures fits { (pages : ℕ → Image) → TellsFit result (IsFit (overlay owns.old.entries pages id) edit.now) }
     ensures unchanged { OnErr result (owns.new.entries ≡ owns.old.entries) }
 {
     match owns.get_mut(&id) {

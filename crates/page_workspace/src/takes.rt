@@ -1,6 +1,6 @@
 ghost use Rattle.std.specs.Prelude.{ℕ, ◌≡◌, IfOk, OnErr, OnOk};
 ghost use Rattle.page_store.specs.declared.pages.PageKind.TheVariants.{Free};
-ghost use Rattle.page_workspace.specs.Drafts.{meant, IsExcused, IsNotUnfit};
+ghost use Rattle.page_workspace.specs.Drafts.{meant, IsEditExcused, IsNotUnfit};
 ghost use Rattle.page_workspace.specs.Metas.{TellsMeta};
 ghost use Rattle.page_workspace.specs.Spare.{IsMeta};
 ghost use Rattle.page_workspace.specs.Takes.{FreesPage, TakesPage};
@@ -19,7 +19,7 @@ impl<P: PageSource> Workspace<P> {
         ensures fit { IsMeta (meant P.pages self.old 0) → IsNotUnfit result }
         ensures unchanged { OnErr result (self.new.edits ≡ self.old.edits) }
         ensures base { P.pages self.new.base ≡ P.pages self.old.base }
-        ensures excused { IsExcused result (P.losses self.old.base) (P.losses self.new.base) }
+        ensures excused { IsEditExcused result (P.losses self.old.base) (P.losses self.new.base) }
     {
         let meta = self.meta()?;
         if meta.free == 0 {
@@ -36,7 +36,7 @@ impl<P: PageSource> Workspace<P> {
         ensures freed { OnOk result (FreesPage (meant P.pages self.old) (meant P.pages self.new) id) }
         ensures fit { (id ≡ 0 → ⊥) → IsMeta (meant P.pages self.old 0) → IsNotUnfit result }
         ensures base { P.pages self.new.base ≡ P.pages self.old.base }
-        ensures excused { IsExcused result (P.losses self.old.base) (P.losses self.new.base) }
+        ensures excused { IsEditExcused result (P.losses self.old.base) (P.losses self.new.base) }
     {
         if id == 0 {
             return Err(EditFault::Unfit);
@@ -75,7 +75,7 @@ fn take_new<P: PageSource>(
     ensures fit { IsMeta (meant P.pages space.old 0) → IsNotUnfit result }
     ensures unchanged { OnErr result (space.new.edits ≡ space.old.edits) }
     ensures base { P.pages space.new.base ≡ P.pages space.old.base }
-    ensures excused { IsExcused result (P.losses space.old.base) (P.losses space.new.base) }
+    ensures excused { IsEditExcused result (P.losses space.old.base) (P.losses space.new.base) }
 {
     if meta.count >= COUNT_LIMIT - 1 {
         return Err(EditFault::NoMemory);
@@ -99,7 +99,7 @@ fn take_free<P: PageSource>(
     ensures fit { IsMeta (meant P.pages space.old 0) → IsNotUnfit result }
     ensures unchanged { OnErr result (space.new.edits ≡ space.old.edits) }
     ensures base { P.pages space.new.base ≡ P.pages space.old.base }
-    ensures excused { IsExcused result (P.losses space.old.base) (P.losses space.new.base) }
+    ensures excused { IsEditExcused result (P.losses space.old.base) (P.losses space.new.base) }
 {
     space.load_to_edit(meta.free)?;
     let right = space.page().head().right;

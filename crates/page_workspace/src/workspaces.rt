@@ -2,8 +2,8 @@ ghost use Rattle.std.specs.Prelude.{ℕ, ◌≡◌, ◌++◌, ◌∷◌, [], Non
 ghost use Rattle.page_store.specs.Image.{Image};
 ghost use Rattle.page_store.specs.Edits.{IsFit};
 ghost use Rattle.page_store.specs.declared.edits.Edit.{Edit};
-ghost use Rattle.page_store.specs.Sources.{IsExcused as IsLoadExcused};
-ghost use Rattle.page_workspace.specs.Drafts.{meant, edited, edited_by, AreFit, TellsFit, IsExcused, IsNotUnfit};
+ghost use Rattle.page_store.specs.Sources.{IsExcused};
+ghost use Rattle.page_workspace.specs.Drafts.{meant, edited, edited_by, AreFit, TellsEditFit, IsEditExcused, IsNotUnfit};
 ghost use Rattle.page_workspace.specs.Owned.{own_at, or_loaded, IsKept};
 
 use crate::owns::{edit_own, hold, own_page};
@@ -62,7 +62,7 @@ impl<P: PageSource> PageSource for Workspace<P> {
         ensures edits { self.new.edits ≡ self.old.edits }
         ensures loaded { OnOk result (self.new.loaded ≡ Some (meant P.pages self.old id)) }
         ensures none { OnErr result (self.new.loaded ≡ None) }
-        ensures excused { IsLoadExcused result (P.losses self.old.base) (P.losses self.new.base) }
+        ensures excused { IsExcused result (P.losses self.old.base) (P.losses self.new.base) }
     {
         if self.owns.contains_key(&id) {
             self.at = Some(id);
@@ -102,7 +102,7 @@ impl<P: PageSource> Workspace<P> {
         ensures loaded { OnOk result (self.new.loaded ≡ Some (meant P.pages self.old id)) }
         ensures none { OnErr result (self.new.loaded ≡ None) }
         ensures fit { IsNotUnfit result }
-        ensures excused { IsExcused result (P.losses self.old.base) (P.losses self.new.base) }
+        ensures excused { IsEditExcused result (P.losses self.old.base) (P.losses self.new.base) }
     {
         match self.load(id) {
             Ok(()) => Ok(()),
@@ -116,10 +116,10 @@ impl<P: PageSource> Workspace<P> {
     pub fn edit(&mut self, id: u64, edit: Edit) -> Result<(), EditFault>
         ensures made { OnOk result (self.new.edits ≡ self.old.edits ++ (id, edit) ∷ []) }
         ensures pages { OnOk result (meant P.pages self.new ≡ edited (meant P.pages self.old) id edit) }
-        ensures fits { TellsFit result (IsFit (meant P.pages self.old id) edit) }
+        ensures fits { TellsEditFit result (IsFit (meant P.pages self.old id) edit) }
         ensures unchanged { OnErr result (self.new.edits ≡ self.old.edits) }
         ensures base { P.pages self.new.base ≡ P.pages self.old.base }
-        ensures excused { IsExcused result (P.losses self.old.base) (P.losses self.new.base) }
+        ensures excused { IsEditExcused result (P.losses self.old.base) (P.losses self.new.base) }
     {
         edit_parts(&mut self.base, &mut self.owns, &mut self.edits, id, edit)
     }
@@ -149,10 +149,10 @@ fn edit_parts<P: PageSource>(
     ensures kept { IsKept owns.old.entries edits.old.items (P.pages base.old) → IsKept owns.new.entries edits.new.items (P.pages base.new) }
     ensures made { OnOk result (edits.new.items ≡ edits.old.items ++ (id, edit) ∷ []) }
     ensures fits { IsKept owns.old.entries edits.old.items (P.pages base.old) →
-        TellsFit result (IsFit (edited_by edits.old.items (P.pages base.old) id) edit) }
+        TellsEditFit result (IsFit (edited_by edits.old.items (P.pages base.old) id) edit) }
     ensures unchanged { OnErr result (edits.new.items ≡ edits.old.items) }
     ensures pages { P.pages base.new ≡ P.pages base.old }
-    ensures excused { IsExcused result (P.losses base.old) (P.losses base.new) }
+    ensures excused { IsEditExcused result (P.losses base.old) (P.losses base.new) }
 {
     hold(base, owns, id)?;
     edits.reserve(1).map_err(|_| EditFault::NoMemory)?;

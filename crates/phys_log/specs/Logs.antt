@@ -18,13 +18,13 @@ records_in [] = []
 records_in (e ∷ es) = records_of e ++ records_in es
 
 -- the pages after a record
-abbrev pub written : (ℕ → Image) → LogRecord → ℕ → Image
-written pages r n = if n == r.page then after_edit (pages r.page) r.edit r.lsn else pages n
+abbrev pub after_record : (ℕ → Image) → LogRecord → ℕ → Image
+after_record pages r n = if n == r.page then after_edit (pages r.page) r.edit r.lsn else pages n
 
 -- the pages after records in order
 abbrev pub replayed : (ℕ → Image) → List LogRecord → ℕ → Image
 replayed pages [] = pages
-replayed pages (r ∷ rs) = replayed (written pages r) rs
+replayed pages (r ∷ rs) = replayed (after_record pages r) rs
 
 -- pages that were never written
 abbrev pub blank_pages : ℕ → Image
@@ -65,7 +65,7 @@ pub record IsNext (pages : ℕ → Image) (lsn : ℕ) (r : LogRecord) : Type 0 w
 -- each of these records is the next one after those before it
 abbrev pub AreNext : (ℕ → Image) → ℕ → List LogRecord → Type 0
 AreNext pages lsn [] = Unit {0}
-AreNext pages lsn (r ∷ rs) = IsNext pages lsn r × AreNext (written pages r) (lsn + 1) rs
+AreNext pages lsn (r ∷ rs) = IsNext pages lsn r × AreNext (after_record pages r) (lsn + 1) rs
 
 -- an entry is the next of a log
 abbrev pub Fits : List Entry → Entry → Type 0

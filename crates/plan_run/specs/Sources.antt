@@ -19,10 +19,10 @@ abbrev pub Rose : ℕ → ℕ → Type 0
 Rose before now = (before < now) ⊎ (now ≡ last_count)
 
 -- each answer against the counts of losses before and after the call, which never fall: `Gone` comes only where they rose
-abbrev pub IsExcused : {T : Type 0} → Result T RowFault → ℕ → ℕ → Type 0
-IsExcused (Ok x) before now = before ≤ now
-IsExcused (Err Gone) before now = (before ≤ now) × Rose before now
-IsExcused (Err NoMemory) before now = before ≤ now
+abbrev pub AreRowsExcused : {T : Type 0} → Result T RowFault → ℕ → ℕ → Type 0
+AreRowsExcused (Ok x) before now = before ≤ now
+AreRowsExcused (Err Gone) before now = (before ≤ now) × Rose before now
+AreRowsExcused (Err NoMemory) before now = before ≤ now
 
 -- the versions that lie in an interval of their table
 abbrev pub lying_in : List TableDef → Interval → List Version → List Version

@@ -4,7 +4,7 @@ ghost use Rattle.cdb_values.specs.declared.tables.TableDef.{TableDef};
 ghost use Rattle.query_laws.specs.Intervals.{lies as lies_of};
 ghost use Rattle.query_plan.specs.Views.{interval_in};
 ghost use Rattle.sql_answer.specs.Combinations.{of_table as of_table_of};
-ghost use Rattle.plan_run.specs.Sources.{IsExcused, lying_in};
+ghost use Rattle.plan_run.specs.Sources.{AreRowsExcused, lying_in};
 ghost use Rattle.plan_run.specs.declared.sources.RowFault.TheVariants.{NoMemory};
 
 use crate::lying::lies;
@@ -57,7 +57,7 @@ pub trait RowSource {
         ensures all { IfOk result (λ found. found ≡ of_table_of (versions self.old) table) }
         ensures tables { tables self.new ≡ tables self.old }
         ensures versions { versions self.new ≡ versions self.old }
-        ensures excused { IsExcused result (losses self.old) (losses self.new) };
+        ensures excused { AreRowsExcused result (losses self.old) (losses self.new) };
 
     /// The versions of an interval's table that lie in it. Errors as of `rows`.
     fn between(&mut self, alloc: Global, interval: &Interval) -> Result<List<Version>, RowFault>
@@ -65,7 +65,7 @@ pub trait RowSource {
             ≡ lying_in (tables self.old) (interval_in interval.now) (of_table_of (versions self.old) interval.now.table)) }
         ensures tables { tables self.new ≡ tables self.old }
         ensures versions { versions self.new ≡ versions self.old }
-        ensures excused { IsExcused result (losses self.old) (losses self.new) };
+        ensures excused { AreRowsExcused result (losses self.old) (losses self.new) };
 }
 
 /// Versions in memory, with the tables that they are of.

@@ -13,13 +13,13 @@ use Rattle.node_reports.proofs.OneBack.{lawful_back}
 use Rattle.node_reports.proofs.OneOrder.{one_order}
 use Rattle.node_reports.specs.Lawful.{LawfulOfNodes}
 use Rattle.node_reports.specs.OneNode.{IsOfOneNode}
-use Rattle.node_reports.specs.Order.{InNodesOrder, InTurns}
+use Rattle.node_reports.specs.Order.{InNodesOrder, InTurnsOfNodes}
 use Rattle.play_order.specs.Openings.{Finding}
 use Rattle.play_order.specs.Peers.{Peers}
 use Rattle.play_order.specs.Played.{InLedTurns, IsPlayedOver, behind_deeds}
 
 in_turns : (basis : Basis) (view : View) (fs : List Finding) (report : Report) (done : List BodyLine) (before : List Line) (history : List EntryLine) (p : Peers) (body : List BodyLine) (lines : List Line) (entries : List EntryLine) →
-    InLedTurns basis view fs report done before history p body lines entries → InTurns basis view done before history body lines entries
+    InLedTurns basis view fs report done before history p body lines entries → InTurnsOfNodes basis view done before history body lines entries
 in_turns basis view fs report done before history p [] lines entries (lines_are, entries_are, ends) = (lines_are, entries_are)
 in_turns basis view fs report done before history p (b ∷ bs) lines entries (mine, others, added, later, lines_are, entries_are, turn, deeds, falls, are, tell, rest) =
     (mine, others, added, later, lines_are, entries_are, turn, in_turns basis view fs report (done ++ b ∷ []) (before ++ mine) (history ++ added) (behind_deeds basis.script.nodes deeds falls p) bs others later rest)

@@ -12,7 +12,7 @@ use Rattle.cdb_values.specs.declared.tables.TableDef.{TableDef}
 use Rattle.cluster_consensus.specs.Facts.{Admit}
 use Rattle.election_core.specs.Fits.{lacks_cover}
 use Rattle.node_opening.specs.Tables.{IsDifference}
-use Rattle.script_form.specs.CanRun.{tables_of}
+use Rattle.script_form.specs.CanRun.{script_tables}
 use Rattle.script_form.specs.declared.scripts.Script.{Script}
 use Rattle.script_form.specs.declared.scripts.TableLine.{TableLine}
 use Rattle.play_order.specs.Elections.{Ranked, greatest_pair_from}
@@ -87,7 +87,7 @@ pub record DiffersAt (script : Script) (fs : List Finding) (line : ℕ) : Type 0
   pub is_best : best_log fs ≡ Some best
   pub some : 1 ≤ length best.has.log
   pub place : ℕ
-  pub difference : IsDifference (tables_of script) (tables_at fs best.node) place
+  pub difference : IsDifference (script_tables script) (tables_at fs best.node) place
   pub said : TableLine
   pub at : slice_get script.tables place ≡ Some said
   pub line_is : said.line ≡ line

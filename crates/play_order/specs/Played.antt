@@ -21,7 +21,7 @@ use Rattle.report_text.specs.declared.reports.Line.{Line}
 use Rattle.report_text.specs.declared.reports.Line.TheVariants as line
 use Rattle.report_text.specs.declared.reports.Report.{Report}
 use Rattle.node_reports.specs.Arms.{is_row_due}
-use Rattle.node_reports.specs.Order.{IsFault, IsOpened, IsTurnOf, closing, saying}
+use Rattle.node_reports.specs.Order.{IsFault, IsOpened, IsTurnOfNodes, closing, saying}
 use Rattle.node_reports.specs.Piece.{Saying, replies_in}
 use Rattle.play_order.specs.Deeds.{Deed, does_all, tries}
 use Rattle.play_order.specs.Deeds.Deed.{Stops, Starts, Sends}
@@ -116,7 +116,7 @@ InLedTurns basis view fs report done before history p [] lines entries =
 InLedTurns basis view fs report done before history p (b ∷ bs) lines entries =
     (mine : List Line) × (others : List Line) × (added : List EntryLine) × (later : List EntryLine)
     × (lines ≡ mine ++ others) × (entries ≡ added ++ later)
-    × IsTurnOf basis view done before history b.act mine others added
+    × IsTurnOfNodes basis view done before history b.act mine others added
     × (deeds : List Deed) × (falls : List Fall)
     × AreDeedsOf basis view done before b.act mine deeds
     × Tell (behind_deeds basis.script.nodes deeds falls p) falls 0 mine

@@ -3,7 +3,7 @@ use Rattle.std.proofs.Common.{◌≡◌, ℕ, ◌<◌, ◌≤◌, List, length, 
 use Rattle.std.specs.Prelude.{slice_get}
 use Rattle.cdb_values.specs.declared.tables.TableDef.{TableDef}
 use Rattle.node_opening.specs.Tables.{IsDifference, IsLast}
-use Rattle.script_form.specs.CanRun.{tables_of}
+use Rattle.script_form.specs.CanRun.{script_tables}
 use Rattle.script_form.specs.declared.scripts.Script.{Script}
 use Rattle.play_order.specs.Elections.{Ranked}
 use Rattle.play_order.specs.Openings.{AreAllFit, DiffersAt, Finding, MayPlay, best_log, tables_at}
@@ -36,9 +36,9 @@ same_tables given logged place same d = go d.differs
 pub empty_may : (script : Script) (fs : List Finding) (r : Ranked) → length fs ≡ script.nodes → AreAllFit script.nodes fs → best_log fs ≡ Some r → length r.has.log ≡ 0 → MayPlay script fs
 empty_may script fs r each fit is none = record { one_each = each; fit = fit; same = no_entry script fs r is none }
 
-pub same_may : (script : Script) (fs : List Finding) (r : Ranked) → length fs ≡ script.nodes → AreAllFit script.nodes fs → best_log fs ≡ Some r → tables_at fs r.node ≡ tables_of script → MayPlay script fs
+pub same_may : (script : Script) (fs : List Finding) (r : Ranked) → length fs ≡ script.nodes → AreAllFit script.nodes fs → best_log fs ≡ Some r → tables_at fs r.node ≡ script_tables script → MayPlay script fs
 same_may script fs r each fit is same = record {
   one_each = each;
   fit = fit;
-  same = λ line d. same_tables (tables_of script) (tables_at fs d.best.node) d.place (ap (λ (x : Ranked). tables_at fs x.node) (sym (same_ranked r d.best (best_log fs) is d.is_best)) ∙ same) d.difference;
+  same = λ line d. same_tables (script_tables script) (tables_at fs d.best.node) d.place (ap (λ (x : Ranked). tables_at fs x.node) (sym (same_ranked r d.best (best_log fs) is d.is_best)) ∙ same) d.difference;
 }

@@ -8,7 +8,7 @@ use Rattle.sql_answer.specs.Answers.{Outcome, Fails, Gives, Meaning, tables_read
 use Rattle.sql_answer.specs.Combinations.{seen}
 use Rattle.query_laws.specs.Conjuncts.{conjuncts}
 use Rattle.query_laws.specs.Intervals.{Interval}
-use Rattle.query_laws.specs.Runs.{ranges_of, used_if, run_then, run_from, kept_if, lasting, without_failures}
+use Rattle.query_laws.specs.Runs.{ranges_of, used_if, run_then, run_from, kept_if, lasting_statements, run_without_failures}
 use Rattle.query_laws.specs.Stable.{HoldsTheSame, ShowsTheSame}
 use Rattle.query_laws.proofs.ListLaws.{all_back, all_weaker}
 use Rattle.session_language.proofs.EachLaws.{all_front}
@@ -35,20 +35,20 @@ reads_same tables rows others ops s same =
 run_step : (tables : List TableDef) (rows others : Rows) (ops : List RowOp) (s : Meaning) (ss : List Meaning) (o : Outcome) →
     answer tables rows.tables ops s ≡ o →
     AllByRecursion (HoldsTheSame tables rows others) (used_if o (ranges_of tables rows.tables ops s)) →
-    run_from tables others.tables (ops_after ops o) (lasting tables rows.tables (ops_after ops o) ss) ≡ without_failures (run_from tables rows.tables (ops_after ops o) ss) →
-    run_from tables others.tables ops (kept_if o s (lasting tables rows.tables (ops_after ops o) ss))
-    ≡ without_failures (run_then o (ranges_of tables rows.tables ops s) (run_from tables rows.tables (ops_after ops o) ss))
+    run_from tables others.tables (ops_after ops o) (lasting_statements tables rows.tables (ops_after ops o) ss) ≡ run_without_failures (run_from tables rows.tables (ops_after ops o) ss) →
+    run_from tables others.tables ops (kept_if o s (lasting_statements tables rows.tables (ops_after ops o) ss))
+    ≡ run_without_failures (run_then o (ranges_of tables rows.tables ops s) (run_from tables rows.tables (ops_after ops o) ss))
 run_step tables rows others ops s ss (Fails e) is same rest = rest
 run_step tables rows others ops s ss (Gives told after) is same rest =
     let now = answer_same tables rows others ops s same ∙ is in
-    ap (λ o. run_then o (ranges_of tables others.tables ops s) (run_from tables others.tables (ops_after ops o) (lasting tables rows.tables after ss))) now
-    ∙ ap (λ l. run_then (Gives told after) l (run_from tables others.tables after (lasting tables rows.tables after ss))) (reads_same tables rows others ops s same)
+    ap (λ o. run_then o (ranges_of tables others.tables ops s) (run_from tables others.tables (ops_after ops o) (lasting_statements tables rows.tables after ss))) now
+    ∙ ap (λ l. run_then (Gives told after) l (run_from tables others.tables after (lasting_statements tables rows.tables after ss))) (reads_same tables rows others ops s same)
     ∙ ap (λ n. run_then (Gives told after) (ranges_of tables rows.tables ops s) n) rest
 
 -- the whole transaction, without the statements that failed
 pub run_same : (tables : List TableDef) (rows others : Rows) (ops : List RowOp) (ss : List Meaning) →
     AllByRecursion (HoldsTheSame tables rows others) (run_from tables rows.tables ops ss).ranges →
-    run_from tables others.tables ops (lasting tables rows.tables ops ss) ≡ without_failures (run_from tables rows.tables ops ss)
+    run_from tables others.tables ops (lasting_statements tables rows.tables ops ss) ≡ run_without_failures (run_from tables rows.tables ops ss)
 run_same tables rows others ops [] same = refl
 run_same tables rows others ops (s ∷ ss) same =
     run_step tables rows others ops s ss (answer tables rows.tables ops s) refl

@@ -10,7 +10,7 @@ use Rattle.session_language.specs.Language.{Answered, Language}
 use Rattle.cdb_values.specs.declared.replies.Reply.{Reply}
 use Rattle.cdb_values.specs.declared.replies.Reply.TheVariants as reply
 use Rattle.sql_answer.specs.Answers.{Outcome, Fails, Gives}
-use Rattle.sql_answer.specs.Language.{Reader, bound_in, language_of}
+use Rattle.sql_answer.specs.Language.{IntervalReader, sql_binder, language_of}
 use Rattle.query_laws.specs.Intervals as laws
 use Rattle.query_laws.specs.Runs.{Run, ranges_of}
 
@@ -26,12 +26,12 @@ abbrev pub interval_out : laws.Interval → Interval
 interval_out i = record { table = i.table; key = i.key; equal = i.equal; low = edge_out i.low; high = edge_out i.high; empty = i.empty }
 
 -- a statement reads what its plan reads
-abbrev pub reads_of : Reader
+abbrev pub reads_of : IntervalReader
 reads_of tables versions ops statement = map interval_out (ranges_of tables versions ops statement)
 
 -- the language of SQL
 abbrev pub sql_language : Language
-sql_language = language_of bound_in reads_of
+sql_language = language_of sql_binder reads_of
 
 abbrev pub replies_of : Outcome → List Reply
 replies_of (Fails cause) = reply.Error cause ∷ []

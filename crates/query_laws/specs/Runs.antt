@@ -43,10 +43,10 @@ kept_if (Fails cause) s rest = rest
 kept_if (Gives told after) s rest = s ∷ rest
 
 -- the statements that did not fail, behind these operations
-abbrev pub lasting : List TableDef → List (List Version) → List RowOp → List Meaning → List Meaning
-lasting tables versions ops [] = []
-lasting tables versions ops (s ∷ statements) =
-    kept_if (answer tables versions ops s) s (lasting tables versions (ops_after ops (answer tables versions ops s)) statements)
+abbrev pub lasting_statements : List TableDef → List (List Version) → List RowOp → List Meaning → List Meaning
+lasting_statements tables versions ops [] = []
+lasting_statements tables versions ops (s ∷ statements) =
+    kept_if (answer tables versions ops s) s (lasting_statements tables versions (ops_after ops (answer tables versions ops s)) statements)
 
 -- the outcomes that are no failures
 abbrev pub successes : List Outcome → List Outcome
@@ -55,5 +55,5 @@ successes (Fails cause ∷ outcomes) = successes outcomes
 successes (Gives told after ∷ outcomes) = Gives told after ∷ successes outcomes
 
 -- a run without its failures
-abbrev pub without_failures : Run → Run
-without_failures run = record { outcomes = successes run.outcomes; ops = run.ops; ranges = run.ranges }
+abbrev pub run_without_failures : Run → Run
+run_without_failures run = record { outcomes = successes run.outcomes; ops = run.ops; ranges = run.ranges }

@@ -7,7 +7,7 @@ ghost use Rattle.cdb_values.specs.declared.rows.Version.{Version};
 ghost use Rattle.cdb_values.specs.declared.tables.TableDef.{TableDef};
 ghost use Rattle.session_language.specs.Intervals as told;
 ghost use Rattle.session_language.specs.Language.{alone, alone_from};
-ghost use Rattle.session_language.specs.Serial.{answers_on, lasting as lasting_texts, without_failures as answers_without_failures};
+ghost use Rattle.session_language.specs.Serial.{answers_on, lasting, without_failures};
 ghost use Rattle.sql_answer.specs.Answers.{Meaning, answer};
 ghost use Rattle.sql_answer.specs.Combinations.{Seen, met};
 ghost use Rattle.sql_answer.specs.Language.{Binder, meaning, language_of};
@@ -15,7 +15,7 @@ ghost use Rattle.sql_bind.specs.Bound.{Cond};
 ghost use Rattle.query_laws.specs.Alone.{run_answered, reads_of};
 ghost use Rattle.query_laws.specs.Conjuncts.{conjuncts};
 ghost use Rattle.query_laws.specs.Intervals.{Interval};
-ghost use Rattle.query_laws.specs.Runs.{ranges_of, run_from, lasting, without_failures};
+ghost use Rattle.query_laws.specs.Runs.{ranges_of, run_from, lasting_statements, run_without_failures};
 ghost use Rattle.query_laws.specs.Stable.{HoldsTheSame, ShowsTheSame};
 ghost use Rattle.query_laws.specs.Touched.{touches};
 ghost use Rattle.query_laws.specs.Walks.{walked, ranges_read, ranges_by};
@@ -53,7 +53,7 @@ pub fn answers_depend_on_what_is_read()
         → AllByRecursion (HoldsTheSame tables rows others) (ranges_of tables rows.tables ops statement) → answer tables others.tables ops statement ≡ answer tables rows.tables ops statement }
     ensures run { (tables : List TableDef) (rows others : Rows) (ops : List RowOp) (statements : List Meaning)
         → AllByRecursion (HoldsTheSame tables rows others) (run_from tables rows.tables ops statements).ranges
-        → run_from tables others.tables ops (lasting tables rows.tables ops statements) ≡ without_failures (run_from tables rows.tables ops statements) }
+        → run_from tables others.tables ops (lasting_statements tables rows.tables ops statements) ≡ run_without_failures (run_from tables rows.tables ops statements) }
 {}
 
 /// A transaction run alone in the language of SQL, however statements are bound, is the run of what its
@@ -69,7 +69,7 @@ pub fn a_transaction_alone_is_a_run()
 #[tactic(auto, using(crate::proofs::ReadsLaws::sql_same, crate::proofs::ReadsLaws::sql_fails))]
 pub fn sql_is_answered_by_what_it_reads()
     ensures same { (bind : Binder) (tables : List TableDef) (rows others : Rows) (texts : List (List ℕ)) → AllByRecursion (told.HoldsTheSame tables rows others) (alone (language_of bind reads_of) tables rows texts).ranges
-        → answers_on (language_of bind reads_of) tables others (lasting_texts (language_of bind reads_of) tables rows texts) ≡ answers_without_failures (answers_on (language_of bind reads_of) tables rows texts) }
+        → answers_on (language_of bind reads_of) tables others (lasting (language_of bind reads_of) tables rows texts) ≡ without_failures (answers_on (language_of bind reads_of) tables rows texts) }
     ensures fails { (bind : Binder) (tables : List TableDef) (versions : List (List Version)) (ops : List RowOp) (text : List ℕ)
         → ((language_of bind reads_of).answer tables versions ops text).failed ≡ true → ((language_of bind reads_of).answer tables versions ops text).ops ≡ ops }
 {}

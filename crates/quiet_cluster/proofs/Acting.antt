@@ -3,7 +3,7 @@ use Rattle.std.proofs.Common.{ℕ, ◌≡◌, ◌≤◌, List, [], ◌∷◌, re
 use Rattle.std.specs.Prelude.{true}
 use mathlib.Core.Logic.{◌⊎◌, inl, inr}
 use Rattle.election_core.specs.Counted.{acted, counted}
-use Rattle.election_core.specs.Allowed.{MayGrant, MayLead, MayLearn, MayHear, Decides, IsMost}
+use Rattle.election_core.specs.Allowed.{MayGrant, MayLead, MayLearn, MayHear, AllowsExactly, IsMost}
 use Rattle.election_core.specs.declared.votes.NodeVote.{NodeVote}
 use Rattle.election_core.specs.declared.messages.Message.TheVariants.{Vote, Granted, Ack, Durable, Ping, Pong}
 use Rattle.election_core.specs.declared.messages.Action.{Action}
@@ -16,7 +16,7 @@ pub vote_acts : (v u : NodeVote) (f h x y : ℕ) (s : List Packet) → Acts v (V
     → ((u ≡ v) × (s ≡ []) × (MayGrant v h x y → ⊥)) ⊎ (MayGrant v h x y × (u ≡ acted v (action.Promise h f)) × (s ≡ packet f (Granted u.node h f) 0 ∷ []))
 vote_acts v u f h x y s t = go t.done t.decides t.changes t.sends
   where
-    go : (a : Action) → Decides v (Vote f h x y) a → u ≡ acted v a → s ≡ packets_of u a f
+    go : (a : Action) → AllowsExactly v (Vote f h x y) a → u ≡ acted v a → s ≡ packets_of u a f
         → ((u ≡ v) × (s ≡ []) × (MayGrant v h x y → ⊥)) ⊎ (MayGrant v h x y × (u ≡ acted v (action.Promise h f)) × (s ≡ packet f (Granted u.node h f) 0 ∷ []))
     go action.Nothing d e w = inl (e, w, λ m. d (action.Promise h f) (m, refl, refl))
     go (action.Promise k to) d e w = inr (
@@ -34,7 +34,7 @@ pub granted_acts : (v u : NodeVote) (f h t : ℕ) (s : List Packet) → Acts v (
     ⊎ (MayLead (counted v (Granted f h t)) h t × (u ≡ acted (counted v (Granted f h t)) (action.Lead h)) × (s ≡ packets_of u (action.Lead h) 0))
 granted_acts v u f h t s x = go x.done x.decides x.changes x.sends
   where
-    go : (a : Action) → Decides v (Granted f h t) a → u ≡ acted (counted v (Granted f h t)) a → s ≡ packets_of u a f
+    go : (a : Action) → AllowsExactly v (Granted f h t) a → u ≡ acted (counted v (Granted f h t)) a → s ≡ packets_of u a f
         → ((u ≡ counted v (Granted f h t)) × (s ≡ []) × (MayLead (counted v (Granted f h t)) h t → ⊥))
         ⊎ (MayLead (counted v (Granted f h t)) h t × (u ≡ acted (counted v (Granted f h t)) (action.Lead h)) × (s ≡ packets_of u (action.Lead h) 0))
     go action.Nothing d e w = inl (e, w, λ m. d (action.Lead h) (m, refl))
@@ -56,7 +56,7 @@ pub ack_acts : (v u : NodeVote) (f g l : ℕ) (s : List Packet) → Acts v (Ack 
     → ((u ≡ counted v (Ack f g l)) × (s ≡ []) × ((d : ℕ) → MayLearn (counted v (Ack f g l)) g d → ⊥)) ⊎ Learnt (counted v (Ack f g l)) u g s
 ack_acts v u f g l s x = go x.done x.decides x.most x.changes x.sends
   where
-    go : (a : Action) → Decides v (Ack f g l) a → IsMost v (Ack f g l) a → u ≡ acted (counted v (Ack f g l)) a → s ≡ packets_of u a f
+    go : (a : Action) → AllowsExactly v (Ack f g l) a → IsMost v (Ack f g l) a → u ≡ acted (counted v (Ack f g l)) a → s ≡ packets_of u a f
         → ((u ≡ counted v (Ack f g l)) × (s ≡ []) × ((d : ℕ) → MayLearn (counted v (Ack f g l)) g d → ⊥)) ⊎ Learnt (counted v (Ack f g l)) u g s
     go action.Nothing d b e w = inl (e, w, λ n m. d (action.Know n) m)
     go (action.Know n) d b e w = inr (record { length = n; may = d; most = b; changes = e; sends = w })
@@ -76,7 +76,7 @@ pub record Heard (v u : NodeVote) (g l : ℕ) (s : List Packet) : Type 0 where
 pub durable_acts : (v u : NodeVote) (f g l : ℕ) (s : List Packet) → Acts v (Durable f g l) u s → ((u ≡ v) × (s ≡ []) × ((d : ℕ) → MayHear v g l d → ⊥)) ⊎ Heard v u g l s
 durable_acts v u f g l s x = go x.done x.decides x.most x.changes x.sends
   where
-    go : (a : Action) → Decides v (Durable f g l) a → IsMost v (Durable f g l) a → u ≡ acted v a → s ≡ packets_of u a f → ((u ≡ v) × (s ≡ []) × ((d : ℕ) → MayHear v g l d → ⊥)) ⊎ Heard v u g l s
+    go : (a : Action) → AllowsExactly v (Durable f g l) a → IsMost v (Durable f g l) a → u ≡ acted v a → s ≡ packets_of u a f → ((u ≡ v) × (s ≡ []) × ((d : ℕ) → MayHear v g l d → ⊥)) ⊎ Heard v u g l s
     go action.Nothing d b e w = inl (e, w, λ n m. d (action.Know n) m)
     go (action.Know n) d b e w = inr (record { length = n; may = d; most = b; changes = e; sends = w })
     go (action.Lead k) d b e w = absurd d
@@ -87,7 +87,7 @@ durable_acts v u f g l s x = go x.done x.decides x.most x.changes x.sends
 pub ping_acts : (v u : NodeVote) (f g t d : ℕ) (s : List Packet) → Acts v (Ping f g t d) u s → (u ≡ v) × ((s ≡ []) ⊎ (s ≡ packet f (Pong v.node g t) 0 ∷ []))
 ping_acts v u f g t d s x = go x.done x.decides x.changes x.sends
   where
-    go : (a : Action) → Decides v (Ping f g t d) a → u ≡ acted v a → s ≡ packets_of u a f → (u ≡ v) × ((s ≡ []) ⊎ (s ≡ packet f (Pong v.node g t) 0 ∷ []))
+    go : (a : Action) → AllowsExactly v (Ping f g t d) a → u ≡ acted v a → s ≡ packets_of u a f → (u ≡ v) × ((s ≡ []) ⊎ (s ≡ packet f (Pong v.node g t) 0 ∷ []))
     go action.Nothing d e w = (e, inl w)
     go (action.Answer m to) d e w = (e, inr (subst (λ j. s ≡ packet f j 0 ∷ []) d.1 (subst (λ j. s ≡ packet j m 0 ∷ []) d.2 w)))
     go (action.Know n) d e w = absurd d
@@ -98,7 +98,7 @@ ping_acts v u f g t d s x = go x.done x.decides x.changes x.sends
 pub pong_acts : (v u : NodeVote) (f g t : ℕ) (s : List Packet) → Acts v (Pong f g t) u s → (u ≡ v) × (s ≡ [])
 pong_acts v u f g t s x = go x.done x.decides x.changes x.sends
   where
-    go : (a : Action) → Decides v (Pong f g t) a → u ≡ acted v a → s ≡ packets_of u a f → (u ≡ v) × (s ≡ [])
+    go : (a : Action) → AllowsExactly v (Pong f g t) a → u ≡ acted v a → s ≡ packets_of u a f → (u ≡ v) × (s ≡ [])
     go action.Nothing d e w = (e, w)
     go (action.Answer m to) d e w = absurd d
     go (action.Know n) d e w = absurd d
@@ -110,7 +110,7 @@ pong_acts v u f g t s x = go x.done x.decides x.changes x.sends
 pub ping_confirms : (v u : NodeVote) (f g t d : ℕ) (s : List Packet) → v.up ≡ true → v.promised ≤ g → Acts v (Ping f g t d) u s → s ≡ packet f (Pong v.node g t) 0 ∷ []
 ping_confirms v u f g t d s up le x = go x.done x.decides x.sends
   where
-    go : (a : Action) → Decides v (Ping f g t d) a → s ≡ packets_of u a f → s ≡ packet f (Pong v.node g t) 0 ∷ []
+    go : (a : Action) → AllowsExactly v (Ping f g t d) a → s ≡ packets_of u a f → s ≡ packet f (Pong v.node g t) 0 ∷ []
     go action.Nothing d w = absurd (d (action.Answer (Pong v.node g t) f) ((up, le), refl, refl))
     go (action.Answer m to) d w = subst (λ j. s ≡ packet f j 0 ∷ []) d.1 (subst (λ j. s ≡ packet j m 0 ∷ []) d.2 w)
     go (action.Know n) d w = absurd d

@@ -3,7 +3,7 @@ use Rattle.std.proofs.Common.{ℕ, ◌≡◌, ◌+◌, ◌<◌, ◌≤◌, List,
 use Rattle.std.specs.Prelude.{true, false}
 use mathlib.Core.Logic.{◌⊎◌, inl, inr}
 use Rattle.core_lists.proofs.Numbers.{lt_or_eq}
-use Rattle.election_core.specs.Allowed.{MayTake, Takes, Allows, Decides, IsMost}
+use Rattle.election_core.specs.Allowed.{MayTake, Takes, Allows, AllowsExactly, IsMost}
 use Rattle.election_core.specs.Counted.{acted, counted}
 use Rattle.election_core.specs.Senders.{sender_of}
 use Rattle.election_core.specs.declared.messages.Action.{Action}
@@ -22,7 +22,7 @@ DoesLog v f g l e u s = (MayTakeAll v g l e × (u ≡ acted v (action.Take g l))
 -- any other message: one action
 pub record Acts (v : NodeVote) (m : Message) (u : NodeVote) (s : List Packet) : Type 0 where
   pub done : Action
-  pub decides : Decides v m done
+  pub decides : AllowsExactly v m done
   pub most : IsMost v m done
   pub changes : u ≡ acted (counted v m) done
   pub sends : s ≡ packets_of u done (sender_of m)
@@ -69,7 +69,7 @@ taken v u f g l e h x s may gen near whole same sent = inl (
 left : (v u : NodeVote) (f g l e : ℕ) (s : List Packet) → (MayTakeAll v g l e → ⊥) → u ≡ v → s ≡ [] → DoesLog v f g l e u s
 left v u f g l e s never same sent = inr (never, same, sent)
 
-joined : (v : NodeVote) (m : Message) (e : ℕ) (a : Action) → (a ≡ action.Nothing → ⊥) → Judges v m e a → Joins v m e × Decides v m a
+joined : (v : NodeVote) (m : Message) (e : ℕ) (a : Action) → (a ≡ action.Nothing → ⊥) → Judges v m e a → Joins v m e × AllowsExactly v m a
 joined v m e a some (inl t) = t
 joined v m e a some (inr t) = absurd (some t.1)
 
@@ -107,7 +107,7 @@ ship_does v u f g l e s up t = go t.action t.judged t.changes t.sends
 acts : (v u : NodeVote) (m : Message) (e : ℕ) (s : List Packet) → ((g l : ℕ) → Allows v m (action.Take g l) → ⊥) → Joins v m e → Answers v m e u s → Acts v m u s
 acts v u m e s none joins t = go t.action t.judged t.most t.changes t.sends
   where
-    decided : (a : Action) → Judges v m e a → Decides v m a
+    decided : (a : Action) → Judges v m e a → AllowsExactly v m a
     decided a (inl j) = j.1
     decided a (inr j) = absurd (j.0 joins)
 

@@ -5,7 +5,7 @@
 use Rattle.std.specs.Prelude.{ℕ, ◌≡◌, ◌+◌, ◌<◌, ◌≤◌, true, false, List, [], ◌∷◌, ◌++◌}
 use mathlib.Core.Logic.{◌⊎◌}
 use Rattle.core_lists.specs.Lists.{In}
-use Rattle.election_core.specs.Allowed.{Decides, IsMost}
+use Rattle.election_core.specs.Allowed.{AllowsExactly, IsMost}
 use Rattle.election_core.specs.Counted.{acted, counted}
 use Rattle.election_core.specs.Senders.{sender_of}
 use Rattle.election_core.specs.declared.messages.Action.{Action}
@@ -34,7 +34,7 @@ pub record Joins (v : NodeVote) (m : Message) (e : ℕ) : Type 0 where
 
 -- a message is dropped where its entries do not join, else the node does what it decides about it
 abbrev pub Judges : NodeVote → Message → ℕ → Action → Type 0
-Judges v m e a = (Joins v m e × Decides v m a) ⊎ ((Joins v m e → ⊥) × (a ≡ action.Nothing))
+Judges v m e a = (Joins v m e × AllowsExactly v m a) ⊎ ((Joins v m e → ⊥) × (a ≡ action.Nothing))
 
 -- the action that is done in the end: what is shipped is taken to its end
 abbrev pub through : Message → Action → Action

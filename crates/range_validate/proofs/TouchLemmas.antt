@@ -13,7 +13,7 @@ use Rattle.cdb_values.specs.declared.rows.Change.TheVariants.{Insert, Update, De
 use Rattle.cdb_values.specs.declared.tables.TableDef.{TableDef}
 use Rattle.phys_log.specs.declared.entries.Entry.{Entry}
 use Rattle.session_language.specs.Touched.{is_same_item, is_touched}
-use Rattle.range_validate.specs.Touches.{changes_in, takes_item, first_item, or_later, first_touch_from, item_at, IsFirst}
+use Rattle.range_validate.specs.Touches.{changes_in, takes_item, first_item, touch_or_later, first_touch_from, item_at, IsFirst}
 use Rattle.range_validate.specs.declared.touches.Touch.{Touch}
 
 drop_at : {A : Type 0} (xs : List A) (i : ℕ) (x : A) → i < length xs → x ≡ get_or xs i x → drop i xs ≡ x ∷ drop (i + 1) xs
@@ -24,7 +24,7 @@ drop_at xs i x within is =
 -- the entry at a place, and those behind it
 step_at : (tables : List TableDef) (entries : List Entry) (place : ℕ) (x : Entry) (genids : List GenidItem) (ranges : List Interval) → place < length entries
     → x ≡ get_or entries place x → first_touch_from tables place (drop place entries) genids ranges
-    ≡ or_later place (first_item tables (changes_in x) genids ranges) (first_touch_from tables (place + 1) (drop (place + 1) entries) genids ranges)
+    ≡ touch_or_later place (first_item tables (changes_in x) genids ranges) (first_touch_from tables (place + 1) (drop (place + 1) entries) genids ranges)
 step_at tables entries place x genids ranges within is =
     ap (λ (l : List Entry). first_touch_from tables place l genids ranges) (drop_at entries place x within is)
 
@@ -34,14 +34,14 @@ pub touch_here : (tables : List TableDef) (entries : List Entry) (place : ℕ) (
     → first_touch_from tables place (drop place entries) genids ranges ≡ Some (record { place = place; item = item })
 touch_here tables entries place x genids ranges item within is touched =
     step_at tables entries place x genids ranges within is
-    ∙ ap (λ (o : Option Item). or_later place o (first_touch_from tables (place + 1) (drop (place + 1) entries) genids ranges)) touched
+    ∙ ap (λ (o : Option Item). touch_or_later place o (first_touch_from tables (place + 1) (drop (place + 1) entries) genids ranges)) touched
 
 pub touch_later : (tables : List TableDef) (entries : List Entry) (place : ℕ) (x : Entry) (genids : List GenidItem) (ranges : List Interval)
     → place < length entries → x ≡ get_or entries place x → first_item tables (changes_in x) genids ranges ≡ None
     → first_touch_from tables place (drop place entries) genids ranges ≡ first_touch_from tables (place + 1) (drop (place + 1) entries) genids ranges
 touch_later tables entries place x genids ranges within is touched =
     step_at tables entries place x genids ranges within is
-    ∙ ap (λ (o : Option Item). or_later place o (first_touch_from tables (place + 1) (drop (place + 1) entries) genids ranges)) touched
+    ∙ ap (λ (o : Option Item). touch_or_later place o (first_touch_from tables (place + 1) (drop (place + 1) entries) genids ranges)) touched
 
 pub touch_none : (tables : List TableDef) (entries : List Entry) (place : ℕ) (genids : List GenidItem) (ranges : List Interval) → length entries ≤ place
     → first_touch_from tables place (drop place entries) genids ranges ≡ None
@@ -58,7 +58,7 @@ touched_by_changes (Delete table old_genid old ∷ cs) item =
     ap (λ (b : Bool). is_same_item item (genid_item table old_genid) || b) (touched_by_changes cs item)
 
 -- where no touch is found, no entry touches an item
-or_none : (place : ℕ) (here : Option Item) (later : Option Touch) → or_later place here later ≡ None → (here ≡ None) × (later ≡ None)
+or_none : (place : ℕ) (here : Option Item) (later : Option Touch) → touch_or_later place here later ≡ None → (here ≡ None) × (later ≡ None)
 or_none place None later is = (refl, is)
 or_none place (Some item) later is = absurd (none-some _ (sym is))
 
@@ -76,10 +76,10 @@ abbrev IsFirstFrom : List TableDef → ℕ → List Entry → List GenidItem →
 IsFirstFrom tables from entries genids ranges t = (i : ℕ) × (t.place ≡ from + i)
     × IsFirst tables entries genids ranges (record { place = i; item = t.item })
 
-some_place : (place : ℕ) (item : Item) (later : Option Touch) (t : Touch) → or_later place (Some item) later ≡ Some t → t.place ≡ place
+some_place : (place : ℕ) (item : Item) (later : Option Touch) (t : Touch) → touch_or_later place (Some item) later ≡ Some t → t.place ≡ place
 some_place place item later t is = cc
 
-some_item : (place : ℕ) (item : Item) (later : Option Touch) (t : Touch) → or_later place (Some item) later ≡ Some t → Some item ≡ Some t.item
+some_item : (place : ℕ) (item : Item) (later : Option Touch) (t : Touch) → touch_or_later place (Some item) later ≡ Some t → Some item ≡ Some t.item
 some_item place item later t is = cc
 
 -- the touch that is found is at the first entry
@@ -109,7 +109,7 @@ one_touch tables from (e ∷ es) genids ranges t is =
     pick (first_item tables (changes_in e) genids ranges) refl is (one_touch tables (from + 1) es genids ranges t)
   where
     pick : (here : Option Item) → first_item tables (changes_in e) genids ranges ≡ here
-        → or_later from here (first_touch_from tables (from + 1) es genids ranges) ≡ Some t
+        → touch_or_later from here (first_touch_from tables (from + 1) es genids ranges) ≡ Some t
         → (first_touch_from tables (from + 1) es genids ranges ≡ Some t → IsFirstFrom tables (from + 1) es genids ranges t)
         → IsFirstFrom tables from (e ∷ es) genids ranges t
     pick (Some item) at found more =

@@ -53,15 +53,15 @@ or_range None later = later
 abbrev pub first_item : List TableDef → List Change → List GenidItem → List Interval → Option Item
 first_item tables changes genids ranges = or_range (first_touched (genids_taken changes) genids) (first_range tables changes ranges)
 
-abbrev pub or_later : ℕ → Option Item → Option Touch → Option Touch
-or_later place (Some item) later = Some (record { place = place; item = item })
-or_later place None later = later
+abbrev pub touch_or_later : ℕ → Option Item → Option Touch → Option Touch
+touch_or_later place (Some item) later = Some (record { place = place; item = item })
+touch_or_later place None later = later
 
 -- the first of these entries that touches a used item, with its first item; the first of them stands at this place
 abbrev pub first_touch_from : List TableDef → ℕ → List Entry → List GenidItem → List Interval → Option Touch
 first_touch_from tables place [] genids ranges = None
 first_touch_from tables place (e ∷ es) genids ranges =
-    or_later place (first_item tables (changes_in e) genids ranges) (first_touch_from tables (place + 1) es genids ranges)
+    touch_or_later place (first_item tables (changes_in e) genids ranges) (first_touch_from tables (place + 1) es genids ranges)
 
 -- the first of these entries, from place 0 on
 abbrev pub first_touch_of : List TableDef → List Entry → List GenidItem → List Interval → Option Touch

@@ -4,7 +4,7 @@ use Rattle.std.specs.List.{AllByRecursion}
 use Rattle.std.proofs.lemmas.Bool.{eq-eqb}
 use Rattle.std.proofs.lemmas.List.{append-nil}
 use Rattle.report_laws.specs.Told.{Along, numbered, Numbered}
-use Rattle.report_laws.specs.Work.{Item, number_of}
+use Rattle.report_laws.specs.Work.{WorkItem, number_of}
 use Rattle.cdb_values.specs.declared.replies.Reply.{Reply}
 
 -- the replies under one number
@@ -20,16 +20,16 @@ pub of_another : (n m : ℕ) (mine : List Reply) (others : List Numbered) → (m
 of_another n m [] others is = refl
 of_another n m (r ∷ rs) others is = rw is (of_another n m rs others is)
 
-abbrev pub AllOther : ℕ → List Item → Type 0
+abbrev pub AllOther : ℕ → List WorkItem → Type 0
 AllOther n items = AllByRecursion (λ item. (number_of item == n) ≡ false) items
 
-pub none_of : (P : Item → List Reply → Type 0) (n : ℕ) (items : List Item) (lines : List Numbered) → AllOther n items → Along P items lines → of_number n lines ≡ []
+pub none_of : (P : WorkItem → List Reply → Type 0) (n : ℕ) (items : List WorkItem) (lines : List Numbered) → AllOther n items → Along P items lines → of_number n lines ≡ []
 none_of P n [] lines all is = ap (of_number n) is
 none_of P n (item ∷ items) lines all (mine, others, splits, p, rest) =
     ap (of_number n) splits ∙ of_another n (number_of item) mine others all.0 ∙ none_of P n items others all.1 rest
 
 -- what holds along a session's work holds of each transaction and the replies under its number
-pub along_its : (P : Item → List Reply → Type 0) (before after : List Item) (item : Item) (lines : List Numbered) → AllOther (number_of item) before → AllOther (number_of item) after →
+pub along_its : (P : WorkItem → List Reply → Type 0) (before after : List WorkItem) (item : WorkItem) (lines : List Numbered) → AllOther (number_of item) before → AllOther (number_of item) after →
     Along P (before ++ item ∷ after) lines → P item (of_number (number_of item) lines)
 along_its P [] after item lines none all (mine, others, splits, p, rest) =
     subst (λ (rs : List Reply). P item rs)

@@ -23,7 +23,7 @@ use Rattle.report_laws.specs.Places.{GoesDown}
 use Rattle.report_laws.specs.Play.{InPlayOrder, InTurns, IsTurnOf, IsSaid, IsDownLine, opened_behind, begins, is_begin, lacks_majority, node_of, number_by, number_told, was_cut}
 use Rattle.report_laws.specs.Told.{told, Along, IsTold, Numbered, numbered, lines_of, alone_at}
 use Rattle.report_laws.specs.View.{View}
-use Rattle.report_laws.specs.Work.{Transaction, Item, Does, Lone, End, ByCommit, ByRollback, WithItsLine, Nowhere, Place, start, work, open_item, next_by, next_place, place_from, place_after, said}
+use Rattle.report_laws.specs.Work.{Transaction, WorkItem, Does, Lone, End, ByCommit, ByRollback, WithItsLine, Nowhere, Place, start, work, open_item, next_by, next_place, place_from, place_after, said}
 use Rattle.report_text.specs.declared.reports.EntryLine.{EntryLine}
 use Rattle.report_text.specs.declared.reports.Line.{Line}
 use Rattle.report_text.specs.declared.reports.Line.TheVariants as line
@@ -87,7 +87,7 @@ ran_no_begin basis answers view begin t ran is =
     all_map IsPlain IsNoBegin plain_no_begin ran.replies
     (subst (λ (a : Answered). ArePlain a.replies) (sym is) (plain_alone basis.language answers basis.origin.tables (view.rows begin).tables [] t.texts))
 
-told_alone : (basis : Basis) → Answers basis.language → (view : View) (name : List ℕ) (item : Item) (mine : List Reply) → IsTold basis view name item mine → HeadAlone mine
+told_alone : (basis : Basis) → Answers basis.language → (view : View) (name : List ℕ) (item : WorkItem) (mine : List Reply) → IsTold basis view name item mine → HeadAlone mine
 told_alone basis answers view name (Does t) mine (inl w) =
     subst HeadAlone (sym w.says) (all_append IsNoBegin w.ran.replies w.last (ran_no_begin basis answers view w.begin t w.ran w.is_ran) (end_no_begin t.end w.last w.ends))
 told_alone basis answers view name (Does t) mine (inr c) =
@@ -96,11 +96,11 @@ told_alone basis answers view name (Lone answer) mine is = subst HeadAlone (sym 
 
 -- a session's work: no line outside a transaction is told a begin
 
-abbrev IsNoLoneBegin : Item → Type 0
+abbrev IsNoLoneBegin : WorkItem → Type 0
 IsNoLoneBegin (Does t) = Unit {0}
 IsNoLoneBegin (Lone answer) = is_begin answer ≡ false
 
-one_lone : (over : List Item) (item : Item) → AllByRecursion IsNoLoneBegin over → IsNoLoneBegin item → AllByRecursion IsNoLoneBegin (over ++ item ∷ [])
+one_lone : (over : List WorkItem) (item : WorkItem) → AllByRecursion IsNoLoneBegin over → IsNoLoneBegin item → AllByRecursion IsNoLoneBegin (over ++ item ∷ [])
 one_lone over item all is = all_append IsNoLoneBegin over (item ∷ []) all (is, tt)
 
 next_lones : (p : Place) (text : List ℕ) (kind : Kind) (pending : Option (List (List ℕ))) → AllByRecursion IsNoLoneBegin p.over → AllByRecursion IsNoLoneBegin (next_by p text kind pending).over
@@ -154,8 +154,8 @@ item_begins m (r ∷ rs) others (x ∷ front) back n begin all is =
     let rest = quiet_part m rs others front back n begin all (same_tail (m, r) x (numbered m rs ++ others) (front ++ (n, reply.Begin begin) ∷ back) is) in
     inr (rest.0, ap (λ (y : Numbered). y ∷ front) (sym head) ∙ ap (λ (ls : List Numbered). (m, r) ∷ ls) rest.1, rest.2)
 
-module _ (P : Item → List Reply → Type 0) (alone : (item : Item) (mine : List Reply) → P item mine → HeadAlone mine) (lone : (answer : Reply) (mine : List Reply) → P (Lone answer) mine → mine ≡ answer ∷ []) where
-  begins_first : (items : List Item) (lines : List Numbered) (bound : ℕ) → AllByRecursion IsNoLoneBegin items → 1 ≤ bound → Rising bound items → Along P items lines →
+module _ (P : WorkItem → List Reply → Type 0) (alone : (item : WorkItem) (mine : List Reply) → P item mine → HeadAlone mine) (lone : (answer : Reply) (mine : List Reply) → P (Lone answer) mine → mine ≡ answer ∷ []) where
+  begins_first : (items : List WorkItem) (lines : List Numbered) (bound : ℕ) → AllByRecursion IsNoLoneBegin items → 1 ≤ bound → Rising bound items → Along P items lines →
       (front back : List Numbered) (n begin : ℕ) → lines ≡ front ++ (n, reply.Begin begin) ∷ back → (bound ≤ n) × (of_number n front ≡ [])
   begins_first [] lines bound lones first rising is front back n begin at = absurd (none_at front (sym is ∙ at))
     where
@@ -193,7 +193,7 @@ pub begin_is_first : (basis : Basis) (report : Report) → Answers basis.languag
 begin_is_first basis report answers lawful front back name n begin is =
     begins_first (IsTold basis (view_of basis report.entries) name) (λ item mine told. told_alone basis answers (view_of basis report.entries) name item mine told) (λ answer mine told. told)
     (work basis.language name basis.script.body) (told name report.lines) 1 (work_lones basis.language name basis.script.body) (omega arith)
-    (subst (λ (all : List Item). Rising 1 all) (sym (items_are basis.language start (said name basis.script.body))) (rest_rises basis.language start (said name basis.script.body)))
+    (subst (λ (all : List WorkItem). Rising 1 all) (sym (items_are basis.language start (said name basis.script.body))) (rest_rises basis.language start (said name basis.script.body)))
     (lawful.replies name) (told name front) (told name back) n begin
     (ap (told name) is ∙ told_append name front (line.Session name n (reply.Begin begin) ∷ back)
     ∙ ap (λ (b : Bool). told name front ++ ((if b then (n, reply.Begin begin) ∷ [] else []) ++ told name back)) (same_name name))

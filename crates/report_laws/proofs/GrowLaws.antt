@@ -4,7 +4,7 @@ use Rattle.cdb_values.specs.Rows.{Rows}
 use Rattle.cdb_values.specs.declared.rows.RowOp.{RowOp}
 use Rattle.report_laws.specs.History.{Basis, alone_on, last_position, view_of}
 use Rattle.report_laws.specs.Told.{IsTold, IsWhole, IsCut, MayCut, alone_at}
-use Rattle.report_laws.specs.Work.{Transaction, End, Nowhere, Item, Does, Lone}
+use Rattle.report_laws.specs.Work.{Transaction, End, Nowhere, WorkItem, Does, Lone}
 use Rattle.report_text.specs.declared.reports.EntryLine.{EntryLine}
 use Rattle.session_language.specs.Touched.{used_at}
 use Rattle.cdb_values.specs.declared.replies.Reply.{Reply}
@@ -78,7 +78,7 @@ module _ (basis : Basis) (es : List EntryLine) (e : EntryLine) where
       }
 
   -- what an item was told is told of it still
-  pub told_stays : (name : List ℕ) (item : Item) (mine : List Reply) → IsTold basis (view_of basis es) name item mine → IsTold basis (view_of basis (es ++ e ∷ [])) name item mine
+  pub told_stays : (name : List ℕ) (item : WorkItem) (mine : List Reply) → IsTold basis (view_of basis es) name item mine → IsTold basis (view_of basis (es ++ e ∷ [])) name item mine
   told_stays name (Does t) mine (inl was) = inl (whole_stays name t mine was)
   told_stays name (Does t) mine (inr was) = inr (cut_stays t mine was)
   told_stays name (Lone answer) mine was = was

@@ -14,9 +14,9 @@ use Rattle.report_laws.specs.Lawful.{Lawful}
 use Rattle.report_laws.specs.One.{IsUncutLine, IsUncut}
 use Rattle.report_laws.specs.Cut.{cuts}
 use Rattle.report_laws.specs.Nodes.{are_few, up_count}
-use Rattle.report_laws.specs.Play.{InPlayOrder, InTurns, IsTurn, IsTurnOf, IsSaid, IsAnswered, IsDownLine, opened_behind, node_of, number_told, is_own_by}
+use Rattle.report_laws.specs.Play.{InPlayOrder, InTurns, IsTurn, IsTurnOf, IsSaid, IsLineAnswered, IsDownLine, opened_behind, node_of, number_told, is_own_by}
 use Rattle.report_laws.specs.Told.{told, Along, IsTold, lines_of}
-use Rattle.report_laws.specs.Work.{Transaction, Item, Does, Lone, Place, start, work, items_at, place_from, place_after, said, said_by, transaction_of, numbered_among}
+use Rattle.report_laws.specs.Work.{Transaction, WorkItem, Does, Lone, Place, start, work, items_at, place_from, place_after, said, said_by, transaction_of, numbered_among}
 use Rattle.report_text.specs.declared.reports.Report.{Report}
 use Rattle.report_text.specs.declared.reports.EntryLine.{EntryLine}
 use Rattle.report_text.specs.declared.reports.EntryLine.TheVariants.{Setup, Commit}
@@ -73,7 +73,7 @@ quiet_turn basis now done before act.Feed mine added quiet turn = turn
 
 -- a line of a session that cuts nothing short, and by which no node goes down, is answered
 uncut_answer : (script : Script) (now : ℕ) (before : List Line) (session : List ℕ) (number : ℕ) (kind : Kind) (pending : Option (List (List ℕ))) (mine : List Line) (added : List EntryLine) →
-    AllByRecursion IsUncutLine mine → IsSaid script now before session number kind pending mine added → IsAnswered script now before session number kind pending mine added
+    AllByRecursion IsUncutLine mine → IsSaid script now before session number kind pending mine added → IsLineAnswered script now before session number kind pending mine added
 uncut_answer script now before session number kind pending mine added uncut (inl is) = is
 uncut_answer script now before session number kind pending mine added uncut (inr (inl is)) =
     absurd (true≢false (sym (or_memory (λ (r : Reply). cuts r ≡ true) (reply.Lost (node_of script session) is.down) is.told is.is_told refl refl) ∙ (subst (AllByRecursion IsUncutLine) is.says uncut).0))
@@ -111,7 +111,7 @@ said_first session text b bs is = rw is (rw (same_name session) refl)
 -- a line of a session is answered, behind the script's lines `done`
 abbrev IsAnsweredAt : Basis → List BodyLine → List Line → List EntryLine → List ℕ → List ℕ → List Line → List EntryLine → Type 0
 IsAnsweredAt basis done before history session text mine added =
-    IsAnswered basis.script (last_position basis.origin history) before session (number_told basis.language (place_after basis.language session done) text) (basis.language.kind text) (place_after basis.language session done).pending mine added
+    IsLineAnswered basis.script (last_position basis.origin history) before session (number_told basis.language (place_after basis.language session done) text) (basis.language.kind text) (place_after basis.language session done).pending mine added
 
 -- a piece of lines of which none cuts a transaction short
 uncut_piece : (before mine others : List Line) → AllByRecursion IsUncutLine (before ++ (mine ++ others)) → AllByRecursion IsUncutLine mine
@@ -161,28 +161,28 @@ module _ (basis : Basis) (answers : Answers basis.language) (done : List BodyLin
       entries : List EntryLine
       entries = history ++ (added ++ later)
 
-      its : (t : Transaction) (items : List Item) → first_left p.number p.pending ≤ t.number → rest_of basis.language p (text ∷ said session bs) ≡ Does t ∷ items →
+      its : (t : Transaction) (items : List WorkItem) → first_left p.number p.pending ≤ t.number → rest_of basis.language p (text ∷ said session bs) ≡ Does t ∷ items →
           IsTold basis (view_of basis entries) session (Does t) (under session t.number lines) × (transaction_of basis.language session t.number basis.script.body ≡ Some t)
       its t items le is = (
-        of_its_rest (IsTold basis (view_of basis entries) session) bound p.over t items (told session lines) (first_bound p.number p.pending begun) le below rising (subst (λ (all : List Item). Along (IsTold basis (view_of basis entries) session) all (told session lines)) split (laws.replies session)),
-        ap (λ (all : List Item). numbered_among t.number all) split ∙ numbered_last t.number t p.over items (others_below bound t.number p.over le below) refl,
+        of_its_rest (IsTold basis (view_of basis entries) session) bound p.over t items (told session lines) (first_bound p.number p.pending begun) le below rising (subst (λ (all : List WorkItem). Along (IsTold basis (view_of basis entries) session) all (told session lines)) split (laws.replies session)),
+        ap (λ (all : List WorkItem). numbered_among t.number all) split ∙ numbered_last t.number t p.over items (others_below bound t.number p.over le below) refl,
       )
         where
           split : work basis.language session basis.script.body ≡ p.over ++ Does t ∷ items
-          split = work_is ∙ ap (λ (rest : List Item). p.over ++ rest) is
+          split = work_is ∙ ap (λ (rest : List WorkItem). p.over ++ rest) is
 
           below : AllByRecursion (IsBelow bound) p.over
           below = (are_numbered basis.language (said session done)).below
 
           rising : Rising bound (Does t ∷ items)
-          rising = subst (λ (rest : List Item). Rising bound rest) is (rest_rises basis.language p (text ∷ said session bs))
+          rising = subst (λ (rest : List WorkItem). Rising bound rest) is (rest_rises basis.language p (text ∷ said session bs))
 
-      lone : (answer : Reply) (items : List Item) → rest_of basis.language p (text ∷ said session bs) ≡ Lone answer ∷ items → under session 0 lines ≡ lones p.over ++ answer ∷ lones items
+      lone : (answer : Reply) (items : List WorkItem) → rest_of basis.language p (text ∷ said session bs) ≡ Lone answer ∷ items → under session 0 lines ≡ lones p.over ++ answer ∷ lones items
       lone answer items is =
           told_lones (IsTold basis (view_of basis entries) session) (λ a mine told. told) (work basis.language session basis.script.body) (told session lines) 1 (omega arith)
-          (subst (λ (all : List Item). Rising 1 all) (sym (items_are basis.language start (said session basis.script.body))) (rest_rises basis.language start (said session basis.script.body)))
+          (subst (λ (all : List WorkItem). Rising 1 all) (sym (items_are basis.language start (said session basis.script.body))) (rest_rises basis.language start (said session basis.script.body)))
           (laws.replies session)
-          ∙ ap lones (work_is ∙ ap (λ (rest : List Item). p.over ++ rest) is)
+          ∙ ap lones (work_is ∙ ap (λ (rest : List WorkItem). p.over ++ rest) is)
           ∙ lones_append p.over (Lone answer ∷ items)
 
 -- at a line of a session that is answered two reports print the same and append the same, and what is known of both goes on

@@ -7,14 +7,14 @@ use Rattle.cdb_values.specs.declared.rows.Level.{Level}
 use Rattle.cdb_values.specs.declared.rows.StatementError.TheVariants.{State}
 use Rattle.session_language.specs.Language.{Language, Kind, BeginText, CommitText, RollbackText, LevelText, OtherText}
 use Rattle.report_laws.specs.Told.{Along, Numbered}
-use Rattle.report_laws.specs.Work.{Transaction, Item, Does, Lone, Place, End, ByCommit, ByRollback, WithItsLine, Nowhere, transaction, with_open, next_by, next_place, place_from, open_item, items_at}
+use Rattle.report_laws.specs.Work.{Transaction, WorkItem, Does, Lone, Place, End, ByCommit, ByRollback, WithItsLine, Nowhere, transaction, with_open, next_by, next_place, place_from, open_item, items_at}
 use Rattle.cdb_values.specs.declared.replies.Reply.{Reply}
 use Rattle.cdb_values.specs.declared.replies.Reply.TheVariants as reply
 use Rattle.report_laws.proofs.WorkLaws.{IsBelow, first_left}
 use Rattle.report_laws.proofs.AlongLaws.{AllOther, along_its, of_number, of_its, of_another}
 
 -- what is over by a line
-abbrev pub over_by : ℕ → Level → List ℕ → Kind → Option (List (List ℕ)) → List Item
+abbrev pub over_by : ℕ → Level → List ℕ → Kind → Option (List (List ℕ)) → List WorkItem
 over_by number level text BeginText None = []
 over_by number level text CommitText None = Lone (reply.Error State) ∷ []
 over_by number level text RollbackText None = Lone (reply.Error State) ∷ []
@@ -39,7 +39,7 @@ over_is p text (LevelText level) (Some texts) = sym (append-nil p.over)
 over_is p text OtherText (Some texts) = sym (append-nil p.over)
 
 -- the items that are over by these texts or open behind them
-abbrev pub rest_of : (language : Language) → Place → List (List ℕ) → List Item
+abbrev pub rest_of : (language : Language) → Place → List (List ℕ) → List WorkItem
 rest_of language p [] = open_item p p.pending
 rest_of language p (text ∷ texts) = over_by p.number p.level text (language.kind text) p.pending ++ rest_of language (next_place language p text) texts
 
@@ -47,16 +47,16 @@ pub items_are : (language : Language) (p : Place) (texts : List (List ℕ)) → 
 items_are language p [] = refl
 items_are language p (text ∷ texts) =
     items_are language (next_place language p text) texts
-    ∙ ap (λ (front : List Item). front ++ rest_of language (next_place language p text) texts) (over_is p text (language.kind text) p.pending)
+    ∙ ap (λ (front : List WorkItem). front ++ rest_of language (next_place language p text) texts) (over_is p text (language.kind text) p.pending)
     ∙ append_assoc p.over (over_by p.number p.level text (language.kind text) p.pending) (rest_of language (next_place language p text) texts)
 
 -- transactions with rising numbers from a bound on
-abbrev pub Rising : ℕ → List Item → Type 0
+abbrev pub Rising : ℕ → List WorkItem → Type 0
 Rising bound [] = Unit {0}
 Rising bound (Does t ∷ items) = (bound ≤ t.number) × Rising (t.number + 1) items
 Rising bound (Lone answer ∷ items) = Rising bound items
 
-rises_by : (p : Place) (text : List ℕ) (k : Kind) (pending : Option (List (List ℕ))) (rest : List Item) →
+rises_by : (p : Place) (text : List ℕ) (k : Kind) (pending : Option (List (List ℕ))) (rest : List WorkItem) →
     Rising (first_left (next_by p text k pending).number (next_by p text k pending).pending) rest → Rising (first_left p.number pending) (over_by p.number p.level text k pending ++ rest)
 rises_by p text BeginText None rest is = is
 rises_by p text CommitText None rest is = is
@@ -78,14 +78,14 @@ rest_rises language p [] = open_rises p p.pending
 rest_rises language p (text ∷ texts) = rises_by p text (language.kind text) p.pending (rest_of language (next_place language p text) texts) (rest_rises language (next_place language p text) texts)
 
 -- the first thing that a session with an open transaction still does is that transaction, with further texts
-abbrev pub IsOpened : Place → List (List ℕ) → List Item → Type 0
-IsOpened p texts items = (more : List (List ℕ)) × (end : End) × (others : List Item) × (items ≡ Does (transaction p.number (texts ++ more) p.level end) ∷ others)
+abbrev pub IsOpened : Place → List (List ℕ) → List WorkItem → Type 0
+IsOpened p texts items = (more : List (List ℕ)) × (end : End) × (others : List WorkItem) × (items ≡ Does (transaction p.number (texts ++ more) p.level end) ∷ others)
 
-opened_more : (p : Place) (texts : List (List ℕ)) (text : List ℕ) (items : List Item) → IsOpened (with_open p (Some (texts ++ text ∷ [])) p.number) (texts ++ text ∷ []) items → IsOpened p texts items
+opened_more : (p : Place) (texts : List (List ℕ)) (text : List ℕ) (items : List WorkItem) → IsOpened (with_open p (Some (texts ++ text ∷ [])) p.number) (texts ++ text ∷ []) items → IsOpened p texts items
 opened_more p texts text items (more, end, others, is) =
     (text ∷ more, end, others, is ∙ ap (λ (all : List (List ℕ)). Does (transaction p.number all p.level end) ∷ others) (append_assoc texts (text ∷ []) more))
 
-ended_now : (p : Place) (texts : List (List ℕ)) (end : End) (others : List Item) → IsOpened p texts (Does (transaction p.number texts p.level end) ∷ others)
+ended_now : (p : Place) (texts : List (List ℕ)) (end : End) (others : List WorkItem) → IsOpened p texts (Does (transaction p.number texts p.level end) ∷ others)
 ended_now p texts end others = ([], end, others, ap (λ (all : List (List ℕ)). Does (transaction p.number all p.level end) ∷ others) (sym (append-nil texts)))
 
 pub rest_opened : (language : Language) (p : Place) (texts said : List (List ℕ)) → p.pending ≡ Some texts → IsOpened p texts (rest_of language p said)
@@ -102,20 +102,20 @@ rest_opened language p texts (text ∷ said) is =
     go (LevelText level) later = opened_more p texts text _ (later (with_open p (Some (texts ++ text ∷ [])) p.number) (texts ++ text ∷ []) refl)
     go OtherText later = opened_more p texts text _ (later (with_open p (Some (texts ++ text ∷ [])) p.number) (texts ++ text ∷ []) refl)
 
-others_above : (bound n : ℕ) (items : List Item) → 1 ≤ n → n < bound → Rising bound items → AllOther n items
+others_above : (bound n : ℕ) (items : List WorkItem) → 1 ≤ n → n < bound → Rising bound items → AllOther n items
 others_above bound n [] first le is = tt
 others_above bound n (Does t ∷ items) first le is =
     (let h : bound ≤ t.number = is.0 in ne_eqb t.number n (λ (same : t.number ≡ n). omega (arith, h, le, same)), (let h : bound ≤ t.number = is.0 in others_above (t.number + 1) n items first (omega (arith, h, le)) is.1))
 others_above bound n (Lone answer ∷ items) first le is = (ne_eqb 0 n (λ (same : 0 ≡ n). omega (arith, first, same)), others_above bound n items first le is)
 
-others_before : (bound n : ℕ) (items : List Item) → 1 ≤ n → bound ≤ n → AllByRecursion (IsBelow bound) items → AllOther n items
+others_before : (bound n : ℕ) (items : List WorkItem) → 1 ≤ n → bound ≤ n → AllByRecursion (IsBelow bound) items → AllOther n items
 others_before bound n [] first le all = tt
 others_before bound n (Does t ∷ items) first le all =
     (let h : t.number < bound = all.0.1 in ne_eqb t.number n (λ (same : t.number ≡ n). omega (arith, h, le, same)), others_before bound n items first le all.1)
 others_before bound n (Lone answer ∷ items) first le all = (ne_eqb 0 n (λ (same : 0 ≡ n). omega (arith, first, same)), others_before bound n items first le all.1)
 
 -- what holds along a session's work holds of the first thing that it still does, where this is a transaction
-pub of_its_rest : (P : Item → List Reply → Type 0) (bound : ℕ) (over : List Item) (t : Transaction) (others : List Item) (lines : List Numbered) →
+pub of_its_rest : (P : WorkItem → List Reply → Type 0) (bound : ℕ) (over : List WorkItem) (t : Transaction) (others : List WorkItem) (lines : List Numbered) →
     1 ≤ bound → bound ≤ t.number → AllByRecursion (IsBelow bound) over → Rising bound (Does t ∷ others) → Along P (over ++ Does t ∷ others) lines → P (Does t) (of_number t.number lines)
 of_its_rest P bound over t others lines first le below rising along =
     along_its P over others (Does t) lines
@@ -124,19 +124,19 @@ of_its_rest P bound over t others lines first le below rising along =
     along
 
 -- the replies outside transactions
-abbrev pub lones : List Item → List Reply
+abbrev pub lones : List WorkItem → List Reply
 lones [] = []
 lones (Does t ∷ items) = lones items
 lones (Lone answer ∷ items) = answer ∷ lones items
 
-pub lones_append : (xs ys : List Item) → lones (xs ++ ys) ≡ lones xs ++ lones ys
+pub lones_append : (xs ys : List WorkItem) → lones (xs ++ ys) ≡ lones xs ++ lones ys
 lones_append [] ys = refl
 lones_append (Does t ∷ xs) ys = lones_append xs ys
 lones_append (Lone answer ∷ xs) ys = ap (λ rest. answer ∷ rest) (lones_append xs ys)
 
 -- they are what a session is told under the number 0
-pub told_lones : (P : Item → List Reply → Type 0) → ((answer : Reply) (mine : List Reply) → P (Lone answer) mine → mine ≡ answer ∷ []) →
-    (items : List Item) (lines : List Numbered) (bound : ℕ) → 1 ≤ bound → Rising bound items → Along P items lines → of_number 0 lines ≡ lones items
+pub told_lones : (P : WorkItem → List Reply → Type 0) → ((answer : Reply) (mine : List Reply) → P (Lone answer) mine → mine ≡ answer ∷ []) →
+    (items : List WorkItem) (lines : List Numbered) (bound : ℕ) → 1 ≤ bound → Rising bound items → Along P items lines → of_number 0 lines ≡ lones items
 told_lones P one [] lines bound first rising is = ap (of_number 0) is
 told_lones P one (Does t ∷ items) lines bound first rising (mine, others, splits, p, rest) =
     let h : bound ≤ t.number = rising.0 in

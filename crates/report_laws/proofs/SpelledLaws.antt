@@ -31,7 +31,7 @@ use Rattle.report_laws.specs.Spelled.{SaysAsNamed, IsSpelled}
 use Rattle.session_language.specs.Spelled.{AreTexts, IsToldValue, IsToldRow, SpellsReply, SpellsRow, WritesRow, HaveRows, KeepsRows}
 use Rattle.report_laws.specs.Told.{Along, Numbered, numbered, told, told_by, lines_of, IsTold, IsWhole, IsCut, IsEntryTold, alone_at}
 use Rattle.report_laws.specs.View.{View}
-use Rattle.report_laws.specs.Work.{Transaction, End, ByCommit, ByRollback, WithItsLine, Nowhere, Item, Does, Lone, Place, start, next_by, next_place, place_from, place_after, said, said_by, open_item, work, number_of, numbered_among, transaction_of}
+use Rattle.report_laws.specs.Work.{Transaction, End, ByCommit, ByRollback, WithItsLine, Nowhere, WorkItem, Does, Lone, Place, start, next_by, next_place, place_from, place_after, said, said_by, open_item, work, number_of, numbered_among, transaction_of}
 use Rattle.byte_words.specs.Names.{IsName, IsKey}
 use Rattle.report_text.specs.Grammar.{IsValue, IsRow, IsReply, IsLine, IsEntry, IsFeed, IsReport}
 use Rattle.report_text.specs.Types.{FitsValue, FitsReply, FitsLine, FitsEntry, FitsTypes}
@@ -177,7 +177,7 @@ first_named (t ∷ tables) (vs ∷ rest) table key all is =
 
 -- a session's work: a line outside a transaction is told nothing that has a name, and transactions have texts of UTF-8
 
-abbrev pub SpellsItem : Item → Type 0
+abbrev pub SpellsItem : WorkItem → Type 0
 SpellsItem (Does t) = AreTexts t.texts
 SpellsItem (Lone answer) = SpellsReply answer
 
@@ -188,7 +188,7 @@ ArePending (Some texts) = AreTexts texts
 abbrev SpellsPlace : Place → Type 0
 SpellsPlace p = AllByRecursion SpellsItem p.over × ArePending p.pending
 
-one_more : (over : List Item) (item : Item) → AllByRecursion SpellsItem over → SpellsItem item → AllByRecursion SpellsItem (over ++ item ∷ [])
+one_more : (over : List WorkItem) (item : WorkItem) → AllByRecursion SpellsItem over → SpellsItem item → AllByRecursion SpellsItem (over ++ item ∷ [])
 one_more over item all is = all_append SpellsItem over (item ∷ []) all (is, tt)
 
 next_spelled : (p : Place) (text : List ℕ) (kind : Kind) (pending : Option (List (List ℕ))) → is_utf8 text ≡ true → ArePending pending → AllByRecursion SpellsItem p.over → SpellsPlace (next_by p text kind pending)
@@ -222,7 +222,7 @@ abbrev HasTexts : Option Transaction → Type 0
 HasTexts None = Unit {0}
 HasTexts (Some t) = AreTexts t.texts
 
-among_texts : (number : ℕ) (items : List Item) → AllByRecursion SpellsItem items → HasTexts (numbered_among number items)
+among_texts : (number : ℕ) (items : List WorkItem) → AllByRecursion SpellsItem items → HasTexts (numbered_among number items)
 among_texts number [] all = tt
 among_texts number (Does t ∷ items) all = pick (t.number == number) (among_texts number items all.1)
   where
@@ -322,7 +322,7 @@ module _ (basis : Basis) (spelled : IsSpelled basis) where
       let all : AllByRecursion SpellsReply (c.front ++ c.rest) = subst (AllByRecursion SpellsReply) (sym c.fits) (tt, ran_spelled es t c.begin c.ran are c.is_ran) in
       subst (AllByRecursion SpellsReply) (sym c.says) (all_append SpellsReply c.front (c.cause ∷ []) (all_front SpellsReply c.front c.rest all) (cut_spelled c.cause c.is_cause, tt))
 
-  told_spelled : (es : List EntryLine) (name : List ℕ) (item : Item) (mine : List Reply) → SpellsItem item → IsTold basis (view_of basis es) name item mine → AllByRecursion SpellsReply mine
+  told_spelled : (es : List EntryLine) (name : List ℕ) (item : WorkItem) (mine : List Reply) → SpellsItem item → IsTold basis (view_of basis es) name item mine → AllByRecursion SpellsReply mine
   told_spelled es name (Does t) mine is (inl whole) = whole_spelled es name t mine is whole
   told_spelled es name (Does t) mine is (inr cut) = cut_short_spelled es t mine is cut
   told_spelled es name (Lone answer) mine is told = subst (AllByRecursion SpellsReply) (sym told) (is, tt)
@@ -334,7 +334,7 @@ module _ (basis : Basis) (spelled : IsSpelled basis) where
   numbered_spelled n [] all = tt
   numbered_spelled n (r ∷ rs) all = (all.0, numbered_spelled n rs all.1)
 
-  along_spelled : (es : List EntryLine) (name : List ℕ) (items : List Item) (lines : List Numbered) → AllByRecursion SpellsItem items → Along (IsTold basis (view_of basis es) name) items lines → AllByRecursion SpellsTold lines
+  along_spelled : (es : List EntryLine) (name : List ℕ) (items : List WorkItem) (lines : List Numbered) → AllByRecursion SpellsItem items → Along (IsTold basis (view_of basis es) name) items lines → AllByRecursion SpellsTold lines
   along_spelled es name [] lines all is = subst (AllByRecursion SpellsTold) (sym is) tt
   along_spelled es name (item ∷ items) lines all (mine, others, splits, told, rest) =
       subst (AllByRecursion SpellsTold) (sym splits)

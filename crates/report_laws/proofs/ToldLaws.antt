@@ -3,7 +3,7 @@ use Rattle.std.proofs.Common.{◌≡◌, ℕ, List, [], ◌∷◌, ◌++◌, ref
 use Rattle.std.proofs.lemmas.List.{append-nil, map-append}
 use Rattle.std.specs.Str.{bytes_eq}
 use Rattle.report_laws.specs.Told.{told, told_by, Along, Numbered, numbered, lines_of}
-use Rattle.report_laws.specs.Work.{Item, number_of}
+use Rattle.report_laws.specs.Work.{WorkItem, number_of}
 use Rattle.report_text.specs.declared.reports.Line.{Line}
 use Rattle.report_text.specs.declared.reports.Line.TheVariants as line
 use Rattle.cdb_values.specs.declared.replies.Reply.{Reply}
@@ -30,17 +30,17 @@ pub lines_append : (name : List ℕ) (number : ℕ) (xs ys : List Reply) → lin
 lines_append name number xs ys = map-append (line.Session name number) xs ys
 
 -- lines along a session's work, and then along more of it
-pub along_append : (P : Item → List Reply → Type 0) (xs ys : List Item) (ls ms : List Numbered) → Along P xs ls → Along P ys ms → Along P (xs ++ ys) (ls ++ ms)
+pub along_append : (P : WorkItem → List Reply → Type 0) (xs ys : List WorkItem) (ls ms : List Numbered) → Along P xs ls → Along P ys ms → Along P (xs ++ ys) (ls ++ ms)
 along_append P [] ys ls ms is more = subst (λ (lines : List Numbered). Along P ys lines) (sym (ap (λ front. front ++ ms) is)) more
 along_append P (x ∷ xs) ys ls ms (own, others, splits, p, rest) more =
     (own, others ++ ms, ap (λ front. front ++ ms) splits ∙ append_assoc (numbered (number_of x) own) others ms, p, along_append P xs ys others ms rest more)
 
 -- one item with its lines
-pub along_one : (P : Item → List Reply → Type 0) (item : Item) (mine : List Reply) → P item mine → Along P (item ∷ []) (numbered (number_of item) mine)
+pub along_one : (P : WorkItem → List Reply → Type 0) (item : WorkItem) (mine : List Reply) → P item mine → Along P (item ∷ []) (numbered (number_of item) mine)
 along_one P item mine is = (mine, [], sym (append-nil (numbered (number_of item) mine)), is, refl)
 
 -- what each item's lines are may be said in other words
-pub along_map : (P Q : Item → List Reply → Type 0) → ((item : Item) (mine : List Reply) → P item mine → Q item mine) →
-    (items : List Item) (lines : List Numbered) → Along P items lines → Along Q items lines
+pub along_map : (P Q : WorkItem → List Reply → Type 0) → ((item : WorkItem) (mine : List Reply) → P item mine → Q item mine) →
+    (items : List WorkItem) (lines : List Numbered) → Along P items lines → Along Q items lines
 along_map P Q f [] lines is = is
 along_map P Q f (item ∷ items) lines (mine, others, splits, p, rest) = (mine, others, splits, f item mine p, along_map P Q f items others rest)

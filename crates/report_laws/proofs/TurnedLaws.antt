@@ -16,7 +16,7 @@ use Rattle.report_laws.specs.Outcome.{IsRight, IsDecided, IsOneDecision, Ends}
 use Rattle.report_laws.specs.Play.{IsTurn, was_cut, IsTimely, IsAppended, number_by, is_own_by}
 use Rattle.session_language.specs.Replies.{is_last_of, is_outcome, are_up_to}
 use Rattle.report_laws.specs.Told.{IsTold, IsWhole, alone_at}
-use Rattle.report_laws.specs.Work.{Transaction, Item, Does, Lone, Place, ByCommit, ByRollback, WithItsLine, transaction, with_open, next_by, transaction_of}
+use Rattle.report_laws.specs.Work.{Transaction, WorkItem, Does, Lone, Place, ByCommit, ByRollback, WithItsLine, transaction, with_open, next_by, transaction_of}
 use Rattle.report_text.specs.declared.reports.EntryLine.{EntryLine}
 use Rattle.session_language.specs.Touched.{used_at}
 use Rattle.report_text.specs.declared.reports.EntryLine.TheVariants.{Commit}
@@ -164,15 +164,15 @@ module _ (basis : Basis) (history added later : List EntryLine) (lines before ot
   abbrev whole : List EntryLine
   whole = history ++ (added ++ later)
 
-  abbrev rest_by : Kind → Option (List (List ℕ)) → List Item
+  abbrev rest_by : Kind → Option (List (List ℕ)) → List WorkItem
   rest_by k pending = over_by p.number p.level text k pending ++ rest_of basis.language (next_by p text k pending) said
 
   -- what a report gives at a line, of a kind and with an open transaction or none
   pub record Given (k : Kind) (pending : Option (List (List ℕ))) : Type 0 where
     pub turn : IsTurn (moment basis history) before name (number_by p.number k pending) (is_own_by k pending) replies added
-    pub told : (t : Transaction) (items : List Item) → first_left p.number pending ≤ t.number → rest_by k pending ≡ Does t ∷ items →
+    pub told : (t : Transaction) (items : List WorkItem) → first_left p.number pending ≤ t.number → rest_by k pending ≡ Does t ∷ items →
         IsTold basis (view_of basis whole) name (Does t) (under name t.number lines) × (transaction_of basis.language name t.number basis.script.body ≡ Some t)
-    pub lone : (answer : Reply) (items : List Item) → rest_by k pending ≡ Lone answer ∷ items → under name 0 lines ≡ lones p.over ++ answer ∷ lones items
+    pub lone : (answer : Reply) (items : List WorkItem) → rest_by k pending ≡ Lone answer ∷ items → under name 0 lines ≡ lones p.over ++ answer ∷ lones items
     pub is_new : (txn : ℕ) → first_left p.number pending ≤ txn → (at : ℕ) (begin : ℕ) (level : Level) → entry_at basis.origin history at ≡ Some (Commit at name txn begin level) → ⊥
     pub mine : under name (number_by p.number k pending) lines ≡ under name (number_by p.number k pending) before ++ (replies ++ under name (number_by p.number k pending) others)
     pub unsaid : (n : ℕ) → p.number < n → under name n before ≡ []
@@ -197,7 +197,7 @@ module _ (basis : Basis) (history added later : List EntryLine) (lines before ot
       under name (number_by p.number k pending) lines ≡ replies ++ under name (number_by p.number k pending) others
   only_mine k pending g new = g.mine ∙ ap (λ (front : List Reply). front ++ (replies ++ under name (number_by p.number k pending) others)) (g.unsaid _ new)
 
-  whole_of : (k : Kind) (pending : Option (List (List ℕ))) (g : Given k pending) (t : Transaction) (items : List Item) → first_left p.number pending ≤ t.number → rest_by k pending ≡ Does t ∷ items → IsWhole basis (view_of basis whole) name t (under name t.number lines)
+  whole_of : (k : Kind) (pending : Option (List (List ℕ))) (g : Given k pending) (t : Transaction) (items : List WorkItem) → first_left p.number pending ≤ t.number → rest_by k pending ≡ Does t ∷ items → IsWhole basis (view_of basis whole) name t (under name t.number lines)
   whole_of k pending g t items le is = whole_told basis whole name t (under name t.number lines) (g.told t items le is).0 (are_uncut name t.number lines g.memory)
 
   -- what a transaction that is told whole is told
@@ -215,7 +215,7 @@ module _ (basis : Basis) (history added later : List EntryLine) (lines before ot
       (subst (λ (os : List Reply). AllByRecursion (IsRight basis (view_of basis whole) name t w.begin (used_at t.level w.ran) w.ran.ops) os) last w.right).0)
 
   -- a line outside transactions is answered by its one reply
-  lone_case : (k : Kind) (pending : Option (List (List ℕ))) (g : Given k pending) (answer : Reply) (items : List Item) → number_by p.number k pending ≡ 0 → is_own_by k pending ≡ false →
+  lone_case : (k : Kind) (pending : Option (List (List ℕ))) (g : Given k pending) (answer : Reply) (items : List WorkItem) → number_by p.number k pending ≡ 0 → is_own_by k pending ≡ false →
       rest_by k pending ≡ Lone answer ∷ items → is_last_of false answer ≡ true → is_outcome answer ≡ false → (replies ≡ answer ∷ []) × (added ≡ [])
   lone_case k pending g answer items number own is last quiet = (same, appended_quiet _ name _ replies added (subst (λ (rs : List Reply). AllByRecursion (λ r. is_outcome r ≡ false) rs) (sym same) (quiet, tt)) g.turn.appended)
     where
@@ -247,7 +247,7 @@ module _ (basis : Basis) (history added later : List EntryLine) (lines before ot
       at = (subst (λ (rs : List Reply). AllByRecursion (IsTimely (moment basis history) (moment basis history + length added)) rs) same g.turn.timely).0
 
   -- what ends a transaction at this line is the decision of its moment
-  ending : (k : Kind) (pending : Option (List (List ℕ))) (g : Given k pending) (t : Transaction) (items : List Item) (begin : ℕ) (o : Reply) (front : List Reply) →
+  ending : (k : Kind) (pending : Option (List (List ℕ))) (g : Given k pending) (t : Transaction) (items : List WorkItem) (begin : ℕ) (o : Reply) (front : List Reply) →
       first_left p.number pending ≤ t.number → rest_by k pending ≡ Does t ∷ items → number_by p.number k pending ≡ t.number →
       basis.origin.position ≤ begin → begin ≤ moment basis history → IsDecided o → IsRightAt t begin o →
       replies ≡ front ++ o ∷ [] → AllByRecursion (λ r. is_outcome r ≡ false) front →
@@ -302,7 +302,7 @@ module _ (basis : Basis) (history added later : List EntryLine) (lines before ot
       quiet = plain_all_quiet _ (plain_alone basis.language g.answers basis.origin.tables _ [] (text ∷ []))
 
   -- an open transaction is told at its begin, of which its session was told before
-  open_is : (k : Kind) (texts : List (List ℕ)) (g : Given k (Some texts)) (t : Transaction) (items : List Item) → p.number ≡ t.number → number_by p.number k (Some texts) ≡ p.number → rest_by k (Some texts) ≡ Does t ∷ items →
+  open_is : (k : Kind) (texts : List (List ℕ)) (g : Given k (Some texts)) (t : Transaction) (items : List WorkItem) → p.number ≡ t.number → number_by p.number k (Some texts) ≡ p.number → rest_by k (Some texts) ≡ Does t ∷ items →
       (last : List Reply) × Ends t.end last
       × (under name t.number lines ≡ reply.Begin g.going.0 ∷ ((alone_of basis history g.going.0 t.texts).replies ++ last))
       × ((reply.Begin g.going.0 ∷ (alone_of basis history g.going.0 texts).replies) ++ (replies ++ under name p.number others) ≡ reply.Begin g.going.0 ∷ ((alone_of basis history g.going.0 t.texts).replies ++ last))

@@ -8,7 +8,7 @@ use Rattle.session_language.specs.Language.{Language, Kind, BeginText, CommitTex
 use Rattle.script_form.specs.declared.scripts.BodyLine.{BodyLine}
 use Rattle.script_form.specs.declared.scripts.Act.{Act}
 use Rattle.script_form.specs.declared.scripts.Act.TheVariants as act
-use Rattle.report_laws.specs.Work.{Transaction, Item, Does, Lone, Place, start, next_by, next_place, place_from, place_after, said, said_by, open_item, items_at, numbered_among, transaction_of}
+use Rattle.report_laws.specs.Work.{Transaction, WorkItem, Does, Lone, Place, start, next_by, next_place, place_from, place_after, said, said_by, open_item, items_at, numbered_among, transaction_of}
 use Rattle.cdb_values.specs.declared.replies.Reply.{Reply}
 use Rattle.session_language.proofs.EachLaws.{all_append, all_map}
 
@@ -58,7 +58,7 @@ after_other language name session text l done is other =
     after_more language name done (l ∷ []) ∙ ap (λ (texts : List (List ℕ)). place_from language (place_after language name done) texts) (said_other name session text l is other)
 
 -- what is over stays over
-over_next : (p : Place) (text : List ℕ) (k : Kind) (pending : Option (List (List ℕ))) → (more : List Item) × ((next_by p text k pending).over ≡ p.over ++ more)
+over_next : (p : Place) (text : List ℕ) (k : Kind) (pending : Option (List (List ℕ))) → (more : List WorkItem) × ((next_by p text k pending).over ≡ p.over ++ more)
 over_next p text BeginText None = ([], sym (append-nil p.over))
 over_next p text CommitText None = (_, refl)
 over_next p text RollbackText None = (_, refl)
@@ -70,15 +70,15 @@ over_next p text RollbackText (Some texts) = (_, refl)
 over_next p text (LevelText level) (Some texts) = ([], sym (append-nil p.over))
 over_next p text OtherText (Some texts) = ([], sym (append-nil p.over))
 
-pub over_grows : (language : Language) (p : Place) (texts : List (List ℕ)) → (more : List Item) × ((place_from language p texts).over ≡ p.over ++ more)
+pub over_grows : (language : Language) (p : Place) (texts : List (List ℕ)) → (more : List WorkItem) × ((place_from language p texts).over ≡ p.over ++ more)
 over_grows language p [] = ([], sym (append-nil p.over))
 over_grows language p (text ∷ texts) =
-    let step : (more : List Item) × ((next_place language p text).over ≡ p.over ++ more) = over_next p text (language.kind text) p.pending in
-    let rest : (more : List Item) × ((place_from language (next_place language p text) texts).over ≡ (next_place language p text).over ++ more) = over_grows language (next_place language p text) texts in
-    (step.0 ++ rest.0, rest.1 ∙ ap (λ (front : List Item). front ++ rest.0) step.1 ∙ append_assoc p.over step.0 rest.0)
+    let step : (more : List WorkItem) × ((next_place language p text).over ≡ p.over ++ more) = over_next p text (language.kind text) p.pending in
+    let rest : (more : List WorkItem) × ((place_from language (next_place language p text) texts).over ≡ (next_place language p text).over ++ more) = over_grows language (next_place language p text) texts in
+    (step.0 ++ rest.0, rest.1 ∙ ap (λ (front : List WorkItem). front ++ rest.0) step.1 ∙ append_assoc p.over step.0 rest.0)
 
 -- a transaction found by its number is found in each longer work
-pub numbered_front : (n : ℕ) (t : Transaction) (xs ys : List Item) → numbered_among n xs ≡ Some t → numbered_among n (xs ++ ys) ≡ Some t
+pub numbered_front : (n : ℕ) (t : Transaction) (xs ys : List WorkItem) → numbered_among n xs ≡ Some t → numbered_among n (xs ++ ys) ≡ Some t
 numbered_front n t [] ys is = cc
 numbered_front n t (Lone answer ∷ xs) ys is = numbered_front n t xs ys is
 numbered_front n t (Does s ∷ xs) ys is = go (s.number == n) is (λ (found : numbered_among n xs ≡ Some t). numbered_front n t xs ys found)
@@ -89,18 +89,18 @@ numbered_front n t (Does s ∷ xs) ys is = go (s.number == n) is (λ (found : nu
     go false found later = later found
 
 -- an item that is no transaction of that number
-abbrev pub HasOther : ℕ → Item → Type 0
+abbrev pub HasOther : ℕ → WorkItem → Type 0
 HasOther n (Does t) = t.number ≡ n → ⊥
 HasOther n (Lone answer) = Unit {0}
 
 -- a transaction behind others of other numbers is found
-pub numbered_last : (n : ℕ) (t : Transaction) (xs ys : List Item) → AllByRecursion (HasOther n) xs → t.number ≡ n → numbered_among n (xs ++ Does t ∷ ys) ≡ Some t
+pub numbered_last : (n : ℕ) (t : Transaction) (xs ys : List WorkItem) → AllByRecursion (HasOther n) xs → t.number ≡ n → numbered_among n (xs ++ Does t ∷ ys) ≡ Some t
 numbered_last n t [] ys others is = rw (eq-eqb t.number n is) refl
 numbered_last n t (Lone answer ∷ xs) ys others is = numbered_last n t xs ys others.1 is
 numbered_last n t (Does s ∷ xs) ys others is = rw (ne_eqb s.number n others.0) (numbered_last n t xs ys others.1 is)
 
 -- an item that is a transaction of a number from 1 and below a bound, or none
-abbrev pub IsBelow : ℕ → Item → Type 0
+abbrev pub IsBelow : ℕ → WorkItem → Type 0
 IsBelow bound (Does t) = (1 ≤ t.number) × (t.number < bound)
 IsBelow bound (Lone answer) = Unit {0}
 
@@ -118,10 +118,10 @@ pub record AreNumbered (p : Place) : Type 0 where
   pub below : AllByRecursion (IsBelow (first_left p.number p.pending)) p.over
   pub begun : IsBegun p.number p.pending
 
-pub below_more : (a b : ℕ) (xs : List Item) → a ≤ b → AllByRecursion (IsBelow a) xs → AllByRecursion (IsBelow b) xs
+pub below_more : (a b : ℕ) (xs : List WorkItem) → a ≤ b → AllByRecursion (IsBelow a) xs → AllByRecursion (IsBelow b) xs
 below_more a b xs le all = all_map (IsBelow a) (IsBelow b) up xs all
   where
-    up : (x : Item) → IsBelow a x → IsBelow b x
+    up : (x : WorkItem) → IsBelow a x → IsBelow b x
     up (Does t) is = (is.0, (let h : t.number < a = is.1 in omega (arith, h, le)))
     up (Lone answer) is = tt
 
@@ -167,7 +167,7 @@ pub are_numbered : (language : Language) (texts : List (List ℕ)) → AreNumber
 are_numbered language texts = are_numbered_from language start texts (record { below = tt; begun = tt })
 
 -- a line with which a transaction is over has a number above those that were over before
-lone_or_does : (xs : List Item) (answer : Reply) (t : Transaction) → xs ++ Lone answer ∷ [] ≡ xs ++ Does t ∷ [] → ⊥
+lone_or_does : (xs : List WorkItem) (answer : Reply) (t : Transaction) → xs ++ Lone answer ∷ [] ≡ xs ++ Does t ∷ [] → ⊥
 lone_or_does xs answer t is = let same = append_cancel_left xs (Lone answer ∷ []) (Does t ∷ []) is in cc
 
 above_next : (p : Place) (text : List ℕ) (k : Kind) (pending : Option (List (List ℕ))) (t : Transaction) → (next_by p text k pending).over ≡ p.over ++ Does t ∷ [] →
@@ -183,10 +183,10 @@ above_next p text RollbackText (Some texts) t is = omega arith
 above_next p text (LevelText level) (Some texts) t is = omega arith
 above_next p text OtherText (Some texts) t is = omega arith
 
-pub others_below : (bound n : ℕ) (xs : List Item) → bound ≤ n → AllByRecursion (IsBelow bound) xs → AllByRecursion (HasOther n) xs
+pub others_below : (bound n : ℕ) (xs : List WorkItem) → bound ≤ n → AllByRecursion (IsBelow bound) xs → AllByRecursion (HasOther n) xs
 others_below bound n xs le all = all_map (IsBelow bound) (HasOther n) other xs all
   where
-    other : (x : Item) → IsBelow bound x → HasOther n x
+    other : (x : WorkItem) → IsBelow bound x → HasOther n x
     other (Does t) is = λ (same : t.number ≡ n). (let h : t.number < bound = is.1 in omega (arith, h, le, same))
     other (Lone answer) is = tt
 
@@ -206,11 +206,11 @@ its_transaction language name session text body done left l t is_body is_act sam
     others_below (first_left before.number before.pending) t.number before.over (omega (arith, above, number)) (are_numbered language (said name done)).below in
     let split : body ≡ (done ++ l ∷ []) ++ left = is_body ∙ sym (append_assoc done (l ∷ []) left) in
     let last : place_after language name body ≡ place_from language now (said name left) = ap (λ (b : List BodyLine). place_after language name b) split ∙ after_more language name (done ++ l ∷ []) left in
-    let grows : (more : List Item) × ((place_from language now (said name left)).over ≡ now.over ++ more) = over_grows language now (said name left) in
+    let grows : (more : List WorkItem) × ((place_from language now (said name left)).over ≡ now.over ++ more) = over_grows language now (said name left) in
     let final : Place = place_from language now (said name left) in
     let items : items_at final ≡ before.over ++ Does t ∷ (grows.0 ++ open_item final final.pending) =
-    ap (λ (front : List Item). front ++ open_item final final.pending) (grows.1 ∙ ap (λ (front : List Item). front ++ grows.0) ends ∙ append_assoc before.over (Does t ∷ []) grows.0)
+    ap (λ (front : List WorkItem). front ++ open_item final final.pending) (grows.1 ∙ ap (λ (front : List WorkItem). front ++ grows.0) ends ∙ append_assoc before.over (Does t ∷ []) grows.0)
     ∙ append_assoc before.over (Does t ∷ grows.0) (open_item final final.pending) in
     ap (λ (p : Place). numbered_among t.number (items_at p)) last
-    ∙ ap (λ (all : List Item). numbered_among t.number all) items
+    ∙ ap (λ (all : List WorkItem). numbered_among t.number all) items
     ∙ numbered_last t.number t before.over (grows.0 ++ open_item final final.pending) others refl

@@ -169,7 +169,7 @@ pub record IsTurn (now : ℕ) (before : List Line) (session : List ℕ) (number 
 
 -- a line of a session, of that kind and with that transaction open or none, is answered: its transaction is not lost, and
 -- no majority is wanting
-pub record IsAnswered (script : Script) (now : ℕ) (before : List Line) (session : List ℕ) (number : ℕ) (kind : Kind) (pending : Option (List (List ℕ))) (mine : List Line) (added : List EntryLine) : Type 0 where
+pub record IsLineAnswered (script : Script) (now : ℕ) (before : List Line) (session : List ℕ) (number : ℕ) (kind : Kind) (pending : Option (List (List ℕ))) (mine : List Line) (added : List EntryLine) : Type 0 where
   pub replies : List Reply
   pub says : mine ≡ lines_of session number replies
   pub turn : IsTurn now before session number (is_own_by kind pending) replies added
@@ -222,7 +222,7 @@ pub record FailsThere (script : Script) (now : ℕ) (before : List Line) (sessio
 -- a line of a session is answered, or one of these keeps it from that
 abbrev pub IsSaid : Script → ℕ → List Line → List ℕ → ℕ → Kind → Option (List (List ℕ)) → List Line → List EntryLine → Type 0
 IsSaid script now before session number kind pending mine added =
-    IsAnswered script now before session number kind pending mine added
+    IsLineAnswered script now before session number kind pending mine added
     ⊎ (IsLostThere script before session number pending mine added
     ⊎ (IsShortThere script before session number kind pending mine added
     ⊎ FailsThere script now before session number kind pending mine added))

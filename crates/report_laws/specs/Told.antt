@@ -17,7 +17,7 @@ use Rattle.session_language.specs.Language.{Answered}
 use Rattle.session_language.specs.Touched.{used_at}
 use Rattle.report_laws.specs.Outcome.{IsRight, Ends}
 use Rattle.report_laws.specs.View.{View}
-use Rattle.report_laws.specs.Work.{Transaction, End, ByCommit, ByRollback, WithItsLine, Nowhere, Item, Does, Lone, number_of, transaction_of}
+use Rattle.report_laws.specs.Work.{Transaction, End, ByCommit, ByRollback, WithItsLine, Nowhere, WorkItem, Does, Lone, number_of, transaction_of}
 use Rattle.report_text.specs.declared.reports.EntryLine.{EntryLine}
 use Rattle.report_text.specs.declared.reports.EntryLine.TheVariants.{Setup, Commit}
 use Rattle.report_text.specs.declared.reports.Line.{Line}
@@ -49,7 +49,7 @@ abbrev pub lines_of : List ℕ → ℕ → List Reply → List Line
 lines_of name number replies = map (line.Session name number) replies
 
 -- the lines of a session are those of its items in order, and each item's are as P says
-abbrev pub Along : (Item → List Reply → Type 0) → List Item → List Numbered → Type 0
+abbrev pub Along : (WorkItem → List Reply → Type 0) → List WorkItem → List Numbered → Type 0
 Along P [] lines = lines ≡ []
 Along P (item ∷ items) lines =
     (mine : List Reply) × (others : List Numbered) × (lines ≡ numbered (number_of item) mine ++ others) × P item mine × Along P items others
@@ -112,7 +112,7 @@ pub record IsCut (basis : Basis) (view : View) (t : Transaction) (mine : List Re
   pub says : mine ≡ front ++ cause ∷ []
 
 -- the lines of a transaction are its replies and its end; a line outside one has its one reply
-abbrev pub IsTold : Basis → View → List ℕ → Item → List Reply → Type 0
+abbrev pub IsTold : Basis → View → List ℕ → WorkItem → List Reply → Type 0
 IsTold basis view name (Does t) mine = IsWhole basis view name t mine ⊎ IsCut basis view t mine
 IsTold basis view name (Lone answer) mine = mine ≡ answer ∷ []
 

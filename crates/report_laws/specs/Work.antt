@@ -31,14 +31,14 @@ pub record Transaction : Type 0 where
   pub end : End
 
 -- what a session does: a transaction, or a line outside one with its one reply
-pub data Item : Type 0 where
-  Does : Transaction → Item
-  Lone : Reply → Item
+pub data WorkItem : Type 0 where
+  Does : Transaction → WorkItem
+  Lone : Reply → WorkItem
 
 -- where a session is in its work: what is over, how many transactions it has begun, its level, and
 -- the texts of the transaction that is open, if one is
 pub record Place : Type 0 where
-  pub over : List Item
+  pub over : List WorkItem
   pub number : ℕ
   pub level : Level
   pub pending : Option (List (List ℕ))
@@ -50,7 +50,7 @@ abbrev pub transaction : ℕ → List (List ℕ) → Level → End → Transacti
 transaction number texts level end = record { number = number; texts = texts; level = level; end = end }
 
 -- one more thing is over
-abbrev pub with_item : Place → Item → Place
+abbrev pub with_item : Place → WorkItem → Place
 with_item p item = record { over = p.over ++ item ∷ []; number = p.number; level = p.level; pending = None }
 
 -- the open transaction ends
@@ -103,20 +103,20 @@ abbrev pub place_after : Language → List ℕ → List BodyLine → Place
 place_after language name body = place_from language start (said name body)
 
 -- the transaction that is open there, if one is
-abbrev pub open_item : Place → Option (List (List ℕ)) → List Item
+abbrev pub open_item : Place → Option (List (List ℕ)) → List WorkItem
 open_item p None = []
 open_item p (Some texts) = Does (transaction p.number texts p.level Nowhere) ∷ []
 
 -- what a session did up to there, in order
-abbrev pub items_at : Place → List Item
+abbrev pub items_at : Place → List WorkItem
 items_at p = p.over ++ open_item p p.pending
 
 -- the work of a session, in order
-abbrev pub work : Language → List ℕ → List BodyLine → List Item
+abbrev pub work : Language → List ℕ → List BodyLine → List WorkItem
 work language name body = items_at (place_after language name body)
 
 -- the number under which an item is told
-abbrev pub number_of : Item → ℕ
+abbrev pub number_of : WorkItem → ℕ
 number_of (Does t) = t.number
 number_of (Lone answer) = 0
 
@@ -124,7 +124,7 @@ number_of (Lone answer) = 0
 abbrev pub if_numbered : ℕ → Transaction → Option Transaction → Option Transaction
 if_numbered number t later = if t.number == number then Some t else later
 
-abbrev pub numbered_among : ℕ → List Item → Option Transaction
+abbrev pub numbered_among : ℕ → List WorkItem → Option Transaction
 numbered_among number [] = None
 numbered_among number (Does t ∷ items) = if_numbered number t (numbered_among number items)
 numbered_among number (Lone answer ∷ items) = numbered_among number items

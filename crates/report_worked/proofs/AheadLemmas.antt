@@ -9,12 +9,12 @@ use Rattle.report_laws.specs.Lawful.{Lawful, is_heard}
 use Rattle.report_laws.specs.One.{IsUncut}
 use Rattle.report_laws.specs.Play.{InPlayOrder}
 use Rattle.report_laws.specs.Told.{told, Along, IsTold}
-use Rattle.report_laws.specs.Work.{Transaction, Item, Does, transaction, WithItsLine, work}
+use Rattle.report_laws.specs.Work.{Transaction, WorkItem, Does, transaction, WithItsLine, work}
 use Rattle.report_laws.proofs.HistoryLaws.{none_stands}
 use Rattle.report_laws.proofs.LineLaws.{fresh_begin}
 use Rattle.report_laws.proofs.OneLaws.{one_report}
 use Rattle.report_laws.proofs.PieceLaws.{all_at}
-use Rattle.script_form.specs.CanRun.{tables_of}
+use Rattle.script_form.specs.CanRun.{script_tables}
 use Rattle.session_language.specs.Language.{OtherText}
 use Rattle.session_language.specs.Touched.{TheVersion}
 use Rattle.report_text.specs.declared.reports.EntryLine.{EntryLine}
@@ -64,15 +64,15 @@ keys_to_a = (reply.Begin 1 ∷ reply.Changed 1 ∷ reply.Duplicate 2 (codes "t")
 abbrev keys_to_b : List (List Reply)
 keys_to_b = (reply.Begin 1 ∷ reply.Changed 1 ∷ reply.Committed 2 ∷ []) ∷ []
 
-along_keys : (P : List ℕ → Item → List Reply → Type 0) → EachPart (P (codes "a")) (Does first_key ∷ []) keys_to_a → EachPart (P (codes "b")) (Does second_key ∷ []) keys_to_b →
+along_keys : (P : List ℕ → WorkItem → List Reply → Type 0) → EachPart (P (codes "a")) (Does first_key ∷ []) keys_to_a → EachPart (P (codes "b")) (Does second_key ∷ []) keys_to_b →
     (name : List ℕ) → Along (P name) (work small_language name two_keys.body) (told name duplicate_ahead.lines)
 along_keys P of_a of_b =
     along_each P two_keys.body duplicate_ahead.lines
     (inl refl, (inr refl, tt)) (inl refl, (inl refl, (inl refl, (inr refl, (inr refl, (inr refl, tt))))))
-    (subst (λ (items : List Item). Along (P (codes "a")) items (told (codes "a") duplicate_ahead.lines)) (sym keys_of_a) (along_parts (P (codes "a")) (Does first_key ∷ []) keys_to_a of_a))
-    (subst (λ (items : List Item). Along (P (codes "b")) items (told (codes "b") duplicate_ahead.lines)) (sym keys_of_b) (along_parts (P (codes "b")) (Does second_key ∷ []) keys_to_b of_b))
+    (subst (λ (items : List WorkItem). Along (P (codes "a")) items (told (codes "a") duplicate_ahead.lines)) (sym keys_of_a) (along_parts (P (codes "a")) (Does first_key ∷ []) keys_to_a of_a))
+    (subst (λ (items : List WorkItem). Along (P (codes "b")) items (told (codes "b") duplicate_ahead.lines)) (sym keys_of_b) (along_parts (P (codes "b")) (Does second_key ∷ []) keys_to_b of_b))
 
-good_key : IsGood (tables_of two_keys) (rows_at (from_nothing two_keys) duplicate_ahead.entries 2).tables
+good_key : IsGood (script_tables two_keys) (rows_at (from_nothing two_keys) duplicate_ahead.entries 2).tables
 good_key = record {
   rows_fit = ((record { columns = (refl, (refl, tt)); size = omega arith; keys = (omega arith, tt) }, tt), tt);
   keys_kept = refl;
@@ -144,22 +144,22 @@ ahead_of_a = (reply.Begin 1 ∷ reply.Changed 1 ∷ reply.Committed 2 ∷ []) �
 abbrev ahead_of_b : List (List Reply)
 ahead_of_b = (reply.Begin 2 ∷ reply.Changed 1 ∷ reply.Committed 3 ∷ []) ∷ []
 
-along_ahead : (P : List ℕ → Item → List Reply → Type 0) → EachPart (P (codes "a")) items_of_a ahead_of_a → EachPart (P (codes "b")) items_of_b ahead_of_b →
+along_ahead : (P : List ℕ → WorkItem → List Reply → Type 0) → EachPart (P (codes "a")) items_of_a ahead_of_a → EachPart (P (codes "b")) items_of_b ahead_of_b →
     (name : List ℕ) → Along (P name) (work small_language name two_updates.body) (told name conflict_ahead.lines)
 along_ahead P of_a of_b =
     along_each P two_updates.body conflict_ahead.lines
     (inl refl, (inl refl, (inr refl, (inl refl, (inr refl, (inl refl, (inr refl, tt)))))))
     (inl refl, (inl refl, (inl refl, (inl refl, (inr refl, (inl refl, (inr refl, (inl refl, (inr refl, tt)))))))))
-    (subst (λ (items : List Item). Along (P (codes "a")) items (told (codes "a") conflict_ahead.lines)) (sym work_of_a) (along_parts (P (codes "a")) items_of_a ahead_of_a of_a))
-    (subst (λ (items : List Item). Along (P (codes "b")) items (told (codes "b") conflict_ahead.lines)) (sym work_of_b) (along_parts (P (codes "b")) items_of_b ahead_of_b of_b))
+    (subst (λ (items : List WorkItem). Along (P (codes "a")) items (told (codes "a") conflict_ahead.lines)) (sym work_of_a) (along_parts (P (codes "a")) items_of_a ahead_of_a of_a))
+    (subst (λ (items : List WorkItem). Along (P (codes "b")) items (told (codes "b") conflict_ahead.lines)) (sym work_of_b) (along_parts (P (codes "b")) items_of_b ahead_of_b of_b))
 
-ahead_at_2 : IsGood (tables_of two_updates) (rows_at (from_nothing two_updates) conflict_ahead.entries 2).tables
+ahead_at_2 : IsGood (script_tables two_updates) (rows_at (from_nothing two_updates) conflict_ahead.entries 2).tables
 ahead_at_2 = record {
   rows_fit = ((record { columns = (refl, (refl, tt)); size = omega arith; keys = (omega arith, tt) }, tt), tt);
   keys_kept = refl;
 }
 
-ahead_at_3 : IsGood (tables_of two_updates) (rows_at (from_nothing two_updates) conflict_ahead.entries 3).tables
+ahead_at_3 : IsGood (script_tables two_updates) (rows_at (from_nothing two_updates) conflict_ahead.entries 3).tables
 ahead_at_3 = record {
   rows_fit = ((record { columns = (refl, (refl, tt)); size = omega arith; keys = (omega arith, tt) }, tt), tt);
   keys_kept = refl;

@@ -8,7 +8,7 @@ use Rattle.report_laws.specs.Lawful.{Lawful}
 use Rattle.report_laws.specs.Nodes.{BeginsDown}
 use Rattle.report_laws.specs.Play.{InPlayOrder}
 use Rattle.report_laws.specs.Told.{told, Along, IsTold}
-use Rattle.report_laws.specs.Work.{Item, Does, transaction, ByCommit, WithItsLine, work}
+use Rattle.report_laws.specs.Work.{WorkItem, Does, transaction, ByCommit, WithItsLine, work}
 use Rattle.report_text.specs.declared.reports.Line.{Line}
 use Rattle.report_text.specs.declared.reports.Line.TheVariants as line
 use Rattle.cdb_values.specs.declared.replies.Reply.{Reply}
@@ -21,10 +21,10 @@ use Rattle.report_worked.specs.Small.{from_log, small_language}
 use Rattle.report_worked.proofs.WorkedLemmas.{along_each, along_parts, EachPart, cut, whole, is_turn}
 use Rattle.report_worked.proofs.FaultLemmas.{answered}
 
-abbrev items_of_a : List Item
+abbrev items_of_a : List WorkItem
 items_of_a = Does (transaction 1 [] Snapshot ByCommit) ∷ []
 
-abbrev items_of_b : List Item
+abbrev items_of_b : List WorkItem
 items_of_b = Does (transaction 1 (codes "insert into t values(2, 20)" ∷ []) Snapshot WithItsLine) ∷ []
 
 work_of_a : work small_language (codes "a") nothing_then_insert.body ≡ items_of_a
@@ -39,13 +39,13 @@ told_a = (reply.Begin 2 ∷ reply.Committed 2 ∷ []) ∷ []
 abbrev told_b : List (List Reply)
 told_b = (reply.Begin 2 ∷ reply.Changed 1 ∷ reply.Lost 1 1 ∷ []) ∷ []
 
-along_late : (P : List ℕ → Item → List Reply → Type 0) → EachPart (P (codes "a")) items_of_a told_a → EachPart (P (codes "b")) items_of_b told_b →
+along_late : (P : List ℕ → WorkItem → List Reply → Type 0) → EachPart (P (codes "a")) items_of_a told_a → EachPart (P (codes "b")) items_of_b told_b →
     (name : List ℕ) → Along (P name) (work small_language name nothing_then_insert.body) (told name down_late_report.lines)
 along_late P of_a of_b =
     along_each P nothing_then_insert.body down_late_report.lines
     (inl refl, (inl refl, (inr refl, tt))) (inl refl, (inl refl, (inr refl, (inr refl, (tt, (inr refl, tt))))))
-    (subst (λ (items : List Item). Along (P (codes "a")) items (told (codes "a") down_late_report.lines)) (sym work_of_a) (along_parts (P (codes "a")) items_of_a told_a of_a))
-    (subst (λ (items : List Item). Along (P (codes "b")) items (told (codes "b") down_late_report.lines)) (sym work_of_b) (along_parts (P (codes "b")) items_of_b told_b of_b))
+    (subst (λ (items : List WorkItem). Along (P (codes "a")) items (told (codes "a") down_late_report.lines)) (sym work_of_a) (along_parts (P (codes "a")) items_of_a told_a of_a))
+    (subst (λ (items : List WorkItem). Along (P (codes "b")) items (told (codes "b") down_late_report.lines)) (sym work_of_b) (along_parts (P (codes "b")) items_of_b told_b of_b))
 
 pub down_late_is_lawful : (rows : Rows) → Lawful (from_log nothing_then_insert 2 rows) down_late_report
 down_late_is_lawful rows = record {

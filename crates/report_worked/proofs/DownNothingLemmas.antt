@@ -8,7 +8,7 @@ use Rattle.report_laws.specs.History.{nothing_before, alone_on, rows_at, view_of
 use Rattle.report_laws.specs.Lawful.{Lawful}
 use Rattle.report_laws.specs.Play.{GoDownAtChanges, HasChanges, InPlayOrder, IsDownLine}
 use Rattle.report_laws.specs.Told.{told, Along, IsTold}
-use Rattle.report_laws.specs.Work.{Transaction, Item, Does, transaction, ByCommit, work}
+use Rattle.report_laws.specs.Work.{Transaction, WorkItem, Does, transaction, ByCommit, work}
 use Rattle.report_laws.proofs.LineLaws.{fresh_begin}
 use Rattle.report_text.specs.declared.reports.Line.{Line}
 use Rattle.report_text.specs.declared.reports.Line.TheVariants as line
@@ -29,11 +29,11 @@ work_of_a = refl
 abbrev told_a : List (List Reply)
 told_a = (reply.Begin 1 ∷ reply.Lost 1 1 ∷ []) ∷ []
 
-along_nothing : (P : List ℕ → Item → List Reply → Type 0) → EachPart (P (codes "a")) (Does nothing_at_all ∷ []) told_a → (name : List ℕ) → Along (P name) (work small_language name nothing_done.body) (told name down_at_nothing.lines)
+along_nothing : (P : List ℕ → WorkItem → List Reply → Type 0) → EachPart (P (codes "a")) (Does nothing_at_all ∷ []) told_a → (name : List ℕ) → Along (P name) (work small_language name nothing_done.body) (told name down_at_nothing.lines)
 along_nothing P is =
     along_each P nothing_done.body down_at_nothing.lines
     (inl refl, (inl refl, tt)) (inl refl, (tt, (inl refl, tt)))
-    (subst (λ (items : List Item). Along (P (codes "a")) items (told (codes "a") down_at_nothing.lines)) (sym work_of_a) (along_parts (P (codes "a")) (Does nothing_at_all ∷ []) told_a is))
+    (subst (λ (items : List WorkItem). Along (P (codes "a")) items (told (codes "a") down_at_nothing.lines)) (sym work_of_a) (along_parts (P (codes "a")) (Does nothing_at_all ∷ []) told_a is))
     refl
 
 pub down_at_nothing_is_lawful : Lawful (from_nothing nothing_done) down_at_nothing

@@ -5,7 +5,7 @@ use Rattle.cdb_values.specs.declared.rows.Level.TheVariants.{Snapshot}
 use Rattle.report_laws.specs.History.{IsEntryAfter, rows_at}
 use Rattle.report_laws.specs.Work.{Transaction, transaction, WithItsLine}
 use Rattle.report_text.specs.declared.reports.EntryLine.TheVariants.{Setup}
-use Rattle.script_form.specs.CanRun.{tables_of}
+use Rattle.script_form.specs.CanRun.{script_tables}
 use Rattle.session_language.specs.Each.{EachAfter}
 use Rattle.report_laws.proofs.HistoryLaws.{none_stands}
 use Rattle.report_worked.specs.Worked.{two_inserts, two_inserts_with, insert_text, of_a}
@@ -17,19 +17,19 @@ first_one = transaction 1 (insert_text ∷ []) Snapshot WithItsLine
 abbrev second_one : Transaction
 second_one = transaction 2 (codes "insert into t values(2, 20)" ∷ []) Snapshot WithItsLine
 
-good_at_2 : IsGood (tables_of two_inserts) (rows_at (from_nothing two_inserts) (two_inserts_with 2) 2).tables
+good_at_2 : IsGood (script_tables two_inserts) (rows_at (from_nothing two_inserts) (two_inserts_with 2) 2).tables
 good_at_2 = record {
   rows_fit = ((record { columns = (refl, (refl, tt)); size = omega arith; keys = (omega arith, tt) }, tt), tt);
   keys_kept = refl;
 }
 
-good_at_3 : IsGood (tables_of two_inserts) (rows_at (from_nothing two_inserts) (two_inserts_with 2) 3).tables
+good_at_3 : IsGood (script_tables two_inserts) (rows_at (from_nothing two_inserts) (two_inserts_with 2) 3).tables
 good_at_3 = record {
   rows_fit = ((record { columns = (refl, (refl, tt)); size = omega arith; keys = (omega arith, tt) }, (record { columns = (refl, (refl, tt)); size = omega arith; keys = (omega arith, tt) }, tt)), tt);
   keys_kept = refl;
 }
 
-good_earlier : IsGood (tables_of two_inserts) (rows_at (from_nothing two_inserts) (two_inserts_with 1) 3).tables
+good_earlier : IsGood (script_tables two_inserts) (rows_at (from_nothing two_inserts) (two_inserts_with 1) 3).tables
 good_earlier = record {
   rows_fit = ((record { columns = (refl, (refl, tt)); size = omega arith; keys = (omega arith, tt) }, (record { columns = (refl, (refl, tt)); size = omega arith; keys = (omega arith, tt) }, tt)), tt);
   keys_kept = refl;

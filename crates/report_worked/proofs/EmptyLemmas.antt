@@ -6,7 +6,7 @@ use Rattle.report_laws.specs.History.{view_of}
 use Rattle.report_laws.specs.Lawful.{Lawful}
 use Rattle.report_laws.specs.Play.{InPlayOrder, InTurns, opened_behind}
 use Rattle.report_laws.specs.Told.{Along, IsTold}
-use Rattle.report_laws.specs.Work.{Item, work}
+use Rattle.report_laws.specs.Work.{WorkItem, work}
 use Rattle.report_laws.proofs.DownLaws.{none_go_down}
 use Rattle.report_worked.specs.Worked.{empty_report, report_with}
 use Rattle.report_text.specs.declared.reports.EntryLine.{EntryLine}
@@ -16,7 +16,7 @@ use Rattle.report_laws.proofs.LawLemmas.{schema_unhurt}
 use Rattle.report_laws.proofs.NodesLaws.{none_few}
 use Rattle.report_worked.specs.Small.{from_nothing, small_language}
 
-pub along_none : (P : Item → List Reply → Type 0) (name : List ℕ) (body : List BodyLine) → body ≡ [] → Along P (work small_language name body) []
+pub along_none : (P : WorkItem → List Reply → Type 0) (name : List ℕ) (body : List BodyLine) → body ≡ [] → Along P (work small_language name body) []
 along_none P name body is = subst (λ (b : List BodyLine). Along P (work small_language name b) []) (sym is) refl
 
 pub empty_is_lawful : (script : Script) → script.body ≡ [] → Lawful (from_nothing script) empty_report

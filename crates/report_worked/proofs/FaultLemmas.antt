@@ -9,7 +9,7 @@ use Rattle.report_laws.specs.Play.{InPlayOrder, IsSaid, IsTurn, is_own_by, loss_
 use Rattle.script_form.specs.declared.scripts.Script.{Script}
 use Rattle.session_language.specs.Language.{Kind}
 use Rattle.report_laws.specs.Told.{told, Along, IsTold, lines_of}
-use Rattle.report_laws.specs.Work.{Transaction, Item, Does, transaction, ByCommit, WithItsLine, work}
+use Rattle.report_laws.specs.Work.{Transaction, WorkItem, Does, transaction, ByCommit, WithItsLine, work}
 use Rattle.report_text.specs.declared.reports.EntryLine.{EntryLine}
 use Rattle.report_text.specs.declared.reports.EntryLine.TheVariants.{Setup}
 use Rattle.report_text.specs.declared.reports.Line.{Line}
@@ -32,11 +32,11 @@ lost_says_its_lines = refl
 abbrev lost_of_a : List (List Reply)
 lost_of_a = (reply.Begin 1 ∷ reply.Changed 1 ∷ reply.Lost 1 1 ∷ []) ∷ (reply.NoMajority 0 1 ∷ []) ∷ []
 
-along_lost : (P : List ℕ → Item → List Reply → Type 0) → EachPart (P (codes "a")) items_of_a lost_of_a → (name : List ℕ) → Along (P name) (work small_language name insert_select.body) (told name lost_insert_report.lines)
+along_lost : (P : List ℕ → WorkItem → List Reply → Type 0) → EachPart (P (codes "a")) items_of_a lost_of_a → (name : List ℕ) → Along (P name) (work small_language name insert_select.body) (told name lost_insert_report.lines)
 along_lost P is =
     along_each P insert_select.body lost_insert_report.lines
     (inl refl, (inl refl, tt)) (inl refl, (inl refl, (tt, (inl refl, (inl refl, tt)))))
-    (subst (λ (items : List Item). Along (P (codes "a")) items (told (codes "a") lost_insert_report.lines)) (sym work_of_a) (along_parts (P (codes "a")) items_of_a lost_of_a is))
+    (subst (λ (items : List WorkItem). Along (P (codes "a")) items (told (codes "a") lost_insert_report.lines)) (sym work_of_a) (along_parts (P (codes "a")) items_of_a lost_of_a is))
     refl
 
 pub lost_insert_is_lawful : Lawful (from_nothing insert_select) lost_insert_report
@@ -109,10 +109,10 @@ opened_insert = transaction 1 (insert_text ∷ []) Snapshot ByCommit
 abbrev then_select : Transaction
 then_select = transaction 2 (select_text ∷ []) Snapshot WithItsLine
 
-abbrev pub open_items_of_a : List Item
+abbrev pub open_items_of_a : List WorkItem
 open_items_of_a = Does opened_insert ∷ Does then_select ∷ []
 
-abbrev pub open_items_of_b : List Item
+abbrev pub open_items_of_b : List WorkItem
 open_items_of_b = Does (transaction 1 (codes "insert into t values(2, 20)" ∷ []) Snapshot WithItsLine) ∷ []
 
 pub open_work_of_a : work small_language (codes "a") open_insert.body ≡ open_items_of_a
@@ -124,13 +124,13 @@ open_work_of_b = refl
 abbrev open_of_b : List (List Reply)
 open_of_b = (reply.Begin 1 ∷ reply.Changed 1 ∷ reply.Lost 1 1 ∷ []) ∷ []
 
-along_open : (P : List ℕ → Item → List Reply → Type 0) → EachPart (P (codes "a")) open_items_of_a lost_of_a → EachPart (P (codes "b")) open_items_of_b open_of_b →
+along_open : (P : List ℕ → WorkItem → List Reply → Type 0) → EachPart (P (codes "a")) open_items_of_a lost_of_a → EachPart (P (codes "b")) open_items_of_b open_of_b →
     (name : List ℕ) → Along (P name) (work small_language name open_insert.body) (told name open_insert_report.lines)
 along_open P of_a of_b =
     along_each P open_insert.body open_insert_report.lines
     (inl refl, (inl refl, (inr refl, (inl refl, (inl refl, tt))))) (inl refl, (inl refl, (inr refl, (inr refl, (tt, (inr refl, (inl refl, (inl refl, tt))))))))
-    (subst (λ (items : List Item). Along (P (codes "a")) items (told (codes "a") open_insert_report.lines)) (sym open_work_of_a) (along_parts (P (codes "a")) open_items_of_a lost_of_a of_a))
-    (subst (λ (items : List Item). Along (P (codes "b")) items (told (codes "b") open_insert_report.lines)) (sym open_work_of_b) (along_parts (P (codes "b")) open_items_of_b open_of_b of_b))
+    (subst (λ (items : List WorkItem). Along (P (codes "a")) items (told (codes "a") open_insert_report.lines)) (sym open_work_of_a) (along_parts (P (codes "a")) open_items_of_a lost_of_a of_a))
+    (subst (λ (items : List WorkItem). Along (P (codes "b")) items (told (codes "b") open_insert_report.lines)) (sym open_work_of_b) (along_parts (P (codes "b")) open_items_of_b open_of_b of_b))
 
 pub open_insert_is_lawful : Lawful (from_nothing open_insert) open_insert_report
 open_insert_is_lawful = record {
@@ -244,7 +244,7 @@ open_insert_is_in_order = record {
 }
 
 -- a node that goes down at the opening
-along_none : (P : Item → List Reply → Type 0) (name : List ℕ) → Along P (work small_language name nothing_said.body) (told name (line.Down 1 1 true ∷ []))
+along_none : (P : WorkItem → List Reply → Type 0) (name : List ℕ) → Along P (work small_language name nothing_said.body) (told name (line.Down 1 1 true ∷ []))
 along_none P name = refl
 
 pub down_at_first_is_lawful : Lawful (from_nothing nothing_said) down_at_first_report

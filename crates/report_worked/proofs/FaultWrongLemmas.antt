@@ -8,7 +8,7 @@ use Rattle.report_laws.specs.Nodes.{downs}
 use Rattle.report_laws.specs.Places.{IsLost}
 use Rattle.report_laws.specs.Play.{InPlayOrder, opened_behind}
 use Rattle.report_laws.specs.Told.{told, Along, IsTold, Numbered}
-use Rattle.report_laws.specs.Work.{Item, work}
+use Rattle.report_laws.specs.Work.{WorkItem, work}
 use Rattle.report_text.specs.declared.reports.EntryLine.{EntryLine}
 use Rattle.report_text.specs.declared.reports.EntryLine.TheVariants.{Setup}
 use Rattle.report_text.specs.declared.reports.Line.{Line}
@@ -101,11 +101,11 @@ opened_while_down_is_not_in_order order = no_entry_left order.first order.rest o
 abbrev behind_of_a : List (List Reply)
 behind_of_a = (reply.Begin 1 ∷ reply.Changed 1 ∷ reply.Lost 1 1 ∷ []) ∷ (reply.Begin 1 ∷ reply.Done 0 ∷ reply.Committed 1 ∷ []) ∷ []
 
-along_behind : (P : List ℕ → Item → List Reply → Type 0) → EachPart (P (codes "a")) items_of_a behind_of_a → (name : List ℕ) → Along (P name) (work small_language name insert_select.body) (told name begun_behind.lines)
+along_behind : (P : List ℕ → WorkItem → List Reply → Type 0) → EachPart (P (codes "a")) items_of_a behind_of_a → (name : List ℕ) → Along (P name) (work small_language name insert_select.body) (told name begun_behind.lines)
 along_behind P is =
     along_each P insert_select.body begun_behind.lines
     (inl refl, (inl refl, tt)) (inl refl, (inl refl, (tt, (inl refl, (inl refl, (inl refl, (inl refl, tt)))))))
-    (subst (λ (items : List Item). Along (P (codes "a")) items (told (codes "a") begun_behind.lines)) (sym work_of_a) (along_parts (P (codes "a")) items_of_a behind_of_a is))
+    (subst (λ (items : List WorkItem). Along (P (codes "a")) items (told (codes "a") begun_behind.lines)) (sym work_of_a) (along_parts (P (codes "a")) items_of_a behind_of_a is))
     refl
 
 pub begun_behind_is_lawful : Lawful (from_nothing insert_select) begun_behind

@@ -9,8 +9,8 @@ use Rattle.report_laws.specs.Lawful.{Lawful}
 use Rattle.report_laws.specs.Play.{InPlayOrder}
 use Rattle.report_text.specs.declared.reports.EntryLine.TheVariants.{Setup}
 use Rattle.report_laws.specs.Told.{told, Along, IsTold}
-use Rattle.report_laws.specs.Work.{Transaction, Item, Does, transaction, WithItsLine, work}
-use Rattle.script_form.specs.CanRun.{tables_of}
+use Rattle.report_laws.specs.Work.{Transaction, WorkItem, Does, transaction, WithItsLine, work}
+use Rattle.script_form.specs.CanRun.{script_tables}
 use Rattle.report_laws.proofs.DownLaws.{none_go_down}
 use Rattle.report_worked.specs.Worked.{worked_table, insert_select, insert_select_report, insert_select_text, insert_text, select_text, inserted_entries, row, of_a}
 use Rattle.cdb_values.specs.declared.replies.Reply.{Reply}
@@ -32,14 +32,14 @@ inserting = transaction 1 (insert_text ∷ []) Snapshot WithItsLine
 abbrev pub selecting : Transaction
 selecting = transaction 2 (select_text ∷ []) Snapshot WithItsLine
 
-abbrev pub items_of_a : List Item
+abbrev pub items_of_a : List WorkItem
 items_of_a = Does inserting ∷ Does selecting ∷ []
 
 pub work_of_a : work small_language (codes "a") insert_select.body ≡ items_of_a
 work_of_a = refl
 
 -- the rows at the entry of the insert are good
-pub good_insert : IsGood (tables_of insert_select) (rows_at (from_nothing insert_select) inserted_entries 2).tables
+pub good_insert : IsGood (script_tables insert_select) (rows_at (from_nothing insert_select) inserted_entries 2).tables
 good_insert = record {
   rows_fit = ((record { columns = (refl, (refl, tt)); size = omega arith; keys = (omega arith, tt) }, tt), tt);
   keys_kept = refl;
@@ -50,12 +50,12 @@ abbrev pub replies_of_a : List (List Reply)
 replies_of_a = (reply.Begin 1 ∷ reply.Changed 1 ∷ reply.Committed 2 ∷ []) ∷ (reply.Begin 2 ∷ row 1 10 ∷ reply.Done 1 ∷ reply.Committed 2 ∷ []) ∷ []
 
 -- the laws along each session's work hold where they hold of these
-along_its_work : (P : List ℕ → Item → List Reply → Type 0) → EachPart (P (codes "a")) items_of_a replies_of_a →
+along_its_work : (P : List ℕ → WorkItem → List Reply → Type 0) → EachPart (P (codes "a")) items_of_a replies_of_a →
     (name : List ℕ) → Along (P name) (work small_language name insert_select.body) (told name insert_select_report.lines)
 along_its_work P is =
     along_each P insert_select.body insert_select_report.lines
     (inl refl, (inl refl, tt)) (inl refl, (inl refl, (inl refl, (inl refl, (inl refl, (inl refl, (inl refl, tt)))))))
-    (subst (λ (items : List Item). Along (P (codes "a")) items (told (codes "a") insert_select_report.lines)) (sym work_of_a) (along_parts (P (codes "a")) items_of_a replies_of_a is))
+    (subst (λ (items : List WorkItem). Along (P (codes "a")) items (told (codes "a") insert_select_report.lines)) (sym work_of_a) (along_parts (P (codes "a")) items_of_a replies_of_a is))
     refl
 
 pub insert_select_is_lawful : Lawful (from_nothing insert_select) insert_select_report

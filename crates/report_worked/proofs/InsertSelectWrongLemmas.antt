@@ -4,7 +4,7 @@ use Rattle.std.specs.List.{AllByRecursion}
 use Rattle.report_laws.specs.Lawful.{Lawful, IsFresh, NameUpTo, positions}
 use Rattle.report_laws.specs.Play.{InPlayOrder}
 use Rattle.report_laws.specs.Told.{told, Along, IsTold, alone_at}
-use Rattle.report_laws.specs.Work.{Item, Does, work}
+use Rattle.report_laws.specs.Work.{WorkItem, Does, work}
 use Rattle.report_worked.specs.Worked.{insert_select, insert_select_report, worked_table, two_selects, report_with, inserted_lines, inserted_entries, row, to_a, of_a}
 use Rattle.report_worked.specs.WorkedWrong.{IsRefusedBy, RepliesAreRight, BeginsAreFresh, HistoryIsRight, LinesHavePlaces, wrong_value, missing_row, out_of_order, early_row, late, wrong_position, entry_twice, node_line, lost_line, begin_too_old}
 use Rattle.report_text.specs.declared.reports.Line.{Line}
@@ -27,7 +27,7 @@ use Rattle.report_laws.proofs.AlongLaws.{AllOther, along_its, of_number}
 use Rattle.report_worked.proofs.SmallLaws.{statements_answer}
 
 -- what a transaction was told, where the law on replies holds: the replies at its begin, and a right outcome
-its_told : (t : Transaction) (before after : List Item) (lines : List Line) (begin : ℕ) (back front : List Reply) (outcome : Reply) → before ++ Does t ∷ after ≡ items_of_a → AllOther t.number before → AllOther t.number after →
+its_told : (t : Transaction) (before after : List WorkItem) (lines : List Line) (begin : ℕ) (back front : List Reply) (outcome : Reply) → before ++ Does t ∷ after ≡ items_of_a → AllOther t.number before → AllOther t.number after →
     of_number t.number (told (codes "a") lines) ≡ reply.Begin begin ∷ back →
     reply.Begin begin ∷ back ≡ front ++ outcome ∷ [] → cuts outcome ≡ false → RepliesAreRight insert_select (report_with lines inserted_entries) →
     ToldAt (from_nothing insert_select) inserted_entries (codes "a") t begin back
@@ -35,7 +35,7 @@ its_told t before after lines begin back front outcome among none all is ends un
     told_at (from_nothing insert_select) inserted_entries (codes "a") t begin back front outcome ends uncut
     (subst (λ (mine : List Reply). IsTold (from_nothing insert_select) (view_of (from_nothing insert_select) inserted_entries) (codes "a") (Does t) mine) is
     (along_its (IsTold (from_nothing insert_select) (view_of (from_nothing insert_select) inserted_entries) (codes "a")) before after (Does t) (told (codes "a") lines) none all
-    (subst (λ (items : List Item). Along (IsTold (from_nothing insert_select) (view_of (from_nothing insert_select) inserted_entries) (codes "a")) items (told (codes "a") lines)) (work_of_a ∙ sym among) (law (codes "a")))))
+    (subst (λ (items : List WorkItem). Along (IsTold (from_nothing insert_select) (view_of (from_nothing insert_select) inserted_entries) (codes "a")) items (told (codes "a") lines)) (work_of_a ∙ sym among) (law (codes "a")))))
 
 pub select_told : (lines : List Line) (begin : ℕ) (back front : List Reply) (outcome : Reply) → of_number 2 (told (codes "a") lines) ≡ reply.Begin begin ∷ back →
     reply.Begin begin ∷ back ≡ front ++ outcome ∷ [] → cuts outcome ≡ false → RepliesAreRight insert_select (report_with lines inserted_entries) →
@@ -141,11 +141,11 @@ all_before {A} P (x ∷ xs) (f ∷ front) back y mark is all =
 abbrev late_replies : List (List Reply)
 late_replies = (reply.Begin 1 ∷ reply.Changed 1 ∷ reply.Committed 2 ∷ []) ∷ (reply.Begin 1 ∷ reply.Done 0 ∷ reply.Committed 1 ∷ []) ∷ []
 
-along_late : (P : List ℕ → Item → List Reply → Type 0) → EachPart (P (codes "a")) items_of_a late_replies → (name : List ℕ) → Along (P name) (work small_language name insert_select.body) (told name late.lines)
+along_late : (P : List ℕ → WorkItem → List Reply → Type 0) → EachPart (P (codes "a")) items_of_a late_replies → (name : List ℕ) → Along (P name) (work small_language name insert_select.body) (told name late.lines)
 along_late P is =
     along_each P insert_select.body late.lines
     (inl refl, (inl refl, tt)) (inl refl, (inl refl, (inl refl, (inl refl, (inl refl, (inl refl, tt))))))
-    (subst (λ (items : List Item). Along (P (codes "a")) items (told (codes "a") late.lines)) (sym work_of_a) (along_parts (P (codes "a")) items_of_a late_replies is))
+    (subst (λ (items : List WorkItem). Along (P (codes "a")) items (told (codes "a") late.lines)) (sym work_of_a) (along_parts (P (codes "a")) items_of_a late_replies is))
     refl
 
 -- a begin that does not reach the position that the session's own last line named is lawful

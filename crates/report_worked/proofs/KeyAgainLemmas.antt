@@ -7,8 +7,8 @@ use Rattle.report_laws.specs.Lawful.{Lawful}
 use Rattle.report_laws.specs.Play.{InPlayOrder}
 use Rattle.report_text.specs.declared.reports.EntryLine.TheVariants.{Setup}
 use Rattle.report_laws.specs.Told.{told, Along, IsTold}
-use Rattle.report_laws.specs.Work.{Transaction, Item, Does, transaction, ByCommit, WithItsLine, work}
-use Rattle.script_form.specs.CanRun.{tables_of}
+use Rattle.report_laws.specs.Work.{Transaction, WorkItem, Does, transaction, ByCommit, WithItsLine, work}
+use Rattle.script_form.specs.CanRun.{script_tables}
 use Rattle.report_laws.proofs.DownLaws.{none_go_down}
 use Rattle.report_worked.specs.Worked.{worked_table, key_again, key_again_report, of_a, of_b}
 use Rattle.cdb_values.specs.declared.replies.Reply.{Reply}
@@ -28,7 +28,7 @@ taking_again = transaction 2 ((codes "delete from t where id = 1") ∷ (codes "i
 abbrev pub second_insert : Transaction
 second_insert = transaction 1 ((codes "insert into t values(1, 2)") ∷ []) Snapshot WithItsLine
 
-abbrev pub items_of_a : List Item
+abbrev pub items_of_a : List WorkItem
 items_of_a = Does first_insert ∷ Does taking_again ∷ []
 
 pub work_of_a : work small_language (codes "a") key_again.body ≡ items_of_a
@@ -38,7 +38,7 @@ work_of_a = refl
 abbrev pub replies_of_a : List (List Reply)
 replies_of_a = ((reply.Begin 1) ∷ (reply.Changed 1) ∷ (reply.Duplicate 2 (codes "t") (codes "pk")) ∷ []) ∷ ((reply.Begin 2) ∷ (reply.Changed 1) ∷ (reply.Changed 1) ∷ (reply.Committed 3) ∷ []) ∷ []
 
-abbrev pub items_of_b : List Item
+abbrev pub items_of_b : List WorkItem
 items_of_b = Does second_insert ∷ []
 
 pub work_of_b : work small_language (codes "b") key_again.body ≡ items_of_b
@@ -49,23 +49,23 @@ abbrev pub replies_of_b : List (List Reply)
 replies_of_b = ((reply.Begin 1) ∷ (reply.Changed 1) ∷ (reply.Committed 2) ∷ []) ∷ []
 
 -- the laws along each session's work hold where they hold of these
-along_their_work : (P : List ℕ → Item → List Reply → Type 0) → EachPart (P (codes "a")) items_of_a replies_of_a → EachPart (P (codes "b")) items_of_b replies_of_b →
+along_their_work : (P : List ℕ → WorkItem → List Reply → Type 0) → EachPart (P (codes "a")) items_of_a replies_of_a → EachPart (P (codes "b")) items_of_b replies_of_b →
     (name : List ℕ) → Along (P name) (work small_language name key_again.body) (told name key_again_report.lines)
 along_their_work P of_a of_b =
     along_each P key_again.body key_again_report.lines
     (inl refl, (inl refl, (inr refl, (inl refl, (inl refl, (inl refl, (inl refl, (inl refl, tt))))))))
     (inl refl, (inl refl, (inr refl, (inr refl, (inr refl, (inl refl, (inl refl, (inl refl, (inl refl, (inl refl, tt))))))))))
-    (subst (λ (items : List Item). Along (P (codes "a")) items (told (codes "a") key_again_report.lines)) (sym work_of_a) (along_parts (P (codes "a")) items_of_a replies_of_a of_a))
-    (subst (λ (items : List Item). Along (P (codes "b")) items (told (codes "b") key_again_report.lines)) (sym work_of_b) (along_parts (P (codes "b")) items_of_b replies_of_b of_b))
+    (subst (λ (items : List WorkItem). Along (P (codes "a")) items (told (codes "a") key_again_report.lines)) (sym work_of_a) (along_parts (P (codes "a")) items_of_a replies_of_a of_a))
+    (subst (λ (items : List WorkItem). Along (P (codes "b")) items (told (codes "b") key_again_report.lines)) (sym work_of_b) (along_parts (P (codes "b")) items_of_b replies_of_b of_b))
 
 -- the rows at the entries are good
-pub good_at_2 : IsGood (tables_of key_again) (rows_at (from_nothing key_again) key_again_report.entries 2).tables
+pub good_at_2 : IsGood (script_tables key_again) (rows_at (from_nothing key_again) key_again_report.entries 2).tables
 good_at_2 = record {
   rows_fit = ((record { columns = (refl, (refl, tt)); size = omega arith; keys = (omega arith, tt) }, tt), tt);
   keys_kept = refl;
 }
 
-pub good_at_3 : IsGood (tables_of key_again) (rows_at (from_nothing key_again) key_again_report.entries 3).tables
+pub good_at_3 : IsGood (script_tables key_again) (rows_at (from_nothing key_again) key_again_report.entries 3).tables
 good_at_3 = record {
   rows_fit = ((record { columns = (refl, (refl, tt)); size = omega arith; keys = (omega arith, tt) }, tt), tt);
   keys_kept = refl;

@@ -7,8 +7,8 @@ use Rattle.report_laws.specs.Lawful.{Lawful}
 use Rattle.report_laws.specs.Play.{InPlayOrder}
 use Rattle.report_text.specs.declared.reports.EntryLine.TheVariants.{Setup}
 use Rattle.report_laws.specs.Told.{told, Along, IsTold}
-use Rattle.report_laws.specs.Work.{Transaction, Item, Does, transaction, ByCommit, WithItsLine, work}
-use Rattle.script_form.specs.CanRun.{tables_of}
+use Rattle.report_laws.specs.Work.{Transaction, WorkItem, Does, transaction, ByCommit, WithItsLine, work}
+use Rattle.script_form.specs.CanRun.{script_tables}
 use Rattle.report_laws.proofs.DownLaws.{none_go_down}
 use Rattle.report_worked.specs.Worked.{worked_table, own_writes, own_writes_report, inserted_entries, insert_text, select_text, row, of_a}
 use Rattle.cdb_values.specs.declared.replies.Reply.{Reply}
@@ -25,7 +25,7 @@ inserting = transaction 1 (insert_text ∷ []) Snapshot WithItsLine
 abbrev pub reading_its_own : Transaction
 reading_its_own = transaction 2 ((codes "insert into t values(2, 20)") ∷ (codes "update t set v = 21 where id = 2") ∷ select_text ∷ (codes "delete from t where id = 2") ∷ select_text ∷ []) Snapshot ByCommit
 
-abbrev pub items_of_a : List Item
+abbrev pub items_of_a : List WorkItem
 items_of_a = Does inserting ∷ Does reading_its_own ∷ []
 
 pub work_of_a : work small_language (codes "a") own_writes.body ≡ items_of_a
@@ -36,17 +36,17 @@ abbrev pub replies_of_a : List (List Reply)
 replies_of_a = ((reply.Begin 1) ∷ (reply.Changed 1) ∷ (reply.Committed 2) ∷ []) ∷ ((reply.Begin 2) ∷ (reply.Changed 1) ∷ (reply.Changed 1) ∷ (row 1 10) ∷ (row 2 21) ∷ (reply.Done 2) ∷ (reply.Changed 1) ∷ (row 1 10) ∷ (reply.Done 1) ∷ (reply.Committed 2) ∷ []) ∷ []
 
 -- the laws along each session's work hold where they hold of these
-along_their_work : (P : List ℕ → Item → List Reply → Type 0) → EachPart (P (codes "a")) items_of_a replies_of_a →
+along_their_work : (P : List ℕ → WorkItem → List Reply → Type 0) → EachPart (P (codes "a")) items_of_a replies_of_a →
     (name : List ℕ) → Along (P name) (work small_language name own_writes.body) (told name own_writes_report.lines)
 along_their_work P of_a =
     along_each P own_writes.body own_writes_report.lines
     (inl refl, (inl refl, (inl refl, (inl refl, (inl refl, (inl refl, (inl refl, (inl refl, tt))))))))
     (inl refl, (inl refl, (inl refl, (inl refl, (inl refl, (inl refl, (inl refl, (inl refl, (inl refl, (inl refl, (inl refl, (inl refl, (inl refl, tt)))))))))))))
-    (subst (λ (items : List Item). Along (P (codes "a")) items (told (codes "a") own_writes_report.lines)) (sym work_of_a) (along_parts (P (codes "a")) items_of_a replies_of_a of_a))
+    (subst (λ (items : List WorkItem). Along (P (codes "a")) items (told (codes "a") own_writes_report.lines)) (sym work_of_a) (along_parts (P (codes "a")) items_of_a replies_of_a of_a))
     refl
 
 -- the rows at the entries are good
-pub good_at_2 : IsGood (tables_of own_writes) (rows_at (from_nothing own_writes) inserted_entries 2).tables
+pub good_at_2 : IsGood (script_tables own_writes) (rows_at (from_nothing own_writes) inserted_entries 2).tables
 good_at_2 = record {
   rows_fit = ((record { columns = (refl, (refl, tt)); size = omega arith; keys = (omega arith, tt) }, tt), tt);
   keys_kept = refl;

@@ -9,8 +9,8 @@ use Rattle.report_laws.specs.Play.{InPlayOrder}
 use Rattle.report_laws.proofs.OneLaws.{one_report}
 use Rattle.report_worked.specs.WorkedWrong.{serial}
 use Rattle.report_laws.specs.Told.{told, Along, IsTold}
-use Rattle.report_laws.specs.Work.{Item, work}
-use Rattle.script_form.specs.CanRun.{tables_of}
+use Rattle.report_laws.specs.Work.{WorkItem, work}
+use Rattle.script_form.specs.CanRun.{script_tables}
 use Rattle.report_worked.specs.Worked.{two_updates, two_updates_report, two_updates_entries, worked_table, of_b}
 use Rattle.report_text.specs.declared.reports.Report.{Report}
 use Rattle.cdb_values.specs.declared.replies.Reply.{Reply}
@@ -28,28 +28,28 @@ serial_of_a = ((reply.Begin 1) ∷ (reply.Changed 1) ∷ (reply.Committed 2) ∷
 abbrev pub serial_of_b : List (List Reply)
 serial_of_b = ((reply.Begin 3) ∷ (reply.Changed 1) ∷ (reply.Committed 4) ∷ []) ∷ []
 
-along_serial : (P : List ℕ → Item → List Reply → Type 0) → EachPart (P (codes "a")) items_of_a serial_of_a → EachPart (P (codes "b")) items_of_b serial_of_b →
+along_serial : (P : List ℕ → WorkItem → List Reply → Type 0) → EachPart (P (codes "a")) items_of_a serial_of_a → EachPart (P (codes "b")) items_of_b serial_of_b →
     (name : List ℕ) → Along (P name) (work small_language name two_updates.body) (told name serial.lines)
 along_serial P of_a of_b =
     along_each P two_updates.body serial.lines
     (inl refl, (inl refl, (inr refl, (inl refl, (inr refl, (inl refl, (inr refl, tt)))))))
     (inl refl, (inl refl, (inl refl, (inl refl, (inl refl, (inl refl, (inr refl, (inr refl, (inr refl, tt)))))))))
-    (subst (λ (items : List Item). Along (P (codes "a")) items (told (codes "a") serial.lines)) (sym work_of_a) (along_parts (P (codes "a")) items_of_a serial_of_a of_a))
-    (subst (λ (items : List Item). Along (P (codes "b")) items (told (codes "b") serial.lines)) (sym work_of_b) (along_parts (P (codes "b")) items_of_b serial_of_b of_b))
+    (subst (λ (items : List WorkItem). Along (P (codes "a")) items (told (codes "a") serial.lines)) (sym work_of_a) (along_parts (P (codes "a")) items_of_a serial_of_a of_a))
+    (subst (λ (items : List WorkItem). Along (P (codes "b")) items (told (codes "b") serial.lines)) (sym work_of_b) (along_parts (P (codes "b")) items_of_b serial_of_b of_b))
 
-pub serial_at_2 : IsGood (tables_of two_updates) (rows_at (from_nothing two_updates) serial.entries 2).tables
+pub serial_at_2 : IsGood (script_tables two_updates) (rows_at (from_nothing two_updates) serial.entries 2).tables
 serial_at_2 = record {
   rows_fit = ((record { columns = (refl, (refl, tt)); size = omega arith; keys = (omega arith, tt) }, tt), tt);
   keys_kept = refl;
 }
 
-pub serial_at_3 : IsGood (tables_of two_updates) (rows_at (from_nothing two_updates) serial.entries 3).tables
+pub serial_at_3 : IsGood (script_tables two_updates) (rows_at (from_nothing two_updates) serial.entries 3).tables
 serial_at_3 = record {
   rows_fit = ((record { columns = (refl, (refl, tt)); size = omega arith; keys = (omega arith, tt) }, tt), tt);
   keys_kept = refl;
 }
 
-pub serial_at_4 : IsGood (tables_of two_updates) (rows_at (from_nothing two_updates) serial.entries 4).tables
+pub serial_at_4 : IsGood (script_tables two_updates) (rows_at (from_nothing two_updates) serial.entries 4).tables
 serial_at_4 = record {
   rows_fit = ((record { columns = (refl, (refl, tt)); size = omega arith; keys = (omega arith, tt) }, tt), tt);
   keys_kept = refl;

@@ -7,8 +7,8 @@ use Rattle.report_laws.specs.Lawful.{Lawful}
 use Rattle.report_laws.specs.Play.{InPlayOrder}
 use Rattle.report_laws.specs.Told.{told, alone_at, Along, IsTold}
 use Rattle.report_laws.specs.View.{touched_in}
-use Rattle.report_laws.specs.Work.{Transaction, Item, Does, Lone, transaction, ByCommit, WithItsLine, work}
-use Rattle.script_form.specs.CanRun.{tables_of}
+use Rattle.report_laws.specs.Work.{Transaction, WorkItem, Does, Lone, transaction, ByCommit, WithItsLine, work}
+use Rattle.script_form.specs.CanRun.{script_tables}
 use Rattle.report_laws.proofs.DownLaws.{none_go_down}
 use Rattle.report_worked.specs.Small.{from_nothing, small_language, range_of, has_id}
 use Rattle.report_worked.specs.Worked.{worked_table, row, skew, skew_entries, skew_report, strict_skew, strict_entries, strict_skew_report, range_conflict}
@@ -36,13 +36,13 @@ skew_of_a = transaction 3 (codes "select * from t where id = 2" ∷ codes "updat
 abbrev pub skew_of_b : Transaction
 skew_of_b = transaction 1 (codes "select * from t where id = 1" ∷ codes "update t set v = 21 where id = 2" ∷ []) Snapshot ByCommit
 
-abbrev pub items_of_a : List Item
+abbrev pub items_of_a : List WorkItem
 items_of_a = Does inserting ∷ Does inserting_second ∷ Does skew_of_a ∷ []
 
 pub work_of_a : work small_language (codes "a") skew.body ≡ items_of_a
 work_of_a = refl
 
-abbrev pub items_of_b : List Item
+abbrev pub items_of_b : List WorkItem
 items_of_b = Does skew_of_b ∷ []
 
 pub work_of_b : work small_language (codes "b") skew.body ≡ items_of_b
@@ -55,34 +55,34 @@ replies_of_a = ((reply.Begin 1) ∷ (reply.Changed 1) ∷ (reply.Committed 2) �
 abbrev pub replies_of_b : List (List Reply)
 replies_of_b = ((reply.Begin 3) ∷ (row 1 10) ∷ (reply.Done 1) ∷ (reply.Changed 1) ∷ (reply.Committed 5) ∷ []) ∷ []
 
-along_skew : (P : List ℕ → Item → List Reply → Type 0) → EachPart (P (codes "a")) items_of_a replies_of_a → EachPart (P (codes "b")) items_of_b replies_of_b →
+along_skew : (P : List ℕ → WorkItem → List Reply → Type 0) → EachPart (P (codes "a")) items_of_a replies_of_a → EachPart (P (codes "b")) items_of_b replies_of_b →
     (name : List ℕ) → Along (P name) (work small_language name skew.body) (told name skew_report.lines)
 along_skew P of_a of_b =
     along_each P skew.body skew_report.lines
     (inl refl, (inl refl, (inl refl, (inr refl, (inl refl, (inr refl, (inl refl, (inr refl, (inl refl, (inr refl, tt))))))))))
     (inl refl, (inl refl, (inl refl, (inl refl, (inl refl, (inl refl, (inl refl, (inr refl, (inl refl, (inl refl, (inr refl, (inr refl, (inl refl, (inr refl, (inl refl, (inr refl, tt))))))))))))))))
-    (subst (λ (items : List Item). Along (P (codes "a")) items (told (codes "a") skew_report.lines)) (sym work_of_a) (along_parts (P (codes "a")) items_of_a replies_of_a of_a))
-    (subst (λ (items : List Item). Along (P (codes "b")) items (told (codes "b") skew_report.lines)) (sym work_of_b) (along_parts (P (codes "b")) items_of_b replies_of_b of_b))
+    (subst (λ (items : List WorkItem). Along (P (codes "a")) items (told (codes "a") skew_report.lines)) (sym work_of_a) (along_parts (P (codes "a")) items_of_a replies_of_a of_a))
+    (subst (λ (items : List WorkItem). Along (P (codes "b")) items (told (codes "b") skew_report.lines)) (sym work_of_b) (along_parts (P (codes "b")) items_of_b replies_of_b of_b))
 
-good_at_2 : IsGood (tables_of skew) (rows_at (from_nothing skew) skew_entries 2).tables
+good_at_2 : IsGood (script_tables skew) (rows_at (from_nothing skew) skew_entries 2).tables
 good_at_2 = record {
   rows_fit = ((record { columns = (refl, (refl, tt)); size = omega arith; keys = (omega arith, tt) }, tt), tt);
   keys_kept = refl;
 }
 
-good_at_3 : IsGood (tables_of skew) (rows_at (from_nothing skew) skew_entries 3).tables
+good_at_3 : IsGood (script_tables skew) (rows_at (from_nothing skew) skew_entries 3).tables
 good_at_3 = record {
   rows_fit = ((record { columns = (refl, (refl, tt)); size = omega arith; keys = (omega arith, tt) }, (record { columns = (refl, (refl, tt)); size = omega arith; keys = (omega arith, tt) }, tt)), tt);
   keys_kept = refl;
 }
 
-good_at_4 : IsGood (tables_of skew) (rows_at (from_nothing skew) skew_entries 4).tables
+good_at_4 : IsGood (script_tables skew) (rows_at (from_nothing skew) skew_entries 4).tables
 good_at_4 = record {
   rows_fit = ((record { columns = (refl, (refl, tt)); size = omega arith; keys = (omega arith, tt) }, (record { columns = (refl, (refl, tt)); size = omega arith; keys = (omega arith, tt) }, tt)), tt);
   keys_kept = refl;
 }
 
-good_at_5 : IsGood (tables_of skew) (rows_at (from_nothing skew) skew_entries 5).tables
+good_at_5 : IsGood (script_tables skew) (rows_at (from_nothing skew) skew_entries 5).tables
 good_at_5 = record {
   rows_fit = ((record { columns = (refl, (refl, tt)); size = omega arith; keys = (omega arith, tt) }, (record { columns = (refl, (refl, tt)); size = omega arith; keys = (omega arith, tt) }, tt)), tt);
   keys_kept = refl;
@@ -183,13 +183,13 @@ strict_skew_of_a = transaction 3 (codes "select * from t where id = 2" ∷ codes
 abbrev pub strict_skew_of_b : Transaction
 strict_skew_of_b = transaction 1 (codes "select * from t where id = 1" ∷ codes "update t set v = 21 where id = 2" ∷ []) Serializable ByCommit
 
-abbrev pub strict_items_of_a : List Item
+abbrev pub strict_items_of_a : List WorkItem
 strict_items_of_a = Does inserting ∷ Does inserting_second ∷ Lone (reply.Level Serializable) ∷ Does strict_skew_of_a ∷ []
 
 pub strict_work_of_a : work small_language (codes "a") strict_skew.body ≡ strict_items_of_a
 strict_work_of_a = refl
 
-abbrev pub strict_items_of_b : List Item
+abbrev pub strict_items_of_b : List WorkItem
 strict_items_of_b = Lone (reply.Level Serializable) ∷ Does strict_skew_of_b ∷ []
 
 pub strict_work_of_b : work small_language (codes "b") strict_skew.body ≡ strict_items_of_b
@@ -202,28 +202,28 @@ strict_replies_of_a = ((reply.Begin 1) ∷ (reply.Changed 1) ∷ (reply.Committe
 abbrev pub strict_replies_of_b : List (List Reply)
 strict_replies_of_b = ((reply.Level Serializable) ∷ []) ∷ ((reply.Begin 3) ∷ (row 1 10) ∷ (reply.Done 1) ∷ (reply.Changed 1) ∷ (range_conflict) ∷ []) ∷ []
 
-along_strict_skew : (P : List ℕ → Item → List Reply → Type 0) → EachPart (P (codes "a")) strict_items_of_a strict_replies_of_a → EachPart (P (codes "b")) strict_items_of_b strict_replies_of_b →
+along_strict_skew : (P : List ℕ → WorkItem → List Reply → Type 0) → EachPart (P (codes "a")) strict_items_of_a strict_replies_of_a → EachPart (P (codes "b")) strict_items_of_b strict_replies_of_b →
     (name : List ℕ) → Along (P name) (work small_language name strict_skew.body) (told name strict_skew_report.lines)
 along_strict_skew P of_a of_b =
     along_each P strict_skew.body strict_skew_report.lines
     (inl refl, (inl refl, (inl refl, (inr refl, (inl refl, (inr refl, (inl refl, (inr refl, (inl refl, (inr refl, (inl refl, (inr refl, tt))))))))))))
     (inl refl, (inl refl, (inl refl, (inl refl, (inl refl, (inl refl, (inl refl, (inr refl, (inl refl, (inr refl, (inl refl, (inl refl, (inr refl, (inr refl, (inl refl, (inr refl, (inl refl, (inr refl, tt))))))))))))))))))
-    (subst (λ (items : List Item). Along (P (codes "a")) items (told (codes "a") strict_skew_report.lines)) (sym strict_work_of_a) (along_parts (P (codes "a")) strict_items_of_a strict_replies_of_a of_a))
-    (subst (λ (items : List Item). Along (P (codes "b")) items (told (codes "b") strict_skew_report.lines)) (sym strict_work_of_b) (along_parts (P (codes "b")) strict_items_of_b strict_replies_of_b of_b))
+    (subst (λ (items : List WorkItem). Along (P (codes "a")) items (told (codes "a") strict_skew_report.lines)) (sym strict_work_of_a) (along_parts (P (codes "a")) strict_items_of_a strict_replies_of_a of_a))
+    (subst (λ (items : List WorkItem). Along (P (codes "b")) items (told (codes "b") strict_skew_report.lines)) (sym strict_work_of_b) (along_parts (P (codes "b")) strict_items_of_b strict_replies_of_b of_b))
 
-strict_good_at_2 : IsGood (tables_of strict_skew) (rows_at (from_nothing strict_skew) strict_entries 2).tables
+strict_good_at_2 : IsGood (script_tables strict_skew) (rows_at (from_nothing strict_skew) strict_entries 2).tables
 strict_good_at_2 = record {
   rows_fit = ((record { columns = (refl, (refl, tt)); size = omega arith; keys = (omega arith, tt) }, tt), tt);
   keys_kept = refl;
 }
 
-strict_good_at_3 : IsGood (tables_of strict_skew) (rows_at (from_nothing strict_skew) strict_entries 3).tables
+strict_good_at_3 : IsGood (script_tables strict_skew) (rows_at (from_nothing strict_skew) strict_entries 3).tables
 strict_good_at_3 = record {
   rows_fit = ((record { columns = (refl, (refl, tt)); size = omega arith; keys = (omega arith, tt) }, (record { columns = (refl, (refl, tt)); size = omega arith; keys = (omega arith, tt) }, tt)), tt);
   keys_kept = refl;
 }
 
-strict_good_at_4 : IsGood (tables_of strict_skew) (rows_at (from_nothing strict_skew) strict_entries 4).tables
+strict_good_at_4 : IsGood (script_tables strict_skew) (rows_at (from_nothing strict_skew) strict_entries 4).tables
 strict_good_at_4 = record {
   rows_fit = ((record { columns = (refl, (refl, tt)); size = omega arith; keys = (omega arith, tt) }, (record { columns = (refl, (refl, tt)); size = omega arith; keys = (omega arith, tt) }, tt)), tt);
   keys_kept = refl;
@@ -314,9 +314,9 @@ read_before : (before : IsCommitAfter (from_nothing strict_skew) (view_of (from_
 read_before is =
     let its : Some strict_skew_of_b ≡ Some is.transaction = is.is_its in
     some_or_none (TheRange (range_of 0 (has_id 1)))
-    (subst (λ (t : Transaction). first_used (tables_of strict_skew) (changes_at (from_nothing strict_skew) strict_entries 4) (used_at Serializable (alone_on (from_nothing strict_skew) (rows_at (from_nothing strict_skew) strict_entries 3) t.texts)) ≡ None)
+    (subst (λ (t : Transaction). first_used (script_tables strict_skew) (changes_at (from_nothing strict_skew) strict_entries 4) (used_at Serializable (alone_on (from_nothing strict_skew) (rows_at (from_nothing strict_skew) strict_entries 3) t.texts)) ≡ None)
     (sym (same_transaction strict_skew_of_b is.transaction its))
-    (subst (λ (a : Answered). first_used (tables_of strict_skew) (changes_at (from_nothing strict_skew) strict_entries 4) (used_at Serializable a) ≡ None) is.is_ran (is.untouched 4 (omega arith) (omega arith))))
+    (subst (λ (a : Answered). first_used (script_tables strict_skew) (changes_at (from_nothing strict_skew) strict_entries 4) (used_at Serializable a) ≡ None) is.is_ran (is.untouched 4 (omega arith) (omega arith))))
 
 pub strict_committed_is_refused : IsRefusedBy (HistoryIsRight strict_skew strict_committed) strict_skew strict_committed
 strict_committed_is_refused = (λ law. read_before law.1.1.1.1.0, λ is. read_before is.history.1.1.1.1.0)

@@ -7,8 +7,8 @@ use Rattle.report_laws.specs.Lawful.{Lawful}
 use Rattle.report_laws.specs.Play.{InPlayOrder}
 use Rattle.report_text.specs.declared.reports.EntryLine.TheVariants.{Setup}
 use Rattle.report_laws.specs.Told.{told, Along, IsTold}
-use Rattle.report_laws.specs.Work.{Transaction, Item, Does, transaction, ByCommit, WithItsLine, work}
-use Rattle.script_form.specs.CanRun.{tables_of}
+use Rattle.report_laws.specs.Work.{Transaction, WorkItem, Does, transaction, ByCommit, WithItsLine, work}
+use Rattle.script_form.specs.CanRun.{script_tables}
 use Rattle.report_laws.proofs.DownLaws.{none_go_down}
 use Rattle.report_worked.specs.Worked.{worked_table, two_updates, two_updates_report, two_updates_entries, inserted_entries, insert_text, conflict, of_a, of_b}
 use Rattle.cdb_values.specs.declared.replies.Reply.{Reply}
@@ -30,7 +30,7 @@ first_update = transaction 2 ((codes "update t set v = 11 where id = 1") ∷ [])
 abbrev pub second_update : Transaction
 second_update = transaction 1 ((codes "update t set v = 12 where id = 1") ∷ []) Snapshot ByCommit
 
-abbrev pub items_of_a : List Item
+abbrev pub items_of_a : List WorkItem
 items_of_a = Does inserting ∷ Does first_update ∷ []
 
 pub work_of_a : work small_language (codes "a") two_updates.body ≡ items_of_a
@@ -40,7 +40,7 @@ work_of_a = refl
 abbrev pub replies_of_a : List (List Reply)
 replies_of_a = ((reply.Begin 1) ∷ (reply.Changed 1) ∷ (reply.Committed 2) ∷ []) ∷ ((reply.Begin 2) ∷ (reply.Changed 1) ∷ (reply.Committed 3) ∷ []) ∷ []
 
-abbrev pub items_of_b : List Item
+abbrev pub items_of_b : List WorkItem
 items_of_b = Does second_update ∷ []
 
 pub work_of_b : work small_language (codes "b") two_updates.body ≡ items_of_b
@@ -51,23 +51,23 @@ abbrev pub replies_of_b : List (List Reply)
 replies_of_b = ((reply.Begin 2) ∷ (reply.Changed 1) ∷ conflict ∷ []) ∷ []
 
 -- the laws along each session's work hold where they hold of these
-along_their_work : (P : List ℕ → Item → List Reply → Type 0) → EachPart (P (codes "a")) items_of_a replies_of_a → EachPart (P (codes "b")) items_of_b replies_of_b →
+along_their_work : (P : List ℕ → WorkItem → List Reply → Type 0) → EachPart (P (codes "a")) items_of_a replies_of_a → EachPart (P (codes "b")) items_of_b replies_of_b →
     (name : List ℕ) → Along (P name) (work small_language name two_updates.body) (told name two_updates_report.lines)
 along_their_work P of_a of_b =
     along_each P two_updates.body two_updates_report.lines
     (inl refl, (inl refl, (inr refl, (inl refl, (inr refl, (inl refl, (inr refl, tt)))))))
     (inl refl, (inl refl, (inl refl, (inl refl, (inr refl, (inl refl, (inr refl, (inl refl, (inr refl, tt)))))))))
-    (subst (λ (items : List Item). Along (P (codes "a")) items (told (codes "a") two_updates_report.lines)) (sym work_of_a) (along_parts (P (codes "a")) items_of_a replies_of_a of_a))
-    (subst (λ (items : List Item). Along (P (codes "b")) items (told (codes "b") two_updates_report.lines)) (sym work_of_b) (along_parts (P (codes "b")) items_of_b replies_of_b of_b))
+    (subst (λ (items : List WorkItem). Along (P (codes "a")) items (told (codes "a") two_updates_report.lines)) (sym work_of_a) (along_parts (P (codes "a")) items_of_a replies_of_a of_a))
+    (subst (λ (items : List WorkItem). Along (P (codes "b")) items (told (codes "b") two_updates_report.lines)) (sym work_of_b) (along_parts (P (codes "b")) items_of_b replies_of_b of_b))
 
 -- the rows at the entries are good
-pub good_at_2 : IsGood (tables_of two_updates) (rows_at (from_nothing two_updates) two_updates_entries 2).tables
+pub good_at_2 : IsGood (script_tables two_updates) (rows_at (from_nothing two_updates) two_updates_entries 2).tables
 good_at_2 = record {
   rows_fit = ((record { columns = (refl, (refl, tt)); size = omega arith; keys = (omega arith, tt) }, tt), tt);
   keys_kept = refl;
 }
 
-pub good_at_3 : IsGood (tables_of two_updates) (rows_at (from_nothing two_updates) two_updates_entries 3).tables
+pub good_at_3 : IsGood (script_tables two_updates) (rows_at (from_nothing two_updates) two_updates_entries 3).tables
 good_at_3 = record {
   rows_fit = ((record { columns = (refl, (refl, tt)); size = omega arith; keys = (omega arith, tt) }, tt), tt);
   keys_kept = refl;

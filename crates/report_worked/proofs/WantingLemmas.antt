@@ -5,7 +5,7 @@ use Rattle.report_laws.specs.History.{nothing_before, view_of}
 use Rattle.report_laws.specs.Lawful.{Lawful}
 use Rattle.report_laws.specs.Play.{InPlayOrder}
 use Rattle.report_laws.specs.Told.{told, Along, IsTold}
-use Rattle.report_laws.specs.Work.{Item, transaction, WithItsLine, work}
+use Rattle.report_laws.specs.Work.{WorkItem, transaction, WithItsLine, work}
 use Rattle.report_laws.proofs.DownLaws.{one_goes_down}
 use Rattle.report_laws.proofs.LineLaws.{fresh_begin}
 use Rattle.report_text.specs.declared.reports.Line.{Line}
@@ -22,13 +22,13 @@ wanting_of_a = (reply.Begin 1 ∷ reply.Changed 1 ∷ reply.NoMemory ∷ []) ∷
 abbrev wanting_of_b : List (List Reply)
 wanting_of_b = (reply.Begin 1 ∷ reply.Changed 1 ∷ reply.NoMemory ∷ []) ∷ []
 
-along_wanting : (P : List ℕ → Item → List Reply → Type 0) → EachPart (P (codes "a")) open_items_of_a wanting_of_a → EachPart (P (codes "b")) open_items_of_b wanting_of_b →
+along_wanting : (P : List ℕ → WorkItem → List Reply → Type 0) → EachPart (P (codes "a")) open_items_of_a wanting_of_a → EachPart (P (codes "b")) open_items_of_b wanting_of_b →
     (name : List ℕ) → Along (P name) (work small_language name open_insert.body) (told name wanting_report.lines)
 along_wanting P of_a of_b =
     along_each P open_insert.body wanting_report.lines
     (inl refl, (inl refl, (inr refl, (inl refl, (inl refl, tt))))) (inl refl, (inl refl, (inr refl, (inr refl, (tt, (inr refl, (inl refl, (inl refl, tt))))))))
-    (subst (λ (items : List Item). Along (P (codes "a")) items (told (codes "a") wanting_report.lines)) (sym open_work_of_a) (along_parts (P (codes "a")) open_items_of_a wanting_of_a of_a))
-    (subst (λ (items : List Item). Along (P (codes "b")) items (told (codes "b") wanting_report.lines)) (sym open_work_of_b) (along_parts (P (codes "b")) open_items_of_b wanting_of_b of_b))
+    (subst (λ (items : List WorkItem). Along (P (codes "a")) items (told (codes "a") wanting_report.lines)) (sym open_work_of_a) (along_parts (P (codes "a")) open_items_of_a wanting_of_a of_a))
+    (subst (λ (items : List WorkItem). Along (P (codes "b")) items (told (codes "b") wanting_report.lines)) (sym open_work_of_b) (along_parts (P (codes "b")) open_items_of_b wanting_of_b of_b))
 
 pub wanting_is_lawful : Lawful (from_nothing open_insert) wanting_report
 wanting_is_lawful = record {

@@ -14,7 +14,7 @@ use Rattle.report_laws.specs.Play.{InTurns, IsTurn, IsTurnOf, IsTimely, IsAppend
 use Rattle.session_language.specs.Replies.{are_up_to, is_last_of}
 use Rattle.report_laws.specs.Told.{Along, IsTold, IsCommitTold, MayCut, told, numbered, Numbered, alone_at, lines_of}
 use Rattle.report_laws.specs.View.{View}
-use Rattle.report_laws.specs.Work.{Transaction, Item, Does, place_after, work, said, said_by, start, place_from, items_at, number_of, transaction_of}
+use Rattle.report_laws.specs.Work.{Transaction, WorkItem, Does, place_after, work, said, said_by, start, place_from, items_at, number_of, transaction_of}
 use Rattle.report_text.specs.declared.reports.EntryLine.{EntryLine}
 use Rattle.report_text.specs.declared.reports.Line.{Line}
 use Rattle.report_text.specs.declared.reports.Line.TheVariants as line
@@ -72,7 +72,7 @@ told_none name (line.Barrier ∷ ls) a b all = told_none name ls a b all.1
 told_none name (line.Fed position ∷ ls) a b all = told_none name ls a b all.1
 
 -- a law along the work of each session holds where it holds along the work of the sessions a and b
-pub along_each : (P : List ℕ → Item → List Reply → Type 0) (body : List BodyLine) (lines : List Line) →
+pub along_each : (P : List ℕ → WorkItem → List Reply → Type 0) (body : List BodyLine) (lines : List Line) →
     AllByRecursion (λ l. SaidTheirs l.act) body → AllByRecursion ToThem lines →
     Along (P (codes "a")) (work small_language (codes "a") body) (told (codes "a") lines) → Along (P (codes "b")) (work small_language (codes "b") body) (told (codes "b") lines) →
     (name : List ℕ) → Along (P name) (work small_language name body) (told name lines)
@@ -82,7 +82,7 @@ along_each P body lines theirs to_them of_a of_b name = go (bytes_eq (codes "a")
     go true b is_a is_b = subst (λ (n : List ℕ). Along (P n) (work small_language n body) (told n lines)) ((bytes_eq-Decides (codes "a") name).0 is_a) of_a
     go false true is_a is_b = subst (λ (n : List ℕ). Along (P n) (work small_language n body) (told n lines)) ((bytes_eq-Decides (codes "b") name).0 is_b) of_b
     go false false is_a is_b =
-        subst (λ (items : List Item). Along (P name) items (told name lines)) (sym (ap (λ (texts : List (List ℕ)). items_at (place_from small_language start texts)) (said_none name body is_a is_b theirs)))
+        subst (λ (items : List WorkItem). Along (P name) items (told name lines)) (sym (ap (λ (texts : List (List ℕ)). items_at (place_from small_language start texts)) (said_none name body is_a is_b theirs)))
         (told_none name lines is_a is_b to_them)
 
 -- a transaction is told whole, by its begin and its outcome
@@ -125,17 +125,17 @@ told_at basis entries name t begin back front outcome ends uncut (inr was) =
     absurd (no_cut (cuts was.cause) was.is_cause (ap cuts (sym (same_last front was.front outcome was.cause (sym ends ∙ was.says))) ∙ uncut))
 
 -- the replies of each of these items, in order, under their numbers
-abbrev pub in_parts : List Item → List (List Reply) → List Numbered
+abbrev pub in_parts : List WorkItem → List (List Reply) → List Numbered
 in_parts [] parts = []
 in_parts (item ∷ items) [] = []
 in_parts (item ∷ items) (mine ∷ parts) = numbered (number_of item) mine ++ in_parts items parts
 
-abbrev pub EachPart : (Item → List Reply → Type 0) → List Item → List (List Reply) → Type 0
+abbrev pub EachPart : (WorkItem → List Reply → Type 0) → List WorkItem → List (List Reply) → Type 0
 EachPart P [] parts = Unit {0}
 EachPart P (item ∷ items) [] = ⊥
 EachPart P (item ∷ items) (mine ∷ parts) = P item mine × EachPart P items parts
 
-pub along_parts : (P : Item → List Reply → Type 0) (items : List Item) (parts : List (List Reply)) → EachPart P items parts → Along P items (in_parts items parts)
+pub along_parts : (P : WorkItem → List Reply → Type 0) (items : List WorkItem) (parts : List (List Reply)) → EachPart P items parts → Along P items (in_parts items parts)
 along_parts P [] parts is = refl
 along_parts P (item ∷ items) [] is = absurd is
 along_parts P (item ∷ items) (mine ∷ parts) is = (mine, in_parts items parts, refl, is.0, along_parts P items parts is.1)

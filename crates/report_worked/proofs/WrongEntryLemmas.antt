@@ -8,7 +8,7 @@ use Rattle.session_language.proofs.UpToLaws.{same_head, same_tail}
 use Rattle.report_laws.specs.History.{view_of}
 use Rattle.report_laws.specs.Outcome.{IsConflict, IsRight}
 use Rattle.report_laws.specs.Told.{told, numbered, Along, IsTold, IsCommitTold, Numbered, alone_at}
-use Rattle.report_laws.specs.Work.{Item, Does}
+use Rattle.report_laws.specs.Work.{WorkItem, Does}
 use Rattle.report_laws.proofs.AlongLaws.{along_its}
 use Rattle.report_laws.proofs.EntryToldLaws.{begin_stands, commit_stands}
 use Rattle.report_laws.proofs.PieceLaws.{all_at}
@@ -29,7 +29,7 @@ touches_its_begin law =
     let at : ToldAt (from_nothing two_updates) two_updates_entries (codes "b") second_update 2 (reply.Changed 1 ∷ reply.ConflictGenid 2 (codes "t") 1 ∷ []) =
     told_at (from_nothing two_updates) two_updates_entries (codes "b") second_update 2 (reply.Changed 1 ∷ reply.ConflictGenid 2 (codes "t") 1 ∷ []) (reply.Begin 2 ∷ reply.Changed 1 ∷ []) (reply.ConflictGenid 2 (codes "t") 1) refl refl
     (along_its (IsTold (from_nothing two_updates) (view_of (from_nothing two_updates) two_updates_entries) (codes "b")) [] [] (Does second_update) (told (codes "b") conflict_at_begin.lines) tt tt
-    (subst (λ (items : List Item). Along (IsTold (from_nothing two_updates) (view_of (from_nothing two_updates) two_updates_entries) (codes "b")) items (told (codes "b") conflict_at_begin.lines)) work_of_b (law (codes "b")))) in
+    (subst (λ (items : List WorkItem). Along (IsTold (from_nothing two_updates) (view_of (from_nothing two_updates) two_updates_entries) (codes "b")) items (told (codes "b") conflict_at_begin.lines)) work_of_b (law (codes "b")))) in
     let said : reply.Changed 1 ∷ reply.ConflictGenid 2 (codes "t") 1 ∷ [] ≡ reply.Changed 1 ∷ at.last = at.says in
     let last : reply.ConflictGenid 2 (codes "t") 1 ∷ [] ≡ at.last = cc in
     let right : IsConflict (from_nothing two_updates) (view_of (from_nothing two_updates) two_updates_entries) 2 2 (used_at Snapshot (alone_at (from_nothing two_updates) (view_of (from_nothing two_updates) two_updates_entries) second_update 2)) (alone_at (from_nothing two_updates) (view_of (from_nothing two_updates) two_updates_entries) second_update 2).ops (reply.ConflictGenid 2 (codes "t") 1) =

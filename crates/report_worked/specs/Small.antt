@@ -23,7 +23,7 @@ use Rattle.cdb_values.specs.declared.rows.StatementError.TheVariants as error
 use Rattle.cdb_values.specs.declared.rows.Version.{Version}
 use Rattle.cdb_values.specs.declared.values.Value.{Value}
 use Rattle.cdb_values.specs.declared.values.Value.TheVariants.{Int}
-use Rattle.script_form.specs.CanRun.{tables_of}
+use Rattle.script_form.specs.CanRun.{script_tables}
 use Rattle.script_form.specs.declared.scripts.Script.{Script}
 use Rattle.report_laws.specs.History.{Basis, nothing_before}
 use Rattle.session_language.specs.Language.{Answered, Language, Kind, BeginText, CommitText, RollbackText, LevelText, OtherText}
@@ -110,17 +110,17 @@ abbrev pub chosen : Option Condition → List Version → List Version
 chosen condition versions = filter (λ v. meets condition v.row) versions
 
 -- whether an operation wrote a row of that table that meets a condition
-abbrev pub is_own : ℕ → Option Condition → RowOp → Bool
-is_own table condition (op.Insert place row) = (place == table) && meets condition row
-is_own table condition (op.Update place target old row) = (place == table) && meets condition row
-is_own table condition (op.Delete place target old) = false
+abbrev pub is_matching_write : ℕ → Option Condition → RowOp → Bool
+is_matching_write table condition (op.Insert place row) = (place == table) && meets condition row
+is_matching_write table condition (op.Update place target old row) = (place == table) && meets condition row
+is_matching_write table condition (op.Delete place target old) = false
 
 -- the operations that did not, and those that did
 abbrev pub staying : ℕ → Option Condition → List RowOp → List RowOp
-staying table condition done = filter (λ o. not (is_own table condition o)) done
+staying table condition done = filter (λ o. not (is_matching_write table condition o)) done
 
 abbrev pub moving : ℕ → Option Condition → List RowOp → List RowOp
-moving table condition done = filter (λ o. is_own table condition o) done
+moving table condition done = filter (λ o. is_matching_write table condition o) done
 
 -- a row with another value in a column
 abbrev pub with_value : ℕ → Value → List Value → List Value
@@ -222,8 +222,12 @@ small_language = record {
 
 -- what a report of a run is judged by whose history begins with it: the small language, the script, and no entry before
 abbrev pub from_nothing : Script → Basis
-from_nothing script = record { language = small_language; script = script; origin = nothing_before (tables_of script) }
+from_nothing script = record {
+  language = small_language;
+  script = script;
+  origin = nothing_before (script_tables script);
+}
 
 -- the same behind a log of so many entries, whose pages stand for these rows
 abbrev pub from_log : Script → ℕ → Rows → Basis
-from_log script position rows = record { language = small_language; script = script; origin = record { position = position; tables = tables_of script; rows = rows } }
+from_log script position rows = record { language = small_language; script = script; origin = record { position = position; tables = script_tables script; rows = rows } }

@@ -21,22 +21,22 @@ AreTaken before [] = Unit {0}
 AreTaken before (table ∷ tables) = (add_fault before table ≡ None) × AreTaken (before ++ table ∷ []) tables
 
 -- a text of a declared session
-abbrev pub IsSaid : List SessionLine → Act → Type 0
-IsSaid sessions (acts.Say name text) = IsDeclared name sessions × (is_utf8 text ≡ true)
-IsSaid sessions (acts.Stop node) = ⊥
-IsSaid sessions (acts.Start node) = ⊥
-IsSaid sessions (acts.Arm name moment) = ⊥
-IsSaid sessions acts.Barrier = ⊥
-IsSaid sessions acts.Feed = ⊥
+abbrev pub IsDeclaredText : List SessionLine → Act → Type 0
+IsDeclaredText sessions (acts.Say name text) = IsDeclared name sessions × (is_utf8 text ≡ true)
+IsDeclaredText sessions (acts.Stop node) = ⊥
+IsDeclaredText sessions (acts.Start node) = ⊥
+IsDeclaredText sessions (acts.Arm name moment) = ⊥
+IsDeclaredText sessions acts.Barrier = ⊥
+IsDeclaredText sessions acts.Feed = ⊥
 
 -- the tables of a script
-abbrev pub tables_of : Script → List TableDef
-tables_of script = map (λ t. t.table) script.tables
+abbrev pub script_tables : Script → List TableDef
+script_tables script = map (λ t. t.table) script.tables
 
 pub record CanRun (script : Script) : Type 0 where
   pub one_node : script.nodes ≡ 1
   pub no_watches : script.watches ≡ []
   pub few_sessions : length script.sessions ≤ 64
   pub no_hasql : AllByRecursion (λ s. (s.node ≡ 1) × (s.hasql ≡ false)) script.sessions
-  pub tables_lawful : AreTaken [] (tables_of script)
-  pub said : AllByRecursion (λ l. IsSaid script.sessions l.act) script.body
+  pub tables_lawful : AreTaken [] (script_tables script)
+  pub said : AllByRecursion (λ l. IsDeclaredText script.sessions l.act) script.body

@@ -25,7 +25,7 @@ use Rattle.report_laws.proofs.HistoryLaws.{last_more, rows_new}
 use Rattle.report_text.specs.declared.reports.EntryLine.{EntryLine}
 use Rattle.report_text.specs.declared.reports.EntryLine.TheVariants.{Setup, Commit}
 use Rattle.script_form.specs.declared.scripts.Script.{Script}
-use Rattle.script_form.specs.CanRun.{tables_of}
+use Rattle.script_form.specs.CanRun.{script_tables}
 use Rattle.script_play.specs.Basis.{from_start}
 use Rattle.script_play.specs.EntryLines.{lines_from, IsMadeIn}
 use Rattle.script_play.specs.Played.{IsHistory}
@@ -185,7 +185,7 @@ module _ (script : Script) (start : Start) (generation : ℕ) (entries : List En
   basis = from_start script start
 
   abbrev tables : List TableDef
-  tables = tables_of script
+  tables = script_tables script
 
   some : 1 ≤ length history
   some = some_entries history tables told.schema

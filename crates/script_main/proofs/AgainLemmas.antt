@@ -11,13 +11,13 @@ use Rattle.page_store.specs.Image.{Image}
 use Rattle.phys_log.specs.Logs.{pages_of}
 use Rattle.phys_log.specs.declared.entries.Entry.{Entry}
 use Rattle.report_text.specs.declared.reports.EntryLine.{EntryLine}
-use Rattle.script_form.specs.CanRun.{tables_of}
+use Rattle.script_form.specs.CanRun.{script_tables}
 use Rattle.script_form.specs.declared.scripts.Script.{Script}
 use Rattle.script_play.specs.Played.{IsHistory}
 use Rattle.script_play.specs.Start.{Start, ground_of}
 use Rattle.sound_log.specs.Sound.{IsSound}
 use Rattle.store_log.specs.declared.standings.Standing.TheVariants.{Log}
-use Rattle.store_log.specs.Held.{Held, after, after_all, AllMay, May, StandsFor, at_first, with_entry}
+use Rattle.store_log.specs.Held.{Held, after, after_all, AllMay, May, StandsFor, at_first, held_with_entry}
 use Rattle.table_state.specs.States.{HasState}
 use Rattle.table_store.specs.Stored.{Stands}
 use Rattle.script_main.proofs.AfterLemmas.{sound_again}
@@ -26,7 +26,7 @@ use Rattle.script_main.specs.Stores.{with_tables, HasRows}
 
 -- no generation is accepted above the promised one
 
-entry_within : (p a : ℕ) (es : List Entry) (e : Entry) (o : Option (List Entry)) → a ≤ p → (with_entry p a es e o).accepted ≤ (with_entry p a es e o).promised
+entry_within : (p a : ℕ) (es : List Entry) (e : Entry) (o : Option (List Entry)) → a ≤ p → (held_with_entry p a es e o).accepted ≤ (held_with_entry p a es e o).promised
 entry_within p a es e None l = l
 entry_within p a es e (Some adopted) l = l
 
@@ -50,7 +50,7 @@ accepted_within c bytes p a es (inr s) =
     omega arith
 
 -- the state of a log with entries, of the script's tables
-state_of : (script : Script) (before : List Entry) (rows : Rows) → HasTables (tables_of script) before → HasRows before rows → 1 ≤ length before → HasState (pages_of before) (tables_of (with_tables script before)) rows
+state_of : (script : Script) (before : List Entry) (rows : Rows) → HasTables (script_tables script) before → HasRows before rows → 1 ≤ length before → HasState (pages_of before) (script_tables (with_tables script before)) rows
 state_of script [] rows tables has some = absurd (omega arith)
 state_of script (e ∷ es) rows tables has some = subst (λ (ts : List TableDef). HasState (pages_of (e ∷ es)) ts rows) (sym (tables_with script (e ∷ es) tables some)) has
 
@@ -60,12 +60,12 @@ KeepTheirKeys = (pages : ℕ → Image) (tables : List TableDef) (rows : Rows) �
 
 -- whatever lines tell it
 pub sound_behind : (script : Script) (c : ℕ) (bytes : List ℕ) (p a : ℕ) (before : List Entry) (start : Start) (entries : List EntryLine) (made : List Entry) → KeepTheirKeys →
-    start.before ≡ before → StandsForGood 1 c bytes (tables_of script) p a before → HasRows before start.rows → IsHistory (with_tables script before) start (p + 1) entries made →
+    start.before ≡ before → StandsForGood 1 c bytes (script_tables script) p a before → HasRows before start.rows → IsHistory (with_tables script before) start (p + 1) entries made →
     IsSound (p + 1) made
 sound_behind script c bytes p a before start entries made law behind stood has told =
     let whole = with_tables script before in
     let l : a ≤ p = accepted_within c bytes p a before stood.stands in
     sound_again whole start (p + 1) entries made told
-    (subst (λ (es : List Entry). 1 ≤ length es → HasState (pages_of es) (tables_of whole) start.rows) (sym behind) (state_of script before start.rows stood.good.tables has))
+    (subst (λ (es : List Entry). 1 ≤ length es → HasState (pages_of es) (script_tables whole) start.rows) (sym behind) (state_of script before start.rows stood.good.tables has))
     a (omega arith) (subst (λ (es : List Entry). IsSound a es) (sym behind) stood.good.sound)
-    (λ stands fit. law (pages_of made) (tables_of whole) (history.rows_over (ground_of start) made) stands fit)
+    (λ stands fit. law (pages_of made) (script_tables whole) (history.rows_over (ground_of start) made) stands fit)

@@ -15,12 +15,12 @@ use Rattle.phys_log.specs.Logs.{pages_of}
 use Rattle.phys_log.specs.declared.entries.CommitId.{CommitId}
 use Rattle.phys_log.specs.declared.entries.Entry.{Entry}
 use Rattle.phys_log.specs.declared.entries.Entry.TheVariants.{Setup, Commit}
-use Rattle.script_form.specs.CanRun.{tables_of, CanRun}
+use Rattle.script_form.specs.CanRun.{script_tables, CanRun}
 use Rattle.script_form.specs.declared.scripts.Script.{Script}
 use Rattle.script_play.specs.Ready.{AreEarlier}
 use Rattle.script_play.specs.RunViews.{IsOpenedBehind}
 use Rattle.sound_log.specs.Identities.{ids_in}
-use Rattle.sound_log.specs.Sound.{IsBegunBy, IsSound}
+use Rattle.sound_log.specs.Sound.{HasBegunBy, IsSound}
 use Rattle.store_log.specs.Keeps.{Stored}
 use Rattle.table_state.specs.States.{HasState}
 use Rattle.script_main.proofs.AgainLemmas.{accepted_within}
@@ -30,10 +30,10 @@ use Rattle.script_main.specs.Steps.{log_before, IsBegunAt, IsOpened}
 use Rattle.script_main.specs.Stores.{cluster_of, unsaid, with_tables, HasRows}
 
 -- a node that was opened over a store
-pub opened_as : (script : Script) (old : Stored) (base cluster : ℕ) (given : List TableDef) (log : Logged) → cluster ≡ cluster_of script → given ≡ tables_of script →
+pub opened_as : (script : Script) (old : Stored) (base cluster : ℕ) (given : List TableDef) (log : Logged) → cluster ≡ cluster_of script → given ≡ script_tables script →
     IsTakenUp 1 cluster old.synced given base log → log.node ≡ 1 → log.cluster ≡ cluster → log.failed ≡ false → log.store.faults ≡ old.faults → IsOpened script old base log
 opened_as script old base cluster given log is same taken node named running calm = record {
-  taken = subst (λ (c : ℕ). IsTakenUp 1 c old.synced (tables_of script) base log) is (subst (λ (ts : List TableDef). IsTakenUp 1 cluster old.synced ts base log) same taken);
+  taken = subst (λ (c : ℕ). IsTakenUp 1 c old.synced (script_tables script) base log) is (subst (λ (ts : List TableDef). IsTakenUp 1 cluster old.synced ts base log) same taken);
   node = node;
   cluster = named ∙ is;
   running = running;
@@ -46,23 +46,23 @@ goes_behind generation given [] log base had goes = ap (λ n. take n log) had
 goes_behind generation given (e ∷ es) log base had goes = ap (λ n. take n log) had ∙ ap (λ (l : List Entry). take (length (e ∷ es)) l) goes ∙ take-length (e ∷ es)
 
 pub before_is : (script : Script) (old : Stored) (base : ℕ) (log : Logged) (o : IsOpened script old base log) → log_before base log ≡ o.taken.old_entries
-before_is script old base log o = goes_behind (o.taken.old_promise + 1) (tables_of script) o.taken.old_entries log.entries base o.taken.had o.taken.entries
+before_is script old base log o = goes_behind (o.taken.old_promise + 1) (script_tables script) o.taken.old_entries log.entries base o.taken.had o.taken.entries
 
 -- its rows
 pub begins_at : (script : Script) (old : Stored) (base : ℕ) (log : Logged) (o : IsOpened script old base log) →
-    Begins (tables_of (with_tables script o.taken.old_entries)) o.taken.old_entries
+    Begins (script_tables (with_tables script o.taken.old_entries)) o.taken.old_entries
 begins_at script old base log o =
     let t = o.taken in
-    begins t.old_accepted t.old_entries (tables_of (with_tables script t.old_entries)) t.stood.good.sound t.stood.good.bytes
+    begins t.old_accepted t.old_entries (script_tables (with_tables script t.old_entries)) t.stood.good.sound t.stood.good.bytes
     (tables_with script t.old_entries t.stood.good.tables)
 
-pub has_rows : (script : Script) (before : List Entry) → HasTables (tables_of script) before → (b : Begins (tables_of (with_tables script before)) before) → HasRows before b.rows
+pub has_rows : (script : Script) (before : List Entry) → HasTables (script_tables script) before → (b : Begins (script_tables (with_tables script before)) before) → HasRows before b.rows
 has_rows script [] has b = b.none refl
 has_rows script (e ∷ es) has b =
     subst (λ (ts : List TableDef). HasState (pages_of (e ∷ es)) ts b.rows) (tables_with script (e ∷ es) has (omega arith)) (b.state (omega arith))
 
 -- each transaction of a sound log began in no later generation than the accepted one
-id_within : (accepted : ℕ) (es : List Entry) (i : ℕ) (e : Entry) (id : CommitId) → AllByRecursion (IsBegunBy accepted) (ids_in es) → slice_get es i ≡ Some e → id_of e ≡ Some id → id.began ≤ accepted
+id_within : (accepted : ℕ) (es : List Entry) (i : ℕ) (e : Entry) (id : CommitId) → AllByRecursion (HasBegunBy accepted) (ids_in es) → slice_get es i ≡ Some e → id_of e ≡ Some id → id.began ≤ accepted
 id_within accepted [] i e id all at its = absurd cc
 id_within accepted (Setup generation schema records ∷ es) zero e id all at its =
     let same : Setup generation schema records ≡ e = cc in
@@ -91,7 +91,7 @@ begun_at script old base log o =
       same = o.taken.promised ∙ sym o.taken.accepted;
       place = o.taken.had;
       opened = subst (λ (g : ℕ). IsOpenedBehind tables g before log.entries) (sym o.taken.accepted)
-          (opened_behind (tables_of script) tables (o.taken.old_promise + 1) before log.entries given o.taken.entries);
+          (opened_behind (script_tables script) tables (o.taken.old_promise + 1) before log.entries given o.taken.entries);
       earlier = subst (λ (g : ℕ). AreEarlier g before) (sym o.taken.accepted)
           (begun_earlier o.taken.old_accepted (o.taken.old_promise + 1) before o.taken.stood.good.sound
           (let l = accepted_within (cluster_of script) old.synced o.taken.old_promise o.taken.old_accepted before o.taken.stood.stands in omega (arith, l)));
@@ -103,7 +103,7 @@ begun_at script old base log o =
     before = o.taken.old_entries
 
     tables : List TableDef
-    tables = tables_of (with_tables script before)
+    tables = script_tables (with_tables script before)
 
     b : Begins tables before
     b = begins_at script old base log o
@@ -111,8 +111,8 @@ begun_at script old base log o =
     rows : Rows
     rows = b.rows
 
-    given : before ≡ [] → tables_of script ≡ tables
-    given none = ap (λ (es : List Entry). tables_of (with_tables script es)) (sym none)
+    given : before ≡ [] → script_tables script ≡ tables
+    given none = ap (λ (es : List Entry). script_tables (with_tables script es)) (sym none)
 
 -- where there was a log, it is the one that the node has
 
@@ -122,7 +122,7 @@ some_behind generation given (e ∷ es) log base had some goes = goes
 
 pub log_is : (script : Script) (old : Stored) (base : ℕ) (log : Logged) (o : IsOpened script old base log) → base ≢ 0 → log.entries ≡ log_before base log
 log_is script old base log o some =
-    some_behind (o.taken.old_promise + 1) (tables_of script) o.taken.old_entries log.entries base o.taken.had some o.taken.entries
+    some_behind (o.taken.old_promise + 1) (script_tables script) o.taken.old_entries log.entries base o.taken.had some o.taken.entries
     ∙ sym (before_is script old base log o)
 
 pub some_before : (script : Script) (old : Stored) (base : ℕ) (log : Logged) (o : IsOpened script old base log) → base ≢ 0 → 1 ≤ length (log_before base log)

@@ -26,13 +26,13 @@ use Rattle.report_laws.specs.Nodes.{downs}
 use Rattle.report_laws.specs.Play.{InPlayOrder}
 use Rattle.report_text.specs.declared.reports.EntryLine.{EntryLine}
 use Rattle.report_text.specs.declared.reports.Report.{Report}
-use Rattle.script_form.specs.CanRun.{tables_of, CanRun}
+use Rattle.script_form.specs.CanRun.{script_tables, CanRun}
 use Rattle.script_form.specs.Named.{IsNamed}
 use Rattle.script_form.specs.declared.scripts.Script.{Script}
 use Rattle.script_play.specs.Basis.{from_start}
 use Rattle.script_play.specs.Down.{history_of, history_by, owner_of, with_entries, IsCaused, IsHeld, IsHeldBy, Owner}
 use Rattle.script_play.specs.EntryLines.{AreTold}
-use Rattle.script_play.specs.Played.{downs_by, IsFurther, IsHistory, IsTold}
+use Rattle.script_play.specs.Played.{downs_by, IsFurther, IsHistory, IsHistoryTold}
 use Rattle.script_play.specs.Played.{IsGivenUp}
 use Rattle.script_play.specs.Serial.{AreSerial}
 use Rattle.script_play.specs.Start.{Start, base, ground_of}
@@ -180,7 +180,7 @@ left_from script start old log new entries has owns node stood told caused falle
 }
 
 -- a report tells a history
-its_history : (script : Script) (start : Start) (generation : ℕ) (report : Report) (history : List Entry) → IsTold script start generation report history → IsHistory script start generation report.entries history
+its_history : (script : Script) (start : Start) (generation : ℕ) (report : Report) (history : List Entry) → IsHistoryTold script start generation report history → IsHistory script start generation report.entries history
 its_history script start generation report history told = record {
   lawful = told.lawful.history;
   told = told.entries;
@@ -193,10 +193,10 @@ its_history script start generation report history told = record {
 
 -- what is told of a run, by where it began
 pub its_told : (script : Script) (start : Start) (generation : ℕ) (report : Report) (history : List Entry) (b : ℕ) → b ≡ base start → Lawful (from_start script start) report → InPlayOrder (from_start script start) report →
-    AreTold start.before generation report.entries history → schema_of history ≡ Some (tables_of script) →
+    AreTold start.before generation report.entries history → schema_of history ≡ Some (script_tables script) →
     ((k : ℕ) → b < k → k ≤ length history → unwrap_or (slice_get (changed_in history) (k - 1)) [] ≡ changes_at (from_start script start) report.entries k) →
     ((k : ℕ) → IsFrom b k → k ≤ length history → rows_over_at (ground_of start) history k ≡ rows_at (from_start script start) report.entries k) →
-    StandsOver (ground_of start) (tables_of script) history → IsSmall history → IsTold script start generation report history
+    StandsOver (ground_of start) (script_tables script) history → IsSmall history → IsHistoryTold script start generation report history
 its_told script start generation report history b at lawful in_order entries schema changed rows stands small = record {
   lawful = lawful;
   in_order = in_order;
@@ -210,10 +210,10 @@ its_told script start generation report history b at lawful in_order entries sch
 
 -- of a run that is told
 pub told_left : (script : Script) (start : Start) (old log : Logged) (report : Report) (new : Stored) → HasRows start.before start.rows → owner_of log ≡ owner_of old → old.node ≡ 1 → old.promised ≡ old.accepted →
-    IsTold script start old.accepted report (history_of log) → IsCaused log.failed old.store.faults log.store.faults →
+    IsHistoryTold script start old.accepted report (history_of log) → IsCaused log.failed old.store.faults log.store.faults →
     (log.failed ≡ true → Leaves log.store (with_entries log (history_of log) ∷ log ∷ [])) → (log.failed ≡ true → IsFurther script start old.accepted report log.entries) → IsLeftOf log new → IsLeftFrom script start.before old new
 told_left script start old log report new has owns node stood told caused leaves further left =
-    left_from script start old log new report.entries has owns node stood (its_history script start old.accepted report (history_of log) told) caused (has_fallen log (tables_of script) told.schema leaves)
+    left_from script start old log new report.entries has owns node stood (its_history script start old.accepted report (history_of log) told) caused (has_fallen log (script_tables script) told.schema leaves)
     (λ down. let f = further down in record { line = f.line; history = f.history }) left
 
 -- and of one that is given up
@@ -225,7 +225,7 @@ given_left script start old log new has owns node stood given left =
 
 -- what is told of a run
 pub played_text : (script : Script) (start : Start) (opened log : Logged) (report : Report) (new : Stored) (s : Status) (text : List ℕ) →
-    owner_of log ≡ owner_of opened → opened.node ≡ 1 → opened.promised ≡ opened.accepted → IsTold script start opened.accepted report (history_of log) → LawfulOfNodes (from_start script start) report →
+    owner_of log ≡ owner_of opened → opened.node ≡ 1 → opened.promised ≡ opened.accepted → IsHistoryTold script start opened.accepted report (history_of log) → LawfulOfNodes (from_start script start) report →
     InNodesOrder (from_start script start) report → AreSerial (from_start script start) report.entries →
     downs report.lines ≡ downs_by log.failed → IsCaused log.failed opened.store.faults log.store.faults →
     (log.failed ≡ true → Leaves log.store (with_entries log (history_of log) ∷ log ∷ [])) → (log.failed ≡ true → IsFurther script start opened.accepted report log.entries) →
@@ -238,7 +238,7 @@ played_text script start opened log report new s text same node stood told lawfu
   in_order = in_order;
   serial = serial;
   is_text = is_text;
-  left = left_by (IsFurther script start opened.accepted report) log.failed opened log new (downs report.lines) refl same node stood counted caused left (has_fallen log (tables_of script) told.schema leaves) further;
+  left = left_by (IsFurther script start opened.accepted report) log.failed opened log new (downs report.lines) refl same node stood counted caused left (has_fallen log (script_tables script) told.schema leaves) further;
 }
 
 -- a run over a store
@@ -262,19 +262,19 @@ is_run law script old new base log before s text can names o same rows begun pla
     let sound_further = IsSoundFurther whole start (o.taken.old_promise + 1) played.report in
     let sound : (entries : List EntryLine) (made : List Entry) → IsHistory whole start (o.taken.old_promise + 1) entries made → IsSound (o.taken.old_promise + 1) made = λ entries made told.
     sound_behind script (cluster_of script) old.synced o.taken.old_promise o.taken.old_accepted before start entries made law refl
-    (subst (λ (es : List Entry). StandsForGood 1 (cluster_of script) old.synced (tables_of script) o.taken.old_promise o.taken.old_accepted es) (sym same) o.taken.stood) begun.has_rows told in
+    (subst (λ (es : List Entry). StandsForGood 1 (cluster_of script) old.synced (script_tables script) o.taken.old_promise o.taken.old_accepted es) (sym same) o.taken.stood) begun.has_rows told in
     let basis = from_start whole (start_at before rows) in
     let p = played.told in
     record {
       promised = o.taken.old_promise;
       accepted = o.taken.old_accepted;
       before = before;
-      stood = subst (λ (es : List Entry). StandsForGood 1 (cluster_of script) old.synced (tables_of script) o.taken.old_promise o.taken.old_accepted es) (sym same) o.taken.stood;
+      stood = subst (λ (es : List Entry). StandsForGood 1 (cluster_of script) old.synced (script_tables script) o.taken.old_promise o.taken.old_accepted es) (sym same) o.taken.stood;
       rows = rows;
       has_rows = begun.has_rows;
       report = played.report;
       history = played.history;
-      told = subst (λ (g : ℕ). IsTold whole (start_at before rows) g played.report played.history) o.taken.accepted p;
+      told = subst (λ (g : ℕ). IsHistoryTold whole (start_at before rows) g played.report played.history) o.taken.accepted p;
       serial = played.serial;
       lawful = played.lawful;
       in_order = played.in_order;
@@ -287,7 +287,7 @@ is_run law script old new base log before s text can names o same rows begun pla
           (subst (λ (g : ℕ). IsLeftBy (downs played.report.lines) (cluster_of script) log.store new g played.history (IsFurther whole start g played.report)) o.taken.accepted
           (subst (λ (c : ℕ). IsLeftBy (downs played.report.lines) c log.store new log.accepted played.history (IsFurther whole start log.accepted played.report)) o.cluster played.left)));
       sound = sound played.report.entries played.history
-          (its_history whole start (o.taken.old_promise + 1) played.report played.history (subst (λ (g : ℕ). IsTold whole start g played.report played.history) o.taken.accepted p));
+          (its_history whole start (o.taken.old_promise + 1) played.report played.history (subst (λ (g : ℕ). IsHistoryTold whole start g played.report played.history) o.taken.accepted p));
     }
 
 -- the same of a script that is the one with the tables of the log
@@ -320,7 +320,7 @@ setup_sound : KeepTheirKeys → (accepted generation : ℕ) (tables : List Table
 setup_sound law accepted generation tables entry begin =
     sound_first accepted generation tables entry (law (pages_of (entry ∷ [])) tables (no_rows tables)) begin.setup begin.pages begin.small.count
 
-partway_again : KeepTheirKeys → (script : Script) (old new : Stored) → StopsPartway 1 (cluster_of script) old.synced new.synced (tables_of script) → IsSoundAgain script old new
+partway_again : KeepTheirKeys → (script : Script) (old new : Stored) → StopsPartway 1 (cluster_of script) old.synced new.synced (script_tables script) → IsSoundAgain script old new
 partway_again law script old new stops was = ∥∥₁_map stops.stands pick
   where
     p : ℕ
@@ -338,7 +338,7 @@ partway_again law script old new stops was = ∥∥₁_map stops.stands pick
     later : a ≤ p + 1
     later = let l = accepted_within (cluster_of script) old.synced p a es stops.stood.stands in omega (arith, l)
 
-    pick : StandsPartway 1 (cluster_of script) new.synced (tables_of script) p a es → IsSoundStore script new
+    pick : StandsPartway 1 (cluster_of script) new.synced (script_tables script) p a es → IsSoundStore script new
     pick (inl stands) = record { promised = p; accepted = a; entries = es; stands = stands; sound = sound }
     pick (inr (inl stands)) = record { promised = p + 1; accepted = a; entries = es; stands = stands; sound = sound }
     pick (inr (inr (inl stands))) = record { promised = p + 1; accepted = p + 1; entries = es; stands = stands; sound = sound_later a (p + 1) es later sound }
@@ -347,17 +347,17 @@ partway_again law script old new stops was = ∥∥₁_map stops.stands pick
       accepted = p + 1;
       entries = begun.entry ∷ [];
       stands = begun.stands;
-      sound = setup_sound law (p + 1) (p + 1) (tables_of script) begun.entry begun.begin;
+      sound = setup_sound law (p + 1) (p + 1) (script_tables script) begun.entry begun.begin;
     }
 
-fault_again : KeepTheirKeys → (script : Script) (size : ℕ) (old new : Stored) → IsLeft (why.StoreFault size) 1 (cluster_of script) old.synced new.synced (tables_of script) → IsSoundAgain script old new
+fault_again : KeepTheirKeys → (script : Script) (size : ℕ) (old new : Stored) → IsLeft (why.StoreFault size) 1 (cluster_of script) old.synced new.synced (script_tables script) → IsSoundAgain script old new
 fault_again law script size old new (inl alike) = alike_again script old new alike
 fault_again law script size old new (inr fails) = partway_again law script old new fails.partway
 
 -- what is told of a node that is not up
-pub not_up_text : KeepTheirKeys → (script : Script) (w : WhyNotUp) (old new : Stored) (s : Status) (text : List ℕ) → IsWhy w 1 (cluster_of script) old.synced (tables_of script) old.faults new.faults →
-    TellsLength w 1 (cluster_of script) old.synced (tables_of script) old.writes new.writes →
-    IsLeft w 1 (cluster_of script) old.synced new.synced (tables_of script) → IsNotUpText script w s text → IsTextOver script old new s text
+pub not_up_text : KeepTheirKeys → (script : Script) (w : WhyNotUp) (old new : Stored) (s : Status) (text : List ℕ) → IsWhy w 1 (cluster_of script) old.synced (script_tables script) old.faults new.faults →
+    TellsLength w 1 (cluster_of script) old.synced (script_tables script) old.writes new.writes →
+    IsLeft w 1 (cluster_of script) old.synced new.synced (script_tables script) → IsNotUpText script w s text → IsTextOver script old new s text
 not_up_text law script (why.StoreFault size) old new s text is length left told =
     subst (λ (t : Status). IsTextOver script old new t text) (sym told.0)
     (inr (record { size = size; told = told.1; fault = is; length = length; left = left; again = fault_again law script size old new left }))
@@ -371,7 +371,7 @@ not_up_text law script (why.Differs place) old new s text is length left told =
 not_up_text law script why.NoMemory old new s text is length left told = absurd told
 
 -- the place of a table that differs is that of one of the script's
-pub place_in : (script : Script) (w : WhyNotUp) (old : List ℕ) (before now : ℕ) → IsWhy w 1 (cluster_of script) old (tables_of script) before now → IsPlaceIn w (tables_of script)
+pub place_in : (script : Script) (w : WhyNotUp) (old : List ℕ) (before now : ℕ) → IsWhy w 1 (cluster_of script) old (script_tables script) before now → IsPlaceIn w (script_tables script)
 place_in script (why.StoreFault size) old before now is = tt
 place_in script (why.Refused at) old before now is = tt
 place_in script why.Unsound old before now is = tt
@@ -379,20 +379,20 @@ place_in script (why.Differs place) old before now is = is.other.difference.with
 place_in script why.NoMemory old before now is = tt
 
 -- why a node is not up, of the script's cluster and tables
-pub why_of : (script : Script) (w : WhyNotUp) (cluster : ℕ) (given : List TableDef) (old : List ℕ) (before now : ℕ) → cluster ≡ cluster_of script → given ≡ tables_of script →
-    IsWhy w 1 cluster old given before now → IsWhy w 1 (cluster_of script) old (tables_of script) before now
+pub why_of : (script : Script) (w : WhyNotUp) (cluster : ℕ) (given : List TableDef) (old : List ℕ) (before now : ℕ) → cluster ≡ cluster_of script → given ≡ script_tables script →
+    IsWhy w 1 cluster old given before now → IsWhy w 1 (cluster_of script) old (script_tables script) before now
 why_of script w cluster given old before now is same why =
-    subst (λ (c : ℕ). IsWhy w 1 c old (tables_of script) before now) is (subst (λ (ts : List TableDef). IsWhy w 1 cluster old ts before now) same why)
+    subst (λ (c : ℕ). IsWhy w 1 c old (script_tables script) before now) is (subst (λ (ts : List TableDef). IsWhy w 1 cluster old ts before now) same why)
 
-pub length_as : (script : Script) (w : WhyNotUp) (cluster : ℕ) (given : List TableDef) (old : List ℕ) (before now : ℕ) → cluster ≡ cluster_of script → given ≡ tables_of script →
-    TellsLength w 1 cluster old given before now → TellsLength w 1 (cluster_of script) old (tables_of script) before now
+pub length_as : (script : Script) (w : WhyNotUp) (cluster : ℕ) (given : List TableDef) (old : List ℕ) (before now : ℕ) → cluster ≡ cluster_of script → given ≡ script_tables script →
+    TellsLength w 1 cluster old given before now → TellsLength w 1 (cluster_of script) old (script_tables script) before now
 length_as script w cluster given old before now is same told =
-    subst (λ (c : ℕ). TellsLength w 1 c old (tables_of script) before now) is (subst (λ (ts : List TableDef). TellsLength w 1 cluster old ts before now) same told)
+    subst (λ (c : ℕ). TellsLength w 1 c old (script_tables script) before now) is (subst (λ (ts : List TableDef). TellsLength w 1 cluster old ts before now) same told)
 
-pub left_as : (script : Script) (w : WhyNotUp) (cluster : ℕ) (given : List TableDef) (old new : List ℕ) → cluster ≡ cluster_of script → given ≡ tables_of script →
-    IsLeft w 1 cluster old new given → IsLeft w 1 (cluster_of script) old new (tables_of script)
+pub left_as : (script : Script) (w : WhyNotUp) (cluster : ℕ) (given : List TableDef) (old new : List ℕ) → cluster ≡ cluster_of script → given ≡ script_tables script →
+    IsLeft w 1 cluster old new given → IsLeft w 1 (cluster_of script) old new (script_tables script)
 left_as script w cluster given old new is same left =
-    subst (λ (c : ℕ). IsLeft w 1 c old new (tables_of script)) is (subst (λ (ts : List TableDef). IsLeft w 1 cluster old new ts) same left)
+    subst (λ (c : ℕ). IsLeft w 1 c old new (script_tables script)) is (subst (λ (ts : List TableDef). IsLeft w 1 cluster old new ts) same left)
 
 -- the text of a run is one of a script over its store
 pub run_text : (script : Script) (old new : Stored) (s : Status) (text : List ℕ) → IsRunText script old new s text → IsTextOver script old new s text
@@ -403,7 +403,7 @@ run_text script old new s text r = subst (λ (t : Status). IsTextOver script old
 pub same_cut : (script : Script) (old new : Stored) → new ≡ old → IsCutOff script old new
 same_cut script old new same = subst (λ (s : Stored). IsCutOff script old s) (sym same) (inl (λ s stands. stands))
 
-pub left_cut : KeepTheirKeys → (script : Script) (w : WhyNotUp) (old new : Stored) → IsLeft w 1 (cluster_of script) old.synced new.synced (tables_of script) → IsCutOff script old new
+pub left_cut : KeepTheirKeys → (script : Script) (w : WhyNotUp) (old new : Stored) → IsLeft w 1 (cluster_of script) old.synced new.synced (script_tables script) → IsCutOff script old new
 left_cut law script (why.StoreFault size) old new (inl alike) = inl alike
 left_cut law script (why.StoreFault size) old new (inr fails) = inr (inl (record { partway = fails.partway; again = partway_again law script old new fails.partway }))
 left_cut law script (why.Refused at) old new alike = inl alike
@@ -418,8 +418,8 @@ run_cut law script old new base log o l =
     let whole = with_tables script before in
     let made = o.taken.old_promise + 1 in
     let sound_more = IsSoundMore whole l.start made l.entries in
-    let stood : StandsForGood 1 (cluster_of script) old.synced (tables_of script) o.taken.old_promise o.taken.old_accepted before =
-    subst (λ (es : List Entry). StandsForGood 1 (cluster_of script) old.synced (tables_of script) o.taken.old_promise o.taken.old_accepted es) (sym (before_is script old base log o)) o.taken.stood in
+    let stood : StandsForGood 1 (cluster_of script) old.synced (script_tables script) o.taken.old_promise o.taken.old_accepted before =
+    subst (λ (es : List Entry). StandsForGood 1 (cluster_of script) old.synced (script_tables script) o.taken.old_promise o.taken.old_accepted es) (sym (before_is script old base log o)) o.taken.stood in
     let sound : (entries : List EntryLine) (history : List Entry) → IsHistory whole l.start made entries history → IsSound made history = λ entries history told.
     sound_behind script (cluster_of script) old.synced o.taken.old_promise o.taken.old_accepted before l.start entries history law l.behind stood l.has_rows told in
     let told : IsHistory whole l.start made l.entries l.history = subst (λ (g : ℕ). IsHistory whole l.start g l.entries l.history) o.taken.accepted l.told in

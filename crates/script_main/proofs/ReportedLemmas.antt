@@ -9,7 +9,7 @@ use Rattle.node_reports.specs.Lawful.{LawfulOfNodes}
 use Rattle.node_reports.specs.Order.{InNodesOrder}
 use Rattle.node_reports.proofs.OneBack.{lawful_back}
 use Rattle.node_reports.proofs.OneOrder.{one_order}
-use Rattle.script_form.specs.CanRun.{CanRun, IsSaid, tables_of}
+use Rattle.script_form.specs.CanRun.{CanRun, IsDeclaredText, script_tables}
 use Rattle.script_form.specs.Named as script
 use Rattle.script_form.specs.declared.scripts.SessionLine.{SessionLine}
 use Rattle.sql_run.proofs.RowLaws.{replies_by_such_rows, leaves_such_rows}
@@ -55,7 +55,7 @@ tables_named : (tables : List TableLine) → AllByRecursion (λ (t : TableLine).
 tables_named [] all = tt
 tables_named (t ∷ ts) all = (all.0, tables_named ts all.1)
 
-says_named : (sessions : List SessionLine) (a : Act) → script.SaysNamed a → IsSaid sessions a → SaysAsNamed a
+says_named : (sessions : List SessionLine) (a : Act) → script.SaysNamed a → IsDeclaredText sessions a → SaysAsNamed a
 says_named sessions (act.Say session text) is said = (is, said.1)
 says_named sessions (act.Stop node) is said = tt
 says_named sessions (act.Start node) is said = tt
@@ -63,7 +63,7 @@ says_named sessions (act.Arm session moment) is said = tt
 says_named sessions act.Barrier is said = tt
 says_named sessions act.Feed is said = tt
 
-body_named : (sessions : List SessionLine) (body : List BodyLine) → AllByRecursion (λ (l : BodyLine). script.SaysNamed l.act) body → AllByRecursion (λ (l : BodyLine). IsSaid sessions l.act) body → AllByRecursion (λ (l : BodyLine). SaysAsNamed l.act) body
+body_named : (sessions : List SessionLine) (body : List BodyLine) → AllByRecursion (λ (l : BodyLine). script.SaysNamed l.act) body → AllByRecursion (λ (l : BodyLine). IsDeclaredText sessions l.act) body → AllByRecursion (λ (l : BodyLine). SaysAsNamed l.act) body
 body_named sessions [] all said = tt
 body_named sessions (l ∷ ls) all said = (says_named sessions l.act all.0 said.0, body_named sessions ls all.1 said.1)
 
@@ -77,10 +77,10 @@ have_columns (t ∷ ts) all = (some t.table.columns all.0, have_columns ts all.1
 
 -- what a report over these tables is asked, so that it is one of the grammar
 spelled_by : (s whole : Script) (basis : Basis) → CanRun whole → script.IsNamed s → whole.sessions ≡ s.sessions → whole.body ≡ s.body → basis.language ≡ sql_language →
-    basis.script ≡ whole → basis.origin.tables ≡ tables_of whole → HaveRows basis.origin.rows.tables → AllByRecursion IsNamedTable (tables_of whole) → AllByRecursion HasColumns (tables_of whole) → IsSpelled basis
+    basis.script ≡ whole → basis.origin.tables ≡ script_tables whole → HaveRows basis.origin.rows.tables → AllByRecursion IsNamedTable (script_tables whole) → AllByRecursion HasColumns (script_tables whole) → IsSpelled basis
 spelled_by s whole basis can is sessions bodies language says same have named columns = record {
   language = subst (λ (l : Language). KeepsRows l basis.origin.tables) (sym language)
-      (subst (λ (ts : List TableDef). KeepsRows sql_language ts) (sym same) (sql_keeps (tables_of whole) columns));
+      (subst (λ (ts : List TableDef). KeepsRows sql_language ts) (sym same) (sql_keeps (script_tables whole) columns));
   rows = have;
   tables = subst (λ (ts : List TableDef). AllByRecursion IsNamedTable ts) (sym same) named;
   body = subst (λ (w : Script). AllByRecursion (λ (l : BodyLine). SaysAsNamed l.act) w.body) (sym says)
@@ -101,23 +101,23 @@ same_body : (s : Script) (before : List Entry) → (with_tables s before).body �
 same_body s [] = refl
 same_body s (e ∷ es) = refl
 
-named_with : (s : Script) (before : List Entry) → script.IsNamed s → AreCalled s (with_tables s before) → AllByRecursion IsNamedTable (tables_of (with_tables s before))
-named_with s before is (inl some) = subst (λ (w : Script). AllByRecursion IsNamedTable (tables_of w)) (sym (own_tables s before some)) (tables_named s.tables is.tables)
+named_with : (s : Script) (before : List Entry) → script.IsNamed s → AreCalled s (with_tables s before) → AllByRecursion IsNamedTable (script_tables (with_tables s before))
+named_with s before is (inl some) = subst (λ (w : Script). AllByRecursion IsNamedTable (script_tables w)) (sym (own_tables s before some)) (tables_named s.tables is.tables)
 named_with s before is (inr logged) = logged.0
 
-columns_with : (s : Script) (before : List Entry) → script.IsNamed s → AreCalled s (with_tables s before) → AllByRecursion HasColumns (tables_of (with_tables s before))
-columns_with s before is (inl some) = subst (λ (w : Script). AllByRecursion HasColumns (tables_of w)) (sym (own_tables s before some)) (have_columns s.tables is.columns)
+columns_with : (s : Script) (before : List Entry) → script.IsNamed s → AreCalled s (with_tables s before) → AllByRecursion HasColumns (script_tables (with_tables s before))
+columns_with s before is (inl some) = subst (λ (w : Script). AllByRecursion HasColumns (script_tables w)) (sym (own_tables s before some)) (have_columns s.tables is.columns)
 columns_with s before is (inr logged) = logged.1
 
 have_rows : (tables : List TableDef) (before : List Entry) (rows : Rows) → CanBegin tables before rows → HaveRows rows.tables
 have_rows tables [] rows begins = subst (λ (r : Rows). HaveRows r.tables) (sym begins) tt
 have_rows tables (e ∷ es) rows begins = begins.kept.1
 
-pub spelled_over : (s : Script) (before : List Entry) (rows : Rows) → CanRun (with_tables s before) → script.IsNamed s → CanBegin (tables_of (with_tables s before)) before rows →
+pub spelled_over : (s : Script) (before : List Entry) (rows : Rows) → CanRun (with_tables s before) → script.IsNamed s → CanBegin (script_tables (with_tables s before)) before rows →
     AreCalled s (with_tables s before) → IsSpelled (from_start (with_tables s before) (start_at before rows))
 spelled_over s before rows can is begins called =
     spelled_by s (with_tables s before) (from_start (with_tables s before) (start_at before rows)) can is (same_sessions s before) (same_body s before) refl refl refl
-    (have_rows (tables_of (with_tables s before)) before rows begins) (named_with s before is called) (columns_with s before is called)
+    (have_rows (script_tables (with_tables s before)) before rows begins) (named_with s before is called) (columns_with s before is called)
 
 pub told_in_grammar : (basis : Basis) (report : Report) → IsSpelled basis → Lawful basis report → InPlayOrder basis report → FitsTypes report → IsReport report
 told_in_grammar basis report spelled lawful in_order fits = of_the_grammar basis report spelled lawful in_order fits

@@ -12,7 +12,7 @@ use Rattle.node_opening.specs.Tables.{AreMatched}
 use Rattle.node_opening.specs.Goods.{HasTables}
 use Rattle.phys_log.specs.declared.entries.Entry.{Entry}
 use Rattle.phys_log.specs.declared.entries.Entry.TheVariants as entry
-use Rattle.script_form.specs.CanRun.{tables_of, AreTaken, CanRun}
+use Rattle.script_form.specs.CanRun.{script_tables, AreTaken, CanRun}
 use Rattle.script_form.specs.declared.scripts.Script.{Script}
 use Rattle.script_form.specs.declared.scripts.TableLine.{TableLine}
 use Rattle.script_main.specs.Stores.{tables_or, unsaid, with_tables}
@@ -96,7 +96,7 @@ matched_or (l ∷ ls) logged (inl none) = absurd cc
 matched_or (l ∷ ls) logged (inr same) = same
 
 -- the tables of a script and a log are those of the log, where it has entries
-pub tables_with : (script : Script) (before : List Entry) → HasTables (tables_of script) before → 1 ≤ length before → tables_of (with_tables script before) ≡ history.tables_of before
+pub tables_with : (script : Script) (before : List Entry) → HasTables (script_tables script) before → 1 ≤ length before → script_tables (with_tables script before) ≡ history.tables_of before
 tables_with script [] has some = absurd (omega arith)
 tables_with script (e ∷ es) (inl none) some = absurd cc
 tables_with script (e ∷ es) (inr matched) some = matched_or script.tables (history.tables_of (e ∷ es)) matched

@@ -3,7 +3,7 @@ use Rattle.std.proofs.Common.{◌⊎◌, ◌≡◌, ℕ, List, [], ◌∷◌, sl
 use Rattle.node_opening.specs.Why.{HasRisen}
 use Rattle.script_read.specs.Answers.{Refusal, refusal}
 use Rattle.script_read.specs.ScriptText.{script_of}
-use Rattle.script_form.specs.CanRun.{tables_of}
+use Rattle.script_form.specs.CanRun.{script_tables}
 use Rattle.script_form.specs.declared.scripts.Script.{Script}
 use Rattle.script_form.specs.declared.scripts.TableLine.{TableLine}
 use Rattle.store_log.specs.Keeps.{Stored}
@@ -70,14 +70,14 @@ some_of t (Some u) = u
 
 same_line : (script : Script) (o : Stored) (line other : ℕ) → HasId script → IsOtherAt script o line → IsOtherAt script o other → line ≡ other
 same_line script o line other id a b =
-    let p : a.place ≡ b.place = same_place (cluster_of script) o.synced (tables_of script) a.place b.place id a.other b.other in
+    let p : a.place ≡ b.place = same_place (cluster_of script) o.synced (script_tables script) a.place b.place id a.other b.other in
     let e : Some a.said ≡ Some b.said = sym a.at ∙ ap (λ n. slice_get script.tables n) p ∙ b.at in
     let t : a.said ≡ b.said = ap (some_of a.said) e in
     sym a.line_is ∙ ap (λ (l : TableLine). l.line) t ∙ b.line_is
 
 other_over : (script : Script) (o n : Stored) (s : Status) (text : List ℕ) (line : ℕ) → HasId script → IsOtherAt script o line → IsTextOver script o n s text → (s ≡ status.Refused line 9) ⊎ HasRisen o.faults n.faults
 other_over script o n status.Done text line id other (inl run) =
-    absurd (good_not_other (cluster_of script) o.synced (tables_of script) run.promised run.accepted run.before other.place id run.stood other.other)
+    absurd (good_not_other (cluster_of script) o.synced (script_tables script) run.promised run.accepted run.before other.place id run.stood other.other)
 other_over script o n status.Done text line id other (inr down) = inr down.fault
 other_over script o n status.Usage text line id other t = absurd t
 other_over script o n (status.Refused l why) text line id other t =
@@ -89,7 +89,7 @@ other_over script o n status.WriteFault text line id other t = absurd t
 other_over script o n (status.StoreRefused node at) text line id other t =
     absurd (log_not_refused (cluster_of script) o.synced other.other.promised other.other.accepted other.other.entries at id other.other.stood t.1)
 other_over script o n (status.Unsound node) text line id other t =
-    absurd (other_not_unsound (cluster_of script) o.synced (tables_of script) other.place id other.other t.1)
+    absurd (other_not_unsound (cluster_of script) o.synced (script_tables script) other.place id other.other t.1)
 other_over script o n status.NoMemory text line id other t = absurd t
 
 bad_over : (script : Script) (o n : Stored) (s : Status) (text : List ℕ) (at : ℕ) → HasId script → IsBadAt script o at → IsTextOver script o n s text → (s ≡ status.StoreRefused 1 at) ⊎ HasRisen o.faults n.faults
@@ -111,11 +111,11 @@ bad_over script o n status.NoMemory text at id bad t = absurd t
 
 unsound_over : (script : Script) (o n : Stored) (s : Status) (text : List ℕ) → HasId script → IsUnsound script o → IsTextOver script o n s text → (s ≡ status.Unsound 1) ⊎ HasRisen o.faults n.faults
 unsound_over script o n status.Done text id un (inl run) =
-    absurd (good_not_unsound (cluster_of script) o.synced (tables_of script) run.promised run.accepted run.before id run.stood un)
+    absurd (good_not_unsound (cluster_of script) o.synced (script_tables script) run.promised run.accepted run.before id run.stood un)
 unsound_over script o n status.Done text id un (inr down) = inr down.fault
 unsound_over script o n status.Usage text id un t = absurd t
 unsound_over script o n (status.Refused l why) text id un t =
-    absurd (other_not_unsound (cluster_of script) o.synced (tables_of script) t.0.place id t.0.other un)
+    absurd (other_not_unsound (cluster_of script) o.synced (script_tables script) t.0.place id t.0.other un)
 unsound_over script o n status.ReadFault text id un t = absurd t
 unsound_over script o n status.WriteFault text id un t = absurd t
 unsound_over script o n (status.StoreRefused node at) text id un t =
@@ -270,7 +270,7 @@ good_over : (script : Script) (o n : Stored) (s : Status) (text : List ℕ) → 
 good_over script o n status.Done text id good t = refl
 good_over script o n status.Usage text id good t = absurd t
 good_over script o n (status.Refused line why) text id good t =
-    absurd (log_not_other (cluster_of script) o.synced (tables_of script) good.promised good.accepted good.entries t.0.place id good.stands good.tables t.0.other)
+    absurd (log_not_other (cluster_of script) o.synced (script_tables script) good.promised good.accepted good.entries t.0.place id good.stands good.tables t.0.other)
 good_over script o n status.ReadFault text id good t = absurd t
 good_over script o n status.WriteFault text id good t = absurd t
 good_over script o n (status.StoreRefused node at) text id good t =

@@ -7,7 +7,7 @@ use Rattle.cdb_outside.specs.Faults.{Rose}
 use Rattle.script_read.specs.Answers.{Refusal, refusal}
 use Rattle.script_read.specs.ScriptText.{script_of, most_bytes, past_limit, read_lines, no_draft, whole_script, and_then}
 use Rattle.script_read.specs.declared.drafts.Draft.{Draft}
-use Rattle.byte_words.specs.Lines.{lines_of, but_last}
+use Rattle.byte_words.specs.Lines.{lines_of_bytes, but_last}
 use Rattle.script_form.specs.declared.scripts.Script.{Script}
 use Rattle.store_log.specs.Keeps.{Stored}
 use Rattle.script_main.specs.Run.{AreCutOff, AreLeft, IsStatusText, IsTextOver, IsRefusalText, IsScriptText, IsUsageText, IsWritten, Finishes, LeavesStores, Writes, AnswersSource, IsStop, StopsAt}
@@ -225,8 +225,8 @@ read_is_short : (stores consumers : ℕ) (bytes : List ℕ) (script : Script) �
 read_is_short stores consumers bytes script is = go (nat_lt most_bytes (length bytes)) refl is
   where
     go : (b : Bool) → nat_lt most_bytes (length bytes) ≡ b →
-        (if b then past_limit (no_draft stores consumers) (but_last (lines_of (take (most_bytes + 1) bytes))) else whole_script (no_draft stores consumers) bytes) ≡ Ok script → length bytes ≤ most_bytes
-    go true long e = absurd (never_read (no_draft stores consumers) (but_last (lines_of (take (most_bytes + 1) bytes))) script e)
+        (if b then past_limit (no_draft stores consumers) (but_last (lines_of_bytes (take (most_bytes + 1) bytes))) else whole_script (no_draft stores consumers) bytes) ≡ Ok script → length bytes ≤ most_bytes
+    go true long e = absurd (never_read (no_draft stores consumers) (but_last (lines_of_bytes (take (most_bytes + 1) bytes))) script e)
     go false short e = ltb-false most_bytes (length bytes) short
 
 -- the script of the bytes that were read is that of what the source had

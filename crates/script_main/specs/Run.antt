@@ -5,7 +5,7 @@ use Rattle.cdb_outside.specs.Parts.{IsFront, AppendsFront}
 use Rattle.cdb_outside.specs.Faults.{Rose}
 use Rattle.script_read.specs.Answers.{Refusal, refusal}
 use Rattle.script_read.specs.ScriptText.{script_of}
-use Rattle.script_form.specs.CanRun.{tables_of}
+use Rattle.script_form.specs.CanRun.{script_tables}
 use Rattle.script_form.specs.declared.scripts.Script.{Script}
 use Rattle.node_opening.specs.Goods.{HasTables}
 use Rattle.phys_log.specs.declared.entries.Entry.{Entry}
@@ -159,7 +159,7 @@ pub record IsGoodStore (script : Script) (store : Stored) : Type 0 where
   pub entries : List Entry
   pub stands : StandsFor 1 (cluster_of script) store.synced (Log promised accepted entries)
   pub sound : IsSound accepted entries
-  pub tables : HasTables (tables_of script) entries
+  pub tables : HasTables (script_tables script) entries
 
 abbrev pub IsGoodAt : Result Script Refusal → List Stored → Type 0
 IsGoodAt (Err refused) stores = ⊥

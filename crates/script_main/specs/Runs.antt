@@ -20,11 +20,11 @@ use Rattle.report_text.specs.Grammar.{IsReport}
 use Rattle.report_text.specs.Text.{report_text}
 use Rattle.report_text.specs.declared.reports.EntryLine.{EntryLine}
 use Rattle.report_text.specs.declared.reports.Report.{Report}
-use Rattle.script_form.specs.CanRun.{tables_of}
+use Rattle.script_form.specs.CanRun.{script_tables}
 use Rattle.script_form.specs.declared.scripts.Script.{Script}
 use Rattle.script_form.specs.Named.{IsNamedTable}
 use Rattle.script_play.specs.Basis.{from_base, from_start}
-use Rattle.script_play.specs.Played.{IsFurther, IsHistory, IsTold}
+use Rattle.script_play.specs.Played.{IsFurther, IsHistory, IsHistoryTold}
 use Rattle.script_play.specs.Serial.{AreSerial}
 use Rattle.script_play.specs.Start.{Start}
 use Rattle.sound_log.specs.Sound.{IsSound}
@@ -43,7 +43,8 @@ IsOne basis report =
 -- row without values, or a name that is none
 abbrev pub AreCalled : Script → Script → Type 0
 AreCalled script whole =
-    (script.tables ≢ []) ⊎ (AllByRecursion IsNamedTable (tables_of whole) × AllByRecursion HasColumns (tables_of whole))
+    (script.tables ≢ []) ⊎ (AllByRecursion IsNamedTable (script_tables whole)
+    × AllByRecursion HasColumns (script_tables whole))
 
 -- the bytes of a store stand for the history, promised and accepted in a generation
 abbrev pub Keeps : ℕ → List ℕ → ℕ → List Entry → Type 0
@@ -96,12 +97,12 @@ pub record IsRun (script : Script) (old new : Stored) (text : List ℕ) : Type 0
   pub promised : ℕ
   pub accepted : ℕ
   pub before : List Entry
-  pub stood : StandsForGood 1 (cluster_of script) old.synced (tables_of script) promised accepted before
+  pub stood : StandsForGood 1 (cluster_of script) old.synced (script_tables script) promised accepted before
   pub rows : Rows
   pub has_rows : HasRows before rows
   pub report : Report
   pub history : List Entry
-  pub told : IsTold (with_tables script before) (start_at before rows) (promised + 1) report history
+  pub told : IsHistoryTold (with_tables script before) (start_at before rows) (promised + 1) report history
   pub lawful : LawfulOfNodes (from_start (with_tables script before) (start_at before rows)) report
   pub in_order : InNodesOrder (from_start (with_tables script before) (start_at before rows)) report
   pub serial : AreSerial (from_start (with_tables script before) (start_at before rows)) report.entries
@@ -130,13 +131,13 @@ pub record IsDownFirst (script : Script) (old new : Stored) (text : List ℕ) : 
   pub size : ℕ
   pub told : IsDownText script size text
   pub fault : HasRisen old.faults new.faults
-  pub length : IsLengthOf 1 (cluster_of script) old.synced (tables_of script) size old.writes new.writes
-  pub left : IsLeft (why.StoreFault size) 1 (cluster_of script) old.synced new.synced (tables_of script)
+  pub length : IsLengthOf 1 (cluster_of script) old.synced (script_tables script) size old.writes new.writes
+  pub left : IsLeft (why.StoreFault size) 1 (cluster_of script) old.synced new.synced (script_tables script)
   pub again : IsSoundAgain script old new
 
 -- what is left of the store where memory ran out at the opening, which is sound again
 pub record IsStopped (script : Script) (old new : Stored) : Type 0 where
-  pub partway : StopsPartway 1 (cluster_of script) old.synced new.synced (tables_of script)
+  pub partway : StopsPartway 1 (cluster_of script) old.synced new.synced (script_tables script)
   pub again : IsSoundAgain script old new
 
 -- what is left of the store where the run was given up behind its opening, for want of memory: the log for which it stood, with
@@ -145,7 +146,7 @@ pub record IsStoreGivenUp (script : Script) (old new : Stored) : Type 0 where
   pub promised : ℕ
   pub accepted : ℕ
   pub before : List Entry
-  pub stood : StandsForGood 1 (cluster_of script) old.synced (tables_of script) promised accepted before
+  pub stood : StandsForGood 1 (cluster_of script) old.synced (script_tables script) promised accepted before
   pub start : Start
   pub behind : start.before ≡ before
   pub has_rows : HasRows before start.rows

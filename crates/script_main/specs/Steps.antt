@@ -15,11 +15,11 @@ use Rattle.report_text.specs.Text.{report_text}
 use Rattle.report_text.specs.Types.{FitsTypes}
 use Rattle.report_text.specs.declared.reports.EntryLine.{EntryLine}
 use Rattle.report_text.specs.declared.reports.Report.{Report}
-use Rattle.script_form.specs.CanRun.{tables_of}
+use Rattle.script_form.specs.CanRun.{script_tables}
 use Rattle.script_form.specs.declared.scripts.Script.{Script}
 use Rattle.script_form.specs.declared.scripts.TableLine.{TableLine}
 use Rattle.script_play.specs.Basis.{from_start}
-use Rattle.script_play.specs.Played.{IsFurther, IsHistory, IsTold}
+use Rattle.script_play.specs.Played.{IsFurther, IsHistory, IsHistoryTold}
 use Rattle.script_play.specs.Ready.{AreEarlier, CanBegin}
 use Rattle.script_play.specs.RunViews.{IsOpenedBehind}
 use Rattle.script_play.specs.Serial.{AreSerial}
@@ -62,7 +62,7 @@ pub record IsReportText (report : Report) (s : Status) (text : List ℕ) : Type 
 
 -- a node that is up, by what its store had before
 pub record IsOpened (script : Script) (old : Stored) (base : ℕ) (log : Logged) : Type 0 where
-  pub taken : IsTakenUp 1 (cluster_of script) old.synced (tables_of script) base log
+  pub taken : IsTakenUp 1 (cluster_of script) old.synced (script_tables script) base log
   pub node : log.node ≡ 1
   pub cluster : log.cluster ≡ cluster_of script
   pub running : log.failed ≡ false
@@ -78,10 +78,10 @@ pub record IsBegunAt (script : Script) (base : ℕ) (before : List Entry) (log :
   pub running : log.failed ≡ false
   pub same : log.promised ≡ log.accepted
   pub place : base ≡ length before
-  pub opened : IsOpenedBehind (tables_of script) log.accepted before log.entries
+  pub opened : IsOpenedBehind (script_tables script) log.accepted before log.entries
   pub earlier : AreEarlier log.accepted before
   pub has_rows : HasRows before rows
-  pub behind : CanBegin (tables_of script) before rows
+  pub behind : CanBegin (script_tables script) before rows
 
 -- what is left of a store whose log is given up
 pub record IsLeftOf (log : Logged) (new : Stored) : Type 0 where
@@ -93,7 +93,7 @@ pub record IsLeftOf (log : Logged) (new : Stored) : Type 0 where
 pub record IsPlayedText (script : Script) (start : Start) (log : Logged) (new : Stored) (s : Status) (text : List ℕ) : Type 0 where
   pub report : Report
   pub history : List Entry
-  pub told : IsTold script start log.accepted report history
+  pub told : IsHistoryTold script start log.accepted report history
   pub lawful : LawfulOfNodes (from_start script start) report
   pub in_order : InNodesOrder (from_start script start) report
   pub serial : AreSerial (from_start script start) report.entries

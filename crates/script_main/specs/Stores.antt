@@ -4,12 +4,12 @@
 use Rattle.std.specs.Prelude.{◌≡◌, ◌⊎◌, ℕ, ◌<◌, ◌^◌, List, [], ◌∷◌, map, drop, length, Some, slice_get}
 use Rattle.cdb_values.specs.Rows.{Rows, no_rows}
 use Rattle.cdb_values.specs.declared.tables.TableDef.{TableDef}
-use Rattle.cluster_id.specs.Named.{id_of}
+use Rattle.cluster_id.specs.Named.{cluster_id_of}
 use Rattle.log_rows.specs.History as history
 use Rattle.node_opening.specs.Why.{HasRisen, WasOther, WasUnsound}
 use Rattle.phys_log.specs.Logs.{pages_of}
 use Rattle.phys_log.specs.declared.entries.Entry.{Entry}
-use Rattle.script_form.specs.CanRun.{tables_of}
+use Rattle.script_form.specs.CanRun.{script_tables}
 use Rattle.script_form.specs.declared.scripts.Script.{Script}
 use Rattle.script_form.specs.declared.scripts.TableLine.{TableLine}
 use Rattle.script_play.specs.Start.{Start}
@@ -34,7 +34,7 @@ pub record IsFirstAlone {A : Type 0} (old new : List A) : Type 0 where
 
 -- the id of a script's cluster
 abbrev pub cluster_of : Script → ℕ
-cluster_of script = id_of script.cluster script.nodes
+cluster_of script = cluster_id_of script.cluster script.nodes
 
 -- an id takes 16 bytes
 abbrev pub HasId : Script → Type 0
@@ -73,7 +73,7 @@ IsUnsound script store = WasUnsound 1 (cluster_of script) store.synced
 -- the store has a sound log with entries and other tables, and this is the line of the first table that differs
 pub record IsOtherAt (script : Script) (store : Stored) (line : ℕ) : Type 0 where
   pub place : ℕ
-  pub other : WasOther 1 (cluster_of script) store.synced (tables_of script) place
+  pub other : WasOther 1 (cluster_of script) store.synced (script_tables script) place
   pub said : TableLine
   pub at : slice_get script.tables place ≡ Some said
   pub line_is : said.line ≡ line

@@ -1,8 +1,8 @@
 //! A script is played over the store of its node.
 ghost use Rattle.std.specs.Prelude.{◌≡◌, ◌≢◌, ◌++◌, ◌∷◌, [], map, IfOk, OnOk, IsErr};
 ghost use Rattle.cdb_values.specs.Rows.{Rows};
-ghost use Rattle.log_rows.specs.History.{tables_of as tables_of_log};
-ghost use Rattle.script_form.specs.CanRun.{tables_of, CanRun};
+ghost use Rattle.log_rows.specs.History.{tables_of};
+ghost use Rattle.script_form.specs.CanRun.{script_tables, CanRun};
 ghost use Rattle.script_form.specs.Named.{IsNamed};
 ghost use Rattle.script_form.specs.declared.scripts.Script.{Script};
 ghost use Rattle.script_play.specs.Start.{Start};
@@ -22,7 +22,7 @@ use log_replay::PagedLog;
 use node_log::NodeLog;
 use node_opening::{UpNode, WhyNotUp, open_node};
 use script_form::{Script, TableLine};
-use script_play::{Played, play, play_down, schema_of};
+use script_play::{Played, play, play_down, script_schema};
 use std::alloc::{AllocError, Global};
 use table_store::{pages_stand_for_one_state, pages_that_stand_keep_their_keys};
 
@@ -48,7 +48,7 @@ pub(crate) fn play_over<D: LogStore + Drop>(alloc: Global, script: &Script, stor
         (kept_by D.synced D.pending D.faults D.writes result.store) }
     ensures settled { D.pending result.store ≡ [] }
 {
-    let Ok(schema) = schema_of(alloc, script.tables.as_slice()) else {
+    let Ok(schema) = script_schema(alloc, script.tables.as_slice()) else {
         return no_memory(store);
     };
     let Ok(cluster) = cluster_id(alloc, &script.cluster, script.nodes) else {
@@ -79,7 +79,7 @@ fn no_memory<D: LogStore>(store: D) -> Ended<D>
 fn not_up(alloc: Global, script: &Script, why: WhyNotUp) -> Result<Answer, AllocError>
     requires runs { CanRun script.now }
     requires names { IsNamed script.now }
-    requires place { IsPlaceIn why (tables_of script.now) }
+    requires place { IsPlaceIn why (script_tables script.now) }
     ensures { IfOk result (λ a. IsNotUpText script.now why a.status a.text) }
 {
     match why {
@@ -161,7 +161,7 @@ fn play_logged<D: LogStore + Drop>(alloc: Global, script: &Script, begun: Begun<
 
 /// A script with the tables of a log.
 fn with_tables(alloc: Global, script: &Script, log: &PagedLog) -> Result<Script, AllocError>
-    ensures { IfOk result (λ whole. whole ≡ record script.now { tables = map unsaid (tables_of_log log.now) }) }
+    ensures { IfOk result (λ whole. whole ≡ record script.now { tables = map unsaid (tables_of log.now) }) }
 {
     let tables = logged_lines(alloc, log)?;
     let mut whole = copied(script)?;
@@ -178,7 +178,7 @@ fn copied(script: &Script) -> Result<Script, AllocError>
 
 /// The tables of a log, as lines that stand in no script.
 fn logged_lines(alloc: Global, log: &PagedLog) -> Result<List<TableLine>, AllocError>
-    ensures { IfOk result (λ lines. lines ≡ map unsaid (tables_of_log log.now)) }
+    ensures { IfOk result (λ lines. lines ≡ map unsaid (tables_of log.now)) }
 {
     match log.schema() {
         Some(schema) => lines_of(alloc, schema.tables()),

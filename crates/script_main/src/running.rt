@@ -13,7 +13,7 @@ ghost use Rattle.script_main.specs.Words.{is_play};
 use super::answers::{Answer, answer_script};
 use super::commands::is_command;
 use super::statuses::Outside;
-use cdb_outside::{LogStore, ReadStop, Sink, Source, Status, read_up_to, write_whole};
+use cdb_outside::{LogStore, Sink, Source, SourceStop, Status, read_up_to, write_whole};
 use script_read::{MOST_BYTES, later_bytes_do_not_matter};
 use std::alloc::Global;
 
@@ -93,8 +93,8 @@ fn answer_source<S: Source, D: LogStore + Drop>(
             Ok(answer) => Ok(answer),
             Err(_) => Err(Status::NoMemory),
         },
-        Err(ReadStop::Fault) => Err(Status::ReadFault),
-        Err(ReadStop::NoMemory) => Err(Status::NoMemory),
+        Err(SourceStop::Fault) => Err(Status::ReadFault),
+        Err(SourceStop::NoMemory) => Err(Status::NoMemory),
     }
 }
 

@@ -16,7 +16,7 @@ use Rattle.report_text.specs.declared.reports.Line.TheVariants as line
 use Rattle.cdb_values.specs.declared.replies.Reply.{Reply}
 use Rattle.cdb_values.specs.declared.replies.Reply.TheVariants as reply
 use Rattle.script_play.specs.Run.{run_of}
-use Rattle.script_play.specs.Down.{down_line, HasOutcome, IsAppendedSo, IsEntered, IsFallenAt, IsKeptSo}
+use Rattle.script_play.specs.Down.{down_line, HasOutcome, IsAppendedSo, IsAddedToHistory, IsFallenAt, IsKeptSo}
 
 -- the last of three takes the place of the first
 swapped : {X : Type 0} (front : List X) (a b c d : X) → swap_remove (front ++ a ∷ b ∷ c ∷ []) (length front) d ≡ front ++ c ∷ b ∷ []
@@ -68,7 +68,7 @@ told_last name number replies lines mid told is =
 
 -- an entry is appended whatever the lines are
 pub entered_so : (entry : Entry) (lines more lines' more' : List Line) (entries entries' : List EntryLine) (log log' : Logged) →
-    IsEntered entry (run_of lines entries log) (run_of lines' entries' log') → IsEntered entry (run_of more entries log) (run_of more' entries' log')
+    IsAddedToHistory entry (run_of lines entries log) (run_of lines' entries' log') → IsAddedToHistory entry (run_of more entries log) (run_of more' entries' log')
 entered_so entry lines more lines' more' entries entries' log log' is = record { entries_are = is.entries_are; log_is = is.log_is; calm = is.calm }
 
 pub fallen_so : (entry : Entry) (lines more lines' more' : List Line) (entries entries' : List EntryLine) (log log' : Logged) →

@@ -10,7 +10,7 @@ use Rattle.report_laws.proofs.WorkLaws.{after_own, after_other, its_transaction}
 use Rattle.report_text.specs.declared.reports.EntryLine.{EntryLine}
 use Rattle.report_text.specs.declared.reports.EntryLine.TheVariants.{Setup, Commit}
 use Rattle.report_text.specs.declared.reports.Line.{Line}
-use Rattle.script_form.specs.CanRun.{tables_of}
+use Rattle.script_form.specs.CanRun.{script_tables}
 use Rattle.script_form.specs.declared.scripts.Act.TheVariants.{Say}
 use Rattle.script_form.specs.declared.scripts.BodyLine.{BodyLine}
 use Rattle.script_form.specs.declared.scripts.Script.{Script}
@@ -20,7 +20,7 @@ use Rattle.query_laws.specs.Alone.{sql_language}
 use Rattle.sql_answer.specs.Reading.{kind_of_text}
 use Rattle.session_turns.specs.Doing.{SessionAt}
 use Rattle.script_play.specs.Ready.{IsAskable}
-use Rattle.session_turns.specs.Seen.{Seen}
+use Rattle.session_turns.specs.Seen.{SeenRows}
 use Rattle.script_play.specs.SoFar.{state_of, IsEnded, IsPast, SoFar}
 use Rattle.script_play.specs.Start.{Start}
 use Rattle.script_play.proofs.TurnLemmas.{Comes, IsPastOf}
@@ -56,7 +56,7 @@ ended_later done l name text is_act (Commit position session txn begin level) is
         (past_next (place_after sql_language session done) text (kind_of_text text) (place_after sql_language session done).pending txn is)
     pick false differs = subst (λ (p : Place). IsPast p.number p.pending txn) (sym (after_other sql_language session name text l done is_act differs)) is
 
-module _ (script : Script) (start : Start) (down : Bool) (done left : List BodyLine) (l : BodyLine) (lines : List Line) (entries : List EntryLine) (changed : List (List Change)) (seen : Seen) (states : List SessionAt) (name text : List ℕ)
+module _ (script : Script) (start : Start) (down : Bool) (done left : List BodyLine) (l : BodyLine) (lines : List Line) (entries : List EntryLine) (changed : List (List Change)) (seen : SeenRows) (states : List SessionAt) (name text : List ℕ)
     (was : SoFar script start down done (l ∷ left) lines entries changed seen states) (is_act : l.act ≡ Say name text) where
   abbrev pub place : Place
   place = place_after sql_language name done
@@ -65,7 +65,7 @@ module _ (script : Script) (start : Start) (down : Bool) (done left : List BodyL
   own_place = after_own sql_language name name text l done is_act (same_itself name)
 
   -- the session before its line
-  pub comes : AllByRecursion IsAskable (tables_of script) → is_utf8 text ≡ true → Comes script start entries changed seen name place place.pending (state_of name script.sessions states).doing text (kind_of_text text) (told name lines)
+  pub comes : AllByRecursion IsAskable (script_tables script) → is_utf8 text ≡ true → Comes script start entries changed seen name place place.pending (state_of name script.sessions states).doing text (kind_of_text text) (told name lines)
   comes askable utf8 = record {
     askable = askable;
     utf8 = utf8;

@@ -2,12 +2,12 @@
 use Rattle.std.proofs.Common.{◌≡◌, ℕ, ◌+◌, List, [], ◌∷◌, ◌++◌, refl, sym, subst, ap, arith, Option, Some, None, ◌∙◌, inl, inr}
 use Rattle.std.proofs.lemmas.List.{append-nil}
 use Rattle.cdb_values.specs.declared.rows.RowOp.{RowOp}
-use Rattle.session_turns.specs.Seen.{Seen}
+use Rattle.session_turns.specs.Seen.{SeenRows}
 use Rattle.script_play.specs.Start.{Start, base}
 use Rattle.script_form.specs.declared.scripts.Script.{Script}
 use Rattle.report_text.specs.declared.reports.EntryLine.{EntryLine}
 use Rattle.cdb_values.specs.declared.replies.Reply.TheVariants as reply
-use Rattle.script_form.specs.CanRun.{tables_of}
+use Rattle.script_form.specs.CanRun.{script_tables}
 use Rattle.report_laws.specs.History.{rows_at, view_of}
 use Rattle.session_language.specs.Language.{alone, Kind, BeginText, CommitText, RollbackText, LevelText, OtherText}
 use Rattle.script_play.specs.Basis.{from_start}
@@ -27,11 +27,11 @@ use Rattle.script_play.proofs.StandingLemmas.{idle_after, in_transaction}
 use Rattle.script_play.proofs.TurnLemmas.{Comes, piece, idle_lines}
 
 -- where the session stands behind the line
-pub record CutStands (script : Script) (start : Start) (entries : List EntryLine) (seen : Seen) (name : List ℕ) (after : Place) (lines : List Numbered) (told : ℕ) (c : Cut) : Type 0 where
+pub record CutStands (script : Script) (start : Start) (entries : List EntryLine) (seen : SeenRows) (name : List ℕ) (after : Place) (lines : List Numbered) (told : ℕ) (c : Cut) : Type 0 where
   pub stands : Standing script start entries seen.next name after (lines ++ numbered c.number (reply.NoMemory ∷ [])) c.after
   pub number : c.number ≡ told
 
-module _ (script : Script) (start : Start) (entries : List EntryLine) (changed : List (List Change)) (seen : Seen) (name : List ℕ) (p : Place) (text : List ℕ) (lines : List Numbered) where
+module _ (script : Script) (start : Start) (entries : List EntryLine) (changed : List (List Change)) (seen : SeenRows) (name : List ℕ) (p : Place) (text : List ℕ) (lines : List Numbered) where
   abbrev pub CutGoal : Place → ℕ → Option Cut → Type 0
   CutGoal after told found = (c : Cut) → found ≡ Some c → CutStands script start entries seen name after lines told c
 
@@ -54,9 +54,9 @@ module _ (script : Script) (start : Start) (entries : List EntryLine) (changed :
       is_cause = refl;
       may = tt;
       front = c.mine;
-      rest = (sql_language.answer (tables_of script) (rows_at (from_start script start) entries begin).tables (alone sql_language (tables_of script) (rows_at (from_start script start) entries begin) texts).ops text).replies;
-      fits = ap (λ rs. rs ++ (sql_language.answer (tables_of script) (rows_at (from_start script start) entries begin).tables (alone sql_language (tables_of script) (rows_at (from_start script start) entries begin) texts).ops text).replies) c.doing.says
-          ∙ ap (λ rs. reply.Begin begin ∷ rs) (sym (replies_more sql_language (tables_of script) (rows_at (from_start script start) entries begin).tables [] texts text));
+      rest = (sql_language.answer (script_tables script) (rows_at (from_start script start) entries begin).tables (alone sql_language (script_tables script) (rows_at (from_start script start) entries begin) texts).ops text).replies;
+      fits = ap (λ rs. rs ++ (sql_language.answer (script_tables script) (rows_at (from_start script start) entries begin).tables (alone sql_language (script_tables script) (rows_at (from_start script start) entries begin) texts).ops text).replies) c.doing.says
+          ∙ ap (λ rs. reply.Begin begin ∷ rs) (sym (replies_more sql_language (script_tables script) (rows_at (from_start script start) entries begin).tables [] texts text));
       says = refl;
     }
 

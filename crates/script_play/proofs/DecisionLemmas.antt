@@ -10,7 +10,7 @@ use Rattle.cdb_values.specs.declared.items.Interval.{Interval}
 use Rattle.cdb_values.specs.declared.rows.Change.{Change}
 use Rattle.cdb_values.specs.declared.rows.Level.{Level}
 use Rattle.cdb_values.specs.declared.rows.RowOp.{RowOp}
-use Rattle.session_turns.specs.Seen.{Seen}
+use Rattle.session_turns.specs.Seen.{SeenRows}
 use Rattle.script_play.specs.Start.{Start, base}
 use Rattle.script_form.specs.declared.scripts.Script.{Script}
 use Rattle.report_text.specs.declared.reports.EntryLine.{EntryLine}
@@ -22,7 +22,7 @@ use Rattle.report_laws.specs.View.{touched_in}
 use Rattle.session_language.specs.Touched.{Used, TheVersion, TheRange, first_used, FirstUse, first_use}
 use Rattle.report_laws.specs.Outcome.{IsRight, IsDecided, IsConflict, IsDuplicate}
 use Rattle.report_laws.specs.Paced.{Paced}
-use Rattle.script_form.specs.CanRun.{tables_of}
+use Rattle.script_form.specs.CanRun.{script_tables}
 use Rattle.report_laws.specs.Work.{Transaction}
 use Rattle.script_play.specs.Basis.{from_start}
 use Rattle.block_processor.specs.Changed.{IsFirstUse}
@@ -30,7 +30,7 @@ use Rattle.session_turns.specs.Decisions.{used_by, item_of, item_told, conflict_
 use Rattle.script_play.specs.Decisions.{HasName}
 use Rattle.block_processor.proofs.ChangedLaws.{one_used}
 use Rattle.script_play.proofs.ConflictLaws.{named}
-use Rattle.script_play.specs.SoFar.{Stored, now_of}
+use Rattle.script_play.specs.SoFar.{IsStoredSoFar, now_of}
 use Rattle.script_play.specs.Step.{IsKept}
 use Rattle.script_play.proofs.StoredLemmas.{Commits, entry_of, untouched_now, stored_more, committed_right, next_is}
 
@@ -51,30 +51,30 @@ all_behind P (suc n) (xs ∷ lists) (suc at) from all = all_behind P n lists at 
 abbrev pub entries_after : Start → List EntryLine → List ℕ → ℕ → ℕ → Level → List (List RowOp) → List EntryLine
 entries_after start entries name number begin level added = entries ++ map (λ ops. entry_of name number begin level (now_of start entries)) added
 
-abbrev pub changed_after : Seen → List (List Change) → List (List RowOp) → List (List Change)
+abbrev pub changed_after : SeenRows → List (List Change) → List (List RowOp) → List (List Change)
 changed_after seen changed added = changed ++ map (λ ops. changes_of ops seen.next) added
 
 -- a decision is right
-pub record Decided (script : Script) (start : Start) (entries : List EntryLine) (changed : List (List Change)) (seen seen' : Seen) (name : List ℕ) (t : Transaction) (begin : ℕ) (uses : List GenidItem) (ranges : List Interval) (ops : List RowOp) (outcome : Reply) (added : List (List RowOp)) : Type 0 where
+pub record Decided (script : Script) (start : Start) (entries : List EntryLine) (changed : List (List Change)) (seen seen' : SeenRows) (name : List ℕ) (t : Transaction) (begin : ℕ) (uses : List GenidItem) (ranges : List Interval) (ops : List RowOp) (outcome : Reply) (added : List (List RowOp)) : Type 0 where
   pub right : IsRight (from_start script start) (view_of (from_start script start) (entries_after start entries name t.number begin t.level added)) name t begin (used_by t.level ops uses ranges) ops outcome
   pub decided : IsDecided outcome
-  pub stored : Stored script start (entries_after start entries name t.number begin t.level added) (changed_after seen changed added) seen'
+  pub stored : IsStoredSoFar script start (entries_after start entries name t.number begin t.level added) (changed_after seen changed added) seen'
   pub paced : Paced (now_of start entries) (now_of start (entries_after start entries name t.number begin t.level added)) (outcome ∷ [])
   pub grows : seen.next ≤ seen'.next
   pub told : (added ≡ []) ⊎ ((o : List RowOp) × (added ≡ o ∷ []) × (outcome ≡ reply.Committed (now_of start entries + 1)))
 
-module _ (script : Script) (start : Start) (entries : List EntryLine) (changed : List (List Change)) (seen seen' : Seen) (name : List ℕ) (t : Transaction) (begin : ℕ) (uses : List GenidItem) (ranges : List Interval) where
+module _ (script : Script) (start : Start) (entries : List EntryLine) (changed : List (List Change)) (seen seen' : SeenRows) (name : List ℕ) (t : Transaction) (begin : ℕ) (uses : List GenidItem) (ranges : List Interval) where
   -- a decision that adds nothing
-  nothing_added : (ops : List RowOp) (outcome : Reply) → Stored script start entries changed seen → seen' ≡ seen → IsDecided outcome →
+  nothing_added : (ops : List RowOp) (outcome : Reply) → IsStoredSoFar script start entries changed seen → seen' ≡ seen → IsDecided outcome →
       IsRight (from_start script start) (view_of (from_start script start) entries) name t begin (used_by t.level ops uses ranges) ops outcome → Paced (now_of start entries) (now_of start entries) (outcome ∷ []) →
       Decided script start entries changed seen seen' name t begin uses ranges ops outcome []
   nothing_added ops outcome stored same decided right paced = record {
     right = subst (λ es. IsRight (from_start script start) (view_of (from_start script start) es) name t begin (used_by t.level ops uses ranges) ops outcome) (sym (append-nil entries)) right;
     decided = decided;
-    stored = subst (λ (a : Seen). Stored script start (entries ++ []) (changed ++ []) a) (sym same)
-        (subst (λ es. Stored script start es (changed ++ []) seen) (sym (append-nil entries)) (subst (λ ts. Stored script start entries ts seen) (sym (append-nil changed)) stored));
+    stored = subst (λ (a : SeenRows). IsStoredSoFar script start (entries ++ []) (changed ++ []) a) (sym same)
+        (subst (λ es. IsStoredSoFar script start es (changed ++ []) seen) (sym (append-nil entries)) (subst (λ ts. IsStoredSoFar script start entries ts seen) (sym (append-nil changed)) stored));
     paced = subst (λ es. Paced (now_of start entries) (now_of start es) (outcome ∷ [])) (sym (append-nil entries)) paced;
-    grows = let n = ap (λ (a : Seen). a.next) same in omega (arith, n);
+    grows = let n = ap (λ (a : SeenRows). a.next) same in omega (arith, n);
     told = inl refl;
   }
 
@@ -94,12 +94,12 @@ module _ (script : Script) (start : Start) (entries : List EntryLine) (changed :
 
     -- what the entry at a position behind the begin touches, by the changes that were kept for it
     touched_at : (position : ℕ) → begin < position → position ≤ now_of start entries
-        → touched_in (view_of (from_start script start) entries) position used ≡ first_used (tables_of script) (unwrap_or (slice_get changed (position - 1)) []) used
+        → touched_in (view_of (from_start script start) entries) position used ≡ first_used (script_tables script) (unwrap_or (slice_get changed (position - 1)) []) used
     touched_at position after within =
-        ap (λ (changes : List Change). first_used (tables_of script) changes used) (sym (c.stored.changed_are position (let b = c.first.1 in omega (arith, after, b)) within))
+        ap (λ (changes : List Change). first_used (script_tables script) changes used) (sym (c.stored.changed_are position (let b = c.first.1 in omega (arith, after, b)) within))
 
-    conflict : (found : FirstUse) → first_use (tables_of script) begin (drop begin changed) used ≡ Some found →
-        IsConflict (from_start script start) (view_of (from_start script start) entries) begin found.position used ops (conflict_told (tables_of script) found)
+    conflict : (found : FirstUse) → first_use (script_tables script) begin (drop begin changed) used ≡ Some found →
+        IsConflict (from_start script start) (view_of (from_start script start) entries) begin found.position used ops (conflict_told (script_tables script) found)
     conflict found is = record {
       has_ops = some;
       later = since.after;
@@ -107,36 +107,36 @@ module _ (script : Script) (start : Start) (entries : List EntryLine) (changed :
       item = found.item;
       touched = touched_at found.position since.after within ∙ since.touched;
       untouched = λ j after before. touched_at j after (omega (arith, before, within)) ∙ since.before j after before;
-      is_told = named (tables_of script) (unwrap_or (slice_get changed (found.position - 1)) []) used found.position found.item its_changes since.touched;
+      is_told = named (script_tables script) (unwrap_or (slice_get changed (found.position - 1)) []) used found.position found.item its_changes since.touched;
     }
       where
-        since : IsFirstUse (tables_of script) begin changed used found
-        since = one_used (tables_of script) used begin changed found is
+        since : IsFirstUse (script_tables script) begin changed used found
+        since = one_used (script_tables script) used begin changed found is
 
         within : found.position ≤ now_of start entries
         within = let w = since.within in let same = c.stored.changed_length in omega (arith, w, same)
 
-        its_changes : AllByRecursion (HasName (tables_of script)) (unwrap_or (slice_get changed (found.position - 1)) [])
-        its_changes = all_behind (HasName (tables_of script)) (base start) changed (found.position - 1) (let l = since.after in let b = c.first.1 in omega (arith, l, b)) c.stored.named
+        its_changes : AllByRecursion (HasName (script_tables script)) (unwrap_or (slice_get changed (found.position - 1)) [])
+        its_changes = all_behind (HasName (script_tables script)) (base start) changed (found.position - 1) (let l = since.after in let b = c.first.1 in omega (arith, l, b)) c.stored.named
 
     -- a conflict adds nothing
     told_conflict : (position : ℕ) (item : Used) → position ≤ now_of start entries →
-        IsConflict (from_start script start) (view_of (from_start script start) entries) begin position used ops (item_told (tables_of script) position (item_of item)) →
-        Follows (item_told (tables_of script) position (item_of item))
-    told_conflict position (TheVersion item) within is kept = nothing_added ops (item_told (tables_of script) position (item_of (TheVersion item))) c.stored kept tt is (refl, within, refl)
-    told_conflict position (TheRange interval) within is kept = nothing_added ops (item_told (tables_of script) position (item_of (TheRange interval))) c.stored kept tt is (refl, within, refl)
+        IsConflict (from_start script start) (view_of (from_start script start) entries) begin position used ops (item_told (script_tables script) position (item_of item)) →
+        Follows (item_told (script_tables script) position (item_of item))
+    told_conflict position (TheVersion item) within is kept = nothing_added ops (item_told (script_tables script) position (item_of (TheVersion item))) c.stored kept tt is (refl, within, refl)
+    told_conflict position (TheRange interval) within is kept = nothing_added ops (item_told (script_tables script) position (item_of (TheRange interval))) c.stored kept tt is (refl, within, refl)
 
-    duplicate : (key : KeyName) → first_use (tables_of script) begin (drop begin changed) used ≡ None → first_broken (tables_of script) (apply_all (seen.at (now_of start entries)) ops).tables ≡ Some key →
+    duplicate : (key : KeyName) → first_use (script_tables script) begin (drop begin changed) used ≡ None → first_broken (script_tables script) (apply_all (seen.at (now_of start entries)) ops).tables ≡ Some key →
         IsDuplicate (from_start script start) (view_of (from_start script start) entries) begin (now_of start entries) used ops key.table key.key
     duplicate key clear broken = record {
       has_ops = some;
       begun = c.within;
       within = omega arith;
       untouched = untouched_now script start entries changed seen name t begin uses ranges ops c clear;
-      breaks = ap (λ (r : Rows). first_broken (tables_of script) (apply_all r ops).tables) (sym c.stored.now_are) ∙ broken;
+      breaks = ap (λ (r : Rows). first_broken (script_tables script) (apply_all r ops).tables) (sym c.stored.now_are) ∙ broken;
     }
 
-    by_its_key : (found : Option KeyName) → first_broken (tables_of script) (apply_all (seen.at (now_of start entries)) ops).tables ≡ found → first_use (tables_of script) begin (drop begin changed) used ≡ None → Follows (by_key (now_of start entries) found)
+    by_its_key : (found : Option KeyName) → first_broken (script_tables script) (apply_all (seen.at (now_of start entries)) ops).tables ≡ found → first_use (script_tables script) begin (drop begin changed) used ≡ None → Follows (by_key (now_of start entries) found)
     by_its_key (Some key) broken clear kept = nothing_added ops (reply.Duplicate (now_of start entries) key.table key.key) c.stored kept tt (duplicate key clear broken) (refl, omega arith, refl)
     by_its_key None unbroken clear kept = record {
       right = committed_right script start entries changed seen name t begin uses ranges ops c seen' kept unbroken some clear op more refl;
@@ -150,17 +150,17 @@ module _ (script : Script) (start : Start) (entries : List EntryLine) (changed :
         count : now_of start (entries ++ entry_of name t.number begin t.level (now_of start entries) ∷ []) ≡ now_of start entries + 1
         count = omega (arith, length-append entries (entry_of name t.number begin t.level (now_of start entries) ∷ []))
 
-    by_conflict : (found : Option FirstUse) → first_use (tables_of script) begin (drop begin changed) used ≡ found → Follows (judged (tables_of script) (seen.at (now_of start entries)) (now_of start entries) ops found)
-    by_conflict None clear kept = by_its_key (first_broken (tables_of script) (apply_all (seen.at (now_of start entries)) ops).tables) refl clear kept
+    by_conflict : (found : Option FirstUse) → first_use (script_tables script) begin (drop begin changed) used ≡ found → Follows (judged (script_tables script) (seen.at (now_of start entries)) (now_of start entries) ops found)
+    by_conflict None clear kept = by_its_key (first_broken (script_tables script) (apply_all (seen.at (now_of start entries)) ops).tables) refl clear kept
     by_conflict (Some found) is kept = told_conflict found.position found.item (let w = (conflict found is).within in omega (arith, w)) (conflict found is) kept
 
 -- whatever is decided is right
-pub decides : (script : Script) (start : Start) (entries : List EntryLine) (changed : List (List Change)) (seen seen' : Seen) (name : List ℕ) (t : Transaction) (begin : ℕ) (uses : List GenidItem) (ranges : List Interval) (ops : List RowOp) →
+pub decides : (script : Script) (start : Start) (entries : List EntryLine) (changed : List (List Change)) (seen seen' : SeenRows) (name : List ℕ) (t : Transaction) (begin : ℕ) (uses : List GenidItem) (ranges : List Interval) (ops : List RowOp) →
     Commits script start entries changed seen name t begin uses ranges ops →
-    IsKept (now_of start entries) seen seen' (added_by (decision (tables_of script) changed (seen.at (now_of start entries)) begin (now_of start entries) (used_by t.level ops uses ranges) ops) ops) →
-    Decided script start entries changed seen seen' name t begin uses ranges ops (decision (tables_of script) changed (seen.at (now_of start entries)) begin (now_of start entries) (used_by t.level ops uses ranges) ops)
-    (added_by (decision (tables_of script) changed (seen.at (now_of start entries)) begin (now_of start entries) (used_by t.level ops uses ranges) ops) ops)
+    IsKept (now_of start entries) seen seen' (added_by (decision (script_tables script) changed (seen.at (now_of start entries)) begin (now_of start entries) (used_by t.level ops uses ranges) ops) ops) →
+    Decided script start entries changed seen seen' name t begin uses ranges ops (decision (script_tables script) changed (seen.at (now_of start entries)) begin (now_of start entries) (used_by t.level ops uses ranges) ops)
+    (added_by (decision (script_tables script) changed (seen.at (now_of start entries)) begin (now_of start entries) (used_by t.level ops uses ranges) ops) ops)
 decides script start entries changed seen seen' name t begin uses ranges [] c kept =
     nothing_added script start entries changed seen seen' name t begin uses ranges [] (reply.Committed begin) c.stored kept tt refl (refl, c.within, (let w = c.within in omega (arith, w)))
 decides script start entries changed seen seen' name t begin uses ranges (op ∷ more) c kept =
-    by_conflict script start entries changed seen seen' name t begin uses ranges op more c (first_use (tables_of script) begin (drop begin changed) (used_by t.level (op ∷ more) uses ranges)) refl kept
+    by_conflict script start entries changed seen seen' name t begin uses ranges op more c (first_use (script_tables script) begin (drop begin changed) (used_by t.level (op ∷ more) uses ranges)) refl kept

@@ -6,7 +6,7 @@ use Rattle.cdb_values.specs.declared.items.GenidItem.{GenidItem}
 use Rattle.cdb_values.specs.declared.items.Interval.{Interval}
 use Rattle.cdb_values.specs.declared.rows.Change.{Change}
 use Rattle.cdb_values.specs.declared.rows.RowOp.{RowOp}
-use Rattle.script_form.specs.CanRun.{tables_of}
+use Rattle.script_form.specs.CanRun.{script_tables}
 use Rattle.script_form.specs.declared.scripts.Script.{Script}
 use Rattle.session_language.specs.Language.{alone, Kind, BeginText, CommitText, RollbackText, LevelText, OtherText}
 use Rattle.session_language.proofs.AnswerLaws.{replies_more}
@@ -22,10 +22,10 @@ use Rattle.script_play.specs.Basis.{from_start}
 use Rattle.session_turns.specs.Doing.{SessionAt, Doing}
 use Rattle.session_turns.specs.Doing as doing
 use Rattle.script_play.specs.Down.{turn_down}
-use Rattle.session_turns.specs.Seen.{Seen}
+use Rattle.session_turns.specs.Seen.{SeenRows}
 use Rattle.script_play.specs.SoFar.{Standing}
 use Rattle.script_play.specs.Start.{Start, base}
-use Rattle.session_turns.specs.Step.{Turned, state, turned}
+use Rattle.session_turns.specs.Step.{Turned, state, told_turn}
 use Rattle.script_play.proofs.StandingLemmas.{idle_after, in_transaction}
 use Rattle.script_play.proofs.TurnLemmas.{Comes, Turns, idle_lines, piece, turns}
 
@@ -37,11 +37,11 @@ begins_so begin rs mine is = λ none. some (sym is ∙ none)
     some bad = cc
 
 -- where the session stands behind the line
-pub record DownStands (script : Script) (start : Start) (entries : List EntryLine) (seen : Seen) (name : List ℕ) (after : Place) (lines : List Numbered) (told : ℕ) (t : Turned) : Type 0 where
+pub record DownStands (script : Script) (start : Start) (entries : List EntryLine) (seen : SeenRows) (name : List ℕ) (after : Place) (lines : List Numbered) (told : ℕ) (t : Turned) : Type 0 where
   pub stands : Standing script start entries seen.next name after (lines ++ numbered t.number t.replies) t.after
   pub number : t.number ≡ told
 
-module _ (script : Script) (start : Start) (entries : List EntryLine) (changed : List (List Change)) (seen : Seen) (name : List ℕ) (p : Place) (text : List ℕ) (lines : List Numbered) where
+module _ (script : Script) (start : Start) (entries : List EntryLine) (changed : List (List Change)) (seen : SeenRows) (name : List ℕ) (p : Place) (text : List ℕ) (lines : List Numbered) where
   abbrev pub DownGoal : Place → ℕ → Turned → Type 0
   DownGoal after told t = DownStands script start entries seen name after lines told t
 
@@ -62,20 +62,20 @@ module _ (script : Script) (start : Start) (entries : List EntryLine) (changed :
       is_cause = refl;
       may = begins_so begin _ c.mine c.doing.says;
       front = c.mine;
-      rest = (sql_language.answer (tables_of script) (rows_at (from_start script start) entries begin).tables (alone sql_language (tables_of script) (rows_at (from_start script start) entries begin) texts).ops text).replies;
-      fits = ap (λ rs. rs ++ (sql_language.answer (tables_of script) (rows_at (from_start script start) entries begin).tables (alone sql_language (tables_of script) (rows_at (from_start script start) entries begin) texts).ops text).replies) c.doing.says
-          ∙ ap (λ rs. reply.Begin begin ∷ rs) (sym (replies_more sql_language (tables_of script) (rows_at (from_start script start) entries begin).tables [] texts text));
+      rest = (sql_language.answer (script_tables script) (rows_at (from_start script start) entries begin).tables (alone sql_language (script_tables script) (rows_at (from_start script start) entries begin) texts).ops text).replies;
+      fits = ap (λ rs. rs ++ (sql_language.answer (script_tables script) (rows_at (from_start script start) entries begin).tables (alone sql_language (script_tables script) (rows_at (from_start script start) entries begin) texts).ops text).replies) c.doing.says
+          ∙ ap (λ rs. reply.Begin begin ∷ rs) (sym (replies_more sql_language (script_tables script) (rows_at (from_start script start) entries begin).tables [] texts text));
       says = refl;
     }
 
-    goes_lost : DownGoal (with_open p (Some (texts ++ text ∷ [])) p.number) p.number (turned p.number (reply.Lost 1 1 ∷ []) (state p.number p.level doing.Aborted))
+    goes_lost : DownGoal (with_open p (Some (texts ++ text ∷ [])) p.number) p.number (told_turn p.number (reply.Lost 1 1 ∷ []) (state p.number p.level doing.Aborted))
     goes_lost = record {
       stands = in_transaction script start entries entries (inl refl) name p c.before c.past (texts ++ text ∷ []) (c.mine ++ reply.Lost 1 1 ∷ []) (lines ++ numbered p.number (reply.Lost 1 1 ∷ [])) seen.next p.number doing.Aborted
           lost_more (piece lines c.before p.number c.mine (reply.Lost 1 1 ∷ []) c.is);
       number = refl;
     }
 
-    pub ends_lost : (end : End) → DownGoal (closed p texts end) p.number (turned p.number (reply.Lost 1 1 ∷ []) (state p.number p.level doing.No))
+    pub ends_lost : (end : End) → DownGoal (closed p texts end) p.number (told_turn p.number (reply.Lost 1 1 ∷ []) (state p.number p.level doing.No))
     ends_lost end = record {
       stands = idle_after script start entries entries (inl refl) name p c.before c.past (Does (transaction p.number texts p.level end)) (c.mine ++ reply.Lost 1 1 ∷ []) (lines ++ numbered p.number (reply.Lost 1 1 ∷ [])) seen.next p.number p.level
           (inr (record {
@@ -96,7 +96,7 @@ module _ (script : Script) (start : Start) (entries : List EntryLine) (changed :
       number = refl;
     }
 
-  begin_few : (c : Comes script start entries changed seen name p None doing.No text BeginText lines) → DownGoal (with_open p (Some []) (p.number + 1)) (p.number + 1) (turned (p.number + 1) (reply.NoMajority 0 1 ∷ []) (state (p.number + 1) p.level doing.Aborted))
+  begin_few : (c : Comes script start entries changed seen name p None doing.No text BeginText lines) → DownGoal (with_open p (Some []) (p.number + 1)) (p.number + 1) (told_turn (p.number + 1) (reply.NoMajority 0 1 ∷ []) (state (p.number + 1) p.level doing.Aborted))
   begin_few c = record {
     stands = in_transaction script start entries entries (inl refl) name p c.before c.past [] (reply.NoMajority 0 1 ∷ []) (lines ++ numbered (p.number + 1) (reply.NoMajority 0 1 ∷ [])) seen.next (p.number + 1) doing.Aborted
         (none_begun [] (p.number + 1) Nowhere)
@@ -104,7 +104,7 @@ module _ (script : Script) (start : Start) (entries : List EntryLine) (changed :
     number = refl;
   }
 
-  own_few : (c : Comes script start entries changed seen name p None doing.No text OtherText lines) → DownGoal (with_own_line p text) (p.number + 1) (turned (p.number + 1) (reply.NoMajority 0 1 ∷ []) (state (p.number + 1) p.level doing.No))
+  own_few : (c : Comes script start entries changed seen name p None doing.No text OtherText lines) → DownGoal (with_own_line p text) (p.number + 1) (told_turn (p.number + 1) (reply.NoMajority 0 1 ∷ []) (state (p.number + 1) p.level doing.No))
   own_few c = record {
     stands = idle_after script start entries entries (inl refl) name p c.before c.past (Does (transaction (p.number + 1) (text ∷ []) p.level WithItsLine)) (reply.NoMajority 0 1 ∷ []) (lines ++ numbered (p.number + 1) (reply.NoMajority 0 1 ∷ [])) seen.next (p.number + 1) p.level
         (inr (none_begun (text ∷ []) (p.number + 1) WithItsLine))
@@ -113,7 +113,7 @@ module _ (script : Script) (start : Start) (entries : List EntryLine) (changed :
   }
 
   -- a line that does what it does on a node that is up, and adds nothing
-  as_up : (after : Place) (told number : ℕ) (own : Bool) (replies : List Reply) (at : SessionAt) → Turns script start entries (entries ++ []) (changed ++ []) seen seen name after lines told own (turned number replies at) → DownGoal after told (turned number replies at)
+  as_up : (after : Place) (told number : ℕ) (own : Bool) (replies : List Reply) (at : SessionAt) → Turns script start entries (entries ++ []) (changed ++ []) seen seen name after lines told own (told_turn number replies at) → DownGoal after told (told_turn number replies at)
   as_up after told number own replies at turn = record {
     stands = subst (λ (es : List EntryLine). Standing script start es seen.next name after (lines ++ numbered number replies) at) (append-nil entries) turn.stands;
     number = turn.number;

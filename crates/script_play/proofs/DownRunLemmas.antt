@@ -6,7 +6,7 @@ use Rattle.std.specs.List.{slice_get}
 use Rattle.std.specs.Str.{bytes_eq}
 use Rattle.cdb_values.specs.declared.rows.Level.{Level}
 use Rattle.cdb_values.specs.declared.rows.StatementError.TheVariants.{State}
-use Rattle.script_form.specs.CanRun.{CanRun, IsSaid as IsSaidOf}
+use Rattle.script_form.specs.CanRun.{CanRun, IsDeclaredText}
 use Rattle.script_form.specs.declared.scripts.Act.{Act}
 use Rattle.script_form.specs.declared.scripts.Act.TheVariants.{Say}
 use Rattle.script_form.specs.declared.scripts.BodyLine.{BodyLine}
@@ -21,7 +21,7 @@ use Rattle.report_laws.specs.Nodes.{downs, is_up, are_few, BeginsDown}
 use Rattle.report_laws.specs.Places.{HasItsPlace}
 use Rattle.report_laws.specs.Play.{number_by, opened_behind, opening, was_cut, InPlayOrder, InTurns, IsTurnOf}
 use Rattle.report_laws.specs.Told.{Along, Numbered, IsCut, IsTold, alone_at, lines_of, numbered, told}
-use Rattle.report_laws.specs.Work.{Transaction, Item, Does, Lone, Place, End, ByCommit, ByRollback, WithItsLine, Nowhere, items_at, next_by, next_place, number_of, open_item, place_after, transaction, with_open, work, start as place_first}
+use Rattle.report_laws.specs.Work.{Transaction, WorkItem, Does, Lone, Place, End, ByCommit, ByRollback, WithItsLine, Nowhere, items_at, next_by, next_place, number_of, open_item, place_after, transaction, with_open, work, start as place_first}
 use Rattle.report_laws.proofs.DownLaws.{none_go_down}
 use Rattle.report_laws.proofs.EntryToldLaws.{told_stands}
 use Rattle.report_laws.proofs.LineLaws.{in_turns_more}
@@ -70,11 +70,11 @@ none_begun script origin t = record {
 
 module _ (script : Script) (origin : Origin) (name text : List ℕ) (p : Place) (lines before : List Numbered) (mine : List Reply)
     (is : lines ≡ before ++ numbered p.number mine) (past : Along (IsTold (from_origin script origin) (view_of (from_origin script origin) []) name) p.over before) where
-  abbrev pub IsToldOf : Item → List Reply → Type 0
+  abbrev pub IsToldOf : WorkItem → List Reply → Type 0
   IsToldOf item replies = IsTold (from_origin script origin) (view_of (from_origin script origin) []) name item replies
 
   -- the session did something more, and is in no transaction
-  goes_idle : (item : Item) (replies : List Reply) (number : ℕ) (level : Level) (all : List Numbered) → IsToldOf item replies → all ≡ before ++ numbered (number_of item) replies →
+  goes_idle : (item : WorkItem) (replies : List Reply) (number : ℕ) (level : Level) (all : List Numbered) → IsToldOf item replies → all ≡ before ++ numbered (number_of item) replies →
       StandingDown (from_origin script origin) name (record { over = p.over ++ item ∷ []; number = number; level = level; pending = None }) all (state number level doing.No)
   goes_idle item replies number level all told_so says = record {
     before = before ++ numbered (number_of item) replies;
@@ -281,7 +281,7 @@ went_down script left l lines lines' states name text at x after before is_act f
 
 -- the session of a line is one of the script's
 pub is_found : (script : Script) (left : List BodyLine) (l : BodyLine) (lines : List Line) (states : List SessionAt) (name text : List ℕ) → IsBeforeDown script (l ∷ left) lines states → l.act ≡ Say name text → session_at name script.sessions ≡ None → ⊥
-is_found script left l lines states name text before is_act none = declared 0 name script.sessions (subst (λ (a : Act). IsSaidOf script.sessions a) is_act before.said.0).0 none
+is_found script left l lines states name text before is_act none = declared 0 name script.sessions (subst (λ (a : Act). IsDeclaredText script.sessions a) is_act before.said.0).0 none
 
 pub is_inside : (script : Script) (left : List BodyLine) (l : BodyLine) (lines : List Line) (states : List SessionAt) (name : List ℕ) (at : ℕ) → IsBeforeDown script (l ∷ left) lines states → session_at name script.sessions ≡ Some at → at < length states
 is_inside script left l lines states name at before found = let w = within 0 name script.sessions at found in let same = before.same in omega (arith, w, same)

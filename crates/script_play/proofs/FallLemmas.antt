@@ -29,7 +29,7 @@ use Rattle.report_text.specs.declared.reports.Line.{Line}
 use Rattle.report_text.specs.declared.reports.Line.TheVariants as line
 use Rattle.cdb_values.specs.declared.replies.Reply.{Reply}
 use Rattle.cdb_values.specs.declared.replies.Reply.TheVariants as reply
-use Rattle.script_form.specs.CanRun.{CanRun, tables_of}
+use Rattle.script_form.specs.CanRun.{CanRun, script_tables}
 use Rattle.script_form.specs.declared.scripts.Script.{Script}
 use Rattle.session_language.specs.Answers.{ArePlain}
 use Rattle.session_language.specs.Each.{EachAfter, StandsIn}
@@ -40,7 +40,7 @@ use Rattle.script_play.specs.Basis.{from_start}
 use Rattle.session_turns.specs.Doing.{Doing, SessionAt}
 use Rattle.session_turns.specs.Doing as doing
 use Rattle.script_play.specs.Down.{HasOutcome, down_line, fallen_lines}
-use Rattle.session_turns.specs.Seen.{Seen}
+use Rattle.session_turns.specs.Seen.{SeenRows}
 use Rattle.script_play.specs.SoFar.{IsDown, IsGone, Standing, now_of, state_of}
 use Rattle.script_play.specs.Start.{Start, base}
 use Rattle.session_turns.specs.Step.{Turned, answer_at, committed, outcome, own_line, state, turn_by}
@@ -164,13 +164,13 @@ module _ (script : Script) (start : Start) (entries : List EntryLine) (lines : L
   }
 
 -- a line that commits, at whose entry the node goes down
-pub record Falls (script : Script) (start : Start) (entries : List EntryLine) (seen : Seen) (lines : List Line) (name : List ℕ) (after : Place) (number : ℕ) (k : Kind) (pending : Option (List (List ℕ))) (t : Turned) (front : List Reply) : Type 0 where
+pub record Falls (script : Script) (start : Start) (entries : List EntryLine) (seen : SeenRows) (lines : List Line) (name : List ℕ) (after : Place) (number : ℕ) (k : Kind) (pending : Option (List (List ℕ))) (t : Turned) (front : List Reply) : Type 0 where
   pub told_so : IsToldSo script (from_start script start).origin (now_of start entries) lines name number k pending (fallen_lines name t.number front)
   pub stands : Standing script start entries seen.next name after (told name lines ++ told name (fallen_lines name t.number front)) t.after
   pub down : (states : List SessionAt) → ((m : List ℕ) → IsGone (state_of m script.sessions states).doing (told m (lines_of name t.number (reply.Lost 1 1 ∷ [])))) → IsDown script (lines ++ fallen_lines name t.number front) states
   pub idle : t.after.doing ≡ doing.No
 
-module _ (script : Script) (start : Start) (entries : List EntryLine) (changed : List (List Change)) (seen : Seen) (name : List ℕ) (p : Place) (text : List ℕ) (lines : List Line) (can : CanRun script) (unhurt : downs lines ≡ 0)
+module _ (script : Script) (start : Start) (entries : List EntryLine) (changed : List (List Change)) (seen : SeenRows) (name : List ℕ) (p : Place) (text : List ℕ) (lines : List Line) (can : CanRun script) (unhurt : downs lines ≡ 0)
     (names : NameUpTo (now_of start entries) lines) (places : EachAfter (HasItsPlace script) [] lines) where
   abbrev pub now : ℕ
   now = now_of start entries
@@ -195,10 +195,10 @@ module _ (script : Script) (start : Start) (entries : List EntryLine) (changed :
   }
     where
       plain : ArePlain own_answer.replies
-      plain = sql_is_answered.plain (tables_of script) (seen.at now).tables [] text
+      plain = sql_is_answered.plain (script_tables script) (seen.at now).tables [] text
 
       closed_by : are_up_to (is_last_of false) own_answer.replies ≡ true
-      closed_by = sql_is_answered.closed (tables_of script) (seen.at now).tables [] text
+      closed_by = sql_is_answered.closed (script_tables script) (seen.at now).tables [] text
 
       quiet : list_any is_outcome own_answer.replies ≡ false
       quiet = none_any is_outcome own_answer.replies (plain_all_quiet own_answer.replies plain)

@@ -21,7 +21,7 @@ use Rattle.report_text.specs.declared.reports.Line.TheVariants as line
 use Rattle.cdb_values.specs.declared.replies.Reply.{Reply}
 use Rattle.cdb_values.specs.declared.replies.Reply.TheVariants as reply
 use Rattle.report_text.specs.declared.reports.Report.{Report}
-use Rattle.script_form.specs.CanRun.{tables_of}
+use Rattle.script_form.specs.CanRun.{script_tables}
 use Rattle.script_form.specs.declared.scripts.Act.TheVariants.{Say}
 use Rattle.script_form.specs.declared.scripts.BodyLine.{BodyLine}
 use Rattle.script_form.specs.declared.scripts.Script.{Script}
@@ -39,8 +39,8 @@ use Rattle.script_play.specs.Played.{IsFurther}
 use Rattle.script_play.specs.Run.{run_of}
 use Rattle.script_play.specs.RunViews.{seen_in, world, HasFurther, IsBeforeLine, IsFurtherOn, WouldBeDone}
 use Rattle.session_turns.specs.Views.{state_in}
-use Rattle.session_turns.specs.Seen.{Seen}
-use Rattle.script_play.specs.SoFar.{now_of, session_at, IsBefore, Stored}
+use Rattle.session_turns.specs.Seen.{SeenRows}
+use Rattle.script_play.specs.SoFar.{now_of, session_at, IsBefore, IsStoredSoFar}
 use Rattle.script_play.specs.Start.{Start}
 use Rattle.session_turns.specs.Step.{Turned, turn, world_of, World}
 use Rattle.script_play.specs.Step.{entries_added, IsTurned}
@@ -99,7 +99,7 @@ begun_before basis view lines name number begin position front outcome c = told_
     go (r ∷ replies) is = within_front c.before (numbered number (replies ++ c.outcome ∷ []) ++ c.after) (told name (lines ++ lines_of name number front)) (number, reply.Begin begin) (number, r) (number, outcome) (sym told_is ∙ is)
 
 -- a line on a node that is down leaves the log as it is
-further_down : (script : Script) (start : Start) (generation : ℕ) (lines lines' : List Line) (entries entries' : List EntryLine) (log log' : Logged) (w : World) (name : List ℕ) (x : SessionAt) (text : List ℕ) (after : SessionAt) (changed' : List (List Change)) (seen' : Seen) →
+further_down : (script : Script) (start : Start) (generation : ℕ) (lines lines' : List Line) (entries entries' : List EntryLine) (log log' : Logged) (w : World) (name : List ℕ) (x : SessionAt) (text : List ℕ) (after : SessionAt) (changed' : List (List Change)) (seen' : SeenRows) →
     IsDoneDown w name x text after lines lines' entries entries' changed' seen' → log' ≡ log → HasFurther script start generation (run_of lines entries log) → HasFurther script start generation (run_of lines' entries' log')
 further_down script start generation lines lines' entries entries' log log' w name x text after changed' seen' run same was =
     subst (λ (l : Logged). HasFurther script start generation (run_of lines' entries' l)) (sym same)
@@ -116,7 +116,7 @@ module _ (script : Script) (start : Start) (generation : ℕ) (left : List BodyL
     (before : IsBefore script start false (l ∷ left) lines entries (changed_in log.entries) (seen_in start log.entries) states) (told : AreTold start.before generation entries log.entries)
     (is_act : l.act ≡ Say name text) (found : session_at name script.sessions ≡ Some at) (has : slice_get states at ≡ Some x) where
   abbrev turned_there : ℕ → Turned
-  turned_there n = turn (world_of (tables_of script) (seen_in start log.entries) (changed_in log.entries) n) x text
+  turned_there n = turn (world_of (script_tables script) (seen_in start log.entries) (changed_in log.entries) n) x text
 
   abbrev t : Turned
   t = turned_there (length log.entries)
@@ -127,25 +127,25 @@ module _ (script : Script) (start : Start) (generation : ℕ) (left : List BodyL
   abbrev line_there : EntryLine
   line_there = Commit (length log.entries + 1) name t.number t.begin t.after.level
 
-  added_are : WouldBeDone start generation (tables_of script) name t (run_of lines entries log) (run_of lines' entries' log') → entries_added name (length log.entries) t ≡ line_there ∷ []
+  added_are : WouldBeDone start generation (script_tables script) name t (run_of lines entries log) (run_of lines' entries' log') → entries_added name (length log.entries) t ≡ line_there ∷ []
   added_are would = ap (λ (all : List (List RowOp)). map (λ ops. Commit (length log.entries + 1) name t.number t.begin t.after.level) all) would.commits
 
   -- the run as it would be behind the line
-  goes_on : WouldBeDone start generation (tables_of script) name t (run_of lines entries log) (run_of lines' entries' log') →
+  goes_on : WouldBeDone start generation (script_tables script) name t (run_of lines entries log) (run_of lines' entries' log') →
       IsBefore script start false left (lines ++ lines_of name t.number t.replies) (entries ++ entries_added name (length log.entries) t) (changed_in log'.entries) (seen_in start log'.entries) (slice_set states at (turned_there (now_of start entries)).after)
   goes_on would =
       taken_on script start false false left l lines (lines ++ lines_of name t.number t.replies) entries (entries ++ entries_added name (length log.entries) t) (changed_in log.entries) (changed_in log'.entries) (seen_in start log.entries) (seen_in start log'.entries)
       states name text at x (turned_there (now_of start entries)).after before is_act found has (inl (subst (λ (n : ℕ). IsTurnedAt n) count would.turned, refl))
     where
       IsTurnedAt : ℕ → Type 0
-      IsTurnedAt n = IsTurned (world_of (tables_of script) (seen_in start log.entries) (changed_in log.entries) n) name (turned_there n) lines (lines ++ lines_of name t.number t.replies)
+      IsTurnedAt n = IsTurned (world_of (script_tables script) (seen_in start log.entries) (changed_in log.entries) n) name (turned_there n) lines (lines ++ lines_of name t.number t.replies)
           entries (entries ++ entries_added name (length log.entries) t) (changed_in log'.entries) (seen_in start log'.entries)
 
-  stored_with : (would : WouldBeDone start generation (tables_of script) name t (run_of lines entries log) (run_of lines' entries' log')) → Stored script start (entries ++ line_there ∷ []) (changed_in log'.entries) (seen_in start log'.entries)
-  stored_with would = subst (λ (es : List EntryLine). Stored script start (entries ++ es) (changed_in log'.entries) (seen_in start log'.entries)) (added_are would) (goes_on would).so_far.stored
+  stored_with : (would : WouldBeDone start generation (script_tables script) name t (run_of lines entries log) (run_of lines' entries' log')) → IsStoredSoFar script start (entries ++ line_there ∷ []) (changed_in log'.entries) (seen_in start log'.entries)
+  stored_with would = subst (λ (es : List EntryLine). IsStoredSoFar script start (entries ++ es) (changed_in log'.entries) (seen_in start log'.entries)) (added_are would) (goes_on would).so_far.stored
 
   -- the begin of the transaction stands before the outcome that it would be told
-  begun_there : WouldBeDone start generation (tables_of script) name t (run_of lines entries log) (run_of lines' entries' log') → (out : HasOutcome t.replies) →
+  begun_there : WouldBeDone start generation (script_tables script) name t (run_of lines entries log) (run_of lines' entries' log') → (out : HasOutcome t.replies) →
       StandsIn (lines ++ lines_of name t.number out.front) (line.Session name t.number (reply.Begin t.begin))
   begun_there would out =
       begun_before (from_start script start) (view_of (from_start script start) (entries ++ line_there ∷ [])) lines name t.number t.begin (length log.entries + 1) out.front out.outcome
@@ -154,8 +154,8 @@ module _ (script : Script) (start : Start) (generation : ℕ) (left : List BodyL
       (subst (λ (es : List EntryLine). AllByRecursion (IsEntryTold (from_start script start) (view_of (from_start script start) (entries ++ es)) (lines ++ lines_of name t.number t.replies)) (entries ++ es)) (added_are would)
       (goes_on would).so_far.answered)).0)
 
-  further_fallen : IsFallen (world start (tables_of script) log.entries) name t after lines lines' entries entries' (changed_in (history_of log')) (seen_in start (history_of log')) →
-      WouldBeDone start generation (tables_of script) name t (run_of lines entries log) (run_of lines' entries' log') → HasFurther script start generation (run_of lines' entries' log')
+  further_fallen : IsFallen (world start (script_tables script) log.entries) name t after lines lines' entries entries' (changed_in (history_of log')) (seen_in start (history_of log')) →
+      WouldBeDone start generation (script_tables script) name t (run_of lines entries log) (run_of lines' entries' log') → HasFurther script start generation (run_of lines' entries' log')
   further_fallen fell would = subst (λ (es : List EntryLine). HasFurther script start generation (run_of lines' es log')) (sym fell.still.entries_are) (record {
     line = line_there;
     lost = record {
@@ -179,26 +179,26 @@ module _ (script : Script) (start : Start) (generation : ℕ) (left : List BodyL
 -- behind a line that was taken
 pub further_there : (script : Script) (start : Start) (generation had : ℕ) (left : List BodyLine) (l : BodyLine) (lines lines' : List Line) (entries entries' : List EntryLine) (log log' : Logged) (states : List SessionState) (others : List SessionAt) (name text : List ℕ) (at : ℕ) (x after : SessionAt) →
     IsBeforeLine script start generation had (l ∷ left) (run_of lines entries log) states → others ≡ map state_in states → l.act ≡ Say name text → session_at name script.sessions ≡ Some at → slice_get others at ≡ Some x →
-    IsTakenOn log.failed log'.failed (world start (tables_of script) (history_of log)) name x text after lines lines' entries entries' (changed_in (history_of log')) (seen_in start (history_of log')) →
-    IsFurtherOn log.failed log'.failed start generation (tables_of script) name (turn (world start (tables_of script) (history_of log)) x text) (run_of lines entries log) (run_of lines' entries' log') →
+    IsTakenOn log.failed log'.failed (world start (script_tables script) (history_of log)) name x text after lines lines' entries entries' (changed_in (history_of log')) (seen_in start (history_of log')) →
+    IsFurtherOn log.failed log'.failed start generation (script_tables script) name (turn (world start (script_tables script) (history_of log)) x text) (run_of lines entries log) (run_of lines' entries' log') →
     log'.failed ≡ true → HasFurther script start generation (run_of lines' entries' log')
 further_there script start generation had left l lines lines' entries entries' log log' states others name text at x after before same is_act found has taken further down = go log.failed log'.failed refl down taken further
   where
     go : (b c : Bool) → log.failed ≡ b → c ≡ true →
-        IsTakenOn b c (world start (tables_of script) (history_of log)) name x text after lines lines' entries entries' (changed_in (history_of log')) (seen_in start (history_of log')) →
-        IsFurtherOn b c start generation (tables_of script) name (turn (world start (tables_of script) (history_of log)) x text) (run_of lines entries log) (run_of lines' entries' log') →
+        IsTakenOn b c (world start (script_tables script) (history_of log)) name x text after lines lines' entries entries' (changed_in (history_of log')) (seen_in start (history_of log')) →
+        IsFurtherOn b c start generation (script_tables script) name (turn (world start (script_tables script) (history_of log)) x text) (run_of lines entries log) (run_of lines' entries' log') →
         HasFurther script start generation (run_of lines' entries' log')
     go false false up is taken further = absurd cc
     go true false up is taken further = absurd cc
     go true true up is taken further =
-        further_down script start generation lines lines' entries entries' log log' (world start (tables_of script) (history_of log)) name x text after (changed_in (history_of log')) (seen_in start (history_of log')) taken further (before.further up)
+        further_down script start generation lines lines' entries entries' log log' (world start (script_tables script) (history_of log)) name x text after (changed_in (history_of log')) (seen_in start (history_of log')) taken further (before.further up)
     go false true up is taken further =
         further_fallen script start generation left l lines lines' entries entries' log log' others name text at x after
         (subst (λ (ss : List SessionAt). IsBefore script start false (l ∷ left) lines entries (changed_in log.entries) (seen_in start log.entries) ss) (sym same)
         (subst (λ (b : Bool). IsBefore script start b (l ∷ left) lines entries (changed_in (history_by b log.entries)) (seen_in start (history_by b log.entries)) (map state_in states)) up before.before))
         (subst (λ (b : Bool). AreTold start.before generation entries (history_by b log.entries)) up before.told) is_act found has
-        (subst (λ (b : Bool). IsFallen (world start (tables_of script) (history_by b log.entries)) name (turn (world start (tables_of script) (history_by b log.entries)) x text) after lines lines' entries entries' (changed_in (history_of log')) (seen_in start (history_of log'))) up taken)
-        (subst (λ (b : Bool). WouldBeDone start generation (tables_of script) name (turn (world start (tables_of script) (history_by b log.entries)) x text) (run_of lines entries log) (run_of lines' entries' log')) up further)
+        (subst (λ (b : Bool). IsFallen (world start (script_tables script) (history_by b log.entries)) name (turn (world start (script_tables script) (history_by b log.entries)) x text) after lines lines' entries entries' (changed_in (history_of log')) (seen_in start (history_of log'))) up taken)
+        (subst (λ (b : Bool). WouldBeDone start generation (script_tables script) name (turn (world start (script_tables script) (history_by b log.entries)) x text) (run_of lines entries log) (run_of lines' entries' log')) up further)
 
 -- what holds of each member behind those before it holds of the last
 each_last : {A : Type 0} (P : List A → A → Type 0) (before xs : List A) (x : A) → EachAfter P before (xs ++ x ∷ []) → P (before ++ xs) x

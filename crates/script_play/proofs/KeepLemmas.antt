@@ -14,7 +14,7 @@ use Rattle.report_laws.proofs.WorkLaws.{AreNumbered, are_numbered}
 use Rattle.report_text.specs.declared.reports.EntryLine.{EntryLine}
 use Rattle.report_text.specs.declared.reports.Line.{Line}
 use Rattle.cdb_values.specs.declared.replies.Reply.TheVariants as reply
-use Rattle.script_form.specs.CanRun.{CanRun, IsDeclared, IsSaid as IsSaidBy, tables_of}
+use Rattle.script_form.specs.CanRun.{CanRun, IsDeclared, IsDeclaredText, script_tables}
 use Rattle.script_form.specs.declared.scripts.Act.{Act}
 use Rattle.script_form.specs.declared.scripts.Act.TheVariants.{Say}
 use Rattle.script_form.specs.declared.scripts.BodyLine.{BodyLine}
@@ -28,7 +28,7 @@ use Rattle.session_turns.specs.Doing as doing
 use Rattle.script_play.specs.Down.{HasOutcome, down_line, fallen_lines, turn_down}
 use Rattle.session_turns.specs.Away.{behind_cut}
 use Rattle.script_play.specs.Falls.{IsDoneDown, IsFallen, IsTakenOn}
-use Rattle.session_turns.specs.Seen.{Seen}
+use Rattle.session_turns.specs.Seen.{SeenRows}
 use Rattle.script_play.specs.SoFar.{IsBefore, IsDown, IsGone, SoFar, Standing, now_of, session_at, state_of}
 use Rattle.script_play.specs.Start.{Start}
 use Rattle.session_turns.specs.Step.{Turned, turn, turn_by, world_of}
@@ -76,7 +76,7 @@ shut_behind number level RollbackText doing.Aborted since = tt
 shut_behind number level (LevelText later) doing.Aborted since = tt
 shut_behind number level OtherText doing.Aborted since = tt
 
-module _ (script : Script) (start : Start) (done left : List BodyLine) (l : BodyLine) (lines : List Line) (entries : List EntryLine) (changed : List (List Change)) (seen : Seen) (states sites' : List SessionAt) (name text : List ℕ) (can : CanRun script)
+module _ (script : Script) (start : Start) (done left : List BodyLine) (l : BodyLine) (lines : List Line) (entries : List EntryLine) (changed : List (List Change)) (seen : SeenRows) (states sites' : List SessionAt) (name text : List ℕ) (can : CanRun script)
     (is_act : l.act ≡ Say name text) (is_said : IsDeclared name script.sessions × (is_utf8 text ≡ true)) (others : (m : List ℕ) → bytes_eq name m ≡ false → state_of m script.sessions sites' ≡ state_of m script.sessions states) where
   abbrev pub place : Place
   place = place_after sql_language name done
@@ -112,14 +112,14 @@ module _ (script : Script) (start : Start) (done left : List BodyLine) (l : Body
         (comes script start false done left l lines entries changed seen states name text was is_act (runs_askable script can) is_said.1) numbers.below numbers.begun))
 
     -- a line at whose entry the node goes down keeps the run so far
-    pub fallen_keeps : (after : SessionAt) (lines' : List Line) (entries' : List EntryLine) (changed' : List (List Change)) (seen' : Seen) →
+    pub fallen_keeps : (after : SessionAt) (lines' : List Line) (entries' : List EntryLine) (changed' : List (List Change)) (seen' : SeenRows) →
         IsFallen (world script start entries changed seen) name (turn (world script start entries changed seen) site text) after lines lines' entries entries' changed' seen' → state_of name script.sessions sites' ≡ after →
         SoFar script start true (done ++ l ∷ []) left lines' entries' changed' seen' sites'
     fallen_keeps after lines' entries' changed' seen' fall own =
         subst (λ (ls : List Line). SoFar script start true (done ++ l ∷ []) left ls entries' changed' seen' sites') (sym fall.lines_are)
         (subst (λ (es : List EntryLine). SoFar script start true (done ++ l ∷ []) left (lines ++ mine) es changed' seen' sites') (sym fall.still.entries_are)
         (subst (λ (ts : List (List Change)). SoFar script start true (done ++ l ∷ []) left (lines ++ mine) entries ts seen' sites') (sym fall.still.changed_are)
-        (subst (λ (a : Seen). SoFar script start true (done ++ l ∷ []) left (lines ++ mine) entries changed a sites') (sym fall.still.rows_are)
+        (subst (λ (a : SeenRows). SoFar script start true (done ++ l ∷ []) left (lines ++ mine) entries changed a sites') (sym fall.still.rows_are)
         (went script start false true done left l lines mine entries changed seen states sites' name text was is_act entries changed seen
         (adds_lines script start false true done left l lines mine entries changed seen states sites' name text was is_act adds) others))))
       where
@@ -175,14 +175,14 @@ module _ (script : Script) (start : Start) (done left : List BodyLine) (l : Body
         (stands_down script start entries changed seen name place text (told name lines) (kind_of_text text) place.pending site.doing comes_there))
 
     -- and so does a line on a node that is down
-    pub down_keeps : (after : SessionAt) (lines' : List Line) (entries' : List EntryLine) (changed' : List (List Change)) (seen' : Seen) →
+    pub down_keeps : (after : SessionAt) (lines' : List Line) (entries' : List EntryLine) (changed' : List (List Change)) (seen' : SeenRows) →
         IsDoneDown (world script start entries changed seen) name site text after lines lines' entries entries' changed' seen' → state_of name script.sessions sites' ≡ after →
         SoFar script start true (done ++ l ∷ []) left lines' entries' changed' seen' sites'
     down_keeps after lines' entries' changed' seen' run own =
         subst (λ (ls : List Line). SoFar script start true (done ++ l ∷ []) left ls entries' changed' seen' sites') (sym run.told.lines_are)
         (subst (λ (es : List EntryLine). SoFar script start true (done ++ l ∷ []) left (lines ++ mine) es changed' seen' sites') (sym run.still.entries_are)
         (subst (λ (ts : List (List Change)). SoFar script start true (done ++ l ∷ []) left (lines ++ mine) entries ts seen' sites') (sym run.still.changed_are)
-        (subst (λ (a : Seen). SoFar script start true (done ++ l ∷ []) left (lines ++ mine) entries changed a sites') (sym run.still.rows_are)
+        (subst (λ (a : SeenRows). SoFar script start true (done ++ l ∷ []) left (lines ++ mine) entries changed a sites') (sym run.still.rows_are)
         (went script start true true done left l lines mine entries changed seen states sites' name text was is_act entries changed seen
         (adds_lines script start true true done left l lines mine entries changed seen states sites' name text was is_act adds) others))))
       where
@@ -230,17 +230,17 @@ pub record IsBack (script : Script) (states : List SessionAt) (name text : List 
   pub own : state_of name script.sessions (slice_set states at after) ≡ after
   pub others : (m : List ℕ) → bytes_eq name m ≡ false → state_of m script.sessions (slice_set states at after) ≡ state_of m script.sessions states
 
-module _ (script : Script) (start : Start) (down : Bool) (left : List BodyLine) (l : BodyLine) (lines : List Line) (entries : List EntryLine) (changed : List (List Change)) (seen : Seen) (states : List SessionAt)
+module _ (script : Script) (start : Start) (down : Bool) (left : List BodyLine) (l : BodyLine) (lines : List Line) (entries : List EntryLine) (changed : List (List Change)) (seen : SeenRows) (states : List SessionAt)
     (before : IsBefore script start down (l ∷ left) lines entries changed seen states) where
   is_back : (name text : List ℕ) (at : ℕ) (x after : SessionAt) → l.act ≡ Say name text → session_at name script.sessions ≡ Some at → slice_get states at ≡ Some x → IsBack script states name text at x after
   is_back name text at x after is_act found has = record {
-    said = subst (λ (a : Act). IsSaidBy script.sessions a) is_act before.said.0;
+    said = subst (λ (a : Act). IsDeclaredText script.sessions a) is_act before.said.0;
     its = found_state 0 name script.sessions states at at x found (omega arith) has;
     own = set_state 0 name script.sessions states at at after found (omega arith) (let w = within 0 name script.sessions at found in let same = before.same in omega (arith, w, same));
     others = λ m differs. other_state 0 name m script.sessions states at at after found (omega arith) differs;
   }
 
-  put_back : (at : ℕ) (after : SessionAt) (down' : Bool) (lines' : List Line) (entries' : List EntryLine) (changed' : List (List Change)) (seen' : Seen) → SoFar script start down' (before.done ++ l ∷ []) left lines' entries' changed' seen' (slice_set states at after) →
+  put_back : (at : ℕ) (after : SessionAt) (down' : Bool) (lines' : List Line) (entries' : List EntryLine) (changed' : List (List Change)) (seen' : SeenRows) → SoFar script start down' (before.done ++ l ∷ []) left lines' entries' changed' seen' (slice_set states at after) →
       IsBefore script start down' left lines' entries' changed' seen' (slice_set states at after)
   put_back at after down' lines' entries' changed' seen' so_far = record {
     can_run = before.can_run;
@@ -251,9 +251,9 @@ module _ (script : Script) (start : Start) (down : Bool) (left : List BodyLine) 
   }
 
 -- a line that was taken keeps the run so far, wherever the node stands before it and behind it
-pub taken_on : (script : Script) (start : Start) (down down' : Bool) (left : List BodyLine) (l : BodyLine) (lines lines' : List Line) (entries entries' : List EntryLine) (changed changed' : List (List Change)) (seen seen' : Seen) (states : List SessionAt) (name text : List ℕ) (at : ℕ) (x after : SessionAt) →
+pub taken_on : (script : Script) (start : Start) (down down' : Bool) (left : List BodyLine) (l : BodyLine) (lines lines' : List Line) (entries entries' : List EntryLine) (changed changed' : List (List Change)) (seen seen' : SeenRows) (states : List SessionAt) (name text : List ℕ) (at : ℕ) (x after : SessionAt) →
     IsBefore script start down (l ∷ left) lines entries changed seen states → l.act ≡ Say name text → session_at name script.sessions ≡ Some at → slice_get states at ≡ Some x →
-    IsTakenOn down down' (world_of (tables_of script) seen changed (now_of start entries)) name x text after lines lines' entries entries' changed' seen' →
+    IsTakenOn down down' (world_of (script_tables script) seen changed (now_of start entries)) name x text after lines lines' entries entries' changed' seen' →
     IsBefore script start down' left lines' entries' changed' seen' (slice_set states at after)
 taken_on script start false false left l lines lines' entries entries' changed changed' seen seen' states name text at x after before is_act found has run =
     put_back script start false left l lines entries changed seen states before at after false lines' entries' changed' seen'

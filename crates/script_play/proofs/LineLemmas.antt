@@ -8,7 +8,7 @@ use Rattle.report_laws.specs.Told.{told}
 use Rattle.report_laws.specs.Work.{place_after}
 use Rattle.report_text.specs.declared.reports.EntryLine.{EntryLine}
 use Rattle.report_text.specs.declared.reports.Line.{Line}
-use Rattle.script_form.specs.CanRun.{tables_of}
+use Rattle.script_form.specs.CanRun.{script_tables}
 use Rattle.script_form.specs.declared.scripts.Act.TheVariants.{Say}
 use Rattle.script_form.specs.declared.scripts.BodyLine.{BodyLine}
 use Rattle.script_form.specs.declared.scripts.Script.{Script}
@@ -30,8 +30,8 @@ use Rattle.script_play.proofs.SiteLemmas.{Turn, found_state, map_get, map_length
 
 -- what is asked of a session's line, where the session is there
 pub record IsReadyLine (start : Start) (generation : ℕ) (script : Script) (name : List ℕ) (x : SessionState) (log : Logged) : Type 0 where
-  pub ready : IsReadyFor start (tables_of script) (history_of log)
-  pub to_go : IsReadyToGo start (tables_of script) (length (history_of log)) (history_of log) (doing_in x.doing)
+  pub ready : IsReadyFor start (script_tables script) (history_of log)
+  pub to_go : IsReadyToGo start (script_tables script) (length (history_of log)) (history_of log) (doing_in x.doing)
   pub over : AreOver generation name x (history_of log)
   pub own : IsOwn generation name x
   pub held : IsHeldBy log.failed generation log
@@ -66,8 +66,8 @@ module _ (script : Script) (start : Start) (generation had : ℕ) (left : List B
   -- and is ready for it
   pub ready_there : (at : ℕ) (x : SessionState) → session_at name script.sessions ≡ Some at → slice_get states at ≡ Some x → IsReadyLine start generation script name x log
   ready_there at x found has = record {
-    ready = subst (λ (n : ℕ). IsReady start (tables_of script) n (history_of log)) count its.ready;
-    to_go = subst (λ (n : ℕ). IsReadyToGo start (tables_of script) n (history_of log) (doing_in x.doing)) count (its.to_go at (state_in x) found (map_get state_in states at x has));
+    ready = subst (λ (n : ℕ). IsReady start (script_tables script) n (history_of log)) count its.ready;
+    to_go = subst (λ (n : ℕ). IsReadyToGo start (script_tables script) n (history_of log) (doing_in x.doing)) count (its.to_go at (state_in x) found (map_get state_in states at x has));
     over = over_there at x found has;
     own = own_there generation script.sessions states name at x before.own found has;
     held = before.held.held;
@@ -75,14 +75,14 @@ module _ (script : Script) (start : Start) (generation had : ℕ) (left : List B
 
   -- a line that was taken keeps the run
   pub taken_there : (at : ℕ) (x after : SessionState) (lines' : List Line) (entries' : List EntryLine) (log' : Logged) → session_at name script.sessions ≡ Some at → slice_get states at ≡ Some x →
-      IsTakenFrom start generation (tables_of script) name x text after (run_of lines entries log) (run_of lines' entries' log') → IsBeforeLine script start generation had left (run_of lines' entries' log') (slice_set states at after)
+      IsTakenFrom start generation (script_tables script) name x text after (run_of lines entries log) (run_of lines' entries' log') → IsBeforeLine script start generation had left (run_of lines' entries' log') (slice_set states at after)
   taken_there at x after lines' entries' log' found has run = record {
     before = subst (λ (ss : List SessionAt). IsBefore script start log'.failed left lines' entries' (changed_in (history_of log')) (seen_in start (history_of log')) ss) (sym (map_set state_in states at after))
         (taken_on script start log.failed log'.failed left line lines lines' entries entries' (changed_in (history_of log)) (changed_in (history_of log')) (seen_in start (history_of log)) (seen_in start (history_of log'))
         (map state_in states) name text at (state_in x) (state_in after) before.before is_act found (map_get state_in states at x has)
-        (subst (λ (n : ℕ). IsTakenOn log.failed log'.failed (world_of (tables_of script) (seen_in start (history_of log)) (changed_in (history_of log)) n) name (state_in x) text (state_in after) lines lines' entries entries' (changed_in (history_of log')) (seen_in start (history_of log')))
+        (subst (λ (n : ℕ). IsTakenOn log.failed log'.failed (world_of (script_tables script) (seen_in start (history_of log)) (changed_in (history_of log)) n) name (state_in x) text (state_in after) lines lines' entries entries' (changed_in (history_of log')) (seen_in start (history_of log')))
         before.logged.count run.taken));
-    logged = subst (λ (n : ℕ). IsLogged start (tables_of script) n (history_of log')) (told_count start.before generation entries' (history_of log') (run.told before.told)) run.logged;
+    logged = subst (λ (n : ℕ). IsLogged start (script_tables script) n (history_of log')) (told_count start.before generation entries' (history_of log') (run.told before.told)) run.logged;
     told = run.told before.told;
     own = own_after generation script.sessions states name at after before.own found run.own;
     earlier = before.earlier;

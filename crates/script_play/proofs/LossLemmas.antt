@@ -12,7 +12,7 @@ use Rattle.report_laws.specs.Nodes.{downs, up_from, is_up, up_count, are_few, fi
 use Rattle.report_laws.specs.Places.{HasItsCause, HasItsPlace, is_loss_by}
 use Rattle.report_laws.specs.Play.{is_begin_of, since_begin, was_cut, node_among}
 use Rattle.report_laws.specs.Told.{Along, Numbered, told, told_by, numbered, lines_of}
-use Rattle.report_laws.specs.Work.{Item, Does, Lone, number_of}
+use Rattle.report_laws.specs.Work.{WorkItem, Does, Lone, number_of}
 use Rattle.report_laws.proofs.AlongLaws.{AllOther}
 use Rattle.report_laws.proofs.NodesLaws.{downs_append, lost_needs_down, none_few, up_append, is_down_behind}
 use Rattle.report_laws.proofs.WorkLaws.{IsBelow}
@@ -185,15 +185,15 @@ pub plain_cut_none : (rs : List Reply) → ArePlain rs → AllByRecursion (λ r.
 plain_cut_none rs all = all_map IsPlain (λ r. cuts r ≡ false) plain_cuts_none rs all
 
 -- what is over has other numbers than a transaction that is not
-pub over_other : (bound n : ℕ) (items : List Item) → bound ≤ n → 1 ≤ n → AllByRecursion (IsBelow bound) items → AllOther n items
+pub over_other : (bound n : ℕ) (items : List WorkItem) → bound ≤ n → 1 ≤ n → AllByRecursion (IsBelow bound) items → AllOther n items
 over_other bound n items le first all = all_map (IsBelow bound) (λ item. (number_of item == n) ≡ false) other items all
   where
-    other : (item : Item) → IsBelow bound item → (number_of item == n) ≡ false
+    other : (item : WorkItem) → IsBelow bound item → (number_of item == n) ≡ false
     other (Does t) is = ne_eqb t.number n (λ same. let less : t.number < bound = is.1 in omega (arith, less, le, same))
     other (Lone answer) is = ne_eqb 0 n (λ same. omega (arith, first, same))
 
 -- so the lines of what is over do not cut that one short
-pub over_uncut : (P : Item → List Reply → Type 0) (n : ℕ) (items : List Item) (lines : List Numbered) → AllOther n items → Along P items lines → AllByRecursion (IsUncutUnder n) lines
+pub over_uncut : (P : WorkItem → List Reply → Type 0) (n : ℕ) (items : List WorkItem) (lines : List Numbered) → AllOther n items → Along P items lines → AllByRecursion (IsUncutUnder n) lines
 over_uncut P n [] lines all is = subst (λ (ls : List Numbered). AllByRecursion (IsUncutUnder n) ls) (sym is) tt
 over_uncut P n (item ∷ items) lines all (mine, others, splits, p, rest) =
     subst (λ (ls : List Numbered). AllByRecursion (IsUncutUnder n) ls) (sym splits)

@@ -24,15 +24,15 @@ use Rattle.session_language.proofs.EachLaws.{each_append, all_append, all_map}
 use Rattle.query_laws.specs.Alone.{sql_language}
 use Rattle.script_play.specs.Basis.{from_start}
 use Rattle.session_turns.specs.Doing.{SessionAt}
-use Rattle.session_turns.specs.Seen.{Seen}
-use Rattle.script_play.specs.SoFar.{now_of, state_of, IsAtNode, IsEnded, SoFar, Standing, Stored}
+use Rattle.session_turns.specs.Seen.{SeenRows}
+use Rattle.script_play.specs.SoFar.{now_of, state_of, IsAtNode, IsEnded, SoFar, Standing, IsStoredSoFar}
 use Rattle.script_play.specs.Start.{Start}
 use Rattle.script_play.proofs.ComesLemmas.{ended_later, same_itself, same_name}
 use Rattle.script_play.proofs.StandingLemmas.{Grows, grows_length, stands_on}
 
 -- what a line adds to the report, and to the history if it appends an entry
-pub record Adds (script : Script) (start : Start) (down' : Bool) (done : List BodyLine) (l : BodyLine) (lines mine : List Line) (entries entries' : List EntryLine) (changed' : List (List Change)) (seen seen' : Seen) (name text : List ℕ) (sites' : List SessionAt) : Type 0 where
-  pub stored : Stored script start entries' changed' seen'
+pub record Adds (script : Script) (start : Start) (down' : Bool) (done : List BodyLine) (l : BodyLine) (lines mine : List Line) (entries entries' : List EntryLine) (changed' : List (List Change)) (seen seen' : SeenRows) (name text : List ℕ) (sites' : List SessionAt) : Type 0 where
+  pub stored : IsStoredSoFar script start entries' changed' seen'
   pub grows : Grows entries entries'
   pub next : seen.next ≤ seen'.next
   pub stands : Standing script start entries' seen'.next name (next_place sql_language (place_after sql_language name done) text) (told name lines ++ told name mine) (state_of name script.sessions sites')
@@ -48,7 +48,7 @@ pub record Adds (script : Script) (start : Start) (down' : Bool) (done : List Bo
   pub node : IsAtNode down' script (lines ++ mine) sites'
 
 -- the same of a line that appends none
-pub record AddsLines (script : Script) (start : Start) (down' : Bool) (done : List BodyLine) (l : BodyLine) (lines mine : List Line) (entries : List EntryLine) (seen : Seen) (name text : List ℕ) (sites' : List SessionAt) : Type 0 where
+pub record AddsLines (script : Script) (start : Start) (down' : Bool) (done : List BodyLine) (l : BodyLine) (lines mine : List Line) (entries : List EntryLine) (seen : SeenRows) (name text : List ℕ) (sites' : List SessionAt) : Type 0 where
   pub stands : Standing script start entries seen.next name (next_place sql_language (place_after sql_language name done) text) (told name lines ++ told name mine) (state_of name script.sessions sites')
   pub others : (m : List ℕ) → bytes_eq name m ≡ false → told m mine ≡ []
   pub fresh : EachAfter (IsFreshLine (from_start script start).origin) lines mine
@@ -57,7 +57,7 @@ pub record AddsLines (script : Script) (start : Start) (down' : Bool) (done : Li
   pub turn : IsTurnOf (from_start script start) (now_of start entries) done lines l.act mine []
   pub node : IsAtNode down' script (lines ++ mine) sites'
 
-module _ (script : Script) (start : Start) (down down' : Bool) (done left : List BodyLine) (l : BodyLine) (lines mine : List Line) (entries : List EntryLine) (changed : List (List Change)) (seen : Seen) (states sites' : List SessionAt) (name text : List ℕ)
+module _ (script : Script) (start : Start) (down down' : Bool) (done left : List BodyLine) (l : BodyLine) (lines mine : List Line) (entries : List EntryLine) (changed : List (List Change)) (seen : SeenRows) (states sites' : List SessionAt) (name text : List ℕ)
     (was : SoFar script start down done (l ∷ left) lines entries changed seen states) (is_act : l.act ≡ Say name text) where
   pub adds_lines : AddsLines script start down' done l lines mine entries seen name text sites' → Adds script start down' done l lines mine entries entries changed seen seen name text sites'
   adds_lines adds = record {
@@ -77,7 +77,7 @@ module _ (script : Script) (start : Start) (down down' : Bool) (done left : List
     node = adds.node;
   }
 
-  module _ (entries' : List EntryLine) (changed' : List (List Change)) (seen' : Seen) (adds : Adds script start down' done l lines mine entries entries' changed' seen seen' name text sites')
+  module _ (entries' : List EntryLine) (changed' : List (List Change)) (seen' : SeenRows) (adds : Adds script start down' done l lines mine entries entries' changed' seen seen' name text sites')
       (stay : (m : List ℕ) → bytes_eq name m ≡ false → state_of m script.sessions sites' ≡ state_of m script.sessions states) where
     abbrev pub StandsAt : List ℕ → Type 0
     StandsAt m = Standing script start entries' seen'.next m (place_after sql_language m (done ++ l ∷ [])) (told m (lines ++ mine)) (state_of m script.sessions sites')

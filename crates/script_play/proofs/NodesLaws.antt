@@ -10,12 +10,12 @@ use Rattle.node_reports.proofs.Firsts.{nodes_order}
 use Rattle.node_reports.proofs.OneBack.{none_survives}
 use Rattle.node_reports.proofs.OneLawful.{lawful_of}
 use Rattle.node_reports.specs.Lawful.{LawfulOfNodes}
-use Rattle.node_reports.specs.OneNode.{IsOfOneNode, IsPlain}
+use Rattle.node_reports.specs.OneNode.{IsOfOneNode, IsForOneNode}
 use Rattle.node_reports.specs.Order.{InNodesOrder}
 use Rattle.report_laws.specs.Lawful.{Lawful}
 use Rattle.report_laws.specs.Play.{node_among, InPlayOrder}
 use Rattle.report_text.specs.declared.reports.Report.{Report}
-use Rattle.script_form.specs.CanRun.{CanRun, IsDeclared, IsSaid}
+use Rattle.script_form.specs.CanRun.{CanRun, IsDeclared, IsDeclaredText}
 use Rattle.script_form.specs.declared.scripts.Act.{Act}
 use Rattle.script_form.specs.declared.scripts.Act.TheVariants as act
 use Rattle.script_form.specs.declared.scripts.Script.{Script}
@@ -33,7 +33,7 @@ home_of name (s ∷ ss) all is = go (bytes_eq s.name name) refl is (λ e. home_o
     go false e (inl same) more = absurd (both_ways (bytes_eq s.name name) e ((bytes_eq-Decides s.name name).1 same))
     go false e (inr later) more = more later
 
-plain_act : (s : Script) → CanRun s → (a : Act) → IsSaid s.sessions a → IsPlain s a
+plain_act : (s : Script) → CanRun s → (a : Act) → IsDeclaredText s.sessions a → IsForOneNode s a
 plain_act s can (act.Say session text) is = (
   home_of session s.sessions can.no_hasql is.0,
   none_survives session s.sessions (all_map (λ l. (l.node ≡ 1) × (l.hasql ≡ false)) (λ l. l.hasql ≡ false) (λ l is. is.1) s.sessions can.no_hasql),
@@ -49,7 +49,7 @@ one_node s can = record {
   one = can.one_node;
   unwatched = can.no_watches;
   unmoved = all_map (λ l. (l.node ≡ 1) × (l.hasql ≡ false)) (λ l. l.hasql ≡ false) (λ l is. is.1) s.sessions can.no_hasql;
-  plain = all_map (λ l. IsSaid s.sessions l.act) (λ l. IsPlain s l.act) (λ l is. plain_act s can l.act is) s.body can.said;
+  plain = all_map (λ l. IsDeclaredText s.sessions l.act) (λ l. IsForOneNode s l.act) (λ l is. plain_act s can l.act is) s.body can.said;
 }
 
 pub lawful_of_nodes : (s : Script) (at : ℕ) (rows : Rows) (report : Report) → CanRun s → Lawful (from_base s at rows) report → LawfulOfNodes (from_base s at rows) report

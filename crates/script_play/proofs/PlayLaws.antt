@@ -14,7 +14,7 @@ use Rattle.report_text.specs.declared.reports.EntryLine.{EntryLine}
 use Rattle.report_text.specs.declared.reports.EntryLine.TheVariants.{Setup}
 use Rattle.report_text.specs.declared.reports.Line.{Line}
 use Rattle.report_text.specs.declared.reports.Report.{Report}
-use Rattle.script_form.specs.CanRun.{CanRun, tables_of}
+use Rattle.script_form.specs.CanRun.{CanRun, script_tables}
 use Rattle.script_form.specs.declared.scripts.BodyLine.{BodyLine}
 use Rattle.script_form.specs.declared.scripts.Script.{Script}
 use Rattle.script_form.specs.declared.scripts.SessionLine.{SessionLine}
@@ -27,7 +27,7 @@ use Rattle.script_play.specs.RunViews.{seen_in, AreOwn, IsBeforeLine, IsOpenedBe
 use Rattle.session_turns.specs.Views.{doing_in, state_in, IsOwn, IsOwnDoing}
 use Rattle.script_play.specs.EntryLines.{AreTold}
 use Rattle.script_play.specs.Ready.{AreEarlier, CanBegin, IsLogged}
-use Rattle.script_play.specs.SoFar.{now_of, at_start, report_of, IsAtNode, IsBefore, Stored}
+use Rattle.script_play.specs.SoFar.{now_of, at_start, report_of, IsAtNode, IsBefore, IsStoredSoFar}
 use Rattle.script_play.specs.Down.{down_line, history_by, history_of, with_entries, IsCaused, IsHeld, IsHeldBy}
 use Rattle.script_play.specs.Start.{Start, base}
 use Rattle.session_turns.specs.declared.states.InTransaction.{InTransaction}
@@ -78,12 +78,12 @@ held_first log up = record {
 
 -- the run before the first line of the script
 pub begins_at : (script : Script) (start : Start) (log : Logged) (lines : List Line) (entries : List EntryLine) (states : List SessionState) → CanRun script → log.failed ≡ false → AreEarlier log.accepted start.before → lines ≡ [] →
-    IsOpening (tables_of script) log.accepted start.before entries log.entries → CanBegin (tables_of script) start.before start.rows → map state_in states ≡ map (λ _. at_start) script.sessions →
+    IsOpening (script_tables script) log.accepted start.before entries log.entries → CanBegin (script_tables script) start.before start.rows → map state_in states ≡ map (λ _. at_start) script.sessions →
     IsBeforeLine script start log.accepted log.store.faults script.body (run_of lines entries log) states
 begins_at script start log lines entries states can up earlier none opening begin starts = record {
   before = subst (λ (ls : List Line). IsBefore script start log.failed script.body ls entries (changed_in (history_of log)) (seen_in start (history_of log)) (map state_in states)) (sym none)
       (subst (λ (b : Bool). IsBefore script start b script.body [] entries (changed_in (history_by b log.entries)) (seen_in start (history_by b log.entries)) (map state_in states)) (sym up) first.before_line);
-  logged = subst (λ (b : Bool). IsLogged start (tables_of script) (now_of start entries) (history_by b log.entries)) (sym up) first.logged_so;
+  logged = subst (λ (b : Bool). IsLogged start (script_tables script) (now_of start entries) (history_by b log.entries)) (sym up) first.logged_so;
   told = subst (λ (b : Bool). AreTold start.before log.accepted entries (history_by b log.entries)) (sym up) first.told;
   own = opens_own log.accepted script.sessions states starts;
   earlier = earlier;
@@ -92,7 +92,7 @@ begins_at script start log lines entries states can up earlier none opening begi
 }
   where
     first : Opens script start log.accepted entries log.entries (map state_in states)
-    first = opens script (tables_of script) start.before start.rows log.accepted entries log.entries (map state_in states) can refl begin opening starts
+    first = opens script (script_tables script) start.before start.rows log.accepted entries log.entries (map state_in states) can refl begin opening starts
 
 -- where the node went down in it, a transaction with operations was to be committed
 go_down_so : (script : Script) (start : Start) (generation had : ℕ) (lines : List Line) (entries : List EntryLine) (log : Logged) (states : List SessionState) → IsBeforeLine script start generation had [] (run_of lines entries log) states →
@@ -137,8 +137,8 @@ done_at script start opened lines entries log states told report now base_is is 
     report_is = is ∙ ap (λ n. report_of n (length (history_of log)) lines entries) base_is ∙ ap (λ n. report_of (base start) n lines entries) now.logged.count
 
 -- the history of a log, and the lines that tell it
-history_so : (script : Script) (start : Start) (generation : ℕ) (entries : List EntryLine) (log : List Entry) → Stored script start entries (changed_in log) (seen_in start log) →
-    IsLogged start (tables_of script) (now_of start entries) log → AreTold start.before generation entries log → IsHistory script start generation entries log
+history_so : (script : Script) (start : Start) (generation : ℕ) (entries : List EntryLine) (log : List Entry) → IsStoredSoFar script start entries (changed_in log) (seen_in start log) →
+    IsLogged start (script_tables script) (now_of start entries) log → AreTold start.before generation entries log → IsHistory script start generation entries log
 history_so script start generation entries log stored logged told = record {
   lawful = stored.history;
   told = told;
@@ -150,8 +150,8 @@ history_so script start generation entries log stored logged told = record {
 }
 
 -- a run is given up before the first line of the script
-pub given_first : (script : Script) (start : Start) (log : Logged) → CanRun script → log.failed ≡ false → IsOpenedBehind (tables_of script) log.accepted start.before log.entries →
-    CanBegin (tables_of script) start.before start.rows → IsGivenUp script start log log
+pub given_first : (script : Script) (start : Start) (log : Logged) → CanRun script → log.failed ≡ false → IsOpenedBehind (script_tables script) log.accepted start.before log.entries →
+    CanBegin (script_tables script) start.before start.rows → IsGivenUp script start log log
 given_first script start log can up is begin = record {
   entries = first.0;
   history = subst (λ (b : Bool). IsHistory script start log.accepted first.0 (history_by b log.entries)) (sym up)
@@ -161,14 +161,14 @@ given_first script start log can up is begin = record {
 }
   where
     -- the lines that the history has there
-    lines : (before : List Entry) → IsOpenedBehind (tables_of script) log.accepted before log.entries → (entries : List EntryLine) × IsOpening (tables_of script) log.accepted before entries log.entries
+    lines : (before : List Entry) → IsOpenedBehind (script_tables script) log.accepted before log.entries → (entries : List EntryLine) × IsOpening (script_tables script) log.accepted before entries log.entries
     lines [] opened = (Setup 1 ∷ [], record { first = λ none. (refl, opened.first none); later = λ some. absurd (omega (arith, some)) })
     lines (e ∷ es) opened = ([], record { first = λ none. absurd cc; later = λ some. (refl, opened.later some) })
 
     first : (entries : List EntryLine) × Opens script start log.accepted entries log.entries (map (λ _. at_start) script.sessions)
     first =
         let l = lines start.before is in
-        (l.0, opens script (tables_of script) start.before start.rows log.accepted l.0 log.entries (map (λ _. at_start) script.sessions) can refl begin l.1 refl)
+        (l.0, opens script (script_tables script) start.before start.rows log.accepted l.0 log.entries (map (λ _. at_start) script.sessions) can refl begin l.1 refl)
 
 -- and at a line, which leaves the log as it was
 pub given_at : (script : Script) (start : Start) (opened log log' : Logged) (generation : ℕ) (left : List BodyLine) (lines : List Line) (entries : List EntryLine) (states : List SessionState) →
@@ -182,7 +182,7 @@ given_at script start opened log log' generation left lines entries states now m
         more.line,
         subst (λ (n : ℕ). IsHistory script start n (entries ++ more.line ∷ []) log.entries) made
             (history_so script start generation (entries ++ more.line ∷ []) log.entries more.stored
-            (subst (λ (n : ℕ). IsLogged start (tables_of script) n log.entries) (told_count start.before generation (entries ++ more.line ∷ []) log.entries more.told) more.logged) more.told),
+            (subst (λ (n : ℕ). IsLogged start (script_tables script) n log.entries) (told_count start.before generation (entries ++ more.line ∷ []) log.entries more.told) more.logged) more.told),
       );
 })
 

@@ -4,10 +4,10 @@ use Rattle.std.proofs.lemmas.List.{append-nil, length-append}
 use Rattle.std.specs.List.{AllByRecursion}
 use Rattle.std.specs.Str.{bytes_eq, is_utf8}
 use Rattle.cdb_values.specs.declared.rows.Level.{Level}
-use Rattle.session_turns.specs.Seen.{Seen}
+use Rattle.session_turns.specs.Seen.{SeenRows}
 use Rattle.script_play.specs.Start.{Start}
 use Rattle.sql_answer.specs.Reading.{kind_of_text}
-use Rattle.script_form.specs.CanRun.{tables_of}
+use Rattle.script_form.specs.CanRun.{script_tables}
 use Rattle.script_form.specs.declared.scripts.Script.{Script}
 use Rattle.script_form.specs.declared.scripts.BodyLine.{BodyLine}
 use Rattle.script_form.specs.declared.scripts.Act.{Act}
@@ -34,7 +34,7 @@ use Rattle.report_laws.proofs.WorkLaws.{after_own}
 use Rattle.script_play.specs.Basis.{from_start}
 use Rattle.query_laws.specs.Alone.{sql_language}
 use Rattle.script_play.specs.Ready.{IsAskable}
-use Rattle.script_play.specs.SoFar.{now_of, SoFar, Stored, Standing, IsPast, IsEnded, state_of}
+use Rattle.script_play.specs.SoFar.{now_of, SoFar, IsStoredSoFar, Standing, IsPast, IsEnded, state_of}
 use Rattle.session_turns.specs.Step.{Turned, Cut, turn, turn_by, cut_by}
 use Rattle.script_play.specs.Step.{IsTurned, IsCutShort, IsKept, entries_added}
 use Rattle.session_turns.specs.Doing.{SessionAt}
@@ -46,8 +46,8 @@ use Rattle.script_play.proofs.TurnLemmas.{Turns, IsNews, WasCutUnder, turns}
 use Rattle.script_play.proofs.CutLemmas.{CutStands, cuts}
 
 -- what a line of the script leaves, so that the run so far is kept
-pub record Keeps (script : Script) (start : Start) (done : List BodyLine) (l : BodyLine) (lines : List Line) (entries entries' : List EntryLine) (changed' : List (List Change)) (seen seen' : Seen) (name text : List ℕ) (number : ℕ) (rs : List Reply) (after : SessionAt) : Type 0 where
-  pub stored : Stored script start entries' changed' seen'
+pub record Keeps (script : Script) (start : Start) (done : List BodyLine) (l : BodyLine) (lines : List Line) (entries entries' : List EntryLine) (changed' : List (List Change)) (seen seen' : SeenRows) (name text : List ℕ) (number : ℕ) (rs : List Reply) (after : SessionAt) : Type 0 where
+  pub stored : IsStoredSoFar script start entries' changed' seen'
   pub grows : Grows entries entries'
   pub next : seen.next ≤ seen'.next
   pub stands : Standing script start entries' seen'.next name (next_place sql_language (place_after sql_language name done) text) (told name lines ++ numbered number rs) after
@@ -59,7 +59,7 @@ pub record Keeps (script : Script) (start : Start) (done : List BodyLine) (l : B
   pub answered : AllByRecursion (IsEntryTold (from_start script start) (view_of (from_start script start) entries') (lines ++ lines_of name number rs)) entries'
   pub ended : AllByRecursion (IsEnded (done ++ l ∷ [])) entries'
 
-module _ (script : Script) (start : Start) (done left : List BodyLine) (l : BodyLine) (lines : List Line) (entries : List EntryLine) (changed : List (List Change)) (seen : Seen) (states sites' : List SessionAt) (name text : List ℕ)
+module _ (script : Script) (start : Start) (done left : List BodyLine) (l : BodyLine) (lines : List Line) (entries : List EntryLine) (changed : List (List Change)) (seen : SeenRows) (states sites' : List SessionAt) (name text : List ℕ)
     (was : SoFar script start false done (l ∷ left) lines entries changed seen states) (is_act : l.act ≡ Say name text) where
   abbrev pub place : Place
   place = place_after sql_language name done
@@ -67,7 +67,7 @@ module _ (script : Script) (start : Start) (done left : List BodyLine) (l : Body
   own_place : place_after sql_language name (done ++ l ∷ []) ≡ next_place sql_language place text
   own_place = after_own sql_language name name text l done is_act (same_itself name)
 
-  pub advanced : (entries' : List EntryLine) (changed' : List (List Change)) (seen' : Seen) (number : ℕ) (rs : List Reply) (after : SessionAt) → Keeps script start done l lines entries entries' changed' seen seen' name text number rs after →
+  pub advanced : (entries' : List EntryLine) (changed' : List (List Change)) (seen' : SeenRows) (number : ℕ) (rs : List Reply) (after : SessionAt) → Keeps script start done l lines entries entries' changed' seen seen' name text number rs after →
       state_of name script.sessions sites' ≡ after → ((m : List ℕ) → bytes_eq name m ≡ false → state_of m script.sessions sites' ≡ state_of m script.sessions states) →
       SoFar script start false (done ++ l ∷ []) left (lines ++ lines_of name number rs) entries' changed' seen' sites'
   advanced entries' changed' seen' number rs after keeps own others = went script start false false done left l lines mine entries changed seen states sites' name text was is_act entries' changed' seen' (record {
@@ -104,7 +104,7 @@ module _ (script : Script) (start : Start) (done left : List BodyLine) (l : Body
       laws = paced_laws script (from_start script start).origin name number (now_of start entries) (now_of start entries') lines rs was.named was.stored.opened.0 was.stored.opened.1 longer keeps.paced
 
   -- what a line leaves, where it did what it does
-  pub turn_keeps : (entries' : List EntryLine) (changed' : List (List Change)) (seen' : Seen) (t : Turned) → Turns script start entries entries' changed' seen seen' name (next_place sql_language place text) (told name lines) (number_told sql_language place text) (is_own sql_language place text) t →
+  pub turn_keeps : (entries' : List EntryLine) (changed' : List (List Change)) (seen' : SeenRows) (t : Turned) → Turns script start entries entries' changed' seen seen' name (next_place sql_language place text) (told name lines) (number_told sql_language place text) (is_own sql_language place text) t →
       Keeps script start done l lines entries entries' changed' seen seen' name text t.number t.replies t.after
   turn_keeps entries' changed' seen' t turn = record {
     stored = turn.stored;
@@ -195,14 +195,14 @@ module _ (script : Script) (start : Start) (done left : List BodyLine) (l : Body
   abbrev pub its_turn : Turned
   its_turn = turn_at (state_of name script.sessions states).number (state_of name script.sessions states).level
 
-  abbrev pub KeptAt : Seen → ℕ → Level → Type 0
+  abbrev pub KeptAt : SeenRows → ℕ → Level → Type 0
   KeptAt seen' n level = IsKept (now_of start entries) seen seen' (turn_at n level).added
 
-  abbrev pub TurnsAt : Seen → ℕ → Level → Type 0
+  abbrev pub TurnsAt : SeenRows → ℕ → Level → Type 0
   TurnsAt seen' n level = Turns script start entries (entries ++ entries_added name (now_of start entries) (turn_at n level)) (changed ++ map (λ ops. changes_of ops seen.next) (turn_at n level).added) seen seen' name (next_place sql_language place text) (told name lines) (number_told sql_language place text) (is_own sql_language place text) (turn_at n level)
 
   -- a line that was done keeps the run so far
-  pub turned_keeps : AllByRecursion IsAskable (tables_of script) → is_utf8 text ≡ true → (lines' : List Line) (entries' : List EntryLine) (changed' : List (List Change)) (seen' : Seen) →
+  pub turned_keeps : AllByRecursion IsAskable (script_tables script) → is_utf8 text ≡ true → (lines' : List Line) (entries' : List EntryLine) (changed' : List (List Change)) (seen' : SeenRows) →
       IsTurned (world script start entries changed seen) name (turn (world script start entries changed seen) (state_of name script.sessions states) text) lines lines' entries entries' changed' seen' →
       state_of name script.sessions sites' ≡ (turn (world script start entries changed seen) (state_of name script.sessions states) text).after →
       ((m : List ℕ) → bytes_eq name m ≡ false → state_of m script.sessions sites' ≡ state_of m script.sessions states) →
@@ -225,7 +225,7 @@ module _ (script : Script) (start : Start) (done left : List BodyLine) (l : Body
           (subst (λ n. KeptAt seen' n place.level → TurnsAt seen' n place.level) number (turns script start entries changed seen seen' name place text (told name lines) (kind_of_text text) place.pending (state_of name script.sessions states).doing (comes script start false done left l lines entries changed seen states name text was is_act askable utf8))) run.rows_are
 
   -- and so does one that was cut short
-  pub cut_keeps : AllByRecursion IsAskable (tables_of script) → is_utf8 text ≡ true → (lines' : List Line) (entries' : List EntryLine) (changed' : List (List Change)) (seen' : Seen) (c : Cut) →
+  pub cut_keeps : AllByRecursion IsAskable (script_tables script) → is_utf8 text ≡ true → (lines' : List Line) (entries' : List EntryLine) (changed' : List (List Change)) (seen' : SeenRows) (c : Cut) →
       cut_by (state_of name script.sessions states).number (state_of name script.sessions states).level (kind_of_text text) (state_of name script.sessions states).doing ≡ Some c →
       IsCutShort (world script start entries changed seen) name c lines lines' entries entries' changed' seen' →
       state_of name script.sessions sites' ≡ c.after →
@@ -235,7 +235,7 @@ module _ (script : Script) (start : Start) (done left : List BodyLine) (l : Body
       subst (λ ls. SoFar script start false (done ++ l ∷ []) left ls entries' changed' seen' sites') (sym run.lines_are)
       (subst (λ es. SoFar script start false (done ++ l ∷ []) left (lines ++ lines_of name c.number (reply.NoMemory ∷ [])) es changed' seen' sites') (sym run.entries_are)
       (subst (λ ts. SoFar script start false (done ++ l ∷ []) left (lines ++ lines_of name c.number (reply.NoMemory ∷ [])) entries ts seen' sites') (sym run.changed_are)
-      (subst (λ (a : Seen). SoFar script start false (done ++ l ∷ []) left (lines ++ lines_of name c.number (reply.NoMemory ∷ [])) entries changed a sites') (sym run.rows_are)
+      (subst (λ (a : SeenRows). SoFar script start false (done ++ l ∷ []) left (lines ++ lines_of name c.number (reply.NoMemory ∷ [])) entries changed a sites') (sym run.rows_are)
       (advanced entries changed seen c.number (reply.NoMemory ∷ []) c.after (record {
         stored = was.stored;
         grows = inl refl;

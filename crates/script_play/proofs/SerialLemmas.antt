@@ -10,12 +10,12 @@ use Rattle.phys_log.specs.declared.entries.Entry.{Entry}
 use Rattle.report_laws.proofs.SerialLaws.{entries_serial}
 use Rattle.report_laws.specs.Lawful.{Lawful}
 use Rattle.report_text.specs.declared.reports.Report.{Report}
-use Rattle.script_form.specs.CanRun.{tables_of}
+use Rattle.script_form.specs.CanRun.{script_tables}
 use Rattle.script_form.specs.declared.scripts.Script.{Script}
 use Rattle.serial_laws.proofs.ReadingLemmas.{sql_reads}
 use Rattle.session_language.proofs.SoundLaws.{no_rows_sound}
 use Rattle.session_language.specs.Serial.{IsRowOf, IsSound}
-use Rattle.sql_answer.specs.Language.{bound_in}
+use Rattle.sql_answer.specs.Language.{sql_binder}
 use Rattle.table_store.specs.States.{AreVersions, Rise}
 use Rattle.script_play.specs.Basis.{from_start}
 use Rattle.script_play.specs.Ready.{CanBegin}
@@ -68,8 +68,8 @@ start_sound tables [] rows none = subst IsSound (sym none) (no_rows_sound [])
 start_sound tables (e ∷ es) rows goes = rows_sound rows goes.stands.state.versions
 
 -- the entries of a report of a run are serial
-pub run_serial : (script : Script) (start : Start) (report : Report) → CanBegin (tables_of script) start.before start.rows
+pub run_serial : (script : Script) (start : Start) (report : Report) → CanBegin (script_tables script) start.before start.rows
     → Lawful (from_start script start) report → AreSerial (from_start script start) report.entries
 run_serial script start report begins lawful position session txn begin stands =
-    entries_serial (from_start script start) report position session txn begin (sql_reads bound_in (tables_of script))
-    (start_sound (tables_of script) start.before start.rows begins) lawful stands
+    entries_serial (from_start script start) report position session txn begin (sql_reads sql_binder (script_tables script))
+    (start_sound (script_tables script) start.before start.rows begins) lawful stands

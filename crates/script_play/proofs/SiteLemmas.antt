@@ -17,7 +17,7 @@ use Rattle.session_turns.specs.Views.{IsOwn}
 use Rattle.session_turns.specs.declared.states.SessionState.{SessionState}
 use Rattle.script_play.specs.EntryLines.{AreTold, lines_from}
 use Rattle.script_play.specs.Start.{Start, ground_of}
-use Rattle.script_form.specs.CanRun.{CanRun, IsDeclared, IsSaid, tables_of}
+use Rattle.script_form.specs.CanRun.{CanRun, IsDeclared, IsDeclaredText, script_tables}
 use Rattle.script_form.specs.declared.scripts.Script.{Script}
 use Rattle.script_form.specs.declared.scripts.Act.{Act}
 use Rattle.script_form.specs.declared.scripts.Act.TheVariants.{Say}
@@ -33,7 +33,7 @@ use Rattle.cdb_values.specs.declared.items.Interval.{Interval}
 use Rattle.script_play.proofs.LiveLemmas.{alone_leaves_live, stands_distinct}
 use Rattle.script_play.proofs.SoundLaws.{distinct}
 use Rattle.script_play.specs.Ready.{IsAble, IsAskable, IsLogged, IsReady, IsReadyToGo}
-use Rattle.script_play.specs.SoFar.{now_of, IsBefore, IsDoing, IsOpen, Stored, state_of, session_from, session_at}
+use Rattle.script_play.specs.SoFar.{now_of, IsBefore, IsDoing, IsOpen, IsStoredSoFar, state_of, session_from, session_at}
 use Rattle.session_turns.specs.Doing.{SessionAt, Doing}
 use Rattle.session_turns.specs.Doing as doing
 use Rattle.script_play.proofs.ComesLemmas.{same_itself, same_name}
@@ -120,12 +120,12 @@ other_state k name m (s ∷ ss) (y ∷ ys) at (suc i) x is place differs = pick 
     pick false later found = go (bytes_eq s.name m) (later found)
 
 -- the tables of a script that runs are as texts ask for them
-pub runs_askable : (script : Script) → CanRun script → AllByRecursion IsAskable (tables_of script)
-runs_askable script can = distinct [] (tables_of script) can.tables_lawful
+pub runs_askable : (script : Script) → CanRun script → AllByRecursion IsAskable (script_tables script)
+runs_askable script can = distinct [] (script_tables script) can.tables_lawful
 
 -- the rows are ready for a line
-pub ready : (script : Script) (start : Start) (entries : List EntryLine) (log : List Entry) → AllByRecursion IsAskable (tables_of script) → Stored script start entries (changed_in log) (seen_in start log) → IsLogged start (tables_of script) (now_of start entries) log →
-    IsReady start (tables_of script) (now_of start entries) log
+pub ready : (script : Script) (start : Start) (entries : List EntryLine) (log : List Entry) → AllByRecursion IsAskable (script_tables script) → IsStoredSoFar script start entries (changed_in log) (seen_in start log) → IsLogged start (script_tables script) (now_of start entries) log →
+    IsReady start (script_tables script) (now_of start entries) log
 ready script start entries log askable stored logged = record {
   opened = stored.opened;
   askable = askable;
@@ -135,26 +135,26 @@ ready script start entries log askable stored logged = record {
 
 -- a transaction that is open can go on: what its texts left is there at its begin position
 open_able : (script : Script) (start : Start) (entries : List EntryLine) (log : List Entry) (texts : List (List ℕ)) (begin : ℕ) (ops : List RowOp) (uses : List GenidItem) (ranges : List Interval) (mine : List Reply) →
-    Stored script start entries (changed_in log) (seen_in start log) → IsLogged start (tables_of script) (now_of start entries) log → IsOpen script start entries (rows_over (ground_of start) log).next texts begin ops uses ranges mine → IsAble start (tables_of script) (now_of start entries) log begin ops
+    IsStoredSoFar script start entries (changed_in log) (seen_in start log) → IsLogged start (script_tables script) (now_of start entries) log → IsOpen script start entries (rows_over (ground_of start) log).next texts begin ops uses ranges mine → IsAble start (script_tables script) (now_of start entries) log begin ops
 open_able script start entries log texts begin ops uses ranges mine stored logged is = record {
   first = is.first;
   within = is.within;
   kept = is.sound;
   live = subst (λ (o : List RowOp). AreLive (log_rows_at begin).tables o) (sym ops_are)
-      (alone_leaves_live (tables_of script) (log_rows_at begin).tables texts (stands_distinct (tables_of script) (log_rows_at begin) stands));
+      (alone_leaves_live (script_tables script) (log_rows_at begin).tables texts (stands_distinct (script_tables script) (log_rows_at begin) stands));
 }
   where
     log_rows_at : ℕ → Rows
     log_rows_at k = (seen_in start log).at k
 
-    stands : Stands (page_at log begin) (tables_of script) (log_rows_at begin)
+    stands : Stands (page_at log begin) (script_tables script) (log_rows_at begin)
     stands = logged.stands begin is.first (let w = is.within in let n = logged.count in omega (arith, w, n))
 
-    ops_are : ops ≡ (alone sql_language (tables_of script) (log_rows_at begin) texts).ops
-    ops_are = is.ops_are ∙ ap (λ (r : Rows). (alone_from sql_language (tables_of script) r.tables [] texts).ops) (sym (stored.rows_are begin is.first is.within))
+    ops_are : ops ≡ (alone sql_language (script_tables script) (log_rows_at begin) texts).ops
+    ops_are = is.ops_are ∙ ap (λ (r : Rows). (alone_from sql_language (script_tables script) r.tables [] texts).ops) (sym (stored.rows_are begin is.first is.within))
 
 doing_ready : (script : Script) (start : Start) (entries : List EntryLine) (log : List Entry) (p : Place) (q : Option (List (List ℕ))) (d : Doing) (mine : List Reply) →
-    Stored script start entries (changed_in log) (seen_in start log) → IsLogged start (tables_of script) (now_of start entries) log → IsDoing script start entries (rows_over (ground_of start) log).next p q d mine → IsReadyToGo start (tables_of script) (now_of start entries) log d
+    IsStoredSoFar script start entries (changed_in log) (seen_in start log) → IsLogged start (script_tables script) (now_of start entries) log → IsDoing script start entries (rows_over (ground_of start) log).next p q d mine → IsReadyToGo start (script_tables script) (now_of start entries) log d
 doing_ready script start entries log p None doing.No mine stored logged is = tt
 doing_ready script start entries log p None (doing.Open begin ops uses ranges) mine stored logged is = absurd is
 doing_ready script start entries log p None doing.Aborted mine stored logged is = tt
@@ -175,23 +175,23 @@ told_count before generation entries log is =
 
 -- the run before a line of a session
 pub record Turn (script : Script) (start : Start) (name text : List ℕ) (entries : List EntryLine) (log : List Entry) (states : List SessionAt) : Type 0 where
-  pub ready : IsReady start (tables_of script) (now_of start entries) log
-  pub to_go : (at : ℕ) (x : SessionAt) → session_at name script.sessions ≡ Some at → slice_get states at ≡ Some x → IsReadyToGo start (tables_of script) (now_of start entries) log x.doing
+  pub ready : IsReady start (script_tables script) (now_of start entries) log
+  pub to_go : (at : ℕ) (x : SessionAt) → session_at name script.sessions ≡ Some at → slice_get states at ≡ Some x → IsReadyToGo start (script_tables script) (now_of start entries) log x.doing
   pub is_declared : session_at name script.sessions ≡ None → ⊥
   pub inside : (at : ℕ) → session_at name script.sessions ≡ Some at → at < length states
 
 pub turn_is : (script : Script) (start : Start) (down : Bool) (left : List BodyLine) (l : BodyLine) (lines : List Line) (entries : List EntryLine) (log : List Entry) (states : List SessionAt) (name text : List ℕ) →
-    IsBefore script start down (l ∷ left) lines entries (changed_in log) (seen_in start log) states → IsLogged start (tables_of script) (now_of start entries) log → l.act ≡ Say name text → Turn script start name text entries log states
+    IsBefore script start down (l ∷ left) lines entries (changed_in log) (seen_in start log) states → IsLogged start (script_tables script) (now_of start entries) log → l.act ≡ Say name text → Turn script start name text entries log states
 turn_is script start down left l lines entries log states name text before logged is_act = record {
   ready = ready script start entries log (runs_askable script before.can_run) before.so_far.stored logged;
-  to_go = λ at x found has. subst (λ (y : SessionAt). IsReadyToGo start (tables_of script) (now_of start entries) log y.doing) (found_state 0 name script.sessions states at at x found (omega arith) has)
+  to_go = λ at x found has. subst (λ (y : SessionAt). IsReadyToGo start (script_tables script) (now_of start entries) log y.doing) (found_state 0 name script.sessions states at at x found (omega arith) has)
       (doing_ready script start entries log (place_after sql_language name before.done) (place_after sql_language name before.done).pending (state_of name script.sessions states).doing _ before.so_far.stored logged (before.so_far.standing name).doing);
   is_declared = declared 0 name script.sessions said;
   inside = λ at found. let w = within 0 name script.sessions at found in let same = before.same in omega (arith, w, same);
 }
   where
     said : IsDeclared name script.sessions
-    said = (subst (λ (a : Act). IsSaid script.sessions a) is_act before.said.0).0
+    said = (subst (λ (a : Act). IsDeclaredText script.sessions a) is_act before.said.0).0
 
 -- what is put at a place twice is what was put there last
 pub set_again : {A : Type 0} (xs : List A) (i : ℕ) (x y : A) → slice_set (slice_set xs i x) i y ≡ slice_set xs i y

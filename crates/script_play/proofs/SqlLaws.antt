@@ -13,14 +13,14 @@ use Rattle.session_language.specs.Answers.{Answers}
 use Rattle.session_language.specs.Language.{Language, alone_from}
 use Rattle.sql_answer.proofs.LanguageLemmas.{sql_answers}
 use Rattle.query_laws.specs.Alone.{reads_of, sql_language}
-use Rattle.sql_answer.specs.Language.{bound_in}
+use Rattle.sql_answer.specs.Language.{sql_binder}
 use Rattle.sql_run.proofs.RowLaws.{leaves_such_rows}
 use Rattle.sql_run.proofs.SoundLaws.{leaves_sound_ops}
 use Rattle.script_play.proofs.SoundLaws.{kept_both, kept_sound, kept_told}
 use Rattle.script_play.specs.Ready.{AreKept, IsAskable, IsKeptOp}
 
 pub sql_is_answered : Answers sql_language
-sql_is_answered = sql_answers bound_in reads_of
+sql_is_answered = sql_answers sql_binder reads_of
 
 pub kept_answer : (tables : List TableDef) (versions : List (List Version)) (done : List RowOp) (text : List ℕ) (next : ℕ) → AllByRecursion IsAskable tables → is_utf8 text ≡ true → AreKept tables next versions → AllByRecursion (IsKeptOp tables next) done
     → AllByRecursion (IsKeptOp tables next) (sql_language.answer tables versions done text).ops

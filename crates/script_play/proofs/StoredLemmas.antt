@@ -14,7 +14,7 @@ use Rattle.cdb_values.specs.declared.rows.Level.TheVariants.{Snapshot, Serializa
 use Rattle.cdb_values.specs.declared.rows.RowOp.{RowOp}
 use Rattle.cdb_values.specs.declared.rows.Version.{Version}
 use Rattle.log_rows.specs.History.{IsFrom}
-use Rattle.session_turns.specs.Seen.{Seen}
+use Rattle.session_turns.specs.Seen.{SeenRows}
 use Rattle.script_play.specs.Start.{Start, base}
 use Rattle.script_form.specs.declared.scripts.Script.{Script}
 use Rattle.report_text.specs.declared.reports.EntryLine.{EntryLine}
@@ -27,7 +27,7 @@ use Rattle.session_language.specs.Language.{Answered}
 use Rattle.session_language.specs.Touched.{Used, first_used, used_at, first_use}
 use Rattle.report_laws.specs.Outcome.{IsRight, IsEntered}
 use Rattle.report_laws.specs.Told.{alone_at}
-use Rattle.script_form.specs.CanRun.{tables_of}
+use Rattle.script_form.specs.CanRun.{script_tables}
 use Rattle.report_laws.specs.Work.{Transaction, transaction_of}
 use Rattle.script_play.specs.Basis.{from_start}
 use Rattle.query_laws.specs.Alone.{sql_language}
@@ -38,7 +38,7 @@ use Rattle.script_play.specs.Decisions.{HasName}
 use Rattle.script_play.specs.Ready.{AreKept, IsKeptOp}
 use Rattle.block_processor.proofs.ChangedLaws.{none_used}
 use Rattle.script_play.proofs.SoundLaws.{all_named, kept_sound, rows_later}
-use Rattle.script_play.specs.SoFar.{Stored, now_of}
+use Rattle.script_play.specs.SoFar.{IsStoredSoFar, now_of}
 use Rattle.session_turns.specs.Step.{World, world_of}
 use Rattle.script_play.specs.Step.{IsKept}
 
@@ -52,8 +52,8 @@ behind_more (suc n) (y ∷ xs) x within = behind_more n xs x (omega (arith, with
 abbrev pub entry_of : List ℕ → ℕ → ℕ → Level → ℕ → EntryLine
 entry_of name number begin level now = Commit (now + 1) name number begin level
 
-abbrev pub world : Script → Start → List EntryLine → List (List Change) → Seen → World
-world script start entries changed seen = world_of (tables_of script) seen changed (now_of start entries)
+abbrev pub world : Script → Start → List EntryLine → List (List Change) → SeenRows → World
+world script start entries changed seen = world_of (script_tables script) seen changed (now_of start entries)
 
 -- what a transaction uses, by what it was answered
 pub used_alike : (level : Level) (ran : Answered) → used_by level ran.ops ran.uses ran.ranges ≡ used_at level ran
@@ -61,22 +61,22 @@ used_alike Snapshot ran = refl
 used_alike Serializable ran = refl
 
 -- a transaction comes to its commit
-pub record Commits (script : Script) (start : Start) (entries : List EntryLine) (changed : List (List Change)) (seen : Seen) (name : List ℕ) (t : Transaction) (begin : ℕ) (uses : List GenidItem) (ranges : List Interval) (ops : List RowOp) : Type 0 where
-  pub stored : Stored script start entries changed seen
+pub record Commits (script : Script) (start : Start) (entries : List EntryLine) (changed : List (List Change)) (seen : SeenRows) (name : List ℕ) (t : Transaction) (begin : ℕ) (uses : List GenidItem) (ranges : List Interval) (ops : List RowOp) : Type 0 where
+  pub stored : IsStoredSoFar script start entries changed seen
   pub first : IsFrom (base start) begin
   pub within : begin ≤ now_of start entries
   pub is_its : transaction_of sql_language name t.number script.body ≡ Some t
   pub ops_are : ops ≡ (alone_at (from_start script start) (view_of (from_start script start) entries) t begin).ops
   pub uses_are : uses ≡ (alone_at (from_start script start) (view_of (from_start script start) entries) t begin).uses
   pub ranges_are : ranges ≡ (alone_at (from_start script start) (view_of (from_start script start) entries) t begin).ranges
-  pub sound : AllByRecursion (IsKeptOp (tables_of script) seen.next) ops
+  pub sound : AllByRecursion (IsKeptOp (script_tables script) seen.next) ops
   pub once : AllByRecursion (λ e. is_entry_of name t.number e ≡ false) entries
   -- applied now, the operations leave sound rows, which fit
-  pub applied : AreKept (tables_of script) (apply_all (seen.at (now_of start entries)) ops).next (apply_all (seen.at (now_of start entries)) ops).tables
+  pub applied : AreKept (script_tables script) (apply_all (seen.at (now_of start entries)) ops).next (apply_all (seen.at (now_of start entries)) ops).tables
   pub grows : seen.next ≤ (apply_all (seen.at (now_of start entries)) ops).next
-  pub fits : AllFit (tables_of script) (apply_all (seen.at (now_of start entries)) ops).tables
+  pub fits : AllFit (script_tables script) (apply_all (seen.at (now_of start entries)) ops).tables
 
-module _ (script : Script) (start : Start) (entries : List EntryLine) (changed : List (List Change)) (seen : Seen) (name : List ℕ) (t : Transaction) (begin : ℕ) (uses : List GenidItem) (ranges : List Interval) (ops : List RowOp) (c : Commits script start entries changed seen name t begin uses ranges ops) where
+module _ (script : Script) (start : Start) (entries : List EntryLine) (changed : List (List Change)) (seen : SeenRows) (name : List ℕ) (t : Transaction) (begin : ℕ) (uses : List GenidItem) (ranges : List Interval) (ops : List RowOp) (c : Commits script start entries changed seen name t begin uses ranges ops) where
   abbrev pub now : ℕ
   now = now_of start entries
 
@@ -89,10 +89,10 @@ module _ (script : Script) (start : Start) (entries : List EntryLine) (changed :
   used = used_by t.level ops uses ranges
 
   -- what no entry since the begin touches, by the changes that were kept for each entry
-  pub untouched_now : first_use (tables_of script) begin (drop begin changed) used ≡ None → IsUntouched (view_of (from_start script start) entries) begin (now + 1) used
+  pub untouched_now : first_use (script_tables script) begin (drop begin changed) used ≡ None → IsUntouched (view_of (from_start script start) entries) begin (now + 1) used
   untouched_now none j after before =
-      ap (λ (changes : List Change). first_used (tables_of script) changes used) (sym (c.stored.changed_are j (let b = c.first.1 in omega (arith, after, b)) (omega (arith, before))))
-      ∙ none_used (tables_of script) used begin changed none j after (let same = c.stored.changed_length in omega (arith, before, same))
+      ap (λ (changes : List Change). first_used (script_tables script) changes used) (sym (c.stored.changed_are j (let b = c.first.1 in omega (arith, after, b)) (omega (arith, before))))
+      ∙ none_used (script_tables script) used begin changed none j after (let same = c.stored.changed_length in omega (arith, before, same))
 
   -- these are what it uses when it is run alone
   used_is : used_at t.level ran ≡ used
@@ -128,8 +128,8 @@ module _ (script : Script) (start : Start) (entries : List EntryLine) (changed :
   pub rows_then : rows_at (from_start script start) more (now + 1) ≡ apply_all (seen.at now) ops
   rows_then = ap (λ k. rows_at (from_start script start) more k) next_at ∙ rows_new (from_start script start) entries e ∙ rows_there
 
-  module _ (seen' : Seen) (kept : IsKept now seen seen' (ops ∷ [])) (unbroken : first_broken (tables_of script) (apply_all (seen.at now) ops).tables ≡ None) (some : ops ≢ []) (clear : first_use (tables_of script) begin (drop begin changed) used ≡ None) where
-    good : IsGood (tables_of script) (apply_all (seen.at now) ops).tables
+  module _ (seen' : SeenRows) (kept : IsKept now seen seen' (ops ∷ [])) (unbroken : first_broken (script_tables script) (apply_all (seen.at now) ops).tables ≡ None) (some : ops ≢ []) (clear : first_use (script_tables script) begin (drop begin changed) used ≡ None) where
+    good : IsGood (script_tables script) (apply_all (seen.at now) ops).tables
     good = record { rows_fit = c.fits; keys_kept = unbroken }
 
     rows_applied : apply_all (rows_at (from_start script start) entries (last_position (from_start script start).origin entries)) (alone_at (from_start script start) (view_of (from_start script start) entries) t begin).ops ≡ apply_all (seen.at now) ops
@@ -151,7 +151,7 @@ module _ (script : Script) (start : Start) (entries : List EntryLine) (changed :
       is_ran = refl;
       has_ops = subst (λ (o : List RowOp). o ≢ []) c.ops_are some;
       untouched = subst (λ (items : List Used). IsUntouched (view_of (from_start script start) entries) begin (now + 1) items) (sym used_is) (untouched_now clear);
-      is_good = subst (λ (r : Rows). IsGood (tables_of script) r.tables) (sym rows_applied) good;
+      is_good = subst (λ (r : Rows). IsGood (script_tables script) r.tables) (sym rows_applied) good;
     }
 
     pub next_is : seen'.next ≡ (apply_all (seen.at now) ops).next
@@ -194,7 +194,7 @@ module _ (script : Script) (start : Start) (entries : List EntryLine) (changed :
         ∙ sym (changes_stay (from_start script start) entries e k (omega (arith, first)) (omega (arith, within)))
 
     -- after the commit
-    pub stored_more : Stored script start more changed' seen'
+    pub stored_more : IsStoredSoFar script start more changed' seen'
     stored_more = record {
       opened = (omega (arith, count), omega arith);
       history = each_append (IsEntryAfter (from_start script start)) [] entries (e ∷ []) c.stored.history (its_entry, tt);
@@ -205,13 +205,13 @@ module _ (script : Script) (start : Start) (entries : List EntryLine) (changed :
       next_is = next_is ∙ ap (λ (r : Rows). r.next) (sym kept.0) ∙ ap (λ k. (seen'.at k).next) (sym count);
       changed_length = let same = c.stored.changed_length in omega (arith, count, same, length-append changed (changes_of ops seen.next ∷ []));
       changed_are = at_next (λ k. base start < k) (λ k. unwrap_or (slice_get changed' (k - 1)) [] ≡ changes_at (from_start script start) more k) changed_before changed_there;
-      sound = at_next (IsFrom (base start)) (λ at. AreKept (tables_of script) seen'.next (seen'.at at).tables)
-          (λ at first within. subst (λ (vs : List (List Version)). AreKept (tables_of script) seen'.next vs) (ap (λ (r : Rows). r.tables) (sym (kept.1 at (omega (arith, within)))))
-          (rows_later (tables_of script) seen.next seen'.next (seen.at at).tables (let g = c.grows in let n = next_is in omega (arith, g, n)) (c.stored.sound at first within)))
-          (subst (λ (vs : List (List Version)). AreKept (tables_of script) seen'.next vs) (sym tables_are) (subst (λ k. AreKept (tables_of script) k (apply_all (seen.at now) ops).tables) (sym next_is) c.applied));
-      named = subst (λ (l : List (List Change)). AllByRecursion (AllByRecursion (HasName (tables_of script))) l)
+      sound = at_next (IsFrom (base start)) (λ at. AreKept (script_tables script) seen'.next (seen'.at at).tables)
+          (λ at first within. subst (λ (vs : List (List Version)). AreKept (script_tables script) seen'.next vs) (ap (λ (r : Rows). r.tables) (sym (kept.1 at (omega (arith, within)))))
+          (rows_later (script_tables script) seen.next seen'.next (seen.at at).tables (let g = c.grows in let n = next_is in omega (arith, g, n)) (c.stored.sound at first within)))
+          (subst (λ (vs : List (List Version)). AreKept (script_tables script) seen'.next vs) (sym tables_are) (subst (λ k. AreKept (script_tables script) k (apply_all (seen.at now) ops).tables) (sym next_is) c.applied));
+      named = subst (λ (l : List (List Change)). AllByRecursion (AllByRecursion (HasName (script_tables script))) l)
           (sym (behind_more (base start) changed (changes_of ops seen.next) (let same = c.stored.changed_length in omega (arith, same))))
-          (all_append _ (drop (base start) changed) (changes_of ops seen.next ∷ []) c.stored.named (all_named (tables_of script) seen.next ops seen.next (kept_sound (tables_of script) seen.next ops c.sound), tt));
+          (all_append _ (drop (base start) changed) (changes_of ops seen.next ∷ []) c.stored.named (all_named (script_tables script) seen.next ops seen.next (kept_sound (script_tables script) seen.next ops c.sound), tt));
     }
 
     -- and the outcome is right
@@ -223,5 +223,5 @@ module _ (script : Script) (start : Start) (entries : List EntryLine) (changed :
           later = let w = c.within in omega (arith, w);
           stands = ap (λ k. entry_at (from_start script start).origin more k) next_at ∙ entry_new (from_start script start) entries e;
           untouched = untouched_stays (from_start script start) entries e begin (now + 1) used c.first.1 (omega arith) (untouched_now clear);
-          is_good = subst (λ (r : Rows). IsGood (tables_of script) r.tables) (sym rows_then) good;
+          is_good = subst (λ (r : Rows). IsGood (script_tables script) r.tables) (sym rows_then) good;
         }

@@ -54,7 +54,7 @@ use Rattle.session_turns.specs.declared.states.InTransaction.TheVariants.{No, Op
 use Rattle.script_play.specs.Start.{Start, base, ground_of}
 use Rattle.session_turns.specs.Step.{World, Turned, answer_of, outcome, turn_of, cut_by}
 use Rattle.script_play.specs.Step.{IsTurned, IsKept, entries_added}
-use Rattle.script_play.specs.declared.effects.LineEffect.{LineEffect}
+use Rattle.script_play.specs.declared.effects.DecidedEffect.{DecidedEffect}
 use Rattle.session_turns.specs.declared.states.SessionState.{SessionState}
 
 -- the pages of a log stand at a position
@@ -90,7 +90,7 @@ added_fits start tables log (Some entry) named [] is = absurd is
 added_fits start tables log (Some entry) named (ops ∷ []) is = is.fits
 added_fits start tables log (Some entry) named (ops ∷ more ∷ others) is = absurd is
 
-pub effect_fits : (start : Start) (generation : ℕ) (tables : List TableDef) (log : List Entry) (name : List ℕ) (p : LineEffect) (t : Turned) → IsEffect start generation tables log name p t → IfSome p.added (Fits log)
+pub effect_fits : (start : Start) (generation : ℕ) (tables : List TableDef) (log : List Entry) (name : List ℕ) (p : DecidedEffect) (t : Turned) → IsEffect start generation tables log name p t → IfSome p.added (Fits log)
 effect_fits start generation tables log name p t is = added_fits start tables log p.added (named_so generation name t.number t.begin t.after.level) t.added is.added
 
 -- what is kept of an entry, where one is appended, behind a log that is in order
@@ -201,7 +201,7 @@ WasDone start generation tables name t after lines lines' entries entries' log l
     × (AreTold start.before generation entries log → AreTold start.before generation entries' log') × IsOwn generation name after
 
 -- a plan that was done is what the line does
-effect_done : (start : Start) (generation : ℕ) (tables : List TableDef) (log log' : List Entry) (name : List ℕ) (p : LineEffect) (t : Turned) (after : SessionState) (lines lines' : List Line) (entries entries' : List EntryLine) →
+effect_done : (start : Start) (generation : ℕ) (tables : List TableDef) (log log' : List Entry) (name : List ℕ) (p : DecidedEffect) (t : Turned) (after : SessionState) (lines lines' : List Line) (entries entries' : List EntryLine) →
     IsLogged start tables (length log) log → IsFrom (base start) (length log) → IsEffect start generation tables log name p t → after ≡ p.after →
     lines' ≡ lines ++ lines_of name p.number p.replies.items → entries' ≡ entries ++ lines_added (length log) p.added → log' ≡ log ++ option_to_list p.added →
     WasDone start generation tables name t after lines lines' entries entries' log log'
@@ -313,7 +313,7 @@ adds_one start tables log entry named (ops ∷ []) is = (ops, refl)
 adds_one start tables log entry named (ops ∷ more ∷ others) is = absurd is
 
 -- what was told and kept of a plan is what the line does
-effect_kept : (start : Start) (generation : ℕ) (tables : List TableDef) (name : List ℕ) (p : LineEffect) (t : Turned) (after : SessionState) (lines lines' : List Line) (entries entries' : List EntryLine) (log log' : Logged) →
+effect_kept : (start : Start) (generation : ℕ) (tables : List TableDef) (name : List ℕ) (p : DecidedEffect) (t : Turned) (after : SessionState) (lines lines' : List Line) (entries entries' : List EntryLine) (log log' : Logged) →
     log.failed ≡ false → IsLogged start tables (length log.entries) log.entries → IsFrom (base start) (length log.entries) → IsEffect start generation tables log.entries name p t → after ≡ p.after →
     IsKeptSo name p.number p.replies.items p.added (run_of lines entries log) (run_of lines' entries' log') → IsDoneFrom start generation tables name t after (run_of lines entries log) (run_of lines' entries' log')
 effect_kept start generation tables name p t after lines lines' entries entries' log log' up logged opened is there kept = go p.added refl kept
@@ -346,7 +346,7 @@ effect_kept start generation tables name p t after lines lines' entries entries'
             (subst (λ (o : Option Entry). IsAdded start tables log.entries o (named_so generation name t.number t.begin t.after.level) t.added) some is.added)
 
 -- the same of what the code answers
-pub effect_taken : {E : Type 0} (result : Result SessionState E) (start : Start) (generation : ℕ) (tables : List TableDef) (name : List ℕ) (p : LineEffect) (t : Turned) (lines lines' : List Line) (entries entries' : List EntryLine) (log log' : Logged) →
+pub effect_taken : {E : Type 0} (result : Result SessionState E) (start : Start) (generation : ℕ) (tables : List TableDef) (name : List ℕ) (p : DecidedEffect) (t : Turned) (lines lines' : List Line) (entries entries' : List EntryLine) (log log' : Logged) →
     log.failed ≡ false → IsLogged start tables (length log.entries) log.entries → IsFrom (base start) (length log.entries) → IsEffect start generation tables log.entries name p t → IfOk result (λ after. after ≡ p.after) →
     OnOk result (IsKeptSo name p.number p.replies.items p.added (run_of lines entries log) (run_of lines' entries' log')) → IfOk result (λ after. IsDoneFrom start generation tables name t after (run_of lines entries log) (run_of lines' entries' log'))
 effect_taken (Err e) start generation tables name p t lines lines' entries entries' log log' up logged opened is there kept = tt
@@ -372,7 +372,7 @@ told_outcome w number level meant (LevelText later) doing.Aborted adds = absurd 
 told_outcome w number level meant OtherText doing.Aborted adds = absurd (adds refl)
 
 -- what the entry of a plan needs to be appended, beside that it is the next one of the log
-module _ (start : Start) (generation : ℕ) (tables : List TableDef) (log : List Entry) (name : List ℕ) (p : LineEffect) (t : Turned) (is : IsEffect start generation tables log name p t) where
+module _ (start : Start) (generation : ℕ) (tables : List TableDef) (log : List Entry) (name : List ℕ) (p : DecidedEffect) (t : Turned) (is : IsEffect start generation tables log name p t) where
   pub effect_commits : IfSome p.added IsCommit
   effect_commits = go p.added t.added is.added
     where

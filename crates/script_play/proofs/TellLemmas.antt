@@ -29,7 +29,7 @@ use Rattle.script_play.specs.Basis.{from_start}
 use Rattle.session_turns.specs.Doing.{Doing, SessionAt}
 use Rattle.session_turns.specs.Doing as doing
 use Rattle.script_play.specs.Down.{down_line, turn_down}
-use Rattle.session_turns.specs.Seen.{Seen}
+use Rattle.session_turns.specs.Seen.{SeenRows}
 use Rattle.script_play.specs.SoFar.{IsDown, IsGone, now_of}
 use Rattle.script_play.specs.Start.{Start}
 use Rattle.session_turns.specs.Step.{Turned}
@@ -39,7 +39,7 @@ use Rattle.script_play.proofs.OpenLemmas.{begin_told, open_uncut}
 use Rattle.script_play.proofs.ToldLemmas.{IsToldSo, told_lone, told_nothing, told_short}
 
 -- a line on a node that is down
-module _ (script : Script) (start : Start) (entries : List EntryLine) (changed : List (List Change)) (seen : Seen) (name : List ℕ) (p : Place) (text : List ℕ) (lines : List Line) (states : List SessionAt) (can : CanRun script)
+module _ (script : Script) (start : Start) (entries : List EntryLine) (changed : List (List Change)) (seen : SeenRows) (name : List ℕ) (p : Place) (text : List ℕ) (lines : List Line) (states : List SessionAt) (can : CanRun script)
     (is_declared : IsDeclared name script.sessions) (places : EachAfter (HasItsPlace script) [] lines) (is : IsDown script lines states) where
   abbrev pub Tells : ℕ → Kind → Option (List (List ℕ)) → Turned → Type 0
   Tells number k pending t = IsToldSo script (from_start script start).origin (now_of start entries) lines name number k pending (lines_of name t.number t.replies)

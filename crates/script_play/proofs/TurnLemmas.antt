@@ -9,9 +9,9 @@ use Rattle.cdb_values.specs.Rows.{Rows, apply_all}
 use Rattle.cdb_values.specs.declared.rows.RowOp.{RowOp}
 use Rattle.cdb_values.specs.declared.rows.StatementError.TheVariants.{State}
 use Rattle.log_rows.specs.History.{IsFrom}
-use Rattle.session_turns.specs.Seen.{Seen}
+use Rattle.session_turns.specs.Seen.{SeenRows}
 use Rattle.script_play.specs.Start.{Start, base}
-use Rattle.script_form.specs.CanRun.{tables_of}
+use Rattle.script_form.specs.CanRun.{script_tables}
 use Rattle.script_form.specs.declared.scripts.Script.{Script}
 use Rattle.report_text.specs.declared.reports.EntryLine.{EntryLine}
 use Rattle.report_text.specs.declared.reports.EntryLine.TheVariants.{Setup, Commit}
@@ -47,8 +47,8 @@ use Rattle.script_play.specs.Ready.{AreKept, IsAskable, IsKeptOp}
 use Rattle.script_play.proofs.SqlLaws.{sql_is_answered, kept_answer, uses_more, ranges_more}
 use Rattle.script_play.proofs.AppliedLaws.{kept_applied}
 use Rattle.script_play.proofs.FitLaws.{sound_fits}
-use Rattle.script_play.specs.SoFar.{now_of, Stored, IsOpen, IsDoing, IsPast, Standing}
-use Rattle.session_turns.specs.Step.{World, Turned, state, turned, turn_by, outcome, answer_at, own_line, committed, goes_on}
+use Rattle.script_play.specs.SoFar.{now_of, IsStoredSoFar, IsOpen, IsDoing, IsPast, Standing}
+use Rattle.session_turns.specs.Step.{World, Turned, state, told_turn, turn_by, outcome, answer_at, own_line, committed, goes_on}
 use Rattle.script_play.specs.Step.{entries_added, IsKept}
 use Rattle.session_turns.specs.Doing.{SessionAt, Doing}
 use Rattle.session_turns.specs.Doing as doing
@@ -81,8 +81,8 @@ abbrev pub WasCutUnder : List Numbered → ℕ → Type 0
 WasCutUnder lines told = (cause : Reply) × (cuts cause ≡ true) × StandsIn lines (told, cause)
 
 -- what a line does is right
-pub record Turns (script : Script) (start : Start) (entries entries' : List EntryLine) (changed' : List (List Change)) (seen seen' : Seen) (name : List ℕ) (after : Place) (lines : List Numbered) (told : ℕ) (own : Bool) (t : Turned) : Type 0 where
-  pub stored : Stored script start entries' changed' seen'
+pub record Turns (script : Script) (start : Start) (entries entries' : List EntryLine) (changed' : List (List Change)) (seen seen' : SeenRows) (name : List ℕ) (after : Place) (lines : List Numbered) (told : ℕ) (own : Bool) (t : Turned) : Type 0 where
+  pub stored : IsStoredSoFar script start entries' changed' seen'
   pub grows : Grows entries entries'
   pub next : seen.next ≤ seen'.next
   pub stands : Standing script start entries' seen'.next name after (lines ++ numbered t.number t.replies) t.after
@@ -92,10 +92,10 @@ pub record Turns (script : Script) (start : Start) (entries entries' : List Entr
   pub news : IsNews script start name lines entries entries' after t
 
 -- a session before a line of its own
-pub record Comes (script : Script) (start : Start) (entries : List EntryLine) (changed : List (List Change)) (seen : Seen) (name : List ℕ) (p : Place) (pending : Option (List (List ℕ))) (what : Doing) (text : List ℕ) (k : Kind) (lines : List Numbered) : Type 0 where
-  pub askable : AllByRecursion IsAskable (tables_of script)
+pub record Comes (script : Script) (start : Start) (entries : List EntryLine) (changed : List (List Change)) (seen : SeenRows) (name : List ℕ) (p : Place) (pending : Option (List (List ℕ))) (what : Doing) (text : List ℕ) (k : Kind) (lines : List Numbered) : Type 0 where
+  pub askable : AllByRecursion IsAskable (script_tables script)
   pub utf8 : is_utf8 text ≡ true
-  pub stored : Stored script start entries changed seen
+  pub stored : IsStoredSoFar script start entries changed seen
   pub before : List Numbered
   pub mine : List Reply
   pub is : lines ≡ before ++ numbered p.number mine
@@ -120,18 +120,18 @@ pub piece : (lines before : List Numbered) (number : ℕ) (mine more : List Repl
 piece lines before number mine more is =
     ap (λ ls. ls ++ numbered number more) is ∙ append_assoc before (numbered number mine) (numbered number more) ∙ ap (λ ls. before ++ ls) (sym (numbered_append number mine more))
 
-module _ (script : Script) (start : Start) (entries : List EntryLine) (changed : List (List Change)) (seen seen' : Seen) (name : List ℕ) (p : Place) (text : List ℕ) (lines : List Numbered) where
+module _ (script : Script) (start : Start) (entries : List EntryLine) (changed : List (List Change)) (seen seen' : SeenRows) (name : List ℕ) (p : Place) (text : List ℕ) (lines : List Numbered) where
   abbrev pub w : World
   w = world script start entries changed seen
 
   -- a line that adds nothing to the history
   quiet : (k : Kind) (pending : Option (List (List ℕ))) (what : Doing) → Comes script start entries changed seen name p pending what text k lines → (after : Place) (told number : ℕ) (own : Bool) (replies : List Reply) (at : SessionAt) → seen' ≡ seen →
       Standing script start entries seen.next name after (lines ++ numbered number replies) at → Paced (now_of start entries) (now_of start entries) replies → number ≡ told → (are_up_to (is_last_of own) replies ≡ true) ⊎ ((replies ≡ []) × WasCutUnder lines told) →
-      Turns script start entries (entries ++ []) (changed ++ []) seen seen' name after lines told own (turned number replies at)
+      Turns script start entries (entries ++ []) (changed ++ []) seen seen' name after lines told own (told_turn number replies at)
   quiet k pending what c after told number own replies at same stands paced number_is up_to =
-      subst (λ (a : Seen). Turns script start entries (entries ++ []) (changed ++ []) seen a name after lines told own (turned number replies at)) (sym same)
-      (subst (λ es. Turns script start entries es (changed ++ []) seen seen name after lines told own (turned number replies at)) (sym (append-nil entries))
-      (subst (λ ts. Turns script start entries entries ts seen seen name after lines told own (turned number replies at)) (sym (append-nil changed)) (record {
+      subst (λ (a : SeenRows). Turns script start entries (entries ++ []) (changed ++ []) seen a name after lines told own (told_turn number replies at)) (sym same)
+      (subst (λ es. Turns script start entries es (changed ++ []) seen seen name after lines told own (told_turn number replies at)) (sym (append-nil entries))
+      (subst (λ ts. Turns script start entries entries ts seen seen name after lines told own (told_turn number replies at)) (sym (append-nil changed)) (record {
         stored = c.stored;
         grows = inl refl;
         next = omega arith;
@@ -144,18 +144,18 @@ module _ (script : Script) (start : Start) (entries : List EntryLine) (changed :
 
   -- the answer to a line, at a position of the history
   answer_is : (k : Kind) (pending : Option (List (List ℕ))) (what : Doing) → Comes script start entries changed seen name p pending what text k lines → (begin : ℕ) → IsFrom (base start) begin → begin ≤ now_of start entries → (ops : List RowOp) →
-      answer_at w begin ops text ≡ sql_language.answer (tables_of script) (rows_at (from_start script start) entries begin).tables ops text
-  answer_is k pending what c begin first within ops = ap (λ (r : Rows). sql_language.answer (tables_of script) r.tables ops text) (c.stored.rows_are begin first within)
+      answer_at w begin ops text ≡ sql_language.answer (script_tables script) (rows_at (from_start script start) entries begin).tables ops text
+  answer_is k pending what c begin first within ops = ap (λ (r : Rows). sql_language.answer (script_tables script) r.tables ops text) (c.stored.rows_are begin first within)
 
   answer_sound : (k : Kind) (pending : Option (List (List ℕ))) (what : Doing) → Comes script start entries changed seen name p pending what text k lines → (begin : ℕ) → IsFrom (base start) begin → begin ≤ now_of start entries → (ops : List RowOp) →
-      AllByRecursion (IsKeptOp (tables_of script) seen.next) ops → AllByRecursion (IsKeptOp (tables_of script) seen.next) (answer_at w begin ops text).ops
+      AllByRecursion (IsKeptOp (script_tables script) seen.next) ops → AllByRecursion (IsKeptOp (script_tables script) seen.next) (answer_at w begin ops text).ops
   answer_sound k pending what c begin first within ops all =
-      kept_answer (tables_of script) (seen.at begin).tables ops text seen.next c.askable c.utf8 (c.stored.sound begin first within) all
+      kept_answer (script_tables script) (seen.at begin).tables ops text seen.next c.askable c.utf8 (c.stored.sound begin first within) all
 
   -- a transaction that a line ends comes to its commit
   comes_to : (k : Kind) (pending : Option (List (List ℕ))) (what : Doing) → Comes script start entries changed seen name p pending what text k lines → (t : Transaction) (begin : ℕ) (uses : List GenidItem) (ranges : List Interval) (ops : List RowOp) → IsFrom (base start) begin → begin ≤ now_of start entries →
       transaction_of sql_language name t.number script.body ≡ Some t → ops ≡ (alone_at (from_start script start) (view_of (from_start script start) entries) t begin).ops → uses ≡ (alone_at (from_start script start) (view_of (from_start script start) entries) t begin).uses → ranges ≡ (alone_at (from_start script start) (view_of (from_start script start) entries) t begin).ranges →
-      AllByRecursion (IsKeptOp (tables_of script) seen.next) ops → AllByRecursion (λ e. is_entry_of name t.number e ≡ false) entries → Commits script start entries changed seen name t begin uses ranges ops
+      AllByRecursion (IsKeptOp (script_tables script) seen.next) ops → AllByRecursion (λ e. is_entry_of name t.number e ≡ false) entries → Commits script start entries changed seen name t begin uses ranges ops
   comes_to k pending what c t begin uses ranges ops first within its are uses_are ranges_are sound once = record {
     stored = c.stored;
     first = first;
@@ -168,14 +168,14 @@ module _ (script : Script) (start : Start) (entries : List EntryLine) (changed :
     once = once;
     applied = applied.0;
     grows = applied.1;
-    fits = sound_fits (tables_of script) (apply_all (seen.at (now_of start entries)) ops).next (apply_all (seen.at (now_of start entries)) ops).tables applied.0.0;
+    fits = sound_fits (script_tables script) (apply_all (seen.at (now_of start entries)) ops).next (apply_all (seen.at (now_of start entries)) ops).tables applied.0.0;
   }
     where
-      applied : AreKept (tables_of script) (apply_all (seen.at (now_of start entries)) ops).next (apply_all (seen.at (now_of start entries)) ops).tables × (seen.next ≤ (apply_all (seen.at (now_of start entries)) ops).next)
-      applied = subst (λ n. AreKept (tables_of script) (apply_all (seen.at (now_of start entries)) ops).next (apply_all (seen.at (now_of start entries)) ops).tables × (n ≤ (apply_all (seen.at (now_of start entries)) ops).next)) (sym c.stored.next_is)
-          (kept_applied (tables_of script) (seen.at (now_of start entries)) ops
-          (subst (λ n. AreKept (tables_of script) n (seen.at (now_of start entries)).tables) c.stored.next_is (c.stored.sound (now_of start entries) c.stored.opened (omega arith)))
-          (subst (λ n. AllByRecursion (IsKeptOp (tables_of script) n) ops) c.stored.next_is sound))
+      applied : AreKept (script_tables script) (apply_all (seen.at (now_of start entries)) ops).next (apply_all (seen.at (now_of start entries)) ops).tables × (seen.next ≤ (apply_all (seen.at (now_of start entries)) ops).next)
+      applied = subst (λ n. AreKept (script_tables script) (apply_all (seen.at (now_of start entries)) ops).next (apply_all (seen.at (now_of start entries)) ops).tables × (n ≤ (apply_all (seen.at (now_of start entries)) ops).next)) (sym c.stored.next_is)
+          (kept_applied (script_tables script) (seen.at (now_of start entries)) ops
+          (subst (λ n. AreKept (script_tables script) n (seen.at (now_of start entries)).tables) c.stored.next_is (c.stored.sound (now_of start entries) c.stored.opened (omega arith)))
+          (subst (λ n. AllByRecursion (IsKeptOp (script_tables script) n) ops) c.stored.next_is sound))
 
   -- a decision on a transaction that the line ends, behind these replies of it
   decided_turn : (t : Transaction) (begin : ℕ) (uses : List GenidItem) (ranges : List Interval) (ops : List RowOp) (o : Reply) (added : List (List RowOp)) → begin ≤ now_of start entries → IsFrom (base start) begin →
@@ -221,7 +221,7 @@ module _ (script : Script) (start : Start) (entries : List EntryLine) (changed :
 
   -- a line outside a transaction has its one reply
   lone : (k : Kind) (c : Comes script start entries changed seen name p None doing.No text k lines) (answered : Reply) (level : Level) → Paced (now_of start entries) (now_of start entries) (answered ∷ []) → are_up_to (is_last_of false) (answered ∷ []) ≡ true →
-      Goal (record { over = p.over ++ Lone answered ∷ []; number = p.number; level = level; pending = None }) 0 false (turned 0 (answered ∷ []) (state p.number level doing.No))
+      Goal (record { over = p.over ++ Lone answered ∷ []; number = p.number; level = level; pending = None }) 0 false (told_turn 0 (answered ∷ []) (state p.number level doing.No))
   lone k c answered level paced up_to kept = quiet k None doing.No c (record { over = p.over ++ Lone answered ∷ []; number = p.number; level = level; pending = None }) 0 0 false (answered ∷ []) (state p.number level doing.No) kept
       (idle_after script start entries entries (inl refl) name p c.before c.past (Lone answered) (answered ∷ []) (lines ++ numbered 0 (answered ∷ [])) seen.next p.number level refl
       (ap (λ ls. ls ++ numbered 0 (answered ∷ [])) (idle_lines k c)))
@@ -309,26 +309,26 @@ module _ (script : Script) (start : Start) (entries : List EntryLine) (changed :
         says = ap (λ (rs : List Reply). lines ++ numbered (p.number + 1) (rs ++ own_outcome a ∷ [])) says;
       }
 
-  own_is : (c : Comes script start entries changed seen name p None doing.No text OtherText lines) → answer_at w (now_of start entries) [] text ≡ sql_language.answer (tables_of script) (rows_at (from_start script start) entries (now_of start entries)).tables [] text
+  own_is : (c : Comes script start entries changed seen name p None doing.No text OtherText lines) → answer_at w (now_of start entries) [] text ≡ sql_language.answer (script_tables script) (rows_at (from_start script start) entries (now_of start entries)).tables [] text
   own_is c = answer_is OtherText None doing.No c (now_of start entries) c.stored.opened (omega arith) []
 
   -- its replies before its outcome
   pub own_says : (c : Comes script start entries changed seen name p None doing.No text OtherText lines) →
       own_front (answer_at w (now_of start entries) [] text) ≡ reply.Begin (now_of start entries) ∷ (alone_at (from_start script start) (view_of (from_start script start) entries) own_txn (now_of start entries)).replies
-  own_says c = ap (λ (x : Answered). reply.Begin (now_of start entries) ∷ x.replies) (own_is c) ∙ ap (λ rs. reply.Begin (now_of start entries) ∷ rs) (sym (append-nil (sql_language.answer (tables_of script) (rows_at (from_start script start) entries (now_of start entries)).tables [] text).replies))
+  own_says c = ap (λ (x : Answered). reply.Begin (now_of start entries) ∷ x.replies) (own_is c) ∙ ap (λ rs. reply.Begin (now_of start entries) ∷ rs) (sym (append-nil (sql_language.answer (script_tables script) (rows_at (from_start script start) entries (now_of start entries)).tables [] text).replies))
 
   own : (c : Comes script start entries changed seen name p None doing.No text OtherText lines) → Goal (next_by p text OtherText None) (number_by p.number OtherText None) true (turn_by w p.number p.level text OtherText doing.No)
-  own c kept = own_by c (answer_at w (now_of start entries) [] text) (sql_is_answered.plain (tables_of script) (seen.at (now_of start entries)).tables [] text) (own_says c) are uses_are ranges_are
+  own c kept = own_by c (answer_at w (now_of start entries) [] text) (sql_is_answered.plain (script_tables script) (seen.at (now_of start entries)).tables [] text) (own_says c) are uses_are ranges_are
       (decides script start entries changed seen seen' name own_txn (now_of start entries) (answer_at w (now_of start entries) [] text).uses (answer_at w (now_of start entries) [] text).ranges (answer_at w (now_of start entries) [] text).ops commits kept)
     where
       are : (answer_at w (now_of start entries) [] text).ops ≡ (alone_at (from_start script start) (view_of (from_start script start) entries) own_txn (now_of start entries)).ops
       are = ap (λ (x : Answered). x.ops) (own_is c)
 
       uses_are : (answer_at w (now_of start entries) [] text).uses ≡ (alone_at (from_start script start) (view_of (from_start script start) entries) own_txn (now_of start entries)).uses
-      uses_are = ap (λ (x : Answered). x.uses) (own_is c) ∙ sym (append-nil (sql_language.answer (tables_of script) (rows_at (from_start script start) entries (now_of start entries)).tables [] text).uses)
+      uses_are = ap (λ (x : Answered). x.uses) (own_is c) ∙ sym (append-nil (sql_language.answer (script_tables script) (rows_at (from_start script start) entries (now_of start entries)).tables [] text).uses)
 
       ranges_are : (answer_at w (now_of start entries) [] text).ranges ≡ (alone_at (from_start script start) (view_of (from_start script start) entries) own_txn (now_of start entries)).ranges
-      ranges_are = ap (λ (x : Answered). x.ranges) (own_is c) ∙ sym (append-nil (sql_language.answer (tables_of script) (rows_at (from_start script start) entries (now_of start entries)).tables [] text).ranges)
+      ranges_are = ap (λ (x : Answered). x.ranges) (own_is c) ∙ sym (append-nil (sql_language.answer (script_tables script) (rows_at (from_start script start) entries (now_of start entries)).tables [] text).ranges)
 
       commits : Commits script start entries changed seen name own_txn (now_of start entries) (answer_at w (now_of start entries) [] text).uses (answer_at w (now_of start entries) [] text).ranges (answer_at w (now_of start entries) [] text).ops
       commits = comes_to OtherText None doing.No c own_txn (now_of start entries) (answer_at w (now_of start entries) [] text).uses (answer_at w (now_of start entries) [] text).ranges (answer_at w (now_of start entries) [] text).ops c.stored.opened (omega arith) (c.its own_txn refl refl) are uses_are ranges_are
@@ -342,29 +342,29 @@ module _ (script : Script) (start : Start) (entries : List EntryLine) (changed :
       first = c.doing.first;
       within = c.doing.within;
       says = ap (λ rs. rs ++ (answer_at w begin ops text).replies) c.doing.says
-          ∙ ap (λ (a : Answered). reply.Begin begin ∷ ((alone sql_language (tables_of script) (rows_at (from_start script start) entries begin) texts).replies ++ a.replies)) its
-          ∙ ap (λ rs. reply.Begin begin ∷ rs) (sym (replies_more sql_language (tables_of script) (rows_at (from_start script start) entries begin).tables [] texts text));
-      ops_are = ap (λ (a : Answered). a.ops) its ∙ sym (ops_more sql_language (tables_of script) (rows_at (from_start script start) entries begin).tables [] texts text);
+          ∙ ap (λ (a : Answered). reply.Begin begin ∷ ((alone sql_language (script_tables script) (rows_at (from_start script start) entries begin) texts).replies ++ a.replies)) its
+          ∙ ap (λ rs. reply.Begin begin ∷ rs) (sym (replies_more sql_language (script_tables script) (rows_at (from_start script start) entries begin).tables [] texts text));
+      ops_are = ap (λ (a : Answered). a.ops) its ∙ sym (ops_more sql_language (script_tables script) (rows_at (from_start script start) entries begin).tables [] texts text);
       uses_are = ap (λ (us : List GenidItem). us ++ (answer_at w begin ops text).uses) c.doing.uses_are
-          ∙ ap (λ (a : Answered). (alone sql_language (tables_of script) (rows_at (from_start script start) entries begin) texts).uses ++ a.uses) its
-          ∙ sym (uses_more sql_language (tables_of script) (rows_at (from_start script start) entries begin).tables [] texts text);
+          ∙ ap (λ (a : Answered). (alone sql_language (script_tables script) (rows_at (from_start script start) entries begin) texts).uses ++ a.uses) its
+          ∙ sym (uses_more sql_language (script_tables script) (rows_at (from_start script start) entries begin).tables [] texts text);
       ranges_are = ap (λ (rs : List Interval). rs ++ (answer_at w begin ops text).ranges) c.doing.ranges_are
-          ∙ ap (λ (a : Answered). (alone sql_language (tables_of script) (rows_at (from_start script start) entries begin) texts).ranges ++ a.ranges) its
-          ∙ sym (ranges_more sql_language (tables_of script) (rows_at (from_start script start) entries begin).tables [] texts text);
+          ∙ ap (λ (a : Answered). (alone sql_language (script_tables script) (rows_at (from_start script start) entries begin) texts).ranges ++ a.ranges) its
+          ∙ sym (ranges_more sql_language (script_tables script) (rows_at (from_start script start) entries begin).tables [] texts text);
       sound = answer_sound k (Some texts) (doing.Open begin ops uses ranges) c begin c.doing.first c.doing.within ops c.doing.sound;
     }
       where
-        its : answer_at w begin ops text ≡ sql_language.answer (tables_of script) (rows_at (from_start script start) entries begin).tables (alone sql_language (tables_of script) (rows_at (from_start script start) entries begin) texts).ops text
+        its : answer_at w begin ops text ≡ sql_language.answer (script_tables script) (rows_at (from_start script start) entries begin).tables (alone sql_language (script_tables script) (rows_at (from_start script start) entries begin) texts).ops text
         its = answer_is k (Some texts) (doing.Open begin ops uses ranges) c begin c.doing.first c.doing.within ops
-            ∙ ap (λ (o : List RowOp). sql_language.answer (tables_of script) (rows_at (from_start script start) entries begin).tables o text) c.doing.ops_are
+            ∙ ap (λ (o : List RowOp). sql_language.answer (script_tables script) (rows_at (from_start script start) entries begin).tables o text) c.doing.ops_are
 
     goes : Goal (with_open p (Some (texts ++ text ∷ [])) p.number) p.number false (goes_on p.number p.level begin uses ranges (answer_at w begin ops text))
     goes kept = quiet k (Some texts) (doing.Open begin ops uses ranges) c (with_open p (Some (texts ++ text ∷ [])) p.number) p.number p.number false (answer_at w begin ops text).replies (state p.number p.level (doing.Open begin (answer_at w begin ops text).ops (uses ++ (answer_at w begin ops text).uses) (ranges ++ (answer_at w begin ops text).ranges))) kept
         (in_transaction script start entries entries (inl refl) name p c.before c.past (texts ++ text ∷ []) (c.mine ++ (answer_at w begin ops text).replies) (lines ++ numbered p.number (answer_at w begin ops text).replies) seen.next p.number (doing.Open begin (answer_at w begin ops text).ops (uses ++ (answer_at w begin ops text).uses) (ranges ++ (answer_at w begin ops text).ranges))
         more_open (piece lines c.before p.number c.mine (answer_at w begin ops text).replies c.is))
-        (plain_paced (now_of start entries) (answer_at w begin ops text).replies (sql_is_answered.plain (tables_of script) (seen.at begin).tables ops text)) refl (inl (sql_is_answered.closed (tables_of script) (seen.at begin).tables ops text))
+        (plain_paced (now_of start entries) (answer_at w begin ops text).replies (sql_is_answered.plain (script_tables script) (seen.at begin).tables ops text)) refl (inl (sql_is_answered.closed (script_tables script) (seen.at begin).tables ops text))
 
-    rolled : Goal (closed p texts ByRollback) p.number false (turned p.number (reply.RolledBack ∷ []) (state p.number p.level doing.No))
+    rolled : Goal (closed p texts ByRollback) p.number false (told_turn p.number (reply.RolledBack ∷ []) (state p.number p.level doing.No))
     rolled kept = quiet k (Some texts) (doing.Open begin ops uses ranges) c (closed p texts ByRollback) p.number p.number false (reply.RolledBack ∷ []) (state p.number p.level doing.No) kept
         (idle_after script start entries entries (inl refl) name p c.before c.past (Does (transaction p.number texts p.level ByRollback)) (c.mine ++ reply.RolledBack ∷ []) (lines ++ numbered p.number (reply.RolledBack ∷ [])) seen.next p.number p.level
         (inl (record { begin = begin; base = c.doing.first.1; within = (let w = c.doing.within in omega (arith, w)); ran = alone_at (from_start script start) (view_of (from_start script start) entries) (transaction p.number texts p.level ByRollback) begin; is_ran = refl; last = reply.RolledBack ∷ []; ends = refl; right = (refl, tt); says = ap (λ rs. rs ++ reply.RolledBack ∷ []) c.doing.says }))
@@ -426,12 +426,12 @@ module _ (script : Script) (start : Start) (entries : List EntryLine) (changed :
       may = may_later Nowhere c.doing.ran.ops _ c.doing.front c.doing.rest (c.doing.rest ++ more) c.doing.cause c.doing.may;
       fits = sym (append_assoc c.doing.front c.doing.rest more) ∙ ap (λ rs. rs ++ more) c.doing.fits
           ∙ ap (λ (a : Answered). (reply.Begin c.doing.begin ∷ a.replies) ++ more) c.doing.is_ran
-          ∙ ap (λ rs. reply.Begin c.doing.begin ∷ rs) (sym (replies_more sql_language (tables_of script) (rows_at (from_start script start) entries c.doing.begin).tables [] texts text));
+          ∙ ap (λ rs. reply.Begin c.doing.begin ∷ rs) (sym (replies_more sql_language (script_tables script) (rows_at (from_start script start) entries c.doing.begin).tables [] texts text));
       says = c.doing.says;
     }
       where
         more : List Reply
-        more = (sql_language.answer (tables_of script) (rows_at (from_start script start) entries c.doing.begin).tables (alone sql_language (tables_of script) (rows_at (from_start script start) entries c.doing.begin) texts).ops text).replies
+        more = (sql_language.answer (script_tables script) (rows_at (from_start script start) entries c.doing.begin).tables (alone sql_language (script_tables script) (rows_at (from_start script start) entries c.doing.begin) texts).ops text).replies
 
     pub cut_before : WasCutUnder lines p.number
     cut_before = (
@@ -445,12 +445,12 @@ module _ (script : Script) (start : Start) (entries : List EntryLine) (changed :
       ),
     )
 
-    skips : Goal (with_open p (Some (texts ++ text ∷ [])) p.number) p.number false (turned p.number [] (state p.number p.level doing.Aborted))
+    skips : Goal (with_open p (Some (texts ++ text ∷ [])) p.number) p.number false (told_turn p.number [] (state p.number p.level doing.Aborted))
     skips kept = quiet k (Some texts) doing.Aborted c (with_open p (Some (texts ++ text ∷ [])) p.number) p.number p.number false [] (state p.number p.level doing.Aborted) kept
         (in_transaction script start entries entries (inl refl) name p c.before c.past (texts ++ text ∷ []) c.mine (lines ++ numbered p.number []) seen.next p.number doing.Aborted more_cut skipped_lines)
         refl refl (inr (refl, cut_before))
 
-    skips_end : (end : End) → Goal (closed p texts end) p.number false (turned p.number [] (state p.number p.level doing.No))
+    skips_end : (end : End) → Goal (closed p texts end) p.number false (told_turn p.number [] (state p.number p.level doing.No))
     skips_end end kept = quiet k (Some texts) doing.Aborted c (closed p texts end) p.number p.number false [] (state p.number p.level doing.No) kept
         (idle_after script start entries entries (inl refl) name p c.before c.past (Does (transaction p.number texts p.level end)) c.mine (lines ++ numbered p.number []) seen.next p.number p.level
         (inr (record { begin = c.doing.begin; base = c.doing.base; within = c.doing.within; ran = c.doing.ran; is_ran = c.doing.is_ran; front = c.doing.front; rest = c.doing.rest; fits = c.doing.fits; cause = c.doing.cause; is_cause = c.doing.is_cause; may = may_later end c.doing.ran.ops c.doing.ran.ops c.doing.front c.doing.rest c.doing.rest c.doing.cause c.doing.may; says = c.doing.says })) skipped_lines)

@@ -14,28 +14,28 @@ use Rattle.phys_log.specs.declared.entries.CommitId.{CommitId}
 use Rattle.phys_log.specs.declared.entries.Entry.{Entry}
 use Rattle.session_language.specs.Language.{Kind, BeginText, CommitText, RollbackText, LevelText, OtherText}
 use Rattle.session_turns.proofs.TurnLemmas.{turns_settled}
-use Rattle.session_turns.specs.Answers.{IsDone, IsTurn}
+use Rattle.session_turns.specs.Answers.{IsDone, IsTurnBetween}
 use Rattle.session_turns.specs.Asked.{Asked, Coming, asked_of, settled, settled_by}
 use Rattle.session_turns.specs.Decisions.{added_by}
-use Rattle.session_turns.specs.Doing.{Doing, SessionAt, reading}
+use Rattle.session_turns.specs.Doing.{Doing, SessionAt, open_begin}
 use Rattle.session_turns.specs.Step.{World, answer_of, outcome, turn_of}
 use Rattle.session_turns.specs.Views.{IsOf, IsOwn, IsOwnCommit, coming_in, coming_of, doing_in, state_in}
 use Rattle.session_turns.specs.declared.states.InTransaction.{InTransaction}
 use Rattle.session_turns.specs.declared.states.InTransaction.TheVariants.{No, Open, Aborted}
 use Rattle.session_turns.specs.declared.states.SessionState.{SessionState}
-use Rattle.session_turns.specs.declared.turns.LineEffect.{LineEffect as LineAsked}
+use Rattle.session_turns.specs.declared.turns.LineEffect.{LineEffect}
 use Rattle.session_turns.specs.declared.turns.Turn.{Turn}
 use Rattle.session_turns.specs.declared.turns.Turn.TheVariants as turn
 use Rattle.sql_answer.specs.Answers.{Meaning}
 use Rattle.table_store.specs.Stored.{Stands}
 use Rattle.script_play.proofs.OverLemmas.{id_is, next_unused, open_unused}
 use Rattle.script_play.proofs.TakeLemmas.{own_able, stands_there}
-use Rattle.script_play.specs.Effects.{CanCommit, IsAdded, IsEffect, IsUnusedIn, IsVerdictOn, Named, named_by, named_so}
+use Rattle.script_play.specs.Effects.{CanCommit, IsAdded, IsEffect, IsUnusedIn, IsVerdictOn, Named, transaction_named, named_so}
 use Rattle.script_play.specs.Reading.{CanRead, Reader}
 use Rattle.script_play.specs.Ready.{IsAble}
 use Rattle.script_play.specs.RunViews.{id_so, world, AreOverIn, CanGoOn, IsOfText, IsReadyFor}
 use Rattle.script_play.specs.Start.{Start, ground_of}
-use Rattle.script_play.specs.declared.effects.LineEffect.{LineEffect}
+use Rattle.script_play.specs.declared.effects.DecidedEffect.{DecidedEffect}
 use Rattle.script_play.specs.declared.verdicts.Verdict.{Verdict}
 
 -- the rows at the last position can be read, and those where an open transaction began
@@ -43,13 +43,13 @@ pub reads_now : (start : Start) (tables : List TableDef) (log : List Entry) (at 
 reads_now start tables log at is ready =
     subst (λ (k : ℕ). CanRead start tables log k) (sym is) (record { logged = ready.logged; first = ready.opened; within = omega arith })
 
-pub reads_open : (start : Start) (tables : List TableDef) (log : List Entry) (d : InTransaction) → IsReadyFor start tables log → CanGoOn start tables log d → AllByRecursion (CanRead start tables log) (reading (doing_in d))
+pub reads_open : (start : Start) (tables : List TableDef) (log : List Entry) (d : InTransaction) → IsReadyFor start tables log → CanGoOn start tables log d → AllByRecursion (CanRead start tables log) (open_begin (doing_in d))
 reads_open start tables log No ready going = tt
 reads_open start tables log (Open s) ready going = (record { logged = ready.logged; first = going.first; within = going.within }, tt)
 reads_open start tables log Aborted ready going = tt
 
 -- a line that asks for no commit
-pub told_effect : (start : Start) (generation : ℕ) (tables : List TableDef) (log : List Entry) (name : List ℕ) (number : ℕ) (replies : List Reply) (after : SessionState) (p : LineEffect) → IsOwn generation name after →
+pub told_effect : (start : Start) (generation : ℕ) (tables : List TableDef) (log : List Entry) (name : List ℕ) (number : ℕ) (replies : List Reply) (after : SessionState) (p : DecidedEffect) → IsOwn generation name after →
     p.number ≡ number → p.replies.items ≡ replies → p.after ≡ after → p.added ≡ None → IsEffect start generation tables log name p (settled_by (world start tables log) number replies (state_in after) None)
 told_effect start generation tables log name number replies after p own number_is replies_are after_is added_none = record {
   number = number_is;
@@ -60,7 +60,7 @@ told_effect start generation tables log name number replies after p own number_i
 }
 
 -- a line whose transaction is decided on so
-pub decided_effect : (start : Start) (generation : ℕ) (tables : List TableDef) (log : List Entry) (name : List ℕ) (number : ℕ) (replies : List Reply) (after : SessionState) (s : Session) (v : Verdict) (p : LineEffect) → IsOwn generation name after →
+pub decided_effect : (start : Start) (generation : ℕ) (tables : List TableDef) (log : List Entry) (name : List ℕ) (number : ℕ) (replies : List Reply) (after : SessionState) (s : Session) (v : Verdict) (p : DecidedEffect) → IsOwn generation name after →
     IsOf generation name number after.level s → IsVerdictOn start generation tables log s v → p.number ≡ number → p.replies.items ≡ replies ++ v.outcome ∷ [] → p.after ≡ after → p.added ≡ v.added →
     IsEffect start generation tables log name p (settled_by (world start tables log) number replies (state_in after) (coming_of s))
 decided_effect start generation tables log name number replies after s v p own its decided number_is replies_are after_is added_is = record {
@@ -79,7 +79,7 @@ decided_effect start generation tables log name number replies after s v p own i
     named : ℕ → List ℕ → ℕ → Level → Named
     named began session at l = record { generation = generation; began = began; session = session; number = at; begin = s.begin; level = l }
 
-    named_is : named_by generation s ≡ named_so generation name number s.begin after.level
+    named_is : transaction_named generation s ≡ named_so generation name number s.begin after.level
     named_is =
         ap (λ (b : ℕ). named b s.id.session s.id.txn s.level) its.began
         ∙ ap (λ (n : List ℕ). named generation n s.id.txn s.level) its.session
@@ -87,7 +87,7 @@ decided_effect start generation tables log name number replies after s v p own i
         ∙ ap (λ (l : Level). named generation name number l) its.level
 
 -- a line that was done on one history and is settled on it does what it does when nobody comes between
-pub turned_effect : (start : Start) (generation : ℕ) (tables : List TableDef) (log : List Entry) (name : List ℕ) (number : ℕ) (level : Level) (what : Doing) (meant : Meaning) (k : Kind) (asked : LineAsked) (p : LineEffect) →
+pub turned_effect : (start : Start) (generation : ℕ) (tables : List TableDef) (log : List Entry) (name : List ℕ) (number : ℕ) (level : Level) (what : Doing) (meant : Meaning) (k : Kind) (asked : LineEffect) (p : DecidedEffect) →
     IsDone (world start tables log) (world start tables log) generation name number level what meant k asked →
     IsEffect start generation tables log name p (settled_by (world start tables log) asked.number asked.replies.items (state_in asked.after) (coming_in asked.commits)) →
     IsEffect start generation tables log name p (turn_of (world start tables log) number level meant k what)
@@ -149,7 +149,7 @@ module _ (start : Start) (generation : ℕ) (tables : List TableDef) (log : List
   commits_by Aborted (LevelText later) s n going over counts named is = absurd (not_none _ _ is refl)
   commits_by Aborted OtherText s n going over counts named is = absurd (not_none _ _ is refl)
 
-  pub can_commit : (what : InTransaction) (k : Kind) (asked : LineAsked) → CanGoOn start tables log what → AreOverIn generation name number what log →
+  pub can_commit : (what : InTransaction) (k : Kind) (asked : LineEffect) → CanGoOn start tables log what → AreOverIn generation name number what log →
       IsDone (world start tables log) (world start tables log) generation name number level (doing_in what) meant k asked → CanCommit start tables log asked.commits
   can_commit what k asked going over done = go asked.commits refl
     where
@@ -167,13 +167,13 @@ module _ (start : Start) (generation : ℕ) (tables : List TableDef) (log : List
           (sym (ap coming_in is) ∙ done.effect.commits ∙ ap (λ (last : ℕ). (at last).commits) last_is)
 
 -- what a reader was told of a line that is done, in the words of its tables and its log
-pub done_on : (start : Start) (n n' : Reader) (tables : List TableDef) (log : List Entry) (generation : ℕ) (name : List ℕ) (number : ℕ) (level : Level) (what : InTransaction) (meant : Meaning) (k : Kind) (t : Turn) (asked : LineAsked) →
-    n ≡ record { tables = tables; log = log; generation = generation } → n' ≡ n → t ≡ turn.Done asked → IsTurn (world start n.tables n.log) (world start n'.tables n'.log) n'.generation name number level what meant k t →
+pub done_on : (start : Start) (n n' : Reader) (tables : List TableDef) (log : List Entry) (generation : ℕ) (name : List ℕ) (number : ℕ) (level : Level) (what : InTransaction) (meant : Meaning) (k : Kind) (t : Turn) (asked : LineEffect) →
+    n ≡ record { tables = tables; log = log; generation = generation } → n' ≡ n → t ≡ turn.Done asked → IsTurnBetween (world start n.tables n.log) (world start n'.tables n'.log) n'.generation name number level what meant k t →
     IsDone (world start tables log) (world start tables log) generation name number level (doing_in what) meant k asked
 done_on start n n' tables log generation name number level what meant k t asked is same done turned =
     subst (λ (m : Reader). IsDone (world start m.tables m.log) (world start m.tables m.log) m.generation name number level (doing_in what) meant k asked) is
     (subst (λ (m : Reader). IsDone (world start n.tables n.log) (world start m.tables m.log) m.generation name number level (doing_in what) meant k asked) same
-    (subst (λ (x : Turn). IsTurn (world start n.tables n.log) (world start n'.tables n'.log) n'.generation name number level what meant k x) done turned))
+    (subst (λ (x : Turn). IsTurnBetween (world start n.tables n.log) (world start n'.tables n'.log) n'.generation name number level what meant k x) done turned))
 
 -- the rows that can be read are those that the pages stand for
 pub reads_stand : (start : Start) (tables : List TableDef) (log : List Entry) (at : ℕ) → CanRead start tables log at → Stands (page_at log at) tables (rows_over_at (ground_of start) log at)

@@ -8,7 +8,7 @@ use Rattle.block_processor.proofs.ChangedLemmas.{conflict_changed}
 use Rattle.block_processor.specs.Changed.{changed_in, found_of}
 use Rattle.block_processor.specs.Conflicts.{conflict_of}
 use Rattle.script_play.proofs.UseLemmas.{item_alike}
-use Rattle.block_processor.specs.Decided.{broken_by, IsConflict, IsDuplicate, IsNextEntry}
+use Rattle.block_processor.specs.Decided.{broken_by, TellsConflict, TellsDuplicate, IsNextEntry}
 use Rattle.cdb_values.specs.Changes.{changes_of, taken_by}
 use Rattle.cdb_values.specs.Good.{first_broken, KeyName}
 use Rattle.cdb_values.specs.Rows.{Rows, apply_all}
@@ -33,7 +33,7 @@ use Rattle.cdb_values.specs.declared.replies.Reply.TheVariants as reply
 use Rattle.script_play.proofs.RequestLemmas.{conflict_once, its_request, log_tables}
 use Rattle.session_turns.specs.Decisions.{item_told, by_key, decision, judged, added_by, used_by}
 use Rattle.script_play.specs.Decisions.{key_place}
-use Rattle.script_play.specs.Effects.{IsVerdict, IsEntryOf, IsFreshIn, IsOfIts, IsUnusedIn, named_by}
+use Rattle.script_play.specs.Effects.{IsVerdict, IsEntryOf, IsFreshIn, IsOfIts, IsUnusedIn, transaction_named}
 use Rattle.script_play.specs.EntryLines.{line_of}
 use Rattle.report_text.specs.declared.reports.EntryLine.{EntryLine}
 use Rattle.script_play.specs.Ready.{IsReady}
@@ -43,7 +43,7 @@ use Rattle.session_turns.specs.Step.{World, outcome, world_of}
 use Rattle.script_play.specs.declared.verdicts.Verdict.{Verdict}
 use Rattle.session_language.specs.Touched.{Used, FirstUse, first_use, ranges_at}
 use Rattle.session_turns.specs.Outcomes.{outcome_told}
-use Rattle.session_turns.specs.declared.answers.Outcome.TheVariants.{Duplicate}
+use Rattle.session_turns.specs.declared.answers.CommitOutcome.TheVariants.{Duplicate}
 use Rattle.table_edits.specs.Broken.{KeyPlace, broken_place, key_name, name_in, named}
 use Rattle.table_store.specs.Stored.{Stands}
 
@@ -81,10 +81,10 @@ on_both (Err e) f first second = tt
 
 -- a session without operations is committed where it began
 pub none_verdict : (start : Start) (generation : ℕ) (tables : List TableDef) (now : ℕ) (log : List Entry) (s : Session) (v : Verdict) → request_of s ≡ None → v.outcome ≡ reply.Committed s.begin → v.added ≡ None →
-    IsVerdict start tables log v (outcome (world_of tables (seen_in start log) (changed_in log) now) s.begin s.level s.genids s.ranges s.ops) (named_by generation s) s.ops
+    IsVerdict start tables log v (outcome (world_of tables (seen_in start log) (changed_in log) now) s.begin s.level s.genids s.ranges s.ops) (transaction_named generation s) s.ops
 none_verdict start generation tables now log s v none told added = go s.ops none
   where
-    go : (ops : List RowOp) → request_if s ops ≡ None → IsVerdict start tables log v (outcome (world_of tables (seen_in start log) (changed_in log) now) s.begin s.level s.genids s.ranges ops) (named_by generation s) ops
+    go : (ops : List RowOp) → request_if s ops ≡ None → IsVerdict start tables log v (outcome (world_of tables (seen_in start log) (changed_in log) now) s.begin s.level s.genids s.ranges ops) (transaction_named generation s) ops
     go [] is = record { told = told; added = rw added tt }
     go (op ∷ ops) is = absurd cc
 
@@ -147,10 +147,10 @@ module _ (start : Start) (generation : ℕ) (tables : List TableDef) (now : ℕ)
   free_is : conflict_of request log ≡ None → outcome w s.begin s.level s.genids s.ranges s.ops ≡ by_key now (first_broken tables (apply_all (rows_over_at (ground_of start) log now) s.ops).tables)
   free_is free = outcome_is ∙ judged_free tables (rows_over_at (ground_of start) log now) now s.ops first (sym conflict_is ∙ free)
 
-  pub conflict_verdict : (v : Verdict) (position : ℕ) (item : Item) → IsConflict request log position item → v.outcome ≡ item_told tables position item → v.added ≡ None →
-      IsVerdict start tables log v (outcome w s.begin s.level s.genids s.ranges s.ops) (named_by generation s) s.ops
+  pub conflict_verdict : (v : Verdict) (position : ℕ) (item : Item) → TellsConflict request log position item → v.outcome ≡ item_told tables position item → v.added ≡ None →
+      IsVerdict start tables log v (outcome w s.begin s.level s.genids s.ranges s.ops) (transaction_named generation s) s.ops
   conflict_verdict v position item is told added =
-      subst (λ (o : Reply). IsVerdict start tables log v o (named_by generation s) s.ops)
+      subst (λ (o : Reply). IsVerdict start tables log v o (transaction_named generation s) s.ops)
       (sym (outcome_is ∙ judged_conflict tables (rows_over_at (ground_of start) log now) now s.ops first position item (sym conflict_is ∙ is.first)))
       (record { told = told; added = rw (added_none tables position item s.ops, added) tt })
 
@@ -166,24 +166,24 @@ module _ (start : Start) (generation : ℕ) (tables : List TableDef) (now : ℕ)
       ∙ ap (λ (f : Option KeyPlace). is_some f) (ap (λ (r : Rows). broken_place (apply_all r s.ops) 0 tables) (sym now_rows) ∙ ap (λ (ts : List TableDef). broken_place (apply_all (rows_over (ground_of start) log) s.ops) 0 ts) (sym same_tables)
       ∙ ap (λ (r : CommitRequest). broken_by (ground_of start) r log) (sym its.0) ∙ is)
 
-  pub duplicate_verdict : (v : Verdict) (position table key : ℕ) → IsDuplicate (ground_of start) request log position table key →
+  pub duplicate_verdict : (v : Verdict) (position table key : ℕ) → TellsDuplicate (ground_of start) request log position table key →
       v.outcome ≡ outcome_told tables (Duplicate position table key) → v.added ≡ None →
-      IsVerdict start tables log v (outcome w s.begin s.level s.genids s.ranges s.ops) (named_by generation s) s.ops
+      IsVerdict start tables log v (outcome w s.begin s.level s.genids s.ranges s.ops) (transaction_named generation s) s.ops
   duplicate_verdict v position table key is told added = go (first_broken tables (apply_all (rows_over_at (ground_of start) log now) s.ops).tables) refl
     where
       at : position ≡ now
       at = is.now ∙ ready.logged.count
 
-      go : (found : Option KeyName) → first_broken tables (apply_all (rows_over_at (ground_of start) log now) s.ops).tables ≡ found → IsVerdict start tables log v (outcome w s.begin s.level s.genids s.ranges s.ops) (named_by generation s) s.ops
+      go : (found : Option KeyName) → first_broken tables (apply_all (rows_over_at (ground_of start) log now) s.ops).tables ≡ found → IsVerdict start tables log v (outcome w s.begin s.level s.genids s.ranges s.ops) (transaction_named generation s) s.ops
       go None unbroken = let there = is_broken (key_place table key) is.broken in absurd (cc)
       go (Some name) broken =
-          subst (λ (o : Reply). IsVerdict start tables log v o (named_by generation s) s.ops) (sym (free_is is.free ∙ ap (λ (f : Option KeyName). by_key now f) broken))
+          subst (λ (o : Reply). IsVerdict start tables log v o (transaction_named generation s) s.ops) (sym (free_is is.free ∙ ap (λ (f : Option KeyName). by_key now f) broken))
           (record { told = told ∙ duplicate_told tables position table key name (sym (broken_is (Some (key_place table key)) is.broken) ∙ broken) ∙ ap (λ k. by_key k (Some name)) at; added = rw added tt })
 
   pub commit_verdict : (v : Verdict) (next : Entry) → IsNextEntry (ground_of start) request log generation next → v.outcome ≡ reply.Committed (now + 1) → v.added ≡ Some next →
-      IsVerdict start tables log v (outcome w s.begin s.level s.genids s.ranges s.ops) (named_by generation s) s.ops
+      IsVerdict start tables log v (outcome w s.begin s.level s.genids s.ranges s.ops) (transaction_named generation s) s.ops
   commit_verdict v next is told added =
-      subst (λ (o : Reply). IsVerdict start tables log v o (named_by generation s) s.ops) (sym (free_is is.free ∙ ap (λ (f : Option KeyName). by_key now f) (broken_is None is.kept)))
+      subst (λ (o : Reply). IsVerdict start tables log v o (transaction_named generation s) s.ops) (sym (free_is is.free ∙ ap (λ (f : Option KeyName). by_key now f) (broken_is None is.kept)))
       (record { told = told; added = rw (added_some (now + 1) s.ops its.1, added) its_entry })
     where
       ops_are : request.ops ≡ s.ops
@@ -195,10 +195,10 @@ module _ (start : Start) (generation : ℕ) (tables : List TableDef) (now : ℕ)
           let its_id : id ≡ request.id = cc in
           is.fresh.nowhere position (subst (HasId log position) its_id there)
 
-      its_entry : IsEntryOf start tables log next (named_by generation s) s.ops
+      its_entry : IsEntryOf start tables log next (transaction_named generation s) s.ops
       its_entry = record {
         names = λ position. ap (λ (e : Entry). line_of position e) is.made ∙ ap (λ (r : CommitRequest). EntryLine.Commit position r.id.session r.id.txn r.begin r.level) its.0;
-        of_its = subst (IsOfIts (named_by generation s)) (sym is.made) (refl, ap (λ (r : CommitRequest). r.id.began) its.0);
+        of_its = subst (IsOfIts (transaction_named generation s)) (sym is.made) (refl, ap (λ (r : CommitRequest). r.id.began) its.0);
         fits = is.fits;
         commit = subst IsCommit (sym is.made) tt;
         stands = subst (λ (ts : List TableDef). Stands (pages_of (log ++ next ∷ [])) ts (rows_over (ground_of start) (log ++ next ∷ []))) same_tables is.stands;

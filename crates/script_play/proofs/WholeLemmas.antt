@@ -4,7 +4,7 @@ use Rattle.std.proofs.lemmas.List.{append-nil}
 use Rattle.std.specs.List.{AllByRecursion}
 use Rattle.std.specs.Str.{bytes_eq}
 use Rattle.cdb_values.specs.declared.rows.RowOp.{RowOp}
-use Rattle.session_turns.specs.Seen.{Seen}
+use Rattle.session_turns.specs.Seen.{SeenRows}
 use Rattle.script_play.specs.Start.{Start, base}
 use Rattle.script_form.specs.declared.scripts.Script.{Script}
 use Rattle.script_form.specs.declared.scripts.BodyLine.{BodyLine}
@@ -14,7 +14,7 @@ use Rattle.report_text.specs.declared.reports.EntryLine.TheVariants.{Setup}
 use Rattle.report_text.specs.declared.reports.Line.{Line}
 use Rattle.cdb_values.specs.declared.replies.Reply.{Reply}
 use Rattle.cdb_values.specs.declared.replies.Reply.TheVariants as reply
-use Rattle.script_form.specs.CanRun.{tables_of}
+use Rattle.script_form.specs.CanRun.{script_tables}
 use Rattle.report_laws.specs.History.{rows_at, view_of}
 use Rattle.session_language.specs.Language.{alone}
 use Rattle.script_play.specs.Basis.{from_start}
@@ -23,13 +23,13 @@ use Rattle.report_laws.specs.Lawful.{Lawful}
 use Rattle.report_laws.specs.Outcome.{Ends}
 use Rattle.report_laws.specs.Play.{GoDownAtChanges, InPlayOrder, InTurns, opening, opened_behind}
 use Rattle.report_laws.specs.Told.{Along, Numbered, IsTold, IsEntryTold, IsCut, told, numbered, alone_at}
-use Rattle.report_laws.specs.Work.{Transaction, Item, Does, Place, Nowhere, transaction, work, place_after, items_at, open_item, start as place_first}
+use Rattle.report_laws.specs.Work.{Transaction, WorkItem, Does, Place, Nowhere, transaction, work, place_after, items_at, open_item, start as place_first}
 use Rattle.cdb_values.specs.declared.items.GenidItem.{GenidItem}
 use Rattle.cdb_values.specs.declared.items.Interval.{Interval}
 use Rattle.cdb_values.specs.declared.rows.Change.{Change}
 use Rattle.report_laws.proofs.NodesLaws.{none_few}
 use Rattle.report_laws.proofs.ToldLaws.{along_append, along_one, along_map}
-use Rattle.script_play.specs.SoFar.{now_of, SoFar, Stored, Standing, IsEnded, IsOpen, IsDoing, at_start, state_of, report_of}
+use Rattle.script_play.specs.SoFar.{now_of, SoFar, IsStoredSoFar, Standing, IsEnded, IsOpen, IsDoing, at_start, state_of, report_of}
 use Rattle.session_turns.specs.Doing.{SessionAt, Doing}
 use Rattle.session_turns.specs.Doing as doing
 
@@ -48,7 +48,7 @@ all_opening P is true = (is, tt)
 all_opening P is false = tt
 
 -- the run as it begins
-pub begins_so : (script : Script) (start : Start) (changed : List (List Change)) (seen : Seen) → Stored script start (opening (from_start script start).origin) changed seen →
+pub begins_so : (script : Script) (start : Start) (changed : List (List Change)) (seen : SeenRows) → IsStoredSoFar script start (opening (from_start script start).origin) changed seen →
     SoFar script start false [] script.body [] (opening (from_start script start).origin) changed seen (map (λ _. at_start) script.sessions)
 begins_so script start changed seen stored = record {
   body = refl;
@@ -80,13 +80,13 @@ open_told script start entries name next texts begin ops uses ranges mine t same
   last = [];
   ends = subst (λ e. Ends e []) (sym end) refl;
   right = tt;
-  says = is.says ∙ ap (λ (x : List (List ℕ)). reply.Begin begin ∷ (alone sql_language (tables_of script) (rows_at (from_start script start) entries begin) x).replies) (sym same)
+  says = is.says ∙ ap (λ (x : List (List ℕ)). reply.Begin begin ∷ (alone sql_language (script_tables script) (rows_at (from_start script start) entries begin) x).replies) (sym same)
       ∙ ap (λ rs. reply.Begin begin ∷ rs) (sym (append-nil (alone_at (from_start script start) (view_of (from_start script start) entries) t begin).replies));
 })
 
 -- along all that a session did up to a place of its work
-along_place : (P : Item → List Reply → Type 0) (script : Script) (start : Start) (entries : List EntryLine) (next : ℕ) (name : List ℕ) (p : Place) (pending : Option (List (List ℕ))) (d : Doing) (before : List Numbered) (mine : List Reply) →
-    ((item : Item) (rs : List Reply) → IsTold (from_start script start) (view_of (from_start script start) entries) name item rs → P item rs) →
+along_place : (P : WorkItem → List Reply → Type 0) (script : Script) (start : Start) (entries : List EntryLine) (next : ℕ) (name : List ℕ) (p : Place) (pending : Option (List (List ℕ))) (d : Doing) (before : List Numbered) (mine : List Reply) →
+    ((item : WorkItem) (rs : List Reply) → IsTold (from_start script start) (view_of (from_start script start) entries) name item rs → P item rs) →
     ((texts : List (List ℕ)) (begin : ℕ) (ops : List RowOp) (uses : List GenidItem) (ranges : List Interval) → IsOpen script start entries next texts begin ops uses ranges mine → P (Does (transaction p.number texts p.level Nowhere)) mine) →
     ((texts : List (List ℕ)) → IsCut (from_start script start) (view_of (from_start script start) entries) (transaction p.number texts p.level Nowhere) mine → P (Does (transaction p.number texts p.level Nowhere)) mine) →
     Along (IsTold (from_start script start) (view_of (from_start script start) entries) name) p.over before → IsDoing script start entries next p pending d mine → Along P (p.over ++ open_item p pending) (before ++ numbered p.number mine)
@@ -103,7 +103,7 @@ along_place P script start entries next name p (Some texts) doing.Aborted before
     along_append P p.over (Does (transaction p.number texts p.level Nowhere) ∷ []) before (numbered p.number mine) (along_map (IsTold (from_start script start) (view_of (from_start script start) entries) name) P over p.over before past)
     (along_one P (Does (transaction p.number texts p.level Nowhere)) mine (cut texts is))
 
-module _ (script : Script) (start : Start) (down : Bool) (done : List BodyLine) (lines : List Line) (entries : List EntryLine) (changed : List (List Change)) (seen : Seen) (states : List SessionAt) (was : SoFar script start down done [] lines entries changed seen states) where
+module _ (script : Script) (start : Start) (down : Bool) (done : List BodyLine) (lines : List Line) (entries : List EntryLine) (changed : List (List Change)) (seen : SeenRows) (states : List SessionAt) (was : SoFar script start down done [] lines entries changed seen states) where
   all_done : script.body ≡ done
   all_done = was.body ∙ append-nil done
 

@@ -72,7 +72,7 @@ abbrev pub owner_of : Logged → Owner
 owner_of l = record { node = l.node; cluster = l.cluster; promised = l.promised; accepted = l.accepted }
 
 -- an entry was appended and kept, and stands in the history
-pub record IsEntered (entry : Entry) (r r' : Run) : Type 0 where
+pub record IsAddedToHistory (entry : Entry) (r r' : Run) : Type 0 where
   pub entries_are : r'.entries ≡ r.entries ++ line_of (length r.log.entries + 1) entry ∷ []
   pub log_is : r'.log ≡ record (with_entry r.log entry) { store = r'.log.store }
   pub calm : r'.log.store.faults ≡ r.log.store.faults
@@ -89,7 +89,7 @@ pub record IsFallenAt (entry : Entry) (r r' : Run) : Type 0 where
 -- those that the node went down and that the transaction is lost
 abbrev pub IsAppendedSo : List ℕ → ℕ → Entry → Run → Run → Type 0
 IsAppendedSo name number entry r r' =
-    ((r'.lines ≡ r.lines) × IsEntered entry r r')
+    ((r'.lines ≡ r.lines) × IsAddedToHistory entry r r')
     ⊎ (((front : List Line) (outcome : Line) → r.lines ≡ front ++ outcome ∷ [] → r'.lines ≡ front ++ down_line ∷ lines_of name number (reply.Lost 1 1 ∷ []))
     × IsFallenAt entry r r')
 
@@ -109,7 +109,7 @@ TellsOutcome replies (Some entry) = HasOutcome replies
 abbrev pub IsKeptSo : List ℕ → ℕ → List Reply → Option Entry → Run → Run → Type 0
 IsKeptSo name number replies None r r' = (r'.lines ≡ r.lines ++ lines_of name number replies) × (r'.entries ≡ r.entries) × (r'.log ≡ r.log)
 IsKeptSo name number replies (Some entry) r r' =
-    ((r'.lines ≡ r.lines ++ lines_of name number replies) × IsEntered entry r r')
+    ((r'.lines ≡ r.lines ++ lines_of name number replies) × IsAddedToHistory entry r r')
     ⊎ ((told : HasOutcome replies) × (r'.lines ≡ r.lines ++ fallen_lines name number told.front) × IsFallenAt entry r r')
 
 -- the line of an entry is that of the transaction that is lost by the line that the node went down, with the begin that it was

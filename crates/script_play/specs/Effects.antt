@@ -26,7 +26,7 @@ use Rattle.script_play.specs.RunViews.{world}
 use Rattle.session_turns.specs.Views.{state_in, IsOwn}
 use Rattle.script_play.specs.Start.{Start, ground_of}
 use Rattle.session_turns.specs.Step.{outcome, Turned}
-use Rattle.script_play.specs.declared.effects.LineEffect.{LineEffect}
+use Rattle.script_play.specs.declared.effects.DecidedEffect.{DecidedEffect}
 use Rattle.script_play.specs.declared.verdicts.Verdict.{Verdict}
 use Rattle.session_turns.specs.declared.states.SessionState.{SessionState}
 
@@ -83,13 +83,13 @@ abbrev pub IsUnusedIn : List Entry → CommitId → Type 0
 IsUnusedIn log id = (position : ℕ) → HasId log position id → ⊥
 
 -- the transaction of a session, decided in a generation
-abbrev pub named_by : ℕ → Session → Named
-named_by generation s = record { generation = generation; began = s.id.began; session = s.id.session; number = s.id.txn; begin = s.begin; level = s.level }
+abbrev pub transaction_named : ℕ → Session → Named
+transaction_named generation s = record { generation = generation; began = s.id.began; session = s.id.session; number = s.id.txn; begin = s.begin; level = s.level }
 
 -- what is decided on the transaction of a session behind a log, and the entry of a generation that it appends
 abbrev pub IsVerdictOn : Start → ℕ → List TableDef → List Entry → Session → Verdict → Type 0
 IsVerdictOn start generation tables log s v =
-    IsVerdict start tables log v (outcome (world start tables log) s.begin s.level s.genids s.ranges s.ops) (named_by generation s) s.ops
+    IsVerdict start tables log v (outcome (world start tables log) s.begin s.level s.genids s.ranges s.ops) (transaction_named generation s) s.ops
 
 -- the transaction that comes to its commit by a line can, if one does: its operations can be done where it began, and no entry
 -- has its identity
@@ -98,7 +98,7 @@ CanCommit start tables log None = Unit {0}
 CanCommit start tables log (Some s) = IsAble start tables (length log) log s.begin s.ops × IsUnusedIn log s.id
 
 -- an effect is what a line of a session does
-pub record IsEffect (start : Start) (generation : ℕ) (tables : List TableDef) (log : List Entry) (name : List ℕ) (p : LineEffect) (t : Turned) : Type 0 where
+pub record IsEffect (start : Start) (generation : ℕ) (tables : List TableDef) (log : List Entry) (name : List ℕ) (p : DecidedEffect) (t : Turned) : Type 0 where
   pub number : p.number ≡ t.number
   pub replies : p.replies.items ≡ t.replies
   pub after : state_in p.after ≡ t.after

@@ -13,7 +13,7 @@ use Rattle.report_laws.specs.Nodes.{downs}
 use Rattle.report_laws.specs.Play.{InPlayOrder}
 use Rattle.report_text.specs.declared.reports.EntryLine.{EntryLine}
 use Rattle.report_text.specs.declared.reports.Report.{Report}
-use Rattle.script_form.specs.CanRun.{tables_of}
+use Rattle.script_form.specs.CanRun.{script_tables}
 use Rattle.script_form.specs.declared.scripts.Script.{Script}
 use Rattle.session_language.specs.Each.{EachAfter}
 use Rattle.script_play.specs.Basis.{from_start}
@@ -31,24 +31,24 @@ abbrev pub changed_at : List Entry → ℕ → List Change
 changed_at log k = unwrap_or (slice_get (changed_in log) (k - 1)) []
 
 -- what a report tells of a history: that of a log from where the run began; its pages tell numbers below 2^62
-pub record IsTold (script : Script) (start : Start) (generation : ℕ) (report : Report) (history : List Entry) : Type 0 where
+pub record IsHistoryTold (script : Script) (start : Start) (generation : ℕ) (report : Report) (history : List Entry) : Type 0 where
   pub lawful : Lawful (from_start script start) report
   pub in_order : InPlayOrder (from_start script start) report
   pub entries : AreTold start.before generation report.entries history
-  pub schema : schema_of history ≡ Some (tables_of script)
+  pub schema : schema_of history ≡ Some (script_tables script)
   pub changed : (k : ℕ) → base start < k → k ≤ length history → changed_at history k ≡ changes_at (from_start script start) report.entries k
   pub rows : (k : ℕ) → IsFrom (base start) k → k ≤ length history → rows_over_at (ground_of start) history k ≡ rows_at (from_start script start) report.entries k
-  pub stands : StandsOver (ground_of start) (tables_of script) history
+  pub stands : StandsOver (ground_of start) (script_tables script) history
   pub small : IsSmall history
 
 -- lines tell the history of a log from where the run began; its pages tell numbers below 2^62
 pub record IsHistory (script : Script) (start : Start) (generation : ℕ) (entries : List EntryLine) (log : List Entry) : Type 0 where
   pub lawful : EachAfter (IsEntryAfter (from_start script start)) [] entries
   pub told : AreTold start.before generation entries log
-  pub schema : schema_of log ≡ Some (tables_of script)
+  pub schema : schema_of log ≡ Some (script_tables script)
   pub changed : (k : ℕ) → base start < k → k ≤ length log → changed_at log k ≡ changes_at (from_start script start) entries k
   pub rows : (k : ℕ) → IsFrom (base start) k → k ≤ length log → rows_over_at (ground_of start) log k ≡ rows_at (from_start script start) entries k
-  pub stands : StandsOver (ground_of start) (tables_of script) log
+  pub stands : StandsOver (ground_of start) (script_tables script) log
   pub small : IsSmall log
 
 -- a log with one entry more than the history of a report: that of the transaction that is lost by the line that the node went
@@ -60,7 +60,7 @@ pub record IsFurther (script : Script) (start : Start) (generation : ℕ) (repor
 
 -- a report and the log of its node, which was opened so
 pub record IsPlayed (script : Script) (start : Start) (opened : Logged) (report : Report) (log : Logged) : Type 0 where
-  pub told : IsTold script start opened.accepted report (history_of log)
+  pub told : IsHistoryTold script start opened.accepted report (history_of log)
   pub faults : downs report.lines ≡ downs_by log.failed
   pub held : IsHeld opened.accepted opened.store.faults log
   pub further : log.failed ≡ true → IsFurther script start opened.accepted report log.entries

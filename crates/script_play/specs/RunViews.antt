@@ -18,14 +18,14 @@ use Rattle.report_laws.specs.Told.{lines_of}
 use Rattle.report_text.specs.declared.reports.EntryLine.{EntryLine}
 use Rattle.report_text.specs.declared.reports.EntryLine.TheVariants.{Setup as EntrySetup}
 use Rattle.osql_session.specs.Sessions.{Session}
-use Rattle.script_form.specs.CanRun.{tables_of}
+use Rattle.script_form.specs.CanRun.{script_tables}
 use Rattle.script_form.specs.declared.scripts.BodyLine.{BodyLine}
 use Rattle.script_form.specs.declared.scripts.Script.{Script}
 use Rattle.script_form.specs.declared.scripts.SessionLine.{SessionLine}
 use Rattle.cdb_values.specs.declared.rows.Level.{Level}
 use Rattle.session_language.specs.Language.{Kind}
 use Rattle.sql_answer.specs.Answers.{Meaning}
-use Rattle.sql_answer.specs.Language.{meaning, bound_in}
+use Rattle.sql_answer.specs.Language.{meaning, sql_binder}
 use Rattle.script_play.specs.Start.{Start, ground_of}
 use Rattle.script_play.specs.Down.{history_of, IsHeld, IsLostBy}
 use Rattle.script_play.specs.Falls.{IsDoneOn, IsTakenOn}
@@ -33,8 +33,8 @@ use Rattle.session_turns.specs.Views.{doing_in, state_in, IsOwn}
 use Rattle.script_play.specs.EntryLines.{AreTold}
 use Rattle.script_play.specs.Ready.{AreEarlier, IsReady, IsReadyToGo, IsLogged}
 use Rattle.script_play.specs.Run.{Run, run_of}
-use Rattle.session_turns.specs.Seen.{Seen}
-use Rattle.script_play.specs.SoFar.{IsBefore, Stored, now_of}
+use Rattle.session_turns.specs.Seen.{SeenRows}
+use Rattle.script_play.specs.SoFar.{IsBefore, IsStoredSoFar, now_of}
 use Rattle.session_turns.specs.Step.{World, Turned, turn, turn_of, world_of}
 use Rattle.script_play.specs.Step.{entries_added, IsTurned}
 use Rattle.script_play.specs.declared.run.RunSoFar.{RunSoFar}
@@ -47,7 +47,7 @@ abbrev pub run_in : {D : Type 0} → RunSoFar D → Run
 run_in r = run_of r.lines.items r.entries.items r.log
 
 -- the rows at each position of a log
-abbrev pub seen_in : Start → List Entry → Seen
+abbrev pub seen_in : Start → List Entry → SeenRows
 seen_in start log = record { at = rows_over_at (ground_of start) log; next = (rows_over (ground_of start) log).next }
 
 -- what the run is before a line
@@ -60,7 +60,7 @@ IsReadyFor start tables log = IsReady start tables (length log) log
 
 -- what some text of UTF-8 means in the schema
 abbrev pub IsOfText : List TableDef → Meaning → Type 0
-IsOfText tables meant = (text : List ℕ) × (is_utf8 text ≡ true) × (meant ≡ meaning bound_in tables text)
+IsOfText tables meant = (text : List ℕ) × (is_utf8 text ≡ true) × (meant ≡ meaning sql_binder tables text)
 
 -- the history and the log are the same
 abbrev pub IsSameHistory : Run → Run → Type 0
@@ -121,14 +121,15 @@ pub record HasFurther (script : Script) (start : Start) (generation : ℕ) (r : 
   pub line : EntryLine
   pub lost : IsLostBy r.lines line
   pub told : AreTold start.before generation (r.entries ++ line ∷ []) r.log.entries
-  pub logged : IsLogged start (tables_of script) (length r.log.entries) r.log.entries
-  pub stored : Stored script start (r.entries ++ line ∷ []) (changed_in r.log.entries) (seen_in start r.log.entries)
+  pub logged : IsLogged start (script_tables script) (length r.log.entries) r.log.entries
+  pub stored : IsStoredSoFar script start (r.entries ++ line ∷ []) (changed_in r.log.entries)
+      (seen_in start r.log.entries)
 
 -- the run before a line, with the lines `left` still to do: its log is that of the history, and one entry more where the node
 -- is down
 pub record IsBeforeLine (script : Script) (start : Start) (generation had : ℕ) (left : List BodyLine) (r : Run) (states : List SessionState) : Type 0 where
   pub before : IsBefore script start r.log.failed left r.lines r.entries (changed_in (history_of r.log)) (seen_in start (history_of r.log)) (map state_in states)
-  pub logged : IsLogged start (tables_of script) (now_of start r.entries) (history_of r.log)
+  pub logged : IsLogged start (script_tables script) (now_of start r.entries) (history_of r.log)
   pub told : AreTold start.before generation r.entries (history_of r.log)
   pub own : AreOwn generation script.sessions states
   pub earlier : AreEarlier generation start.before

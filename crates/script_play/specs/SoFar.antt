@@ -6,9 +6,9 @@ use Rattle.std.specs.Str.{bytes_eq}
 use Rattle.cdb_values.specs.declared.rows.Level.TheVariants.{Snapshot}
 use Rattle.cdb_values.specs.declared.rows.RowOp.{RowOp}
 use Rattle.log_rows.specs.History.{IsFrom}
-use Rattle.session_turns.specs.Seen.{Seen}
+use Rattle.session_turns.specs.Seen.{SeenRows}
 use Rattle.script_play.specs.Start.{Start, base}
-use Rattle.script_form.specs.CanRun.{CanRun, IsSaid, tables_of}
+use Rattle.script_form.specs.CanRun.{CanRun, IsDeclaredText, script_tables}
 use Rattle.script_form.specs.declared.scripts.Script.{Script}
 use Rattle.script_form.specs.declared.scripts.BodyLine.{BodyLine}
 use Rattle.script_form.specs.declared.scripts.SessionLine.{SessionLine}
@@ -57,11 +57,11 @@ now_of start entries = base start + length entries
 pub record IsOpen (script : Script) (start : Start) (entries : List EntryLine) (next : ℕ) (texts : List (List ℕ)) (begin : ℕ) (ops : List RowOp) (uses : List GenidItem) (ranges : List Interval) (mine : List Reply) : Type 0 where
   pub first : IsFrom (base start) begin
   pub within : begin ≤ now_of start entries
-  pub says : mine ≡ reply.Begin begin ∷ (alone sql_language (tables_of script) (rows_at (from_start script start) entries begin) texts).replies
-  pub ops_are : ops ≡ (alone sql_language (tables_of script) (rows_at (from_start script start) entries begin) texts).ops
-  pub uses_are : uses ≡ (alone sql_language (tables_of script) (rows_at (from_start script start) entries begin) texts).uses
-  pub ranges_are : ranges ≡ (alone sql_language (tables_of script) (rows_at (from_start script start) entries begin) texts).ranges
-  pub sound : AllByRecursion (IsKeptOp (tables_of script) next) ops
+  pub says : mine ≡ reply.Begin begin ∷ (alone sql_language (script_tables script) (rows_at (from_start script start) entries begin) texts).replies
+  pub ops_are : ops ≡ (alone sql_language (script_tables script) (rows_at (from_start script start) entries begin) texts).ops
+  pub uses_are : uses ≡ (alone sql_language (script_tables script) (rows_at (from_start script start) entries begin) texts).uses
+  pub ranges_are : ranges ≡ (alone sql_language (script_tables script) (rows_at (from_start script start) entries begin) texts).ranges
+  pub sound : AllByRecursion (IsKeptOp (script_tables script) next) ops
 
 -- what a session is doing, by the transaction that is open in its work
 abbrev pub IsDoing : Script → Start → List EntryLine → ℕ → Place → Option (List (List ℕ)) → Doing → List Reply → Type 0
@@ -93,7 +93,7 @@ IsEnded done (Setup position) = Unit {0}
 IsEnded done (Commit position session txn begin level) = IsPast (place_after sql_language session done).number (place_after sql_language session done).pending txn
 
 -- the history so far, what each entry changed, and the rows at each position from the start on
-pub record Stored (script : Script) (start : Start) (entries : List EntryLine) (changed : List (List Change)) (seen : Seen) : Type 0 where
+pub record IsStoredSoFar (script : Script) (start : Start) (entries : List EntryLine) (changed : List (List Change)) (seen : SeenRows) : Type 0 where
   pub opened : IsFrom (base start) (now_of start entries)
   pub history : EachAfter (IsEntryAfter (from_start script start)) [] entries
   pub rows_are : (at : ℕ) → IsFrom (base start) at → at ≤ now_of start entries → seen.at at ≡ rows_at (from_start script start) entries at
@@ -101,9 +101,9 @@ pub record Stored (script : Script) (start : Start) (entries : List EntryLine) (
   pub next_is : seen.next ≡ (seen.at (now_of start entries)).next
   pub changed_length : length changed ≡ now_of start entries
   pub changed_are : (k : ℕ) → base start < k → k ≤ now_of start entries → unwrap_or (slice_get changed (k - 1)) [] ≡ changes_at (from_start script start) entries k
-  pub sound : (at : ℕ) → IsFrom (base start) at → at ≤ now_of start entries → AreKept (tables_of script) seen.next (seen.at at).tables
+  pub sound : (at : ℕ) → IsFrom (base start) at → at ≤ now_of start entries → AreKept (script_tables script) seen.next (seen.at at).tables
   -- each change of an entry of the run is of a table that has a name
-  pub named : AllByRecursion (AllByRecursion (HasName (tables_of script))) (drop (base start) changed)
+  pub named : AllByRecursion (AllByRecursion (HasName (script_tables script))) (drop (base start) changed)
 
 -- a session behind the line that the node went down: where its transaction is open, it began before that line, and the
 -- session was told nothing since
@@ -128,9 +128,9 @@ IsAtNode false script lines states = downs lines ≡ 0
 IsAtNode true script lines states = IsDown script lines states
 
 -- after the script's lines `done`, with the lines `left` still to do
-pub record SoFar (script : Script) (start : Start) (down : Bool) (done left : List BodyLine) (lines : List Line) (entries : List EntryLine) (changed : List (List Change)) (seen : Seen) (states : List SessionAt) : Type 0 where
+pub record SoFar (script : Script) (start : Start) (down : Bool) (done left : List BodyLine) (lines : List Line) (entries : List EntryLine) (changed : List (List Change)) (seen : SeenRows) (states : List SessionAt) : Type 0 where
   pub body : script.body ≡ done ++ left
-  pub stored : Stored script start entries changed seen
+  pub stored : IsStoredSoFar script start entries changed seen
   pub standing : (name : List ℕ) → Standing script start entries seen.next name (place_after sql_language name done) (told name lines) (state_of name script.sessions states)
   pub fresh : EachAfter (IsFreshLine (from_start script start).origin) [] lines
   pub later : List EntryLine
@@ -143,9 +143,9 @@ pub record SoFar (script : Script) (start : Start) (down : Bool) (done left : Li
   pub node : IsAtNode down script lines states
 
 -- the run before a line, with the lines `left` still to do: every line of the script can be run
-pub record IsBefore (script : Script) (start : Start) (down : Bool) (left : List BodyLine) (lines : List Line) (entries : List EntryLine) (changed : List (List Change)) (seen : Seen) (states : List SessionAt) : Type 0 where
+pub record IsBefore (script : Script) (start : Start) (down : Bool) (left : List BodyLine) (lines : List Line) (entries : List EntryLine) (changed : List (List Change)) (seen : SeenRows) (states : List SessionAt) : Type 0 where
   pub can_run : CanRun script
-  pub said : AllByRecursion (λ l. IsSaid script.sessions l.act) left
+  pub said : AllByRecursion (λ l. IsDeclaredText script.sessions l.act) left
   pub same : length states ≡ length script.sessions
   pub done : List BodyLine
   pub so_far : SoFar script start down done left lines entries changed seen states

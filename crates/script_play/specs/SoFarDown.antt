@@ -12,7 +12,7 @@ use Rattle.report_laws.specs.Work.{Place, place_after}
 use Rattle.report_text.specs.declared.reports.Line.{Line}
 use Rattle.cdb_values.specs.declared.replies.Reply.{Reply}
 use Rattle.cdb_values.specs.declared.replies.Reply.TheVariants as reply
-use Rattle.script_form.specs.CanRun.{CanRun, IsSaid}
+use Rattle.script_form.specs.CanRun.{CanRun, IsDeclaredText}
 use Rattle.script_form.specs.declared.scripts.BodyLine.{BodyLine}
 use Rattle.script_form.specs.declared.scripts.Script.{Script}
 use Rattle.session_language.specs.Each.{EachAfter}
@@ -56,7 +56,7 @@ pub record SoFarDown (basis : Basis) (done left : List BodyLine) (lines : List L
 -- the run before a line, wherever the history begins
 pub record IsBeforeDown (script : Script) (left : List BodyLine) (lines : List Line) (states : List SessionAt) : Type 0 where
   pub can_run : CanRun script
-  pub said : AllByRecursion (λ l. IsSaid script.sessions l.act) left
+  pub said : AllByRecursion (λ l. IsDeclaredText script.sessions l.act) left
   pub same : length states ≡ length script.sessions
   pub done : List BodyLine
   pub so_far : (origin : Origin) → SoFarDown (from_origin script origin) done left lines states

@@ -16,7 +16,7 @@ use blkseq_table::BlkSeq;
 use cdb_values::{Name, Reply, Schema};
 use log_replay::PagedLog;
 use phys_log::Entry;
-use session_turns::{LineEffect as LineAsked, SessionState, Turn, take_turn};
+use session_turns::{LineEffect, SessionState, Turn, take_turn};
 use sql_run::Prepared;
 use std::alloc::{AllocError, Global};
 use std::mem;
@@ -24,7 +24,7 @@ use undo_snapshot::KeptPositions;
 
 /// What a line is to do.
 #[derive(Drop)]
-pub(crate) struct LineEffect {
+pub(crate) struct DecidedEffect {
     /// The number that its replies are told under.
     pub number: u64,
     pub replies: Vec<Reply>,
@@ -46,7 +46,7 @@ pub(crate) fn effect_of<J: Footing>(
     state: SessionState,
     prepared: &Prepared,
     undone: &mut KeptPositions,
-) -> Result<LineEffect, AllocError>
+) -> Result<DecidedEffect, AllocError>
     requires ready { IsReadyFor J.start schema.now log.now }
     requires known { known.now ≡ identities_of log.now }
     requires going { CanGoOn J.start schema.now log.now state.doing }
@@ -81,8 +81,8 @@ fn with_outcome(
     generation: u64,
     log: &PagedLog,
     known: &BlkSeq,
-    asked: LineAsked,
-) -> Result<LineEffect, AllocError>
+    asked: LineEffect,
+) -> Result<DecidedEffect, AllocError>
     ghost start: { Start }
     requires ready { IsReadyFor start schema.now log.now }
     requires known { known.now ≡ identities_of log.now }
@@ -93,14 +93,14 @@ fn with_outcome(
         (settled_by (world start schema.now log.now) asked.number asked.replies.items (state_in asked.after)
         (coming_in asked.commits))) }
 {
-    let LineAsked {
+    let LineEffect {
         number,
         replies,
         after,
         commits,
     } = asked;
     let Some(session) = commits else {
-        return Ok(LineEffect {
+        return Ok(DecidedEffect {
             number,
             replies,
             after,
@@ -110,7 +110,7 @@ fn with_outcome(
     let verdict = decided(alloc, schema, generation, log, known, &session)?;
     let mut replies = replies;
     replies.push(verdict.outcome)?;
-    Ok(LineEffect {
+    Ok(DecidedEffect {
         number,
         replies,
         after,

@@ -48,7 +48,7 @@
 //! | which transactions of a session are over | `verdicts` | `AreOver` in `specs/RunViews.antt` |
 //! | the log of the node, with the identities of its entries | `indexed` | `OfLogs` of `blkseq_table` |
 //! | where a run begins: the log before it, and the rows there | | `specs/Start.antt` |
-//! | the rows at each position | | `Seen` of `session_turns` |
+//! | the rows at each position | | `SeenRows` of `session_turns` |
 //! | what the log and the rows keep from line to line | | `specs/Ready.antt` |
 //! | the run so far | `play` | `specs/SoFar.antt` |
 //! | the same on a node that is down from the opening on | `play_down` | `specs/SoFarDown.antt` |
@@ -68,4 +68,4 @@ mod reads;
 mod run;
 mod verdicts;
 
-pub use playing::{Played, play, play_down, schema_of};
+pub use playing::{Played, play, play_down, script_schema};

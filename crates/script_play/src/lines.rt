@@ -3,7 +3,7 @@ ghost use Rattle.std.specs.Prelude.{◌≡◌, ◌++◌, ◌∷◌, [], List, So
 ghost use Rattle.std.specs.Str.{is_utf8};
 ghost use Rattle.report_laws.specs.Told.{lines_of};
 ghost use Rattle.report_text.specs.declared.reports.Line.{Line};
-ghost use Rattle.sql_answer.specs.Language.{meaning, bound_in};
+ghost use Rattle.sql_answer.specs.Language.{meaning, sql_binder};
 ghost use Rattle.sql_answer.specs.Reading.{kind_of_text};
 ghost use Rattle.sql_run.specs.Texts.{plan_by};
 ghost use Rattle.sql_run.specs.Views.{text_in};
@@ -16,7 +16,7 @@ ghost use Rattle.script_play.specs.Effects.{Grown, IsEffect};
 ghost use Rattle.script_play.specs.Start.{Start};
 
 use super::downs::run_down;
-use super::effects::{LineEffect, effect_of};
+use super::effects::{DecidedEffect, effect_of};
 use super::holding::beside;
 use super::indexed::IndexedLog;
 use super::run::{RunSoFar, add_reply, apply_effect};
@@ -77,7 +77,7 @@ pub(crate) fn run_session_line<D: LogStore>(
 #[tactic(auto, using(crate::proofs::TextLemmas::is_text))]
 pub(crate) fn read_text(alloc: Global, schema: &Schema, text: &[u8]) -> Result<Prepared, AllocError>
     ensures kind { IfOk result (λ p. (text_in p).kind ≡ kind_of_text text.now) }
-    ensures meaning { IfOk result (λ p. (text_in p).meaning ≡ meaning bound_in schema.now text.now) }
+    ensures meaning { IfOk result (λ p. (text_in p).meaning ≡ meaning sql_binder schema.now text.now) }
     ensures plan { IfOk result (λ p. (text_in p).plan ≡ plan_by schema.now (text_in p).meaning) }
     ensures utf8 { OnOk result (is_utf8 text.now ≡ true) }
 {
@@ -137,7 +137,7 @@ fn planned<D: LogStore>(
     state: SessionState,
     prepared: &Prepared,
     log: &mut IndexedLog<D>,
-) -> Result<LineEffect, AllocError>
+) -> Result<DecidedEffect, AllocError>
     ghost start: { Start }
     requires running { log.old.failed ≡ false }
     requires ready { IsReadyFor start schema.now log.old.entries }

@@ -3,7 +3,7 @@ ghost use Rattle.std.specs.Prelude.{◌≡◌, ℕ, ◌<◌, ◌≤◌, ◌++◌
 ghost use Rattle.std.specs.Prelude.{OnOk, OnErr, IfOk, IfErr, MatchResult};
 ghost use Rattle.blkseq_table.specs.OfLogs.{identities_of};
 ghost use Rattle.cdb_values.specs.Rows.{Rows};
-ghost use Rattle.log_replay.specs.Answers.{schema_of as schema_told};
+ghost use Rattle.log_replay.specs.Answers.{schema_of};
 ghost use Rattle.log_rows.specs.History.{rows_over_at, IsFrom, StandsOver};
 ghost use Rattle.log_rows.specs.Sizes.{IsSmall};
 ghost use Rattle.node_log.specs.Logged.{Leaves};
@@ -13,7 +13,7 @@ ghost use Rattle.report_laws.specs.History.{rows_at, changes_at};
 ghost use Rattle.report_laws.specs.Lawful.{Lawful, base_line};
 ghost use Rattle.report_laws.specs.Nodes.{downs, BeginsDown};
 ghost use Rattle.report_laws.specs.Play.{InPlayOrder};
-ghost use Rattle.script_form.specs.CanRun.{CanRun, tables_of};
+ghost use Rattle.script_form.specs.CanRun.{CanRun, script_tables};
 ghost use Rattle.script_form.specs.declared.scripts.BodyLine.{BodyLine};
 ghost use Rattle.script_play.specs.Basis.{from_base, from_start};
 ghost use Rattle.script_play.specs.Down.{history_of, owner_of, with_entries, IsCaused};
@@ -83,22 +83,22 @@ pub fn play<D: LogStore + Drop>(
     requires can_run { CanRun script.now }
     requires running { log.failed ≡ false }
     requires place { base ≡ length start.before }
-    requires opened { IsOpenedBehind (tables_of script.now) log.accepted start.before log.entries }
+    requires opened { IsOpenedBehind (script_tables script.now) log.accepted start.before log.entries }
     requires earlier { AreEarlier log.accepted start.before }
-    requires behind { CanBegin (tables_of script.now) start.before start.rows }
+    requires behind { CanBegin (script_tables script.now) start.before start.rows }
     ensures lawful { IfOk result (λ p. Lawful (from_start script.now start) p.report) }
     ensures in_order { IfOk result (λ p. InPlayOrder (from_start script.now start) p.report) }
     ensures lawful_of_nodes { IfOk result (λ p. LawfulOfNodes (from_start script.now start) p.report) }
     ensures in_nodes_order { IfOk result (λ p. InNodesOrder (from_start script.now start) p.report) }
     ensures serial { IfOk result (λ p. AreSerial (from_start script.now start) p.report.entries) }
     ensures entries { IfOk result (λ p. AreTold start.before log.accepted p.report.entries (history_of p.log)) }
-    ensures schema { IfOk result (λ p. schema_told (history_of p.log) ≡ Some (tables_of script.now)) }
+    ensures schema { IfOk result (λ p. schema_of (history_of p.log) ≡ Some (script_tables script.now)) }
     ensures changed { IfOk result (λ p. (k : ℕ) → base < k → k ≤ length (history_of p.log)
         → changed_at (history_of p.log) k ≡ changes_at (from_start script.now start) p.report.entries k) }
     ensures rows { IfOk result (λ p. (k : ℕ) → IsFrom base k → k ≤ length (history_of p.log)
         → rows_over_at (ground_of start) (history_of p.log) k
         ≡ rows_at (from_start script.now start) p.report.entries k) }
-    ensures stands { IfOk result (λ p. StandsOver (ground_of start) (tables_of script.now) (history_of p.log)) }
+    ensures stands { IfOk result (λ p. StandsOver (ground_of start) (script_tables script.now) (history_of p.log)) }
     ensures small { IfOk result (λ p. IsSmall (history_of p.log)) }
     ensures faults { IfOk result (λ p. downs p.report.lines ≡ downs_by p.log.failed) }
     ensures cause { IfOk result (λ p. IsCaused p.log.failed log.store.faults p.log.store.faults) }
@@ -124,9 +124,9 @@ fn play_behind<D: LogStore + Drop>(
     requires can_run { CanRun script.now }
     requires running { log.failed ≡ false }
     requires place { base ≡ length start.before }
-    requires opened { IsOpenedBehind (tables_of script.now) log.accepted start.before log.entries }
+    requires opened { IsOpenedBehind (script_tables script.now) log.accepted start.before log.entries }
     requires earlier { AreEarlier log.accepted start.before }
-    requires behind { CanBegin (tables_of script.now) start.before start.rows }
+    requires behind { CanBegin (script_tables script.now) start.before start.rows }
     ensures played { IfOk result (λ p. IsPlayed script.now start log p.report p.log) }
     ensures given_up { IfErr result (λ l. IsGivenUp script.now start log l) }
     ensures owner { MatchResult result (λ p. owner_of p.log ≡ owner_of log) (λ l. owner_of l ≡ owner_of log) }
@@ -160,9 +160,9 @@ fn play_on<D: LogStore>(
     requires can_run { CanRun script.now }
     requires running { run.old.log.failed ≡ false }
     requires place { base ≡ length start.before }
-    requires opened { IsOpenedBehind (tables_of script.now) run.old.log.accepted start.before run.old.log.entries }
+    requires opened { IsOpenedBehind (script_tables script.now) run.old.log.accepted start.before run.old.log.entries }
     requires earlier { AreEarlier run.old.log.accepted start.before }
-    requires behind { CanBegin (tables_of script.now) start.before start.rows }
+    requires behind { CanBegin (script_tables script.now) start.before start.rows }
     requires lines { run.old.lines.items ≡ [] }
     requires entries { run.old.entries.items ≡ [] }
     ensures done { OnOk result ((states : List SessionState)
@@ -170,7 +170,7 @@ fn play_on<D: LogStore>(
     ensures given_up { OnErr result (IsGivenUp script.now start run.old.log run.new.log) }
     ensures owner { owner_of run.new.log ≡ owner_of run.old.log }
 {
-    let schema = schema_of(alloc, script.tables.as_slice())?;
+    let schema = script_schema(alloc, script.tables.as_slice())?;
     let generation = run.log.accepted();
     open_history(base, &mut run.entries)?;
     let mut states = starts(alloc, script.sessions.as_slice())?;
@@ -209,7 +209,7 @@ fn opened<D: LogStore>(alloc: Global, log: NodeLog<D>, known: BlkSeq) -> RunSoFa
 }
 
 /// The tables of a script, in order.
-pub fn schema_of(alloc: Global, tables: &[TableLine]) -> Result<Schema, AllocError>
+pub fn script_schema(alloc: Global, tables: &[TableLine]) -> Result<Schema, AllocError>
     ensures { IfOk result (λ schema. schema ≡ map (λ t. t.table) tables.now) }
 {
     let mut schema = Schema::new(alloc);
@@ -267,7 +267,7 @@ fn run_line<D: LogStore>(
     run: &mut RunSoFar<D>,
 ) -> Result<(), AllocError>
     ghost start: { Start }
-    requires tables { schema.now ≡ tables_of script.now }
+    requires tables { schema.now ≡ script_tables script.now }
     requires before { (left : List BodyLine) × (had : ℕ)
         × IsBeforeLine script.now start generation had (line.now ∷ left) (run_in run.old) states.old }
     ensures done { OnOk result ((left : List BodyLine) (had : ℕ)
@@ -389,7 +389,7 @@ pub fn play_down(alloc: Global, script: &Script, base: u64) -> Result<Report, Al
     ensures down { IfOk result (λ r. downs r.lines ≡ 1) }
     ensures none { IfOk result (λ r. r.entries ≡ []) }
 {
-    let schema = schema_of(alloc, script.tables.as_slice())?;
+    let schema = script_schema(alloc, script.tables.as_slice())?;
     let mut lines = Vec::new(alloc);
     add_down(&mut lines)?;
     let mut states = starts(alloc, script.sessions.as_slice())?;
@@ -410,7 +410,7 @@ fn run_line_down(
     states: &mut List<SessionState>,
     lines: &mut Vec<Line>,
 ) -> Result<(), AllocError>
-    requires tables { schema.now ≡ tables_of script.now }
+    requires tables { schema.now ≡ script_tables script.now }
     requires before { (left : List BodyLine)
         × IsBeforeDown script.now (line.now ∷ left) lines.old.items (map state_in states.old) }
     ensures { OnOk result ((left : List BodyLine)

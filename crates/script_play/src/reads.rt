@@ -2,7 +2,7 @@
 ghost use Rattle.std.specs.Prelude.{◌≡◌, ◌≤◌, length, IfOk, OnErr};
 ghost use Rattle.cdb_values.specs.Rows.{Rows};
 ghost use Rattle.phys_log.specs.Logs.{page_at, pages_of};
-ghost use Rattle.session_turns.specs.Answers.{IsAnswered};
+ghost use Rattle.session_turns.specs.Answers.{IsTextAnswered};
 ghost use Rattle.session_turns.specs.Step.{World};
 ghost use Rattle.sql_run.specs.Texts.{plan_by};
 ghost use Rattle.sql_run.specs.Views.{text_in};
@@ -40,7 +40,7 @@ pub(crate) fn answer_text(
     requires undone { AreOfLog log.now undone.old }
     ensures answered { (w : World) → w.tables ≡ schema.now
         → Stands (page_at log.now session.old.begin) schema.now (w.seen.at session.old.begin)
-        → IfOk result (λ lines. IsAnswered w session.old (text_in prepared.now).meaning lines session.new) }
+        → IfOk result (λ lines. IsTextAnswered w session.old (text_in prepared.now).meaning lines session.new) }
     ensures unchanged { OnErr result (session.new ≡ session.old) }
     ensures begin { session.new.begin ≡ session.old.begin }
     ensures undone { AreOfLog log.now undone.new }
@@ -66,7 +66,7 @@ fn answer_now(
     requires plan { (text_in prepared.now).plan ≡ plan_by schema.now (text_in prepared.now).meaning }
     ensures answered { (w : World) → w.tables ≡ schema.now
         → Stands (pages_of log.now) schema.now (w.seen.at session.old.begin)
-        → IfOk result (λ lines. IsAnswered w session.old (text_in prepared.now).meaning lines session.new) }
+        → IfOk result (λ lines. IsTextAnswered w session.old (text_in prepared.now).meaning lines session.new) }
     ensures unchanged { OnErr result (session.new ≡ session.old) }
     ensures begin { session.new.begin ≡ session.old.begin }
 {
@@ -94,7 +94,7 @@ fn answer_earlier(
     requires undone { AreOfLog log.now undone.old }
     ensures answered { (w : World) → w.tables ≡ schema.now
         → Stands (page_at log.now session.old.begin) schema.now (w.seen.at session.old.begin)
-        → IfOk result (λ lines. IsAnswered w session.old (text_in prepared.now).meaning lines session.new) }
+        → IfOk result (λ lines. IsTextAnswered w session.old (text_in prepared.now).meaning lines session.new) }
     ensures unchanged { OnErr result (session.new ≡ session.old) }
     ensures begin { session.new.begin ≡ session.old.begin }
     ensures undone { AreOfLog log.now undone.new }
@@ -139,7 +139,7 @@ fn answer_undone<F: Front>(
     requires plan { (text_in prepared.now).plan ≡ plan_by schema.now (text_in prepared.now).meaning }
     ensures answered { (w : World) → w.tables ≡ schema.now
         → Stands (pages_of F.front) schema.now (w.seen.at session.old.begin)
-        → IfOk result.answer (λ lines. IsAnswered w session.old (text_in prepared.now).meaning lines session.new) }
+        → IfOk result.answer (λ lines. IsTextAnswered w session.old (text_in prepared.now).meaning lines session.new) }
     ensures unchanged { OnErr result.answer (session.new ≡ session.old) }
     ensures begin { session.new.begin ≡ session.old.begin }
     ensures kept { AreOf (pages_of F.front) result.kept }

@@ -4,14 +4,14 @@ ghost use Rattle.log_rows.specs.History.{IsCommit};
 ghost use Rattle.phys_log.specs.Logs.{Fits};
 ghost use Rattle.report_laws.specs.Told.{lines_of};
 ghost use Rattle.report_text.specs.declared.reports.Line.{Line};
-ghost use Rattle.script_play.specs.Down.{down_line, owner_of, IsAppendedSo, IsEntered, IsFallenAt, IsKeptSo};
+ghost use Rattle.script_play.specs.Down.{down_line, owner_of, IsAppendedSo, IsAddedToHistory, IsFallenAt, IsKeptSo};
 ghost use Rattle.script_play.specs.Down.{TellsOutcome};
 ghost use Rattle.script_play.specs.Effects.{Grown, IsFreshIn};
 ghost use Rattle.script_play.specs.EntryLines.{line_of as line_of_entry};
 ghost use Rattle.script_play.specs.RunViews.{run_in, IsSameHistory};
 ghost use Rattle.store_log.specs.Held.{generation_of};
 
-use super::effects::LineEffect;
+use super::effects::DecidedEffect;
 use super::holding::beside;
 use super::indexed::IndexedLog;
 use cdb_outside::LogStore;
@@ -82,7 +82,7 @@ fn add_replies(
 pub(crate) fn apply_effect<D: LogStore>(
     alloc: Global,
     name: &Name,
-    effect: LineEffect,
+    effect: DecidedEffect,
     run: &mut RunSoFar<D>,
 ) -> Result<SessionState, AllocError>
     requires running { run.old.log.failed ≡ false }
@@ -98,7 +98,7 @@ pub(crate) fn apply_effect<D: LogStore>(
     ensures err_same { OnErr result (IsSameHistory (run_in run.old) (run_in run.new)) }
     ensures owner { owner_of run.new.log ≡ owner_of run.old.log }
 {
-    let LineEffect {
+    let DecidedEffect {
         number,
         replies,
         after,
@@ -195,7 +195,7 @@ fn append_entry<D: LogStore>(
     requires fresh { IsFreshIn run.old.log.entries entry }
     requires commit { IsCommit entry }
     requires made { generation_of entry ≡ run.old.log.accepted }
-    ensures kept { IfOk result (λ a. a ≡ Appended.Kept → IsEntered entry (run_in run.old) (run_in run.new)) }
+    ensures kept { IfOk result (λ a. a ≡ Appended.Kept → IsAddedToHistory entry (run_in run.old) (run_in run.new)) }
     ensures fallen { IfOk result (λ a. a ≡ Appended.Down → IsFallenAt entry (run_in run.old) (run_in run.new)) }
     ensures lines { run.new.lines.items ≡ run.old.lines.items }
     ensures err_same { OnErr result (IsSameHistory (run_in run.old) (run_in run.new)) }

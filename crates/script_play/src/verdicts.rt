@@ -15,7 +15,7 @@ use cdb_values::{Reply, Schema};
 use log_replay::PagedLog;
 use osql_session::OsqlSession;
 use phys_log::{CommitRequest, Decision, Entry};
-use session_turns::{Outcome, told};
+use session_turns::{CommitOutcome, told};
 use std::alloc::{AllocError, Global};
 use table_edits::the_first_broken_key_has_its_name;
 
@@ -81,7 +81,7 @@ fn judged(
         // no entry has its identity
         Decision::Repeat(_) => unreachable!(),
         Decision::Conflict { position, item } => {
-            refused(alloc, schema, Outcome::Conflict { position, item })
+            refused(alloc, schema, CommitOutcome::Conflict { position, item })
         }
         Decision::Duplicate {
             position,
@@ -90,7 +90,7 @@ fn judged(
         } => refused(
             alloc,
             schema,
-            Outcome::Duplicate {
+            CommitOutcome::Duplicate {
                 position,
                 table,
                 key,
@@ -104,7 +104,7 @@ fn judged(
 }
 
 /// An outcome that appends no entry.
-fn refused(alloc: Global, schema: &Schema, outcome: Outcome) -> Result<Verdict, AllocError>
+fn refused(alloc: Global, schema: &Schema, outcome: CommitOutcome) -> Result<Verdict, AllocError>
     ensures told { IfOk result (λ v. v.outcome ≡ outcome_told schema.now outcome) }
     ensures added { IfOk result (λ v. v.added ≡ None) }
 {

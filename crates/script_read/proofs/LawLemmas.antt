@@ -8,7 +8,7 @@ use Rattle.std.specs.Str.{is_utf8}
 use Rattle.cdb_values.specs.Tables.{add_fault, place_of}
 use Rattle.cdb_values.specs.declared.tables.ColumnDef.{ColumnDef}
 use Rattle.cdb_values.specs.declared.tables.TableDef.{TableDef}
-use Rattle.byte_words.specs.Lines.{lines_of, text_of, is_skipped}
+use Rattle.byte_words.specs.Lines.{lines_of_bytes, text_of, is_skipped}
 use Rattle.byte_words.specs.Words.{after_piece, is_end, is_name}
 use Rattle.table_read.proofs.TableLaws.{lawful}
 use Rattle.table_read.specs.Verdict.{TableFault, Unlawful, Limit, table_of}
@@ -18,7 +18,7 @@ use Rattle.script_read.proofs.TestLemmas.{and_first, and_second, declared}
 use Rattle.script_read.specs.Answers.{Refusal}
 use Rattle.script_read.specs.Bodies.{said_of, say_said, stop_said, start_said, arm_of, arm_said, barrier_said, feed_said}
 use Rattle.script_read.specs.Built.{is_built}
-use Rattle.script_form.specs.CanRun.{AreTaken, IsSaid, CanRun}
+use Rattle.script_form.specs.CanRun.{AreTaken, IsDeclaredText, CanRun}
 use Rattle.byte_words.specs.Names.{IsName}
 use Rattle.script_form.specs.Named.{IsNamedTable, SaysNamed, IsNamed}
 use Rattle.script_read.specs.Heads.{only_number, only_fitting, is_declared, is_node, nodes_said, cluster_said, workers_said, session_of, session_said, tabled, table_said, watched, watch_said}
@@ -192,7 +192,7 @@ record Going (draft : Draft) (line : ℕ) : Type 0 where
   schema : draft.schema ≡ map (λ t. t.table) draft.tables
   taken : AreTaken [] draft.schema
   table_names : AllByRecursion (λ t. IsNamedTable t.table) draft.tables
-  texts : AllByRecursion (λ l. IsSaid draft.sessions l.act) draft.body
+  texts : AllByRecursion (λ l. IsDeclaredText draft.sessions l.act) draft.body
   columns : AllByRecursion (λ t. t.table.columns ≢ []) draft.tables
   tables_part : (draft.tables ≡ []) ⊎ (5 ≤ draft.part)
   body_part : (draft.body ≡ []) ⊎ (7 ≤ draft.part)
@@ -257,7 +257,7 @@ nodes_keeps draft line (Some nodes) next f e =
       schema = f.schema ∙ ap (λ ts. map (λ t. t.table) ts) (sym f.tables);
       taken = subst (λ ts. AreTaken [] ts) (sym f.schema) tt;
       table_names = subst (λ ts. AllByRecursion (λ t. IsNamedTable t.table) ts) (sym f.tables) tt;
-      texts = subst (λ b. AllByRecursion (λ l. IsSaid draft.sessions l.act) b) (sym f.body) tt;
+      texts = subst (λ b. AllByRecursion (λ l. IsDeclaredText draft.sessions l.act) b) (sym f.body) tt;
       columns = subst (λ ts. AllByRecursion (λ t. t.table.columns ≢ []) ts) (sym f.tables) tt;
       tables_part = inl f.tables;
       body_part = inl f.body;
@@ -358,7 +358,7 @@ session_keeps draft line (Some ((name, node), hasql)) next g p e =
       schema = g.schema;
       taken = g.taken;
       table_names = g.table_names;
-      texts = subst (λ b. AllByRecursion (λ l. IsSaid (draft.sessions ++ session ∷ []) l.act) b) (sym body) tt;
+      texts = subst (λ b. AllByRecursion (λ l. IsDeclaredText (draft.sessions ++ session ∷ []) l.act) b) (sym body) tt;
       columns = g.columns;
       tables_part = inl tables;
       body_part = inl body;
@@ -413,7 +413,7 @@ table_keeps draft line text next g p e =
       schema = ap (λ ts. ts ++ a.0 ∷ []) g.schema ∙ sym (tables_more draft.tables table);
       taken = taken_more [] draft.schema a.0 g.taken (lawful draft.schema text a.0 of_text);
       table_names = all_more (λ t. IsNamedTable t.table) draft.tables table g.table_names (table_named draft.schema text a.0 of_text);
-      texts = subst (λ b. AllByRecursion (λ l. IsSaid draft.sessions l.act) b) (sym body) tt;
+      texts = subst (λ b. AllByRecursion (λ l. IsDeclaredText draft.sessions l.act) b) (sym body) tt;
       columns = all_more (λ t. t.table.columns ≢ []) draft.tables table g.columns (some_columns a.0.columns b.0);
       tables_part = inr (omega arith);
       body_part = inl body;
@@ -447,7 +447,7 @@ say_keeps draft line (Some (name, text)) next g e =
       schema = g.schema;
       taken = g.taken;
       table_names = g.table_names;
-      texts = all_more (λ l. IsSaid draft.sessions l.act) draft.body added g.texts (declared name draft.sessions b.0, k.0);
+      texts = all_more (λ l. IsDeclaredText draft.sessions l.act) draft.body added g.texts (declared name draft.sessions b.0, k.0);
       columns = g.columns;
       tables_part = inr (omega arith);
       body_part = inr (omega arith);
@@ -513,8 +513,8 @@ finished_is draft line script (at_going g) e = record { draft = draft; line = li
 done : (stores consumers : ℕ) (bytes : List ℕ) (script : Script) → script_of stores consumers bytes ≡ Ok script → Done script
 done stores consumers bytes script e =
     let fresh : Stage (no_draft stores consumers) 1 = at_fresh (record { part = refl; sessions = refl; schema = refl; tables = refl; watches = refl; body = refl; first = omega arith }) in
-    let a = and_ok (read_lines (no_draft stores consumers) 1 (lines_of bytes)) (λ last. finished last.0 last.1) script (within_is_whole most_bytes (no_draft stores consumers) bytes script e) in
-    finished_is a.0.0 a.0.1 script (lines_keep (lines_of bytes) (no_draft stores consumers) 1 a.0 fresh a.1.0) a.1.1
+    let a = and_ok (read_lines (no_draft stores consumers) 1 (lines_of_bytes bytes)) (λ last. finished last.0 last.1) script (within_is_whole most_bytes (no_draft stores consumers) bytes script e) in
+    finished_is a.0.0 a.0.1 script (lines_keep (lines_of_bytes bytes) (no_draft stores consumers) 1 a.0 fresh a.1.0) a.1.1
 
 going_can_run : (draft : Draft) (line : ℕ) → Going draft line → CanRun (script_with draft)
 going_can_run draft line g = record {
@@ -536,7 +536,7 @@ all_map P Q (x ∷ xs) f all = (f x all.0, all_map P Q xs f all.1)
 at_node : (nodes node : ℕ) → nodes ≡ 1 → node ≡ 1 → IsNode nodes node
 at_node nodes node a b = (omega arith, omega arith)
 
-names_declared : (nodes : ℕ) (sessions : List SessionLine) (act : Act) → IsSaid sessions act → NamesDeclared nodes sessions act
+names_declared : (nodes : ℕ) (sessions : List SessionLine) (act : Act) → IsDeclaredText sessions act → NamesDeclared nodes sessions act
 names_declared nodes sessions (acts.Say name text) h = h.0
 names_declared nodes sessions (acts.Stop node) h = absurd h
 names_declared nodes sessions (acts.Start node) h = absurd h
@@ -550,7 +550,7 @@ going_is_lawful draft line g = record {
   at_nodes = all_map (λ s. (s.node ≡ 1) × (s.hasql ≡ false)) (λ s. IsNode draft.nodes s.node) draft.sessions (λ s h. at_node draft.nodes s.node g.nodes h.0) g.sessions;
   tables = subst (λ ts. AreTaken [] ts) g.schema g.taken;
   watches = subst (λ ws. AllByRecursion (λ place. place < length draft.tables) ws) (sym g.watches) tt;
-  body = all_map (λ l. IsSaid draft.sessions l.act) (λ l. NamesDeclared draft.nodes draft.sessions l.act) draft.body (λ l h. names_declared draft.nodes draft.sessions l.act h) g.texts;
+  body = all_map (λ l. IsDeclaredText draft.sessions l.act) (λ l. NamesDeclared draft.nodes draft.sessions l.act) draft.body (λ l h. names_declared draft.nodes draft.sessions l.act h) g.texts;
   rising = g.lines.rise;
 }
 
@@ -562,7 +562,7 @@ going_is_named draft line g = record {
   sessions = g.session_names;
   tables = g.table_names;
   columns = g.columns;
-  body = all_map (λ l. IsSaid draft.sessions l.act) (λ l. SaysNamed l.act) draft.body (λ l h. says_named draft.sessions l.act g.session_names h) g.texts;
+  body = all_map (λ l. IsDeclaredText draft.sessions l.act) (λ l. SaysNamed l.act) draft.body (λ l h. says_named draft.sessions l.act g.session_names h) g.texts;
 }
 
 pub scripts_named : (stores consumers : ℕ) (bytes : List ℕ) (script : Script) → script_of stores consumers bytes ≡ Ok script → IsNamed script
@@ -625,8 +625,8 @@ poor_lines (bytes ∷ texts) draft line last p e =
 
 pub scripts_stored : (stores consumers : ℕ) (bytes : List ℕ) (script : Script) → script_of stores consumers bytes ≡ Ok script → 1 ≤ stores
 scripts_stored zero consumers bytes script e =
-    let a = and_ok (read_lines (no_draft 0 consumers) 1 (lines_of bytes)) (λ last. finished last.0 last.1) script (within_is_whole most_bytes (no_draft 0 consumers) bytes script e) in
-    let p : IsPoor a.0.0 = poor_lines (lines_of bytes) (no_draft 0 consumers) 1 a.0 (record { part = refl; stores = refl }) a.1.0 in
+    let a = and_ok (read_lines (no_draft 0 consumers) 1 (lines_of_bytes bytes)) (λ last. finished last.0 last.1) script (within_is_whole most_bytes (no_draft 0 consumers) bytes script e) in
+    let p : IsPoor a.0.0 = poor_lines (lines_of_bytes bytes) (no_draft 0 consumers) 1 a.0 (record { part = refl; stores = refl }) a.1.0 in
     let k = else_ok (a.0.0.part == 0) _ _ script a.1.1 in
     let z : (a.0.0.part == 0) ≡ true = subst (λ n. (n == 0) ≡ true) (sym p.part) refl in
     let d : true ≡ false = sym z ∙ k.0 in

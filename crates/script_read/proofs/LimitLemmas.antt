@@ -2,7 +2,7 @@
 use Rattle.std.proofs.Common.{◌≡◌, ℕ, ◌+◌, ◌<◌, ◌≤◌, List, ◌++◌, length, take, Bool, true, false, Result, Ok, Err, refl, arith, if◌then◌else◌, nat_lt, length-append}
 use Rattle.std.proofs.lemmas.Bool.{lt-ltb}
 use Rattle.std.proofs.lemmas.List.{take-append-le}
-use Rattle.byte_words.specs.Lines.{lines_of, but_last}
+use Rattle.byte_words.specs.Lines.{lines_of_bytes, but_last}
 use Rattle.script_read.specs.Answers.{Refusal, refusal}
 use Rattle.script_read.specs.ScriptText.{script_of, whole_script, past_limit, and_then, read_lines, no_draft, most_bytes}
 use Rattle.script_read.specs.declared.drafts.Draft.{Draft}
@@ -10,7 +10,7 @@ use Rattle.script_form.specs.declared.scripts.Script.{Script}
 
 -- the script of bytes with any limit
 abbrev pub script_within : ℕ → Draft → List ℕ → Result Script Refusal
-script_within most draft bytes = if nat_lt most (length bytes) then past_limit draft (but_last (lines_of (take (most + 1) bytes))) else whole_script draft bytes
+script_within most draft bytes = if nat_lt most (length bytes) then past_limit draft (but_last (lines_of_bytes (take (most + 1) bytes))) else whole_script draft bytes
 
 past_is_none : (draft : Draft) (lines : List (List ℕ)) (script : Script) → past_limit draft lines ≡ Ok script → ⊥
 past_is_none draft lines script e = from_last (read_lines draft 1 lines) e
@@ -23,8 +23,8 @@ past_is_none draft lines script e = from_last (read_lines draft 1 lines) e
 pub within_is_whole : (most : ℕ) (draft : Draft) (bytes : List ℕ) (script : Script) → script_within most draft bytes ≡ Ok script → whole_script draft bytes ≡ Ok script
 within_is_whole most draft bytes script e = from_test (nat_lt most (length bytes)) e
   where
-    from_test : (b : Bool) → (if b then past_limit draft (but_last (lines_of (take (most + 1) bytes))) else whole_script draft bytes) ≡ Ok script → whole_script draft bytes ≡ Ok script
-    from_test true e = absurd (past_is_none draft (but_last (lines_of (take (most + 1) bytes))) script e)
+    from_test : (b : Bool) → (if b then past_limit draft (but_last (lines_of_bytes (take (most + 1) bytes))) else whole_script draft bytes) ≡ Ok script → whole_script draft bytes ≡ Ok script
+    from_test true e = absurd (past_is_none draft (but_last (lines_of_bytes (take (most + 1) bytes))) script e)
     from_test false e = e
 
 within_same : (most : ℕ) (draft : Draft) (bytes rest : List ℕ) → most < length bytes → script_within most draft (bytes ++ rest) ≡ script_within most draft bytes

@@ -7,7 +7,7 @@ use Rattle.byte_words.specs.Words as words
 use Rattle.table_read.specs.Verdict.{table_of}
 use Rattle.table_read.proofs.TokenNameLaws.{IsTokenName}
 use Rattle.table_read.proofs.WrittenNameLaws.{tables_named}
-use Rattle.script_form.specs.CanRun.{IsDeclared, IsSaid}
+use Rattle.script_form.specs.CanRun.{IsDeclared, IsDeclaredText}
 use Rattle.byte_words.specs.Names.{is_name_byte, begins_lower, IsName, IsKey}
 use Rattle.script_form.specs.Named.{IsNamedTable, SaysNamed}
 use Rattle.script_form.specs.declared.scripts.Act.{Act}
@@ -80,7 +80,7 @@ declared_named name (session ∷ sessions) all (inl e) = subst IsName e all.0
 declared_named name (session ∷ sessions) all (inr h) = declared_named name sessions all.1 h
 
 -- a line of the body that runs speaks of a declared session
-pub says_named : (sessions : List SessionLine) (act : Act) → AllByRecursion (λ s. IsName s.name) sessions → IsSaid sessions act → SaysNamed act
+pub says_named : (sessions : List SessionLine) (act : Act) → AllByRecursion (λ s. IsName s.name) sessions → IsDeclaredText sessions act → SaysNamed act
 says_named sessions (acts.Say name text) all h = declared_named name sessions all h.0
 says_named sessions (acts.Stop node) all h = tt
 says_named sessions (acts.Start node) all h = tt

@@ -16,6 +16,6 @@ abbrev pub Stops : {Y : Type 0} → ScriptStop → Result Y Refusal → Type 0
 Stops (stops.Refused line why) reading = reading ≡ Err (refusal line why)
 Stops stops.NoMemory reading = Unit {0}
 
-abbrev pub Answers : {X Y : Type 0} → (X → Y) → Result X ScriptStop → Result Y Refusal → Type 0
-Answers view (Ok x) reading = reading ≡ Ok (view x)
-Answers view (Err stop) reading = Stops stop reading
+abbrev pub AnswersReading : {X Y : Type 0} → (X → Y) → Result X ScriptStop → Result Y Refusal → Type 0
+AnswersReading view (Ok x) reading = reading ≡ Ok (view x)
+AnswersReading view (Err stop) reading = Stops stop reading

@@ -14,7 +14,7 @@ use Rattle.std.specs.List.{list_any}
 use Rattle.std.specs.Str.{is_utf8}
 use Rattle.cdb_values.specs.Tables.{place_of}
 use Rattle.cdb_values.specs.declared.tables.TableDef.{TableDef}
-use Rattle.byte_words.specs.Words.{◌>>=◌, piece, after_piece, is_end, is_name, fits_name, number_of}
+use Rattle.byte_words.specs.Words.{◌>>=◌, piece, after_piece, is_end, is_name, fits_name, number_of_piece}
 use Rattle.table_read.specs.Verdict.{TableFault, Unlawful, Limit, table_of}
 use Rattle.script_read.specs.Answers.{Refusal, refusal}
 use Rattle.script_read.specs.declared.drafts.Draft.{Draft}
@@ -28,7 +28,7 @@ fitting_at bytes = if fits_name (piece bytes) then Some (piece bytes, after_piec
 
 -- the number that comes next, and what stands behind it
 abbrev pub numeral_at : List ℕ → Option (ℕ × List ℕ)
-numeral_at bytes = number_of (piece bytes) >>= (λ number. Some (number, after_piece bytes))
+numeral_at bytes = number_of_piece (piece bytes) >>= (λ number. Some (number, after_piece bytes))
 
 -- a value where nothing is left behind it
 abbrev pub alone : {A : Type 0} → A × List ℕ → Option A

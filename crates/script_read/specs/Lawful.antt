@@ -2,7 +2,7 @@
 -- name tables, each line of the body names a declared session or a node, and lines rise.
 use Rattle.std.specs.Prelude.{◌≡◌, ℕ, ◌≤◌, ◌<◌, ◌∷◌, ◌++◌, [], List, length, map, false}
 use Rattle.std.specs.List.{AllByRecursion}
-use Rattle.script_form.specs.CanRun.{IsDeclared, AreTaken, tables_of}
+use Rattle.script_form.specs.CanRun.{IsDeclared, AreTaken, script_tables}
 use Rattle.script_read.specs.Heads.{is_declared}
 use Rattle.script_form.specs.declared.scripts.Act.{Act}
 use Rattle.script_form.specs.declared.scripts.Act.TheVariants as acts
@@ -39,7 +39,7 @@ lines_in script = map (λ s. s.line) script.sessions ++ (map (λ t. t.line) scri
 pub record IsLawful (script : Script) : Type 0 where
   pub sessions : AreNew [] script.sessions
   pub at_nodes : AllByRecursion (λ s. IsNode script.nodes s.node) script.sessions
-  pub tables : AreTaken [] (tables_of script)
+  pub tables : AreTaken [] (script_tables script)
   pub watches : AllByRecursion (λ place. place < length script.tables) script.watches
   pub body : AllByRecursion (λ l. NamesDeclared script.nodes script.sessions l.act) script.body
   pub rising : Rise 1 (lines_in script)

@@ -20,7 +20,7 @@
 use Rattle.std.specs.Prelude.{ℕ, ◌+◌, ◌==◌, ◌++◌, ◌∷◌, [], List, length, take, if◌then◌else◌, nat_lt, Option, Some, None, Result, Ok, Err, codes}
 use Rattle.std.specs.Str.{is_utf8}
 use Rattle.cdb_values.specs.declared.tables.TableDef.{TableDef}
-use Rattle.byte_words.specs.Lines.{lines_of, but_last, text_of, is_skipped}
+use Rattle.byte_words.specs.Lines.{lines_of_bytes, but_last, text_of, is_skipped}
 use Rattle.byte_words.specs.Words.{after_piece}
 use Rattle.script_read.specs.Answers.{Refusal, refusal}
 use Rattle.script_read.specs.Bodies.{said_of, say_said, stop_said, start_said, arm_of, arm_said, barrier_said, feed_said}
@@ -131,7 +131,7 @@ finished draft line = if draft.part == 0 then Err (refusal line 4) else Ok (scri
 
 -- the script of bytes within the limit
 abbrev pub whole_script : Draft → List ℕ → Result Script Refusal
-whole_script draft bytes = and_then (read_lines draft 1 (lines_of bytes)) (λ last. finished last.0 last.1)
+whole_script draft bytes = and_then (read_lines draft 1 (lines_of_bytes bytes)) (λ last. finished last.0 last.1)
 
 -- the refusal of bytes past it, by the lines before the one that passes it
 abbrev pub past_limit : Draft → List (List ℕ) → Result Script Refusal
@@ -140,5 +140,5 @@ past_limit draft lines = and_then (read_lines draft 1 lines) (λ last. Err (refu
 -- the script of bytes, for the numbers of stores and consumers
 abbrev pub script_of : ℕ → ℕ → List ℕ → Result Script Refusal
 script_of stores consumers bytes =
-    if nat_lt most_bytes (length bytes) then past_limit (no_draft stores consumers) (but_last (lines_of (take (most_bytes + 1) bytes)))
+    if nat_lt most_bytes (length bytes) then past_limit (no_draft stores consumers) (but_last (lines_of_bytes (take (most_bytes + 1) bytes)))
     else whole_script (no_draft stores consumers) bytes

@@ -1,6 +1,6 @@
 ghost use Rattle.std.specs.Prelude.{◌≡◌, codes};
 ghost use Rattle.byte_words.specs.Answers.{Finds};
-ghost use Rattle.script_read.specs.Answers.{Answers};
+ghost use Rattle.script_read.specs.Answers.{AnswersReading};
 ghost use Rattle.script_read.specs.Heads.{only_number, alone};
 ghost use Rattle.script_read.specs.Bodies.{said_of, say_said, stop_said, start_said, row_of, moment_of, arm_of, arm_said, barrier_said, feed_said};
 
@@ -16,7 +16,7 @@ use std::alloc::Global;
 
 /// A statement of a session.
 pub fn say_line(alloc: Global, draft: &Draft, line: u64, text: &[u8]) -> Result<Said, ScriptStop>
-    ensures { Answers (λ said. said) result (say_said draft.now line (said_of text.now)) }
+    ensures { AnswersReading (λ said. said) result (say_said draft.now line (said_of text.now)) }
 {
     let Some((name, text)) = name_and_text(text) else {
         return Err(ScriptStop::Refused { line, why: NO_LINE });
@@ -46,7 +46,7 @@ fn name_and_text(text: &[u8]) -> Option<(&[u8], &[u8])>
 
 /// A node to be stopped, behind the word.
 pub fn stop_line(draft: &Draft, line: u64, rest: &[u8]) -> Result<Said, ScriptStop>
-    ensures { Answers (λ said. said) result (stop_said draft.now line (only_number rest.now)) }
+    ensures { AnswersReading (λ said. said) result (stop_said draft.now line (only_number rest.now)) }
 {
     let Some(node) = lone_number(rest) else {
         return Err(ScriptStop::Refused { line, why: NO_LINE });
@@ -62,7 +62,7 @@ pub fn stop_line(draft: &Draft, line: u64, rest: &[u8]) -> Result<Said, ScriptSt
 
 /// A node to be started, behind the word.
 pub fn start_line(draft: &Draft, line: u64, rest: &[u8]) -> Result<Said, ScriptStop>
-    ensures { Answers (λ said. said) result (start_said draft.now line (only_number rest.now)) }
+    ensures { AnswersReading (λ said. said) result (start_said draft.now line (only_number rest.now)) }
 {
     let Some(node) = lone_number(rest) else {
         return Err(ScriptStop::Refused { line, why: NO_LINE });
@@ -78,7 +78,7 @@ pub fn start_line(draft: &Draft, line: u64, rest: &[u8]) -> Result<Said, ScriptS
 
 /// An arm, behind the word.
 pub fn arm_line(alloc: Global, draft: &Draft, line: u64, rest: &[u8]) -> Result<Said, ScriptStop>
-    ensures { Answers (λ said. said) result (arm_said draft.now line (arm_of rest.now)) }
+    ensures { AnswersReading (λ said. said) result (arm_said draft.now line (arm_of rest.now)) }
 {
     let Some((name, moment)) = name_and_moment(rest) else {
         return Err(ScriptStop::Refused { line, why: NO_LINE });
@@ -132,7 +132,7 @@ fn moment_of_row(row: u64) -> Option<Moment>
 
 /// A barrier, by what stands behind the word.
 pub fn barrier_line(line: u64, rest: &[u8]) -> Result<Said, ScriptStop>
-    ensures { Answers (λ said. said) result (barrier_said line rest.now) }
+    ensures { AnswersReading (λ said. said) result (barrier_said line rest.now) }
 {
     if is_at_end(rest) {
         Ok(Said::Runs(Act::Barrier))
@@ -143,7 +143,7 @@ pub fn barrier_line(line: u64, rest: &[u8]) -> Result<Said, ScriptStop>
 
 /// A feed, by what stands behind the word.
 pub fn feed_line(line: u64, rest: &[u8]) -> Result<Said, ScriptStop>
-    ensures { Answers (λ said. said) result (feed_said line rest.now) }
+    ensures { AnswersReading (λ said. said) result (feed_said line rest.now) }
 {
     if is_at_end(rest) {
         Ok(Said::Runs(Act::Feed))

@@ -3,7 +3,7 @@ ghost use Rattle.std.specs.Str.{is_utf8};
 ghost use Rattle.byte_words.specs.Lines.{text_of};
 ghost use Rattle.byte_words.specs.Words.{after_piece};
 ghost use Rattle.table_read.specs.Verdict.{table_of};
-ghost use Rattle.script_read.specs.Answers.{Answers};
+ghost use Rattle.script_read.specs.Answers.{AnswersReading};
 ghost use Rattle.script_read.specs.Heads.{table_said};
 ghost use Rattle.script_read.specs.Kinds.{kind_of, part_of};
 ghost use Rattle.script_read.specs.declared.said.Said.TheVariants as says;
@@ -71,7 +71,7 @@ impl Draft {
 /// One line read behind what was read before it.
 #[tactic(auto, unfolding(crate::specs::ScriptText::read_line), using(crate::proofs::TextLemmas::text_is_short))]
 pub fn line_after(alloc: Global, draft: Draft, line: u64, bytes: &[u8]) -> Result<Draft, ScriptStop>
-    ensures { Answers (λ d. d) result (read_line draft line bytes.now) }
+    ensures { AnswersReading (λ d. d) result (read_line draft line bytes.now) }
 {
     let Some(_) = as_text(bytes) else {
         drop(draft);
@@ -108,7 +108,7 @@ pub(super) fn as_text(bytes: &[u8]) -> Option<&str>
 /// A text read behind what was read before it.
 fn text_after(alloc: Global, draft: Draft, line: u64, text: &[u8]) -> Result<Draft, ScriptStop>
     requires { length text.now < 2 ^ 32 }
-    ensures { Answers (λ d. d) result (read_kind draft line text.now (kind_of text.now)) }
+    ensures { AnswersReading (λ d. d) result (read_kind draft line text.now (kind_of text.now)) }
 {
     let Some(kind) = line_kind(text) else {
         drop(draft);
@@ -130,7 +130,7 @@ fn kind_after(
     kind: LineKind,
 ) -> Result<Draft, ScriptStop>
     requires { length text.now < 2 ^ 32 }
-    ensures { Answers (λ d. d) result (read_placed draft line text.now kind) }
+    ensures { AnswersReading (λ d. d) result (read_placed draft line text.now kind) }
 {
     match kind {
         LineKind::Create => table_after(alloc, draft, line, text),
@@ -153,7 +153,7 @@ fn told_after(
     text: &[u8],
     keyword: Keyword,
 ) -> Result<Draft, ScriptStop>
-    ensures { Answers (λ d. d) result (and_then (told draft line (after_piece text.now) keyword) (if_built draft line)) }
+    ensures { AnswersReading (λ d. d) result (and_then (told draft line (after_piece text.now) keyword) (if_built draft line)) }
 {
     match keyword_line(alloc, &draft, line, keyword, next_piece(text).1) {
         Ok(said) => said_after(draft, line, said),
@@ -172,7 +172,7 @@ fn keyword_line(
     keyword: Keyword,
     rest: &[u8],
 ) -> Result<Said, ScriptStop>
-    ensures { Answers (λ said. said) result (told draft.now line rest.now keyword) }
+    ensures { AnswersReading (λ said. said) result (told draft.now line rest.now keyword) }
 {
     match keyword {
         Keyword::Nodes => nodes_line(draft, line, rest),
@@ -190,7 +190,7 @@ fn keyword_line(
 
 /// What a line says added to what was read, where it runs today.
 fn said_after(draft: Draft, line: u64, said: Said) -> Result<Draft, ScriptStop>
-    ensures { Answers (λ d. d) result (if_built draft line said) }
+    ensures { AnswersReading (λ d. d) result (if_built draft line said) }
 {
     if runs_today(&said) {
         added(draft, line, said)
@@ -206,7 +206,7 @@ fn said_after(draft: Draft, line: u64, said: Said) -> Result<Draft, ScriptStop>
 
 /// What a line says added to what was read.
 fn added(draft: Draft, line: u64, said: Said) -> Result<Draft, ScriptStop>
-    ensures { Answers (λ d. d) result (Ok (with_said draft line said)) }
+    ensures { AnswersReading (λ d. d) result (Ok (with_said draft line said)) }
 {
     let mut draft = draft;
     match said {
@@ -233,7 +233,7 @@ fn added(draft: Draft, line: u64, said: Said) -> Result<Draft, ScriptStop>
 
 /// A session added to what was read.
 fn with_session(draft: Draft, session: SessionLine) -> Result<Draft, ScriptStop>
-    ensures { Answers (λ d. d) result (Ok (with_said draft 0 (says.Session session))) }
+    ensures { AnswersReading (λ d. d) result (Ok (with_said draft 0 (says.Session session))) }
 {
     let mut draft = draft;
     draft.part = 4;
@@ -249,7 +249,7 @@ fn with_session(draft: Draft, session: SessionLine) -> Result<Draft, ScriptStop>
 
 /// A watch added to what was read.
 fn with_watch(draft: Draft, place: u16) -> Result<Draft, ScriptStop>
-    ensures { Answers (λ d. d) result (Ok (with_said draft 0 (says.Watch place))) }
+    ensures { AnswersReading (λ d. d) result (Ok (with_said draft 0 (says.Watch place))) }
 {
     let mut draft = draft;
     draft.part = 6;
@@ -265,7 +265,7 @@ fn with_watch(draft: Draft, place: u16) -> Result<Draft, ScriptStop>
 
 /// A line to be run added to what was read.
 fn with_act(draft: Draft, line: u64, act: Act) -> Result<Draft, ScriptStop>
-    ensures { Answers (λ d. d) result (Ok (with_said draft line (says.Runs act))) }
+    ensures { AnswersReading (λ d. d) result (Ok (with_said draft line (says.Runs act))) }
 {
     let mut draft = draft;
     draft.part = 7;
@@ -282,7 +282,8 @@ fn with_act(draft: Draft, line: u64, act: Act) -> Result<Draft, ScriptStop>
 /// A table added to what was read. One without columns may not be, and none is spelled.
 fn table_after(alloc: Global, draft: Draft, line: u64, text: &[u8]) -> Result<Draft, ScriptStop>
     requires { length text.now < 2 ^ 32 }
-    ensures { Answers (λ d. d) result (and_then (table_said draft.schema line text.now) (tables_with draft line)) }
+    ensures { AnswersReading (λ d. d) result
+        (and_then (table_said draft.schema line text.now) (tables_with draft line)) }
 {
     let mut draft = draft;
     match table_line(alloc, &mut draft.schema, line, text) {
@@ -296,7 +297,7 @@ fn table_after(alloc: Global, draft: Draft, line: u64, text: &[u8]) -> Result<Dr
 
 /// A table that the schema has added to the tables of what was read.
 fn table_added(draft: Draft, line: u64, table: TableDef) -> Result<Draft, ScriptStop>
-    ensures { Answers (λ d. d) result (tables_more draft line table) }
+    ensures { AnswersReading (λ d. d) result (tables_more draft line table) }
 {
     if table.columns.is_empty() {
         drop(draft);
@@ -326,7 +327,7 @@ fn table_line(
     text: &[u8],
 ) -> Result<TableDef, ScriptStop>
     requires { length text.now < 2 ^ 32 }
-    ensures gives { Answers (λ table. table) result (table_said schema.old line text.now) }
+    ensures gives { AnswersReading (λ table. table) result (table_said schema.old line text.now) }
     ensures added { IfOk result (λ table. schema.new ≡ schema.old ++ table ∷ []) }
 {
     let Some(text) = as_text(text) else {
@@ -348,7 +349,7 @@ fn table_line(
 
 /// The script at the end of the bytes, where `line` is the number of the line after their last.
 pub fn finish(alloc: Global, draft: Draft, line: u64) -> Result<Script, ScriptStop>
-    ensures { Answers (λ s. s) result (finished draft line) }
+    ensures { AnswersReading (λ s. s) result (finished draft line) }
 {
     if draft.part == 0 {
         drop(draft);

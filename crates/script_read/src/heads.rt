@@ -3,7 +3,7 @@ ghost use Rattle.std.specs.List.{list_any};
 ghost use Rattle.cdb_values.specs.Tables.{place_of};
 ghost use Rattle.byte_words.specs.Answers.{Finds};
 ghost use Rattle.byte_words.specs.Words.{is_name};
-ghost use Rattle.script_read.specs.Answers.{Answers};
+ghost use Rattle.script_read.specs.Answers.{AnswersReading};
 ghost use Rattle.script_read.specs.Heads.{fitting_at, numeral_at, only_number, only_fitting, alone, is_declared, is_node, nodes_said, cluster_said, workers_said, hasql_of, session_of, session_said, watched, watch_said};
 
 use super::drafts::Draft;
@@ -84,7 +84,7 @@ pub fn is_number_of_node(nodes: u8, node: u64) -> bool
 
 /// The number of nodes, behind the word.
 pub fn nodes_line(draft: &Draft, line: u64, rest: &[u8]) -> Result<Said, ScriptStop>
-    ensures { Answers (λ said. said) result (nodes_said draft.now line (only_number rest.now)) }
+    ensures { AnswersReading (λ said. said) result (nodes_said draft.now line (only_number rest.now)) }
 {
     let Some(nodes) = lone_number(rest) else {
         return Err(ScriptStop::Refused { line, why: NO_LINE });
@@ -103,7 +103,7 @@ pub fn nodes_line(draft: &Draft, line: u64, rest: &[u8]) -> Result<Said, ScriptS
 
 /// The name of the cluster, behind the word.
 pub fn cluster_line(alloc: Global, line: u64, rest: &[u8]) -> Result<Said, ScriptStop>
-    ensures { Answers (λ said. said) result (cluster_said line (only_fitting rest.now)) }
+    ensures { AnswersReading (λ said. said) result (cluster_said line (only_fitting rest.now)) }
 {
     let Some(name) = lone_fitting(rest) else {
         return Err(ScriptStop::Refused { line, why: NO_LINE });
@@ -116,7 +116,7 @@ pub fn cluster_line(alloc: Global, line: u64, rest: &[u8]) -> Result<Said, Scrip
 
 /// The number of workers, behind the word.
 pub fn workers_line(line: u64, rest: &[u8]) -> Result<Said, ScriptStop>
-    ensures { Answers (λ said. said) result (workers_said line (only_number rest.now)) }
+    ensures { AnswersReading (λ said. said) result (workers_said line (only_number rest.now)) }
 {
     let Some(workers) = lone_number(rest) else {
         return Err(ScriptStop::Refused { line, why: NO_LINE });
@@ -134,7 +134,7 @@ pub fn session_line(
     line: u64,
     rest: &[u8],
 ) -> Result<Said, ScriptStop>
-    ensures { Answers (λ said. said) result (session_said draft.now line (session_of rest.now)) }
+    ensures { AnswersReading (λ said. said) result (session_said draft.now line (session_of rest.now)) }
 {
     let Some(((name, node), hasql)) = session_parts(rest) else {
         return Err(ScriptStop::Refused { line, why: NO_LINE });
@@ -190,7 +190,7 @@ fn survival(bytes: &[u8]) -> Option<bool>
 
 /// A watch, behind the word.
 pub fn watch_line(alloc: Global, draft: &Draft, line: u64, rest: &[u8]) -> Result<Said, ScriptStop>
-    ensures { Answers (λ said. said) result (watch_said draft.now line (only_fitting rest.now)) }
+    ensures { AnswersReading (λ said. said) result (watch_said draft.now line (only_fitting rest.now)) }
 {
     let Some(name) = lone_fitting(rest) else {
         return Err(ScriptStop::Refused { line, why: NO_LINE });
@@ -207,7 +207,7 @@ pub fn watch_line(alloc: Global, draft: &Draft, line: u64, rest: &[u8]) -> Resul
 
 /// A watch of the table at a place.
 fn watch_at(draft: &Draft, line: u64, place: Option<u16>) -> Result<Said, ScriptStop>
-    ensures { Answers (λ said. said) result (watched draft.now line place) }
+    ensures { AnswersReading (λ said. said) result (watched draft.now line place) }
 {
     let Some(place) = place else {
         return Err(ScriptStop::Refused {

@@ -1,6 +1,6 @@
 ghost use Rattle.std.specs.Prelude.{◌≡◌, ◌+◌, length, take, List, ℕ, [], ◌∷◌, ◌≤◌, ◌<◌};
-ghost use Rattle.script_read.specs.Answers.{Answers};
-ghost use Rattle.byte_words.specs.Lines.{lines_of, but_last};
+ghost use Rattle.script_read.specs.Answers.{AnswersReading};
+ghost use Rattle.byte_words.specs.Lines.{lines_of_bytes, but_last};
 ghost use Rattle.script_read.specs.ScriptText.{script_of, read_lines, no_draft, most_bytes, past_limit, whole_script};
 
 use super::drafts::{Draft, finish, line_after};
@@ -23,7 +23,7 @@ pub fn read_script(
     stores: u64,
     consumers: u64,
 ) -> Result<Script, ScriptStop>
-    ensures { Answers (λ s. s) result (script_of stores consumers bytes.now) }
+    ensures { AnswersReading (λ s. s) result (script_of stores consumers bytes.now) }
 {
     if MOST_BYTES < bytes.len() {
         return past_end(alloc, bytes, stores, consumers);
@@ -35,7 +35,7 @@ pub fn read_script(
 /// The refusal of more bytes than a script has, at the line of the first one past them.
 fn past_end(alloc: Global, bytes: &[u8], stores: u64, consumers: u64) -> Result<Script, ScriptStop>
     requires { most_bytes < length bytes.now }
-    ensures { Answers (λ s. s) result (past_limit (no_draft stores consumers) (but_last (lines_of (take (most_bytes + 1) bytes.now)))) }
+    ensures { AnswersReading (λ s. s) result (past_limit (no_draft stores consumers) (but_last (lines_of_bytes (take (most_bytes + 1) bytes.now)))) }
 {
     let (held, _) = bytes.split_at(MOST_BYTES + 1);
     match lines_read(alloc, before_last_line(held), stores, consumers) {
@@ -54,7 +54,7 @@ fn lines_read(
     stores: u64,
     consumers: u64,
 ) -> Result<(Draft, u64), ScriptStop>
-    ensures { Answers (λ x. x) result (read_lines (no_draft stores consumers) 1 (lines_of bytes.now)) }
+    ensures { AnswersReading (λ x. x) result (read_lines (no_draft stores consumers) 1 (lines_of_bytes bytes.now)) }
 {
     let mut draft = Draft::new(alloc, stores, consumers);
     let mut line = 1u64;

@@ -15,7 +15,7 @@ use Rattle.query_laws.specs.Intervals.{Interval, lies}
 use Rattle.query_laws.specs.Runs.{run_from}
 use Rattle.query_laws.specs.Touched.{leaves, enters, touches}
 use Rattle.query_laws.proofs.ListLaws.{all_weaker}
-use Rattle.serial_laws.specs.Histories.{Entry, Setup, Commit, Origin, alone, states_of, ops_of, entry_at, ops_or_none, ops_at, IsUntouched, IsBegun, IsRight, AllEntries, AllRight, IsPlaced, IsSerial}
+use Rattle.serial_laws.specs.Histories.{Entry, Setup, Commit, Origin, statements_alone, states_of, ops_of, entry_at, ops_or_none, ops_at, IsUntouched, IsBegun, IsRight, AllEntries, AllRight, IsPlaced, IsSerial}
 use Rattle.session_language.specs.Serial.{IsRowOf, IsTrueOp, IsSound}
 use Rattle.serial_laws.specs.Changed.{lies_in, changes_touch, TellsTrue, IsUnchanged, IsFair, AllFair}
 use Rattle.serial_laws.proofs.SerialLemmas.{place, now, IsStep, step_at, rows_step, states_stay, get_within, right_is_serial}
@@ -116,7 +116,7 @@ module _ (tables : List TableDef) (origin : Origin) (es : List Entry) where
           let later : origin.position ≤ begin = was.after in
           let before : begin < j = was.before in
           let at : IsSound (now tables origin es begin) = sound_at placed sound (begin - origin.position) begin (omega (arith, later)) (omega (arith, before, within)) in
-          true_later placed (alone tables (now tables origin es begin) ss).ops begin first later
+          true_later placed (statements_alone tables (now tables origin es begin) ss).ops begin first later
           (run_true tables tells (now tables origin es begin) [] ss at tt) (j - 1 - begin) (j - 1) (omega (arith, before)) (omega (arith, within))
 
   untouched_from : AllEntries origin es (IsPlaced origin) → TellsTrue tables → IsSound origin.rows → (begin position : ℕ) → origin.position ≤ begin → position ≤ origin.position + length es → (range : Interval) →
@@ -140,7 +140,7 @@ module _ (tables : List TableDef) (origin : Origin) (es : List Entry) where
           let begun : IsBegun origin begin position = was.0 in (
             begun,
             λ is. all_weaker (IsUnchanged tables origin es begin position) (IsUntouched tables origin es begin position)
-                (untouched_from placed tells sound begin position begun.after within) (alone tables (now tables origin es begin) ss).ranges (was.1 is),
+                (untouched_from placed tells sound begin position begun.after within) (statements_alone tables (now tables origin es begin) ss).ranges (was.1 is),
           )
 
   -- A HISTORY THAT IS FAIR BY THE CHANGES OF ITS ENTRIES IS SERIAL

@@ -13,7 +13,7 @@ use Rattle.query_laws.specs.Touched.{touches}
 use Rattle.query_laws.proofs.ListLaws.{all_weaker}
 use Rattle.query_laws.proofs.RowsLaws.{untouched_stays}
 use Rattle.query_laws.proofs.RunLaws.{run_same}
-use Rattle.serial_laws.specs.Histories.{Entry, Setup, Commit, Origin, rows_among, alone, ops_of, rows_after, states_from, states_of, rows_at, entry_at, ops_or_none, ops_at, IsUntouched, IsBegun, IsRight, AllEntries, AllRight, IsSerialAt, IsSerial, IsPlaced}
+use Rattle.serial_laws.specs.Histories.{Entry, Setup, Commit, Origin, rows_among, statements_alone, ops_of, rows_after, states_from, states_of, rows_at, entry_at, ops_or_none, ops_at, IsUntouched, IsBegun, IsRight, AllEntries, AllRight, IsSerialAt, IsSerial, IsPlaced}
 use Rattle.session_language.proofs.EachLaws.{get_front, get_next}
 
 -- the rows at a place of the list of states
@@ -42,9 +42,9 @@ new_commit : (tables : List TableDef) (origin : Origin) (states : List Rows) (ss
     ≡ apply_all (place origin (states_from tables origin states (Commit ss begin level ∷ es)) n) (ops_of tables origin (states_from tables origin states (Commit ss begin level ∷ es)) (Commit ss begin level))
 new_commit tables origin states ss begin level es n is begun =
     let before : length states - 1 ≡ n = omega (arith, is) in
-    ap (λ k. apply_all (place origin states k) (alone tables (rows_among origin states begin) ss).ops) before
-    ∙ ap (λ (rows : Rows). apply_all rows (alone tables (rows_among origin states begin) ss).ops) (sym (states_stay tables origin states (Commit ss begin level ∷ es) n (omega (arith, is))))
-    ∙ ap (λ (rows : Rows). apply_all (place origin (states_from tables origin states (Commit ss begin level ∷ es)) n) (alone tables rows ss).ops) (sym (states_stay tables origin states (Commit ss begin level ∷ es) (begin - origin.position) (omega (arith, is, begun))))
+    ap (λ k. apply_all (place origin states k) (statements_alone tables (rows_among origin states begin) ss).ops) before
+    ∙ ap (λ (rows : Rows). apply_all rows (statements_alone tables (rows_among origin states begin) ss).ops) (sym (states_stay tables origin states (Commit ss begin level ∷ es) n (omega (arith, is))))
+    ∙ ap (λ (rows : Rows). apply_all (place origin (states_from tables origin states (Commit ss begin level ∷ es)) n) (statements_alone tables rows ss).ops) (sym (states_stay tables origin states (Commit ss begin level ∷ es) (begin - origin.position) (omega (arith, is, begun))))
 
 -- the rows after an entry, in the whole history
 abbrev StepOf : List TableDef → Origin → List Rows → ℕ → Entry → Type 0
@@ -141,4 +141,4 @@ module _ (tables : List TableDef) (origin : Origin) (es : List Entry) where
       of_kind : AllEntries origin es (IsPlaced origin) → (e : Entry) → IsRight tables origin es position e → IsSerialAt tables origin es position e
       of_kind placed Setup was = tt
       of_kind placed (Commit ss begin level) was = λ is.
-          run_same tables (now begin) (now (position - 1)) [] ss (all_stay placed begin position was.0 within (alone tables (now begin) ss).ranges (was.1 is))
+          run_same tables (now begin) (now (position - 1)) [] ss (all_stay placed begin position was.0 within (statements_alone tables (now begin) ss).ranges (was.1 is))

@@ -13,7 +13,7 @@ use Rattle.cdb_values.specs.declared.values.Value.{Value}
 use Rattle.sql_answer.specs.Answers.{Meaning, answer, ops_after}
 use Rattle.session_language.specs.Serial.{IsTrueOp, IsSound}
 use Rattle.query_laws.specs.Intervals.{Interval, lies}
-use Rattle.serial_laws.specs.Histories.{Entry, Setup, Commit, Origin, IsBegun, AllEntries, alone, rows_at, ops_at}
+use Rattle.serial_laws.specs.Histories.{Entry, Setup, Commit, Origin, IsBegun, AllEntries, statements_alone, rows_at, ops_at}
 
 -- whether a row of a table lies in an interval
 abbrev pub lies_in : List TableDef → Interval → ℕ → List Value → Bool
@@ -46,7 +46,7 @@ IsUnchanged tables origin es begin position interval =
 abbrev pub IsFair : List TableDef → Origin → List Entry → ℕ → Entry → Type 0
 IsFair tables origin es position Setup = position ≡ 1
 IsFair tables origin es position (Commit statements begin level) = IsBegun origin begin position
-    × (level ≡ Serializable → AllByRecursion (IsUnchanged tables origin es begin position) (alone tables (rows_at tables origin es begin) statements).ranges)
+    × (level ≡ Serializable → AllByRecursion (IsUnchanged tables origin es begin position) (statements_alone tables (rows_at tables origin es begin) statements).ranges)
 
 abbrev pub AllFair : List TableDef → Origin → List Entry → Type 0
 AllFair tables origin es = AllEntries origin es (IsFair tables origin es)

@@ -13,7 +13,7 @@ use Rattle.cdb_values.specs.declared.rows.Level.TheVariants.{Serializable}
 use Rattle.cdb_values.specs.declared.tables.TableDef.{TableDef}
 use Rattle.sql_answer.specs.Answers.{Meaning}
 use Rattle.query_laws.specs.Intervals.{Interval}
-use Rattle.query_laws.specs.Runs.{Run, run_from, lasting, without_failures}
+use Rattle.query_laws.specs.Runs.{Run, run_from, lasting_statements, run_without_failures}
 use Rattle.query_laws.specs.Touched.{touches}
 
 -- the schema's entry, or a committed transaction: its statements, its begin position and its level
@@ -31,23 +31,23 @@ abbrev pub rows_among : Origin → List Rows → ℕ → Rows
 rows_among origin states position = unwrap_or (slice_get states (position - origin.position)) origin.rows
 
 -- a transaction's statements, run alone on these rows
-abbrev pub alone : List TableDef → Rows → List Meaning → Run
-alone tables rows statements = run_from tables rows.tables [] statements
+abbrev pub statements_alone : List TableDef → Rows → List Meaning → Run
+statements_alone tables rows statements = run_from tables rows.tables [] statements
 
 -- the statements of a transaction that do not fail on these rows
 abbrev pub lasting_on : List TableDef → Rows → List Meaning → List Meaning
-lasting_on tables rows statements = lasting tables rows.tables [] statements
+lasting_on tables rows statements = lasting_statements tables rows.tables [] statements
 
 -- the operations of an entry, where these are the rows at each position before it
 abbrev pub ops_of : List TableDef → Origin → List Rows → Entry → List RowOp
 ops_of tables origin states Setup = []
-ops_of tables origin states (Commit statements begin level) = (alone tables (rows_among origin states begin) statements).ops
+ops_of tables origin states (Commit statements begin level) = (statements_alone tables (rows_among origin states begin) statements).ops
 
 -- the rows after an entry, where these are the rows at each position before it
 abbrev pub rows_after : List TableDef → Origin → List Rows → Entry → Rows
 rows_after tables origin states Setup = no_rows tables
 rows_after tables origin states (Commit statements begin level) =
-    apply_all (unwrap_or (slice_get states (length states - 1)) origin.rows) (alone tables (rows_among origin states begin) statements).ops
+    apply_all (unwrap_or (slice_get states (length states - 1)) origin.rows) (statements_alone tables (rows_among origin states begin) statements).ops
 
 abbrev pub states_from : List TableDef → Origin → List Rows → List Entry → List Rows
 states_from tables origin states [] = states
@@ -93,7 +93,7 @@ IsPlaced origin position (Commit statements begin level) = IsBegun origin begin 
 abbrev pub IsRight : List TableDef → Origin → List Entry → ℕ → Entry → Type 0
 IsRight tables origin es position Setup = position ≡ 1
 IsRight tables origin es position (Commit statements begin level) = IsBegun origin begin position
-    × (level ≡ Serializable → AllByRecursion (IsUntouched tables origin es begin position) (alone tables (rows_at tables origin es begin) statements).ranges)
+    × (level ≡ Serializable → AllByRecursion (IsUntouched tables origin es begin position) (statements_alone tables (rows_at tables origin es begin) statements).ranges)
 
 -- what holds of each entry and its position
 abbrev pub AllEntries : Origin → List Entry → (ℕ → Entry → Type 0) → Type 0
@@ -107,8 +107,8 @@ AllRight tables origin es = AllEntries origin es (IsRight tables origin es)
 abbrev pub IsSerialAt : List TableDef → Origin → List Entry → ℕ → Entry → Type 0
 IsSerialAt tables origin es position Setup = Unit {0}
 IsSerialAt tables origin es position (Commit statements begin level) = level ≡ Serializable →
-    alone tables (rows_at tables origin es (position - 1)) (lasting_on tables (rows_at tables origin es begin) statements)
-    ≡ without_failures (alone tables (rows_at tables origin es begin) statements)
+    statements_alone tables (rows_at tables origin es (position - 1)) (lasting_on tables (rows_at tables origin es begin) statements)
+    ≡ run_without_failures (statements_alone tables (rows_at tables origin es begin) statements)
 
 -- each transaction at level serializable is answered as if it ran alone, in the order of the history
 abbrev pub IsSerial : List TableDef → Origin → List Entry → Type 0

@@ -15,7 +15,7 @@ use Rattle.cdb_values.specs.declared.replies.Reply.{Reply}
 use Rattle.sql_answer.specs.Answers.{Outcome, Fails, Gives, Meaning, answer}
 use Rattle.sql_answer.specs.Language.{answered}
 use Rattle.sql_run.specs.Texts.{answer_to}
-use Rattle.session_turns.specs.Answers.{IsAnswered}
+use Rattle.session_turns.specs.Answers.{IsTextAnswered}
 use Rattle.session_turns.specs.Step.{World}
 
 -- what a text is answered to read, by the intervals that it uses
@@ -39,14 +39,14 @@ pub answered_over : {E : Type 0} (r : Result (List Reply) E) (tables : List Tabl
     IfOk r (λ lines. lines ≡ (answer_to tables versions s.ops meant).replies) → OnOk r (s'.ops ≡ (answer_to tables versions s.ops meant).ops) →
     OnOk r (s'.genids ≡ s.genids ++ (answer_to tables versions s.ops meant).uses) →
     OnOk r (intervals_in s'.ranges ≡ intervals_in s.ranges ++ used_if (answer tables versions s.ops meant) (ranges_of tables versions s.ops meant)) →
-    s'.id ≡ s.id → s'.begin ≡ s.begin → s'.level ≡ s.level → IfOk r (λ lines. IsAnswered w s meant lines s')
+    s'.id ≡ s.id → s'.begin ≡ s.begin → s'.level ≡ s.level → IfOk r (λ lines. IsTextAnswered w s meant lines s')
 answered_over (Err e) tables versions w meant s s' same rows replies ops genids ranges id begin level = tt
 answered_over (Ok lines) tables versions w meant s s' same rows replies ops genids ranges id begin level =
     subst (λ (ts : List TableDef). over ts versions) same (subst (λ (vs : List (List Version)). over w.tables vs) rows here) replies ops genids ranges
   where
     over : List TableDef → List (List Version) → Type 0
     over ts vs = lines ≡ (answer_to ts vs s.ops meant).replies → s'.ops ≡ (answer_to ts vs s.ops meant).ops → s'.genids ≡ s.genids ++ (answer_to ts vs s.ops meant).uses →
-        intervals_in s'.ranges ≡ intervals_in s.ranges ++ used_if (answer ts vs s.ops meant) (ranges_of ts vs s.ops meant) → IsAnswered w s meant lines s'
+        intervals_in s'.ranges ≡ intervals_in s.ranges ++ used_if (answer ts vs s.ops meant) (ranges_of ts vs s.ops meant) → IsTextAnswered w s meant lines s'
 
     here : over w.tables (w.seen.at s.begin).tables
     here told leaves takes reads = record {

@@ -10,9 +10,9 @@ use Rattle.cdb_values.specs.declared.replies.Reply.{Reply}
 use Rattle.cdb_values.specs.declared.replies.Reply.TheVariants as reply
 use Rattle.session_language.specs.Language.{Kind, BeginText, CommitText, RollbackText, LevelText, OtherText}
 use Rattle.sql_answer.specs.Answers.{Meaning}
-use Rattle.session_turns.specs.Answers.{IfNow, IsAnswered, IsAnsweredKind, IsBegun, IsDone, IsEffect, IsOwnTurn, IsTurn}
+use Rattle.session_turns.specs.Answers.{IfNow, IsTextAnswered, IsAnsweredKind, IsBegun, IsDone, IsEffect, IsOwnTurn, IsTurnBetween}
 use Rattle.session_turns.specs.Asked.{Asked, asked_of, own_asked, settled, told, went_on}
-use Rattle.session_turns.specs.Doing.{Doing, SessionAt, reading}
+use Rattle.session_turns.specs.Doing.{Doing, SessionAt, open_begin}
 use Rattle.session_turns.specs.Doing as doing
 use Rattle.session_turns.specs.Step.{World, answer_of, state, turn_of}
 use Rattle.session_turns.specs.Views.{IsOf, IsOwn, IsOwnCommit, coming_in, doing_in, doing_of, state_in}
@@ -73,7 +73,7 @@ opened_asked generation name p number next level s w meant counts ops genids ran
     (subst (λ (r : List Interval). IsEffect generation name p (told next (reply.Begin s.begin ∷ []) (state next level (doing.Open s.begin s.ops s.genids r)))) ranges is)))
 
 -- a session that was answered is that of the same transaction
-pub same_of : (generation : ℕ) (name : List ℕ) (number : ℕ) (level : Level) (w : World) (s s' : Session) (meant : Meaning) (lines : List Reply) → IsAnswered w s meant lines s' → IsOf generation name number level s → IsOf generation name number level s'
+pub same_of : (generation : ℕ) (name : List ℕ) (number : ℕ) (level : Level) (w : World) (s s' : Session) (meant : Meaning) (lines : List Reply) → IsTextAnswered w s meant lines s' → IsOf generation name number level s → IsOf generation name number level s'
 same_of generation name number level w s s' meant lines is own = record {
   began = rw is.id own.began;
   session = rw is.id own.session;
@@ -82,7 +82,7 @@ same_of generation name number level w s s' meant lines is own = record {
 }
 
 -- where a session is whose statement was answered
-pub went_there : (w : World) (number : ℕ) (level : Level) (s s' : Session) (meant : Meaning) (lines : List Reply) → IsAnswered w s meant lines s' →
+pub went_there : (w : World) (number : ℕ) (level : Level) (s s' : Session) (meant : Meaning) (lines : List Reply) → IsTextAnswered w s meant lines s' →
     state number level (doing_of s') ≡ (went_on number level s.begin s.genids s.ranges (answer_of w s.begin s.ops meant)).after
 went_there w number level s s' meant lines is =
     ap (λ (b : ℕ). state number level (doing.Open b s'.ops s'.genids s'.ranges)) is.begin
@@ -90,7 +90,7 @@ went_there w number level s s' meant lines is =
     ∙ ap (λ (u : List GenidItem). state number level (doing.Open s.begin (answer_of w s.begin s.ops meant).ops u s'.ranges)) is.genids
     ∙ ap (λ (r : List Interval). state number level (doing.Open s.begin (answer_of w s.begin s.ops meant).ops (s.genids ++ (answer_of w s.begin s.ops meant).uses) r)) is.ranges
 
-went_effect : (w : World) (generation : ℕ) (name : List ℕ) (number : ℕ) (level : Level) (s s' : Session) (meant : Meaning) (lines : List Reply) (p : LineEffect) → IsOf generation name number level s → IsAnswered w s meant lines s' →
+went_effect : (w : World) (generation : ℕ) (name : List ℕ) (number : ℕ) (level : Level) (s s' : Session) (meant : Meaning) (lines : List Reply) (p : LineEffect) → IsOf generation name number level s → IsTextAnswered w s meant lines s' →
     p.number ≡ number → p.replies.items ≡ lines → p.after ≡ record { number = number; level = level; doing = Open s' } → p.commits ≡ None →
     IsEffect generation name p (went_on number level s.begin s.genids s.ranges (answer_of w s.begin s.ops meant))
 went_effect w generation name number level s s' meant lines p own is number_is replies_are after_is commits_none = record {
@@ -103,7 +103,7 @@ went_effect w generation name number level s s' meant lines p own is number_is r
 }
 
 -- a line that is answered in an open transaction
-pub went_asked : (w : World) (last generation : ℕ) (name : List ℕ) (number : ℕ) (level : Level) (s s' : Session) (meant : Meaning) (k : Kind) (lines : List Reply) (p : LineEffect) → IsAnsweredKind k → IsOf generation name number level s → IsAnswered w s meant lines s' →
+pub went_asked : (w : World) (last generation : ℕ) (name : List ℕ) (number : ℕ) (level : Level) (s s' : Session) (meant : Meaning) (k : Kind) (lines : List Reply) (p : LineEffect) → IsAnsweredKind k → IsOf generation name number level s → IsTextAnswered w s meant lines s' →
     p.number ≡ number → p.replies.items ≡ lines → p.after ≡ record { number = number; level = level; doing = Open s' } → p.commits ≡ None →
     IsEffect generation name p (asked_of w last number level meant k (doing_of s))
 went_asked w last generation name number level s s' meant BeginText lines p kind own is n r a c = went_effect w generation name number level s s' meant lines p own is n r a c
@@ -114,7 +114,7 @@ went_asked w last generation name number level s s' meant OtherText lines p kind
 
 -- a line of its own that began just now, and what came of it
 pub own_turn : {E : Type 0} (r : Result Turn E) (w w' : World) (generation generation' : ℕ) (name : List ℕ) (number : ℕ) (level : Level) (meant : Meaning) (k : Kind) (line : OwnLine) → k ≡ OtherText → IsBetween w w' line.session.begin → generation' ≡ generation →
-    IsBegun generation name (number + 1) level line → IfOk r (IsOwnTurn w' generation' name meant line) → IfOk r (IsTurn w w' generation' name number level No meant k)
+    IsBegun generation name (number + 1) level line → IfOk r (IsOwnTurn w' generation' name meant line) → IfOk r (IsTurnBetween w w' generation' name number level No meant k)
 own_turn (Err e) w w' generation generation' name number level meant k line other between same begun is = tt
 own_turn (Ok (turn.Done p)) w w' generation generation' name number level meant k line other between same begun is =
     done_as w w' generation' name number level doing.No meant k OtherText p line.session.begin other between
@@ -129,17 +129,17 @@ own_turn (Ok (turn.Begun line')) w w' generation generation' name number level m
 own_turn (Ok (turn.NotYet s)) w w' generation generation' name number level meant k line other between same begun is = absurd is
 
 -- a fact of the begin position that is still to be read behind a line
-pub read_behind : (P : ℕ → Type 0) (generation : ℕ) (name : List ℕ) (p : LineEffect) (a : Asked) → IsEffect generation name p a → AllByRecursion P (reading a.after.doing) → AllByRecursion P (reading (doing_in p.after.doing))
-read_behind P generation name p a is holds = subst (λ (s : SessionAt). AllByRecursion P (reading s.doing)) (sym is.after) holds
+pub read_behind : (P : ℕ → Type 0) (generation : ℕ) (name : List ℕ) (p : LineEffect) (a : Asked) → IsEffect generation name p a → AllByRecursion P (open_begin a.after.doing) → AllByRecursion P (open_begin (doing_in p.after.doing))
+read_behind P generation name p a is holds = subst (λ (s : SessionAt). AllByRecursion P (open_begin s.doing)) (sym is.after) holds
 
 -- behind a skipped line none is
-pub none_read : (w : World) (last number : ℕ) (level : Level) (meant : Meaning) (k : Kind) → reading (asked_of w last number level meant k doing.Aborted).after.doing ≡ []
+pub none_read : (w : World) (last number : ℕ) (level : Level) (meant : Meaning) (k : Kind) → open_begin (asked_of w last number level meant k doing.Aborted).after.doing ≡ []
 none_read w last number level meant BeginText = refl
 none_read w last number level meant CommitText = refl
 none_read w last number level meant RollbackText = refl
 none_read w last number level meant (LevelText later) = refl
 none_read w last number level meant OtherText = refl
 
-pub skip_read : (P : ℕ → Type 0) (w : World) (last generation : ℕ) (name : List ℕ) (number : ℕ) (level : Level) (meant : Meaning) (k : Kind) (p : LineEffect) → IsEffect generation name p (asked_of w last number level meant k doing.Aborted) → AllByRecursion P (reading (doing_in p.after.doing))
+pub skip_read : (P : ℕ → Type 0) (w : World) (last generation : ℕ) (name : List ℕ) (number : ℕ) (level : Level) (meant : Meaning) (k : Kind) (p : LineEffect) → IsEffect generation name p (asked_of w last number level meant k doing.Aborted) → AllByRecursion P (open_begin (doing_in p.after.doing))
 skip_read P w last generation name number level meant k p is =
     read_behind P generation name p (asked_of w last number level meant k doing.Aborted) is (subst (λ (bs : List ℕ). AllByRecursion P bs) (sym (none_read w last number level meant k)) tt)

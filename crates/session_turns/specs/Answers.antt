@@ -6,7 +6,7 @@ use Rattle.cdb_values.specs.declared.replies.Reply.{Reply}
 use Rattle.session_language.specs.Language.{Kind, BeginText, CommitText, RollbackText, LevelText, OtherText}
 use Rattle.sql_answer.specs.Answers.{Meaning}
 use Rattle.session_turns.specs.Asked.{Asked, asked_of, own_asked}
-use Rattle.session_turns.specs.Doing.{Doing, reading}
+use Rattle.session_turns.specs.Doing.{Doing, open_begin}
 use Rattle.session_turns.specs.Doing as doing
 use Rattle.session_turns.specs.Step.{World, answer_of}
 use Rattle.session_turns.specs.Views.{IsOf, IsOwn, IsOwnCommit, coming_in, doing_in, state_in}
@@ -46,7 +46,7 @@ IfWaiting (Ok told) fact = IfNotYet told fact
 IfWaiting (Err e) fact = Unit {0}
 
 -- a text is answered in a session's transaction, over a history
-pub record IsAnswered (w : World) (s : Session) (meant : Meaning) (lines : List Reply) (s' : Session) : Type 0 where
+pub record IsTextAnswered (w : World) (s : Session) (meant : Meaning) (lines : List Reply) (s' : Session) : Type 0 where
   pub replies : lines ≡ (answer_of w s.begin s.ops meant).replies
   pub ops : s'.ops ≡ (answer_of w s.begin s.ops meant).ops
   pub genids : s'.genids ≡ s.genids ++ (answer_of w s.begin s.ops meant).uses
@@ -100,10 +100,10 @@ pub record IsWhere (at : ℕ) (under : Level) (what : InTransaction) (s : Sessio
   pub doing : s.doing ≡ what
 
 -- what came of a line between two moments
-abbrev pub IsTurn : World → World → ℕ → List ℕ → ℕ → Level → InTransaction → Meaning → Kind → Turn → Type 0
-IsTurn w w' generation name number level what meant k (turn.Done p) = IsDone w w' generation name number level (doing_in what) meant k p
-IsTurn w w' generation name number level what meant k (turn.Begun own) = IsBegunBy w w' generation name number level (doing_in what) k own
-IsTurn w w' generation name number level what meant k (turn.NotYet s) = IsWhere number level what s
+abbrev pub IsTurnBetween : World → World → ℕ → List ℕ → ℕ → Level → InTransaction → Meaning → Kind → Turn → Type 0
+IsTurnBetween w w' generation name number level what meant k (turn.Done p) = IsDone w w' generation name number level (doing_in what) meant k p
+IsTurnBetween w w' generation name number level what meant k (turn.Begun own) = IsBegunBy w w' generation name number level (doing_in what) k own
+IsTurnBetween w w' generation name number level what meant k (turn.NotYet s) = IsWhere number level what s
 
 -- what came of a line of its own that had begun
 abbrev pub IsOwnTurn : World → ℕ → List ℕ → Meaning → OwnLine → Turn → Type 0
@@ -127,6 +127,6 @@ IsAnsweredKind OtherText = Unit {0}
 
 -- the begin position that is still to be read, if one is
 abbrev pub reading_in : Turn → List ℕ
-reading_in (turn.Done p) = reading (doing_in p.after.doing)
+reading_in (turn.Done p) = open_begin (doing_in p.after.doing)
 reading_in (turn.Begun own) = own.session.begin ∷ []
-reading_in (turn.NotYet s) = reading (doing_in s.doing)
+reading_in (turn.NotYet s) = open_begin (doing_in s.doing)

@@ -14,7 +14,7 @@ use Rattle.sql_answer.specs.Answers.{Meaning}
 use Rattle.session_turns.specs.Decisions.{added_by}
 use Rattle.session_turns.specs.Doing.{SessionAt, Doing}
 use Rattle.session_turns.specs.Doing as doing
-use Rattle.session_turns.specs.Step.{World, Turned, answer_of, outcome, state, turned}
+use Rattle.session_turns.specs.Step.{World, Turned, answer_of, outcome, state, told_turn}
 
 -- a transaction that comes to its commit: where it began, its operations, the versions that its texts used besides and the
 -- intervals that they read
@@ -70,7 +70,7 @@ asked_of w last number level meant OtherText doing.Aborted = told number [] (sta
 
 -- what a line does whose commit is decided on a history
 abbrev pub settled_by : World → ℕ → List Reply → SessionAt → Option Coming → Turned
-settled_by w number replies after None = turned number replies after
+settled_by w number replies after None = told_turn number replies after
 settled_by w number replies after (Some c) = record {
   number = number;
   replies = replies ++ outcome w c.begin after.level c.uses c.ranges c.ops ∷ [];

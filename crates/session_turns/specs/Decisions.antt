@@ -28,8 +28,8 @@ abbrev pub used_by : Level → List RowOp → List GenidItem → List Interval �
 used_by level ops uses ranges = map TheVersion (taken_by ops ++ uses) ++ map TheRange (ranges_at level ranges)
 
 -- the names of a table and of a key of it, `all` where no key is named; the empty name where there is none
-abbrev pub table_named : List TableDef → ℕ → List ℕ
-table_named tables table = unwrap_or (name_of_table tables table) []
+abbrev pub table_name_at : List TableDef → ℕ → List ℕ
+table_name_at tables table = unwrap_or (name_of_table tables table) []
 
 abbrev pub key_named : List TableDef → ℕ → Option ℕ → List ℕ
 key_named tables table key = unwrap_or (name_of_key (keys_at tables table) key) []
@@ -41,8 +41,8 @@ item_of (TheRange interval) = Range interval.table interval.key
 
 -- a conflict over an item as it is told: a version by the name of its table, an interval by the names of its table and key
 abbrev pub item_told : List TableDef → ℕ → Item → Reply
-item_told tables position (Genid item) = reply.ConflictGenid position (table_named tables item.table) item.genid
-item_told tables position (Range table key) = reply.ConflictRange position (table_named tables table) (key_named tables table key)
+item_told tables position (Genid item) = reply.ConflictGenid position (table_name_at tables item.table) item.genid
+item_told tables position (Range table key) = reply.ConflictRange position (table_name_at tables table) (key_named tables table key)
 
 abbrev pub conflict_told : List TableDef → FirstUse → Reply
 conflict_told tables f = item_told tables f.position (item_of f.item)

@@ -19,7 +19,7 @@ pub record SessionAt : Type 0 where
   pub doing : Doing
 
 -- the begin position of the transaction that it is in, if it is in one
-abbrev pub reading : Doing → List ℕ
-reading No = []
-reading (Open begin ops uses ranges) = begin ∷ []
-reading Aborted = []
+abbrev pub open_begin : Doing → List ℕ
+open_begin No = []
+open_begin (Open begin ops uses ranges) = begin ∷ []
+open_begin Aborted = []

@@ -2,6 +2,6 @@
 use Rattle.std.specs.Prelude.{ℕ}
 use Rattle.cdb_values.specs.Rows.{Rows}
 
-pub record Seen : Type 0 where
+pub record SeenRows : Type 0 where
   pub at : ℕ → Rows
   pub next : ℕ

@@ -9,12 +9,12 @@ use Rattle.cdb_values.specs.declared.rows.Level.{Level}
 use Rattle.cdb_values.specs.declared.rows.RowOp.{RowOp}
 use Rattle.cdb_values.specs.declared.rows.StatementError.TheVariants.{State}
 use Rattle.cdb_values.specs.declared.tables.TableDef.{TableDef}
-use Rattle.session_turns.specs.Seen.{Seen}
+use Rattle.session_turns.specs.Seen.{SeenRows}
 use Rattle.cdb_values.specs.declared.replies.Reply.{Reply}
 use Rattle.cdb_values.specs.declared.replies.Reply.TheVariants as reply
 use Rattle.session_language.specs.Language.{Answered, Kind, BeginText, CommitText, RollbackText, LevelText, OtherText}
 use Rattle.sql_answer.specs.Answers.{Meaning}
-use Rattle.sql_answer.specs.Language.{meaning, bound_in}
+use Rattle.sql_answer.specs.Language.{meaning, sql_binder}
 use Rattle.sql_answer.specs.Reading.{kind_of_text}
 use Rattle.sql_run.specs.Texts.{answer_to}
 use Rattle.cdb_values.specs.declared.items.GenidItem.{GenidItem}
@@ -36,18 +36,18 @@ pub record Turned : Type 0 where
   pub begin : ℕ
   pub added : List (List RowOp)
 
-abbrev pub turned : ℕ → List Reply → SessionAt → Turned
-turned number replies after = record { number = number; replies = replies; after = after; begin = 0; added = [] }
+abbrev pub told_turn : ℕ → List Reply → SessionAt → Turned
+told_turn number replies after = record { number = number; replies = replies; after = after; begin = 0; added = [] }
 
 -- what the run is before a line: the tables, the rows at each position, what each entry changed,
 -- and the last position
 pub record World : Type 0 where
   pub tables : List TableDef
-  pub seen : Seen
+  pub seen : SeenRows
   pub changed : List (List Change)
   pub now : ℕ
 
-abbrev pub world_of : List TableDef → Seen → List (List Change) → ℕ → World
+abbrev pub world_of : List TableDef → SeenRows → List (List Change) → ℕ → World
 world_of tables seen changed now = record { tables = tables; seen = seen; changed = changed; now = now }
 
 -- a transaction that began at a position comes to its commit at a level with these operations, its texts having used these
@@ -61,7 +61,7 @@ answer_of w begin ops meant = answer_to w.tables (w.seen.at begin).tables ops me
 
 -- the same by the text
 abbrev pub answer_at : World → ℕ → List RowOp → List ℕ → Answered
-answer_at w begin ops text = answer_of w begin ops (meaning bound_in w.tables text)
+answer_at w begin ops text = answer_of w begin ops (meaning sql_binder w.tables text)
 
 -- a transaction of one line
 abbrev pub own_line : World → ℕ → Level → Answered → Turned
@@ -85,29 +85,29 @@ committed w number level begin uses ranges ops = record {
 
 -- a statement is answered in an open transaction, whose texts used these versions and read these intervals so far
 abbrev pub goes_on : ℕ → Level → ℕ → List GenidItem → List Interval → Answered → Turned
-goes_on number level begin uses ranges a = turned number a.replies (state number level (doing.Open begin a.ops (uses ++ a.uses) (ranges ++ a.ranges)))
+goes_on number level begin uses ranges a = told_turn number a.replies (state number level (doing.Open begin a.ops (uses ++ a.uses) (ranges ++ a.ranges)))
 
 -- what a line does, by what its text means and is to transactions
 abbrev pub turn_of : World → ℕ → Level → Meaning → Kind → Doing → Turned
-turn_of w number level meant BeginText doing.No = turned (number + 1) (reply.Begin w.now ∷ []) (state (number + 1) level (doing.Open w.now [] [] []))
-turn_of w number level meant CommitText doing.No = turned 0 (reply.Error State ∷ []) (state number level doing.No)
-turn_of w number level meant RollbackText doing.No = turned 0 (reply.Error State ∷ []) (state number level doing.No)
-turn_of w number level meant (LevelText later) doing.No = turned 0 (reply.Level later ∷ []) (state number later doing.No)
+turn_of w number level meant BeginText doing.No = told_turn (number + 1) (reply.Begin w.now ∷ []) (state (number + 1) level (doing.Open w.now [] [] []))
+turn_of w number level meant CommitText doing.No = told_turn 0 (reply.Error State ∷ []) (state number level doing.No)
+turn_of w number level meant RollbackText doing.No = told_turn 0 (reply.Error State ∷ []) (state number level doing.No)
+turn_of w number level meant (LevelText later) doing.No = told_turn 0 (reply.Level later ∷ []) (state number later doing.No)
 turn_of w number level meant OtherText doing.No = own_line w (number + 1) level (answer_of w w.now [] meant)
 turn_of w number level meant BeginText (doing.Open begin ops uses ranges) = goes_on number level begin uses ranges (answer_of w begin ops meant)
 turn_of w number level meant CommitText (doing.Open begin ops uses ranges) = committed w number level begin uses ranges ops
-turn_of w number level meant RollbackText (doing.Open begin ops uses ranges) = turned number (reply.RolledBack ∷ []) (state number level doing.No)
+turn_of w number level meant RollbackText (doing.Open begin ops uses ranges) = told_turn number (reply.RolledBack ∷ []) (state number level doing.No)
 turn_of w number level meant (LevelText later) (doing.Open begin ops uses ranges) = goes_on number level begin uses ranges (answer_of w begin ops meant)
 turn_of w number level meant OtherText (doing.Open begin ops uses ranges) = goes_on number level begin uses ranges (answer_of w begin ops meant)
-turn_of w number level meant BeginText doing.Aborted = turned number [] (state number level doing.Aborted)
-turn_of w number level meant CommitText doing.Aborted = turned number [] (state number level doing.No)
-turn_of w number level meant RollbackText doing.Aborted = turned number [] (state number level doing.No)
-turn_of w number level meant (LevelText later) doing.Aborted = turned number [] (state number level doing.Aborted)
-turn_of w number level meant OtherText doing.Aborted = turned number [] (state number level doing.Aborted)
+turn_of w number level meant BeginText doing.Aborted = told_turn number [] (state number level doing.Aborted)
+turn_of w number level meant CommitText doing.Aborted = told_turn number [] (state number level doing.No)
+turn_of w number level meant RollbackText doing.Aborted = told_turn number [] (state number level doing.No)
+turn_of w number level meant (LevelText later) doing.Aborted = told_turn number [] (state number level doing.Aborted)
+turn_of w number level meant OtherText doing.Aborted = told_turn number [] (state number level doing.Aborted)
 
 -- the same by the text
 abbrev pub turn_by : World → ℕ → Level → List ℕ → Kind → Doing → Turned
-turn_by w number level text k what = turn_of w number level (meaning bound_in w.tables text) k what
+turn_by w number level text k what = turn_of w number level (meaning sql_binder w.tables text) k what
 
 abbrev pub turn : World → SessionAt → List ℕ → Turned
 turn w before text = turn_by w before.number before.level text (kind_of_text text) before.doing

@@ -27,7 +27,7 @@ abbrev pub outcome_at : World → ℕ → ℕ → Level → List GenidItem → L
 outcome_at w position begin level uses ranges ops = decision w.tables (take position w.changed) (w.seen.at position) begin position (used_by level ops uses ranges) ops
 
 -- the entry behind a position is that of a transaction with these operations
-pub record IsEntered (w : World) (position : ℕ) (ops : List RowOp) : Type 0 where
+pub record IsEntryBehind (w : World) (position : ℕ) (ops : List RowOp) : Type 0 where
   pub within : position + 1 ≤ w.now
   pub changes : slice_get w.changed position ≡ Some (changes_of ops (w.seen.at position).next)
   pub rows : w.seen.at (position + 1) ≡ apply_all (w.seen.at position) ops

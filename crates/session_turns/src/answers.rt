@@ -22,7 +22,7 @@ pub struct Begun {
 
 /// What became of a commit.
 #[derive(Clone, Copy, Drop)]
-pub enum Outcome {
+pub enum CommitOutcome {
     /// It is committed at this position, or where it began if it has no operations.
     Committed(u64),
     /// The entry at this position is the first that touches what it used, and this is the first that it touches.

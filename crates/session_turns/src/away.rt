@@ -13,7 +13,7 @@ ghost use Rattle.cdb_values.specs.declared.rows.RowOp.{RowOp};
 ghost use Rattle.sql_run.specs.Views.{kind_in};
 ghost use Rattle.session_turns.specs.Away.{behind_cut, turn_away, IsAwayEffect};
 ghost use Rattle.session_turns.specs.Doing as doing;
-ghost use Rattle.session_turns.specs.Step.{state, turned};
+ghost use Rattle.session_turns.specs.Step.{state, told_turn};
 ghost use Rattle.session_turns.specs.Views.{doing_in, state_in};
 
 use super::states::{InTransaction, SessionState};
@@ -89,7 +89,8 @@ fn no_majority(
     doing: InTransaction,
 ) -> Result<AwayEffect, AllocError>
     ensures { IfOk result (λ p. IsAwayEffect p
-        (turned (number + 1) (Reply.NoMajority away.up away.nodes ∷ []) (state (number + 1) level (doing_in doing)))) }
+        (told_turn (number + 1) (Reply.NoMajority away.up away.nodes ∷ [])
+        (state (number + 1) level (doing_in doing)))) }
 {
     let Some(next) = number.checked_add(1) else {
         return Err(AllocError);
@@ -106,7 +107,7 @@ fn no_majority(
 
 /// A line that does not fit outside a transaction.
 fn misplaced(number: u64, level: Level) -> AwayEffect
-    ensures { IsAwayEffect result (turned 0 (Reply.Error StatementError.State ∷ []) (state number level doing.No)) }
+    ensures { IsAwayEffect result (told_turn 0 (Reply.Error StatementError.State ∷ []) (state number level doing.No)) }
 {
     told(
         0,
@@ -153,7 +154,7 @@ fn behind(kind: TextKind) -> InTransaction
 
 /// What is told under a number, where the session is then at `after`.
 fn told(number: u64, reply: Option<Reply>, after: SessionState) -> AwayEffect
-    ensures { IsAwayEffect result (turned number (option_to_list reply) (state_in after)) }
+    ensures { IsAwayEffect result (told_turn number (option_to_list reply) (state_in after)) }
 {
     AwayEffect {
         number,

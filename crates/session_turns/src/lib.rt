@@ -34,7 +34,7 @@
 //! | how an outcome is told, and when it is right | `outcomes` | `specs/Outcomes.antt` |
 //! | a line that was cut short | `cuts` | `cut_by` of `specs/Step.antt` |
 //! | a line while the node is away | `away` | `specs/Away.antt` |
-//! | what a node answers over the rows that it has | `reading` | `IsAnswered` of `specs/Answers.antt` |
+//! | what a node answers over the rows that it has | `reading` | `IsTextAnswered` of `specs/Answers.antt` |
 #![tactic(auto)]
 
 mod answers;
@@ -48,7 +48,7 @@ mod replies;
 mod states;
 mod turns;
 
-pub use answers::{Begun, Outcome, Told};
+pub use answers::{Begun, CommitOutcome, Told};
 pub use away::{Away, AwayEffect, away_effect};
 pub use cuts::cut_state;
 pub use laws::a_line_is_what_it_asks_and_its_commit;

@@ -1,6 +1,6 @@
 //! What a session asks of its node.
 
-use super::answers::{Begun, Outcome, Told};
+use super::answers::{Begun, CommitOutcome, Told};
 use cdb_values::{List, Reply, Schema};
 use osql_session::OsqlSession;
 use sql_run::Prepared;
@@ -15,7 +15,7 @@ pub trait SessionReader {
     ghost use Rattle.std.specs.Prelude.{◌≡◌, ℕ};
     ghost use Rattle.sql_run.specs.Texts.{plan_by};
     ghost use Rattle.sql_run.specs.Views.{text_in};
-    ghost use Rattle.session_turns.specs.Answers.{IfTold, IfUntold, IfWaiting, IsAnswered};
+    ghost use Rattle.session_turns.specs.Answers.{IfTold, IfUntold, IfWaiting, IsTextAnswered};
     ghost use Rattle.session_turns.specs.Step.{World};
     ghost use Rattle.session_turns.specs.Worlds.{Grows};
 
@@ -58,7 +58,7 @@ pub trait SessionReader {
         requires readable { reads self.old session.old.begin }
         requires plan { (text_in prepared.now).plan ≡ plan_by (history self.old).tables (text_in prepared.now).meaning }
         ensures answered { IfTold result (λ lines.
-            IsAnswered (history self.new) session.old (text_in prepared.now).meaning lines session.new) }
+            IsTextAnswered (history self.new) session.old (text_in prepared.now).meaning lines session.new) }
         ensures unchanged { IfUntold result (session.new ≡ session.old) }
         ensures still { reads self.new session.new.begin }
         ensures grows { Grows (history self.old) (history self.new) }
@@ -80,13 +80,13 @@ pub trait SessionNode: SessionReader {
     ghost use Rattle.session_turns.specs.Answers.{IfTold, IfUntold, IfWaiting};
     ghost use Rattle.session_turns.specs.Outcomes.{IsRefusal, IsRightFor};
     ghost use Rattle.session_turns.specs.Worlds.{Grows};
-    ghost use Rattle.session_turns.specs.declared.answers.Outcome.{Outcome as OneOutcome};
+    ghost use Rattle.session_turns.specs.declared.answers.CommitOutcome.{CommitOutcome};
 
     /// That a transaction can come to its commit.
     ghost takes: { Self → Session → Type 0 };
 
     /// What becomes of it by a commit of a transaction, with that outcome.
-    ghost settles: { Self → Session → OneOutcome → Self → Type 0 };
+    ghost settles: { Self → Session → CommitOutcome → Self → Type 0 };
 
     /// The tables, which never change.
     fn schema(&self) -> &Schema
@@ -95,7 +95,11 @@ pub trait SessionNode: SessionReader {
     /// What becomes of a session's transaction at its commit. It is decided over a history that ends between what was known
     /// before and what is known behind; where it is committed with operations, its entry stands behind that. Where nothing is
     /// told, and where it is refused, nothing of it is committed.
-    fn commit(&mut self, alloc: Global, session: &OsqlSession) -> Result<Told<Outcome>, AllocError>
+    fn commit(
+        &mut self,
+        alloc: Global,
+        session: &OsqlSession,
+    ) -> Result<Told<CommitOutcome>, AllocError>
         requires takes { takes self.old session.now }
         ensures right { IfTold result (λ o. IsRightFor (Self.history self.old) (Self.history self.new) session.now o) }
         ensures settled { IfTold result (λ o. settles self.old session.now o self.new) }

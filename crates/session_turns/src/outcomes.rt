@@ -1,12 +1,12 @@
 //! How the outcome of a commit is told.
 ghost use Rattle.std.specs.Prelude.{◌≡◌, IfOk, OnErr};
 ghost use Rattle.session_turns.specs.Answers.{IfTold, IfUntold, IfWaiting};
-ghost use Rattle.session_turns.specs.Decisions.{item_told, key_named, table_named};
+ghost use Rattle.session_turns.specs.Decisions.{item_told, key_named, table_name_at};
 ghost use Rattle.session_turns.specs.Outcomes.{outcome_told, IsRefusal, IsRightFor};
 ghost use Rattle.session_turns.specs.Worlds.{Grows};
-ghost use Rattle.session_turns.specs.declared.answers.Outcome.{Outcome as OneOutcome};
+ghost use Rattle.session_turns.specs.declared.answers.CommitOutcome.{CommitOutcome};
 
-use super::answers::{Outcome, Told};
+use super::answers::{CommitOutcome, Told};
 use super::nodes::SessionNode;
 use cdb_values::{Item, Name, Reply, Schema};
 use osql_session::OsqlSession;
@@ -20,7 +20,7 @@ pub fn settle<N: SessionNode>(
     session: &OsqlSession,
 ) -> Result<Told<Reply>, AllocError>
     requires takes { N.takes node.old session.now }
-    ensures told { IfTold result (λ line. (o : OneOutcome) × (line ≡ outcome_told (N.history node.new).tables o)
+    ensures told { IfTold result (λ line. (o : CommitOutcome) × (line ≡ outcome_told (N.history node.new).tables o)
         × IsRightFor (N.history node.old) (N.history node.new) session.now o × N.settles node.old session.now o node.new) }
     ensures unsettled { IfUntold result (N.rests node.old node.new) }
     ensures grows { Grows (N.history node.old) (N.history node.new) }
@@ -33,14 +33,14 @@ pub fn settle<N: SessionNode>(
 }
 
 /// How an outcome is told. Only for one that is a refusal can memory be wanting.
-pub fn told(alloc: Global, schema: &Schema, outcome: Outcome) -> Result<Reply, AllocError>
+pub fn told(alloc: Global, schema: &Schema, outcome: CommitOutcome) -> Result<Reply, AllocError>
     ensures told { IfOk result (λ line. line ≡ outcome_told schema.now outcome) }
     ensures refusal { OnErr result (IsRefusal outcome) }
 {
     match outcome {
-        Outcome::Committed(position) => Ok(Reply::Committed(position)),
-        Outcome::Conflict { position, item } => conflict(alloc, schema, position, item),
-        Outcome::Duplicate {
+        CommitOutcome::Committed(position) => Ok(Reply::Committed(position)),
+        CommitOutcome::Conflict { position, item } => conflict(alloc, schema, position, item),
+        CommitOutcome::Duplicate {
             position,
             table,
             key,
@@ -49,8 +49,8 @@ pub fn told(alloc: Global, schema: &Schema, outcome: Outcome) -> Result<Reply, A
             table: name_at(alloc, schema, table)?,
             key: key_name_at(alloc, schema, table, Some(key))?,
         }),
-        Outcome::Lost { node, down } => Ok(Reply::Lost { node, down }),
-        Outcome::NoMajority { up, nodes } => Ok(Reply::NoMajority { up, nodes }),
+        CommitOutcome::Lost { node, down } => Ok(Reply::Lost { node, down }),
+        CommitOutcome::NoMajority { up, nodes } => Ok(Reply::NoMajority { up, nodes }),
     }
 }
 
@@ -74,7 +74,7 @@ fn conflict(alloc: Global, schema: &Schema, position: u64, item: Item) -> Result
 
 /// The name of the table at a place; the empty one where there is no table.
 fn name_at(alloc: Global, schema: &Schema, table: u16) -> Result<Name, AllocError>
-    ensures { IfOk result (λ name. name ≡ table_named schema.now table) }
+    ensures { IfOk result (λ name. name ≡ table_name_at schema.now table) }
 {
     match schema.at(table) {
         None => Name::copied(alloc, b""),

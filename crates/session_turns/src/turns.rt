@@ -3,8 +3,8 @@ ghost use Rattle.std.specs.Prelude.{◌≡◌, ◌+◌, ◌∷◌, [], ℕ, List
 ghost use Rattle.session_language.specs.Language.{BeginText, OtherText};
 ghost use Rattle.sql_run.specs.Texts.{plan_by};
 ghost use Rattle.sql_run.specs.Views.{text_in};
-ghost use Rattle.session_turns.specs.Answers.{reading_in, IfOpen, IsAnsweredKind, IsBegun, IsOwnTurn, IsTurn};
-ghost use Rattle.session_turns.specs.Doing.{reading};
+ghost use Rattle.session_turns.specs.Answers.{reading_in, IfOpen, IsAnsweredKind, IsBegun, IsOwnTurn, IsTurnBetween};
+ghost use Rattle.session_turns.specs.Doing.{open_begin};
 ghost use Rattle.session_turns.specs.Views.{doing_in, IsOf, IsOwn};
 ghost use Rattle.std.specs.List.{AllByRecursion};
 ghost use Rattle.session_turns.specs.Worlds.{Grows};
@@ -70,10 +70,10 @@ pub fn take_turn<N: SessionReader>(
     prepared: &Prepared,
 ) -> Result<Turn, AllocError>
     requires ready { N.ready node.old }
-    requires readable { AllByRecursion (N.reads node.old) (reading (doing_in state.doing)) }
+    requires readable { AllByRecursion (N.reads node.old) (open_begin (doing_in state.doing)) }
     requires own { IsOwn (N.generation node.old) name.now state }
     requires plan { (text_in prepared.now).plan ≡ plan_by (N.history node.old).tables (text_in prepared.now).meaning }
-    ensures turn { IfOk result (IsTurn (N.history node.old) (N.history node.new) (N.generation node.new) name.now
+    ensures turn { IfOk result (IsTurnBetween (N.history node.old) (N.history node.new) (N.generation node.new) name.now
         state.number state.level state.doing (text_in prepared.now).meaning (text_in prepared.now).kind) }
     ensures readable { IfOk result (λ t. AllByRecursion (N.reads node.new) (reading_in t)) }
     ensures waits { IfOk result (λ t. IfOpen t N.waits) }
@@ -107,7 +107,7 @@ fn outside<N: SessionReader>(
     requires ready { N.ready node.old }
     requires plan { (text_in line.now.prepared.now).plan
         ≡ plan_by (N.history node.old).tables (text_in line.now.prepared.now).meaning }
-    ensures turn { IfOk result (IsTurn (N.history node.old) (N.history node.new) (N.generation node.new) line.now.name.now
+    ensures turn { IfOk result (IsTurnBetween (N.history node.old) (N.history node.new) (N.generation node.new) line.now.name.now
         line.now.number line.now.level InTransaction.No
         (text_in line.now.prepared.now).meaning (text_in line.now.prepared.now).kind) }
     ensures readable { IfOk result (λ t. AllByRecursion (N.reads node.new) (reading_in t)) }
@@ -135,7 +135,7 @@ fn inside<N: SessionReader>(
     requires own { IsOf (N.generation node.old) line.now.name.now line.now.number line.now.level session }
     requires plan { (text_in line.now.prepared.now).plan
         ≡ plan_by (N.history node.old).tables (text_in line.now.prepared.now).meaning }
-    ensures turn { IfOk result (IsTurn (N.history node.old) (N.history node.new) (N.generation node.new) line.now.name.now
+    ensures turn { IfOk result (IsTurnBetween (N.history node.old) (N.history node.new) (N.generation node.new) line.now.name.now
         line.now.number line.now.level (InTransaction.Open session)
         (text_in line.now.prepared.now).meaning (text_in line.now.prepared.now).kind) }
     ensures readable { IfOk result (λ t. AllByRecursion (N.reads node.new) (reading_in t)) }
@@ -187,7 +187,7 @@ fn next_session(
 fn begin<N: SessionReader>(alloc: Global, node: &mut N, line: &Line<'_>) -> Result<Turn, AllocError>
     requires ready { N.ready node.old }
     requires kind { (text_in line.now.prepared.now).kind ≡ BeginText }
-    ensures turn { IfOk result (IsTurn (N.history node.old) (N.history node.new) (N.generation node.new) line.now.name.now
+    ensures turn { IfOk result (IsTurnBetween (N.history node.old) (N.history node.new) (N.generation node.new) line.now.name.now
         line.now.number line.now.level InTransaction.No
         (text_in line.now.prepared.now).meaning (text_in line.now.prepared.now).kind) }
     ensures readable { IfOk result (λ t. AllByRecursion (N.reads node.new) (reading_in t)) }
@@ -215,7 +215,7 @@ fn own_line<N: SessionReader>(
     requires kind { (text_in line.now.prepared.now).kind ≡ OtherText }
     requires plan { (text_in line.now.prepared.now).plan
         ≡ plan_by (N.history node.old).tables (text_in line.now.prepared.now).meaning }
-    ensures turn { IfOk result (IsTurn (N.history node.old) (N.history node.new) (N.generation node.new) line.now.name.now
+    ensures turn { IfOk result (IsTurnBetween (N.history node.old) (N.history node.new) (N.generation node.new) line.now.name.now
         line.now.number line.now.level InTransaction.No
         (text_in line.now.prepared.now).meaning (text_in line.now.prepared.now).kind) }
     ensures readable { IfOk result (λ t. AllByRecursion (N.reads node.new) (reading_in t)) }
@@ -299,7 +299,7 @@ fn go_on<N: SessionReader>(
     requires kind { IsAnsweredKind (text_in line.now.prepared.now).kind }
     requires plan { (text_in line.now.prepared.now).plan
         ≡ plan_by (N.history node.old).tables (text_in line.now.prepared.now).meaning }
-    ensures turn { IfOk result (IsTurn (N.history node.old) (N.history node.new) (N.generation node.new) line.now.name.now
+    ensures turn { IfOk result (IsTurnBetween (N.history node.old) (N.history node.new) (N.generation node.new) line.now.name.now
         line.now.number line.now.level (InTransaction.Open session)
         (text_in line.now.prepared.now).meaning (text_in line.now.prepared.now).kind) }
     ensures readable { IfOk result (λ t. AllByRecursion (N.reads node.new) (reading_in t)) }

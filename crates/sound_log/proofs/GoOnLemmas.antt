@@ -13,7 +13,7 @@ use Rattle.table_store.specs.Listings.{IsAmong}
 use Rattle.table_store.proofs.AmongLaws.{among_either}
 use Rattle.table_state.specs.States.{HasState}
 use Rattle.sound_log.specs.Identities.{ids_of, ids_in, AreApart}
-use Rattle.sound_log.specs.Sound.{IsBegunBy, IsBegunIn, IsSound}
+use Rattle.sound_log.specs.Sound.{HasBegunBy, IsBegunIn, IsSound}
 use Rattle.sound_log.proofs.GrowthLemmas.{all_later, all_more}
 use Rattle.sound_log.proofs.SoundLemmas.{tables_are}
 
@@ -42,13 +42,13 @@ apart_join (id ∷ front) back first later off =
 -- what is known of the identities of a sound log
 pub record AreKnown (accepted : ℕ) (ids : List CommitId) : Type 0 where
   pub apart : AreApart ids
-  pub begun : AllByRecursion (IsBegunBy accepted) ids
+  pub begun : AllByRecursion (HasBegunBy accepted) ids
 
 known : (accepted : ℕ) (entries : List Entry) → IsSound accepted entries → AreKnown accepted (ids_in entries)
 known accepted entries (inl none) = subst (λ (es : List Entry). AreKnown accepted (ids_in es)) (sym none) (record { apart = tt; begun = tt })
 known accepted entries (inr sound) = record { apart = sound.apart; begun = sound.begun }
 
-by_then : (generation : ℕ) (ids : List CommitId) → AllByRecursion (IsBegunIn generation) ids → AllByRecursion (IsBegunBy generation) ids
+by_then : (generation : ℕ) (ids : List CommitId) → AllByRecursion (IsBegunIn generation) ids → AllByRecursion (HasBegunBy generation) ids
 by_then generation [] all = tt
 by_then generation (id ∷ ids) all = (at id.began all.0, by_then generation ids all.1)
   where
@@ -65,8 +65,8 @@ sound_on accepted generation before made tables rows later sound schema commits 
   rows = rows;
   state = subst (λ (t : List TableDef). HasState (pages_of (before ++ made)) t rows) (sym are) state;
   apart = subst AreApart (sym (ids_join before made)) (apart_join (ids_in before) (ids_in made) old.apart apart off);
-  begun = subst (λ (l : List CommitId). AllByRecursion (IsBegunBy generation) l) (sym (ids_join before made))
-      (all_more (IsBegunBy generation) (ids_in before) (ids_in made) (all_later accepted generation (ids_in before) up old.begun)
+  begun = subst (λ (l : List CommitId). AllByRecursion (HasBegunBy generation) l) (sym (ids_join before made))
+      (all_more (HasBegunBy generation) (ids_in before) (ids_in made) (all_later accepted generation (ids_in before) up old.begun)
       (by_then generation (ids_in made) begun));
 })
   where
@@ -81,6 +81,6 @@ sound_on accepted generation before made tables rows later sound schema commits 
 
     off : (id : CommitId) → IsAmong id (ids_in before) → IsAmong id (ids_in made) → ⊥
     off id early late =
-        let first : id.began ≤ accepted = of_one (IsBegunBy accepted) id (ids_in before) old.begun early in
+        let first : id.began ≤ accepted = of_one (HasBegunBy accepted) id (ids_in before) old.begun early in
         let second : id.began ≡ generation = of_one (IsBegunIn generation) id (ids_in made) begun late in
         omega arith

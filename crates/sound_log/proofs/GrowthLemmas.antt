@@ -18,7 +18,7 @@ use Rattle.table_store.specs.Listings.{IsAmong}
 use Rattle.table_store.specs.Stored.{Stands}
 use Rattle.table_state.specs.States.{HasState}
 use Rattle.sound_log.specs.Identities.{ids_of, ids_in, AreApart}
-use Rattle.sound_log.specs.Sound.{IsBegunBy, IsSoundHistory, IsSound}
+use Rattle.sound_log.specs.Sound.{HasBegunBy, IsSoundHistory, IsSound}
 use Rattle.sound_log.proofs.IdentityLemmas.{apart_more}
 
 -- the identities of entries, one after the other
@@ -54,8 +54,8 @@ sound_with_more accepted entries entry id rows some tables schema sound is new b
   rows = rows;
   state = subst (λ (t : List TableDef). HasState (pages_of (entries ++ entry ∷ [])) t rows) (sym tables) state;
   apart = subst AreApart (sym ids) (apart_more (ids_in entries) id sound.apart new);
-  begun = subst (λ (l : List CommitId). AllByRecursion (IsBegunBy accepted) l) (sym ids)
-      (all_more (IsBegunBy accepted) (ids_in entries) (id ∷ []) sound.begun (begun, tt));
+  begun = subst (λ (l : List CommitId). AllByRecursion (HasBegunBy accepted) l) (sym ids)
+      (all_more (HasBegunBy accepted) (ids_in entries) (id ∷ []) sound.begun (begun, tt));
 }
   where
     ids : ids_in (entries ++ entry ∷ []) ≡ ids_in entries ++ id ∷ []
@@ -102,7 +102,7 @@ sound_first accepted generation tables entry good (records, is) stands count =
     (subst (λ (e : Entry). count_of (pages_of (e ∷ [])) < 2 ^ 62) is count)))
 
 -- a later generation
-pub all_later : (accepted later : ℕ) (ids : List CommitId) → accepted ≤ later → AllByRecursion (IsBegunBy accepted) ids → AllByRecursion (IsBegunBy later) ids
+pub all_later : (accepted later : ℕ) (ids : List CommitId) → accepted ≤ later → AllByRecursion (HasBegunBy accepted) ids → AllByRecursion (HasBegunBy later) ids
 all_later accepted later [] up h = tt
 all_later accepted later (id ∷ ids) up h = (at id.began h.0, all_later accepted later ids up h.1)
   where

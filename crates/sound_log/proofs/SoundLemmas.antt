@@ -15,7 +15,7 @@ use Rattle.log_replay.specs.Answers.{schema_of}
 use Rattle.log_rows.specs.History.{tables_of, IsCommit}
 use Rattle.table_state.specs.States.{HasState}
 use Rattle.sound_log.specs.Identities.{ids_of, ids_in, AreApart}
-use Rattle.sound_log.specs.Sound.{IsBegunBy, IsSoundHistory, IsSound, IsStateOf}
+use Rattle.sound_log.specs.Sound.{HasBegunBy, IsSoundHistory, IsSound, IsStateOf}
 use Rattle.sound_log.specs.Begun.{is_begun_by}
 
 -- a number that is not in a list
@@ -36,7 +36,7 @@ not_in n ids off = go (list_any (nat_eq n) ids) refl
 
 -- what the tests of all entries behind the first tell
 begun_decides : (accepted : ℕ) (entries : List Entry) →
-    Decides (list_all (is_begun_by accepted) entries) (AllByRecursion IsCommit entries × AllByRecursion (IsBegunBy accepted) (ids_in entries))
+    Decides (list_all (is_begun_by accepted) entries) (AllByRecursion IsCommit entries × AllByRecursion (HasBegunBy accepted) (ids_in entries))
 begun_decides accepted [] = (λ e. (tt, tt), λ h. refl)
 begun_decides accepted (Setup generation schema records ∷ es) = (λ e. absurd (false≢true e), λ h. absurd h.0.0)
 begun_decides accepted (Commit generation id begin level changes records ∷ es) =
@@ -75,9 +75,9 @@ not_begun accepted entries others first cut off sound =
     commits : AllByRecursion IsCommit others
     commits = subst (λ (es : List Entry). AllByRecursion IsCommit (drop 1 es)) cut whole.commits
 
-    begun : AllByRecursion (IsBegunBy accepted) (ids_in others)
-    begun = all_behind (IsBegunBy accepted) (ids_of first) (ids_in others)
-        (subst (λ (es : List Entry). AllByRecursion (IsBegunBy accepted) (ids_in es)) cut whole.begun)
+    begun : AllByRecursion (HasBegunBy accepted) (ids_in others)
+    begun = all_behind (HasBegunBy accepted) (ids_of first) (ids_in others)
+        (subst (λ (es : List Entry). AllByRecursion (HasBegunBy accepted) (ids_in es)) cut whole.begun)
 
 -- a setup has no identity
 no_id : (first : Entry) (others : List Entry) (tables : List TableDef) → schema_of (first ∷ others) ≡ Some tables → ids_of first ≡ []
@@ -108,7 +108,7 @@ state_decides accepted entries others first tables has cut schema begun apart st
       rows = rows;
       state = subst (λ (t : List TableDef). HasState (pages_of entries) t rows) (sym are) stands;
       apart = subst AreApart (sym ids) apart;
-      begun = subst (λ (l : List CommitId). AllByRecursion (IsBegunBy accepted) l) (sym ids) ((begun_decides accepted others).0 begun).1;
+      begun = subst (λ (l : List CommitId). AllByRecursion (HasBegunBy accepted) l) (sym ids) ((begun_decides accepted others).0 begun).1;
     }
 
     told : IsSoundHistory accepted entries → (rows : Rows) × HasState (pages_of entries) tables rows

@@ -18,8 +18,8 @@ use Rattle.table_state.specs.States.{HasState}
 use Rattle.sound_log.specs.Identities.{ids_in, AreApart}
 
 -- an identity began in a generation, or before it
-abbrev pub IsBegunBy : ℕ → CommitId → Type 0
-IsBegunBy accepted id = id.began ≤ accepted
+abbrev pub HasBegunBy : ℕ → CommitId → Type 0
+HasBegunBy accepted id = id.began ≤ accepted
 
 -- an identity began in a generation
 abbrev pub IsBegunIn : ℕ → CommitId → Type 0
@@ -32,7 +32,7 @@ pub record IsSoundHistory (accepted : ℕ) (entries : List Entry) : Type 0 where
   pub rows : Rows
   pub state : HasState (pages_of entries) (tables_of entries) rows
   pub apart : AreApart (ids_in entries)
-  pub begun : AllByRecursion (IsBegunBy accepted) (ids_in entries)
+  pub begun : AllByRecursion (HasBegunBy accepted) (ids_in entries)
 
 -- a log is sound
 abbrev pub IsSound : ℕ → List Entry → Type 0

@@ -22,7 +22,7 @@ use Rattle.cdb_values.specs.declared.replies.Reply.TheVariants as reply
 use Rattle.sql_bind.specs.Bound.{BoundStatement, BeginIt, CommitIt, RollbackIt, SetIt, InsertInto, UpdateOf, DeleteFrom, SelectOf}
 use Rattle.sql_answer.specs.Answers.{Meaning, Outcome, Fails, Gives, told_only, net_given, given_unless, rows_met, updating, deleting, items_used, rows_given, finished, finish, found, answer}
 use Rattle.sql_answer.specs.Combinations.{Seen, rows_of}
-use Rattle.sql_answer.specs.Language.{Binder, Reader, answered, language_of, meaning}
+use Rattle.sql_answer.specs.Language.{Binder, IntervalReader, answered, language_of, meaning}
 use Rattle.sql_answer.specs.Shapes.{shape}
 use Rattle.sql_answer.specs.Writes.{set_row, rows_error}
 
@@ -72,12 +72,12 @@ unfolding finish
 finish_told tables (Ok s) ops combinations = finished_told tables s ops combinations
 finish_told tables (Err cause) ops combinations = ((tt, tt), refl)
 
-text_told : (bind : Binder) (reads : Reader) (tables : List TableDef) (versions : List (List Version)) (ops : List RowOp) (text : List ℕ) → IsTold ((language_of bind reads).answer tables versions ops text).replies
+text_told : (bind : Binder) (reads : IntervalReader) (tables : List TableDef) (versions : List (List Version)) (ops : List RowOp) (text : List ℕ) → IsTold ((language_of bind reads).answer tables versions ops text).replies
 text_told bind reads tables versions ops text =
     read_too (reads tables versions ops (meaning bind tables text)) ops (answer tables versions ops (meaning bind tables text))
     (finish_told tables (meaning bind tables text) ops (found versions ops (meaning bind tables text)))
 
-pub sql_answers : (bind : Binder) (reads : Reader) → Answers (language_of bind reads)
+pub sql_answers : (bind : Binder) (reads : IntervalReader) → Answers (language_of bind reads)
 sql_answers bind reads = record {
   plain = λ tables versions ops text. (text_told bind reads tables versions ops text).0;
   closed = λ tables versions ops text. (text_told bind reads tables versions ops text).1;

@@ -1,7 +1,7 @@
 -- The reading of a text is what the text spells, and the place where it is refused.
 use Rattle.std.proofs.Common.{◌≡◌, ℕ, zero, suc, ◌+◌, ◌≤◌, ◌<◌, Bool, true, false, List, [], ◌∷◌, ◌++◌, length, drop, map, Some, None, Ok, Err, refl, sym, ap, subst, ◌∙◌, arith}
 use Rattle.std.proofs.Math.Seq.{drop-append_seam}
-use Rattle.grammar_forms.specs.Forms.{Outcome, Read, Refused, only}
+use Rattle.grammar_forms.specs.Forms.{ReadOutcome, Read, Refused, only}
 use Rattle.sql_tokens.specs.Letters.{is_blank}
 use Rattle.sql_tokens.specs.Reading.{next}
 use Rattle.sql_tokens.specs.Spot.{Spot, spot, token_of}
@@ -67,10 +67,10 @@ unfolding spots_of
 spots_are text = let fits : length text ≤ length text = omega arith in within_are (length text) 0 text fits
 
 -- Verdicts: what was read and refused of the whole list.
-abbrev seen : List ℕ → Outcome Token Statement
+abbrev seen : List ℕ → ReadOutcome Token Statement
 seen text = only (statement_r (map token_of (spots_of text)))
 
-nothing_behind : {A : Type 0} (o : Outcome Token A) (x : A) (rest : List Token) → only o ≡ Read x rest → rest ≡ []
+nothing_behind : {A : Type 0} (o : ReadOutcome Token A) (x : A) (rest : List Token) → only o ≡ Read x rest → rest ≡ []
 nothing_behind (Read y []) x rest is = cc
 nothing_behind (Read y (t ∷ ts)) x rest is = cc
 nothing_behind (Refused ts) x rest is = cc
@@ -127,18 +127,18 @@ module _ (text : List ℕ) where
       let same = one_fault StatementS f.0 left (map token_of p.before) (map token_of p.rest) f.2 p.fault (sym f.1 ∙ ap (map token_of) all ∙ map-append token_of p.before p.rest) in
       ap (λ l. offset_of l (length text)) (left_is (spots_of text) p.before p.rest left all (sym same.1)) ∙ sym p.place
 
-  spelled_by : (o : Outcome Token Statement) → seen text ≡ o → (x : Statement) → verdict (spots_of text) (length text) o ≡ Ok x → Spells StatementS text x
+  spelled_by : (o : ReadOutcome Token Statement) → seen text ≡ o → (x : Statement) → verdict (spots_of text) (length text) o ≡ Ok x → Spells StatementS text x
   spelled_by (Read y rest) is x h =
       let same : y ≡ x = cc in
       let whole : seen text ≡ Read x [] = is ∙ ap (λ r. Read y r) (nothing_behind (statement_r (map token_of (spots_of text))) y rest is) ∙ ap (λ z. Read z []) same in
       found StatementS statement_r exact_statement text (spots_of text) (spots_are text) x whole
   spelled_by (Refused left) is x h = cc
 
-  refused_by : (o : Outcome Token Statement) → seen text ≡ o → (at : ℕ) → verdict (spots_of text) (length text) o ≡ Err at → IsRefusedAt StatementS text at
+  refused_by : (o : ReadOutcome Token Statement) → seen text ≡ o → (at : ℕ) → verdict (spots_of text) (length text) o ≡ Err at → IsRefusedAt StatementS text at
   refused_by (Read y rest) is at h = cc
   refused_by (Refused left) is at h = let same : at_end left ≡ at = cc in subst (IsRefusedAt StatementS text) same (refused_there left is)
 
-  verdict_refused : (o : Outcome Token Statement) → seen text ≡ o → (at : ℕ) → IsRefusedAt StatementS text at → verdict (spots_of text) (length text) o ≡ Err at
+  verdict_refused : (o : ReadOutcome Token Statement) → seen text ≡ o → (at : ℕ) → IsRefusedAt StatementS text at → verdict (spots_of text) (length text) o ≡ Err at
   verdict_refused (Read y rest) is at p =
       let whole : seen text ≡ Read y [] = is ∙ ap (λ r. Read y r) (nothing_behind (statement_r (map token_of (spots_of text))) y rest is) in
       absurd (no_refusal StatementS statement_r exact_statement text (spots_of text) (spots_are text) y at whole p)

@@ -123,14 +123,14 @@ base_item table (Base genid) = genid_item table genid ∷ []
 base_item table (Own write) = []
 
 -- the versions of a combination of these tables, in their order
-abbrev pub items_in : List ℕ → List Seen → List GenidItem
-items_in [] combination = []
-items_in (table ∷ tables) [] = []
-items_in (table ∷ tables) (s ∷ combination) = base_item table s.source ++ items_in tables combination
+abbrev pub combination_items : List ℕ → List Seen → List GenidItem
+combination_items [] combination = []
+combination_items (table ∷ tables) [] = []
+combination_items (table ∷ tables) (s ∷ combination) = base_item table s.source ++ combination_items tables combination
 
 -- the versions that a query uses: SELECTV those of all combinations, before grouping and LIMIT
 abbrev pub items_used : BoundQuery → List (List Seen) → List GenidItem
-items_used query combinations = if query.selectv then flat_map (items_in query.tables) combinations else []
+items_used query combinations = if query.selectv then flat_map (combination_items query.tables) combinations else []
 
 -- the replies of rows: each of them, and how many there are
 abbrev pub row_replies : List (List Value) → List Reply

@@ -13,7 +13,7 @@ use Rattle.session_language.specs.Language.{Answered, Language}
 use Rattle.cdb_values.specs.declared.replies.Reply.TheVariants as reply
 use Rattle.sql_bind.specs.Binding.{binding}
 use Rattle.sql_bind.specs.Bound.{BoundStatement}
-use Rattle.sql_bind.specs.Faults.{Kind, UnknownTable, UnknownColumn, AmbiguousName, WrongType, WrongCount}
+use Rattle.sql_bind.specs.Faults.{FaultKind, UnknownTable, UnknownColumn, AmbiguousName, WrongType, WrongCount}
 use Rattle.sql_grammar.specs.Trees.{Statement}
 use Rattle.sql_answer.specs.Answers.{Meaning, Outcome, Fails, Gives, answer}
 use Rattle.sql_answer.specs.Reading.{reading, kind_of_text}
@@ -31,8 +31,8 @@ unfoldable pub meaning : Binder → List TableDef → List ℕ → Meaning
 meaning bind tables text = meant_by bind tables (reading text)
 
 -- which intervals a statement reads
-abbrev pub Reader : Type 0
-Reader = List TableDef → List (List Version) → List RowOp → Meaning → List Interval
+abbrev pub IntervalReader : Type 0
+IntervalReader = List TableDef → List (List Version) → List RowOp → Meaning → List Interval
 
 -- an outcome behind these operations, for which these intervals were read, as the laws of reports see it
 abbrev pub answered : List Interval → List RowOp → Outcome → Answered
@@ -40,24 +40,24 @@ answered ranges ops (Fails cause) = record { replies = reply.Error cause ∷ [];
 answered ranges ops (Gives told after) = record { replies = told.replies; ops = after; uses = told.uses; ranges = ranges; failed = false }
 
 -- the language of SQL whose statements are bound so, and read so
-abbrev pub language_of : Binder → Reader → Language
+abbrev pub language_of : Binder → IntervalReader → Language
 language_of bind reads = record {
   kind = kind_of_text;
   answer = λ tables versions ops text. answered (reads tables versions ops (meaning bind tables text)) ops (answer tables versions ops (meaning bind tables text));
 }
 
 -- how each kind of error that a statement has in a schema is told
-abbrev pub cause_of : Kind → StatementError
+abbrev pub cause_of : FaultKind → StatementError
 cause_of UnknownTable = error.Table
 cause_of UnknownColumn = error.Column
 cause_of AmbiguousName = error.Ambiguous
 cause_of WrongType = error.Type_
 cause_of WrongCount = error.Count
 
-abbrev pub meant_as : Result BoundStatement Kind → Meaning
+abbrev pub meant_as : Result BoundStatement FaultKind → Meaning
 meant_as (Ok statement) = Ok statement
 meant_as (Err kind) = Err (cause_of kind)
 
 -- statements are bound as `sql_bind` binds them
-abbrev pub bound_in : Binder
-bound_in tables statement = meant_as (binding tables statement)
+abbrev pub sql_binder : Binder
+sql_binder tables statement = meant_as (binding tables statement)

@@ -5,7 +5,7 @@
 -- is refused at the first token with which the tokens so far begin no statement, or at its end.
 use Rattle.std.specs.Prelude.{ℕ, zero, suc, ◌+◌, ◌-◌, Bool, true, false, List, [], ◌∷◌, length, drop, map, Option, Some, None, Result, Ok, Err}
 use Rattle.cdb_values.specs.declared.rows.Level.TheVariants.{Snapshot, Serializable}
-use Rattle.grammar_forms.specs.Forms.{Outcome, Read, Refused, only}
+use Rattle.grammar_forms.specs.Forms.{ReadOutcome, Read, Refused, only}
 use Rattle.session_language.specs.Language.{Kind, BeginText, CommitText, RollbackText, LevelText, OtherText}
 use Rattle.sql_grammar.specs.Readers.{statement_r}
 use Rattle.sql_grammar.specs.Trees.{Statement, BeginIt, CommitIt, RollbackIt, SnapshotIt, SerializableIt, InsertInto, UpdateOf, DeleteFrom, SelectOf}
@@ -45,7 +45,7 @@ abbrev pub spots_left : List Spot → List Token → List Spot
 spots_left spots tokens = drop (length spots - length tokens) spots
 
 -- what the reader's outcome on all tokens comes to: a value, or the place of the first token that is left
-abbrev pub verdict : {A : Type 0} → List Spot → ℕ → Outcome Token A → Result A ℕ
+abbrev pub verdict : {A : Type 0} → List Spot → ℕ → ReadOutcome Token A → Result A ℕ
 verdict spots end (Read value rest) = Ok value
 verdict spots end (Refused rest) = Err (offset_of (spots_left spots rest) end)
 

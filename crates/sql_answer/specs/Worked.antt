@@ -42,8 +42,8 @@ schema =
     ∷ record { name = codes "orders"; columns = column_def (codes "customer") kinds.Integer true ∷ column_def (codes "total") kinds.Integer true ∷ []; keys = [] }
     ∷ []
 
-abbrev pub version : ℕ → Value → Value → Version
-version genid a b = record { genid = genid; row = a ∷ b ∷ [] }
+abbrev pub version_of_two : ℕ → Value → Value → Version
+version_of_two genid a b = record { genid = genid; row = a ∷ b ∷ [] }
 
 abbrev pub ann : Value
 ann = Text (codes "ann")
@@ -56,9 +56,10 @@ eve = Text (codes "eve")
 
 abbrev pub versions : List (List Version)
 versions =
-    (version 1 (int 1) (int 10) ∷ version 2 (int 2) Null ∷ version 3 (int 3) (int 10) ∷ version 4 (int 4) most ∷ [])
-    ∷ (version 5 (int 1) ann ∷ version 6 (int 2) bob ∷ version 7 (int 3) eve ∷ [])
-    ∷ (version 8 (int 1) (int 10) ∷ version 9 (int 2) (int 5) ∷ version 10 (int 1) (int 7) ∷ version 11 (int 2) Null ∷ [])
+    (version_of_two 1 (int 1) (int 10) ∷ version_of_two 2 (int 2) Null ∷ version_of_two 3 (int 3) (int 10)
+    ∷ version_of_two 4 (int 4) most ∷ [])
+    ∷ (version_of_two 5 (int 1) ann ∷ version_of_two 6 (int 2) bob ∷ version_of_two 7 (int 3) eve ∷ [])
+    ∷ (version_of_two 8 (int 1) (int 10) ∷ version_of_two 9 (int 2) (int 5) ∷ version_of_two 10 (int 1) (int 7) ∷ version_of_two 11 (int 2) Null ∷ [])
     ∷ []
 
 abbrev pub column : ℕ → ℕ → BoundColumn
@@ -74,8 +75,8 @@ v = column 0 1
 abbrev pub compares : Cmp → BoundColumn → ℕ → Cond
 compares op c n = Compares op (operand.Column c) (operand.Value (int n))
 
-abbrev pub both : Cond → Cond → Conds
-both a b = more_conds a (more_conds b no_cond)
+abbrev pub both_conditions : Cond → Cond → Conds
+both_conditions a b = more_conds a (more_conds b no_cond)
 
 -- a query of these items, without more
 abbrev pub plain_query : List ℕ → List BoundItem → Option Cond → BoundQuery

@@ -13,16 +13,16 @@ ghost use Rattle.sql_answer.specs.Aggregates.{integers, sum_of, least, greatest,
 ghost use Rattle.sql_answer.specs.Answers.{Gives, Fails, answer};
 ghost use Rattle.sql_answer.specs.Conditions.{truth, meets};
 ghost use Rattle.sql_answer.specs.Truth.{No, Unknown, Yes};
-ghost use Rattle.sql_answer.specs.Worked.{int, minus_one, most, ann, bob, eve, schema, versions, id, v, compares, both, plain_query, by_customer, by_v, ids_by_v, counted, raise, raise_without_id, tells, item};
+ghost use Rattle.sql_answer.specs.Worked.{int, minus_one, most, ann, bob, eve, schema, versions, id, v, compares, both_conditions, plain_query, by_customer, by_v, ids_by_v, counted, raise, raise_without_id, tells, item};
 
 /// On the row 2|null of t: a comparison with NULL is unknown, also negated; OR is true by its other part,
 /// and AND is not; `is null` is true; WHERE does not keep the row.
 pub fn null_is_unknown()
     ensures compared { truth (compares cmp.Eq v 3) ((int 2 ∷ Null ∷ []) ∷ []) ≡ Unknown }
     ensures negated { truth (NotOf (compares cmp.Eq v 3)) ((int 2 ∷ Null ∷ []) ∷ []) ≡ Unknown }
-    ensures either { truth (AnyOf (both (compares cmp.Eq v 3) (compares cmp.Eq id 2))) ((int 2 ∷ Null ∷ []) ∷ []) ≡ Yes }
-    ensures each { truth (AllOf (both (compares cmp.Eq v 3) (compares cmp.Eq id 2))) ((int 2 ∷ Null ∷ []) ∷ []) ≡ Unknown }
-    ensures refuted { truth (AllOf (both (compares cmp.Eq v 3) (compares cmp.Eq id 1))) ((int 2 ∷ Null ∷ []) ∷ []) ≡ No }
+    ensures either { truth (AnyOf (both_conditions (compares cmp.Eq v 3) (compares cmp.Eq id 2))) ((int 2 ∷ Null ∷ []) ∷ []) ≡ Yes }
+    ensures each { truth (AllOf (both_conditions (compares cmp.Eq v 3) (compares cmp.Eq id 2))) ((int 2 ∷ Null ∷ []) ∷ []) ≡ Unknown }
+    ensures refuted { truth (AllOf (both_conditions (compares cmp.Eq v 3) (compares cmp.Eq id 1))) ((int 2 ∷ Null ∷ []) ∷ []) ≡ No }
     ensures tested { truth (TestsNull (operand.Column v) false) ((int 2 ∷ Null ∷ []) ∷ []) ≡ Yes }
     ensures left_out { meets (Some (NotOf (compares cmp.Eq v 3))) ((int 2 ∷ Null ∷ []) ∷ []) ≡ false }
 {}

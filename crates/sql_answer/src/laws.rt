@@ -9,7 +9,7 @@ ghost use Rattle.sql_grammar.specs.Trees.{Statement};
 ghost use Rattle.sql_grammar.specs.Grammar.{StatementS};
 ghost use Rattle.sql_reader.specs.Promise.{Spells, IsRefusedAt};
 ghost use Rattle.sql_answer.specs.Combinations.{seen, rows_of};
-ghost use Rattle.sql_answer.specs.Language.{Binder, Reader, language_of};
+ghost use Rattle.sql_answer.specs.Language.{Binder, IntervalReader, language_of};
 ghost use Rattle.sql_answer.specs.Reading.{reading};
 ghost use Rattle.sql_answer.specs.Shapes.{Keyed, is_below, ordered, AreInOrder};
 
@@ -36,5 +36,5 @@ pub fn orders_are_stable()
 /// However statements are bound and whatever they read, each text is answered, by replies that end at the first one that is no
 /// row, and of which none begins or ends a transaction.
 pub fn sql_is_a_language()
-    ensures any { (bind : Binder) (reads : Reader) → Answers (language_of bind reads) }
+    ensures any { (bind : Binder) (reads : IntervalReader) → Answers (language_of bind reads) }
 {}

@@ -6,7 +6,7 @@ use Rattle.cdb_values.specs.declared.rows.RowRef.{RowRef}
 use Rattle.cdb_values.specs.declared.rows.StatementError.{StatementError}
 use Rattle.sql_bind.specs.declared.types.Bound.{Bound}
 use Rattle.sql_bind.specs.declared.types.Condition.{Condition}
-use Rattle.sql_bind.specs.Views.{bound_in, filter_in}
+use Rattle.sql_bind.specs.Views.{bound_in, bound_filter_in}
 use Rattle.sql_answer.specs.Answers as laws
 use Rattle.sql_answer.specs.Answers.{Meaning}
 use Rattle.sql_answer.specs.Combinations as laws_of_rows
@@ -36,7 +36,7 @@ combinations_in combinations = map all_seen_in combinations
 
 -- those of these combinations for which a WHERE is true
 abbrev pub all_kept : Option Condition → List (List laws_of_rows.Seen) → List (List laws_of_rows.Seen)
-all_kept condition combinations = filter (λ c. meets (filter_in condition) (laws_of_rows.rows_of c)) combinations
+all_kept condition combinations = filter (λ c. meets (bound_filter_in condition) (laws_of_rows.rows_of c)) combinations
 
 -- what an outcome comes to behind these operations
 abbrev pub outcome_in : List RowOp → Outcome → laws.Outcome

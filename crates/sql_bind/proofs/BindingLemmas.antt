@@ -2,7 +2,7 @@
 use Rattle.std.proofs.Common.{◌≡◌, ◌+◌, nat_lt, cond, List, [], ◌∷◌, Bool, true, false, ◌||◌, map, Option, Some, None, Result, Ok, Err, refl, ap, ap₂, ◌∙◌}
 use Rattle.std.specs.Prelude.{if◌then◌else◌, unwrap_or}
 use Rattle.std.specs.List.{list_any}
-use Rattle.cdb_values.specs.Named.{Place, table_named}
+use Rattle.cdb_values.specs.Named.{PlacedTable, table_named}
 use Rattle.cdb_values.specs.declared.tables.TableDef.{TableDef}
 use Rattle.sql_grammar.specs.Trees.{Name, Column, Source, Statement}
 use Rattle.sql_bind.specs.declared.faults.BindFault.{BindFault}
@@ -10,11 +10,11 @@ use Rattle.sql_bind.specs.declared.faults.BindFault.TheVariants as faults
 use Rattle.sql_bind.specs.Answers.{Misses, Refuses}
 use Rattle.sql_bind.specs.Binding.{binding}
 use Rattle.sql_bind.specs.Bound.{BoundStatement}
-use Rattle.sql_bind.specs.Faults.{Kind, UnknownTable, UnknownColumn, AmbiguousName, WrongType, WrongCount, has_unknown_table, has_unknown_column, has_ambiguous_name, has_wrong_type, has_wrong_count}
+use Rattle.sql_bind.specs.Faults.{FaultKind, UnknownTable, UnknownColumn, AmbiguousName, WrongType, WrongCount, has_unknown_table, has_unknown_column, has_ambiguous_name, has_wrong_type, has_wrong_count}
 use Rattle.sql_bind.specs.Meaning.{bound_as}
 use Rattle.sql_bind.specs.Scope.{Visible, visible, visible_at, may_mean, is_ambiguous}
 
-first_kind : Bool → Bool → Bool → Bool → Bool → BoundStatement → Result BoundStatement Kind
+first_kind : Bool → Bool → Bool → Bool → Bool → BoundStatement → Result BoundStatement FaultKind
 first_kind table column ambiguous type count meaning =
     if table then Err UnknownTable
     else if column then Err UnknownColumn
@@ -24,7 +24,7 @@ first_kind table column ambiguous type count meaning =
     else Ok meaning
 
 module _ (tables : List TableDef) (s : Statement) where
-  kind_of : Bool → Bool → Bool → Bool → Bool → Result BoundStatement Kind
+  kind_of : Bool → Bool → Bool → Bool → Bool → Result BoundStatement FaultKind
   kind_of table column ambiguous type count = first_kind table column ambiguous type count (bound_as tables s)
 
   pub no_table : has_unknown_table tables s ≡ true → binding tables s ≡ Err UnknownTable
@@ -74,7 +74,7 @@ never_ambiguous table [] = refl
 never_ambiguous table (column ∷ columns) = ap₂ (λ a b. a || b) (one_meaning table column) (never_ambiguous table columns)
 
 -- the names of FROM are those of its tables
-name_at : (name : Name) (found : Option Place) → (visible_at name found).name ≡ name
+name_at : (name : Name) (found : Option PlacedTable) → (visible_at name found).name ≡ name
 name_at name None = refl
 name_at name (Some found) = refl
 
@@ -83,7 +83,7 @@ names_visible tables [] = refl
 names_visible tables (source ∷ sources) = ap₂ (λ n ns. n ∷ ns) (name_at (unwrap_or source.alias source.table) (table_named tables source.table)) (names_visible tables sources)
 
 -- a table that is not found
-pub missed : (fault : BindFault) (unknown : Bool) (answer : Result BoundStatement Kind) → Misses fault unknown → (unknown ≡ true → answer ≡ Err UnknownTable) → Refuses fault answer
+pub missed : (fault : BindFault) (unknown : Bool) (answer : Result BoundStatement FaultKind) → Misses fault unknown → (unknown ≡ true → answer ≡ Err UnknownTable) → Refuses fault answer
 missed faults.Table unknown answer misses refused = refused misses
 missed faults.Column unknown answer misses refused = absurd misses
 missed faults.Ambiguous unknown answer misses refused = absurd misses

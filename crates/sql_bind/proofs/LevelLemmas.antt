@@ -2,7 +2,7 @@
 use Rattle.std.proofs.Common.{◌≡◌, Bool, map, sym, ap, ◌∙◌, Box, Global}
 use Rattle.sql_grammar.specs.declared.seq.Seq.{Seq}
 use Rattle.sql_grammar.specs.declared.types.Operand.{Operand}
-use Rattle.sql_grammar.specs.declared.types.Sign.{Sign}
+use Rattle.sql_grammar.specs.declared.types.Comparison.{Comparison}
 use Rattle.sql_grammar.specs.declared.types.Test.{Test, fold-Test, fold-roll-Test}
 use Rattle.sql_grammar.specs.declared.types.Test as tests
 use Rattle.sql_grammar.specs.declared.types.Test.TheOpen.{Test-F}
@@ -35,7 +35,7 @@ pub written_group : (b : Box Test Global) → condition_in (tests.Group b) ≡ w
 unfolding condition_in
 written_group b = ap (fold-Test written.Cond writing.level) (sym (rolls.rolls-Group b)) ∙ fold-roll-Test written.Cond writing.level (Test-F.Group b)
 
-pub written_compare : (s : Sign) (a b : Operand) → condition_in (tests.Compare s a b) ≡ written.Compares s (operand_in a) (operand_in b)
+pub written_compare : (s : Comparison) (a b : Operand) → condition_in (tests.Compare s a b) ≡ written.Compares s (operand_in a) (operand_in b)
 unfolding condition_in
 written_compare s a b = ap (fold-Test written.Cond writing.level) (sym (rolls.rolls-Compare s a b)) ∙ fold-roll-Test written.Cond writing.level (Test-F.Compare s a b)
 

@@ -4,9 +4,9 @@ use Rattle.std.specs.Prelude.{◌≡◌, Bool, true, Result, Err}
 use Rattle.sql_bind.specs.declared.faults.BindFault.{BindFault}
 use Rattle.sql_bind.specs.declared.faults.BindFault.TheVariants as faults
 use Rattle.sql_bind.specs.Bound.{BoundStatement}
-use Rattle.sql_bind.specs.Faults.{Kind, UnknownTable, UnknownColumn, AmbiguousName, WrongType, WrongCount}
+use Rattle.sql_bind.specs.Faults.{FaultKind, UnknownTable, UnknownColumn, AmbiguousName, WrongType, WrongCount}
 
-abbrev pub Refuses : BindFault → Result BoundStatement Kind → Type 0
+abbrev pub Refuses : BindFault → Result BoundStatement FaultKind → Type 0
 Refuses faults.Table binding = binding ≡ Err UnknownTable
 Refuses faults.Column binding = binding ≡ Err UnknownColumn
 Refuses faults.Ambiguous binding = binding ≡ Err AmbiguousName

@@ -9,12 +9,12 @@ use Rattle.sql_grammar.specs.Trees.{Name, Constant, NullValue, IntValue, TextVal
 use Rattle.sql_bind.specs.Scope.{Visible, target, visible, is_unknown_table, is_unknown, is_ambiguous, may_be_same, kind_meant, named_ones}
 
 -- the kinds, in the order in which they are told
-pub data Kind : Type 0 where
-  UnknownTable : Kind
-  UnknownColumn : Kind
-  AmbiguousName : Kind
-  WrongType : Kind
-  WrongCount : Kind
+pub data FaultKind : Type 0 where
+  UnknownTable : FaultKind
+  UnknownColumn : FaultKind
+  AmbiguousName : FaultKind
+  WrongType : FaultKind
+  WrongCount : FaultKind
 
 -- The columns that the parts of a statement name.
 

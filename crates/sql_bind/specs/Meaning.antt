@@ -6,8 +6,8 @@ use Rattle.cdb_values.specs.declared.tables.ColumnDef.{ColumnDef}
 use Rattle.cdb_values.specs.declared.tables.TableDef.{TableDef}
 use Rattle.cdb_values.specs.declared.values.Value.{Value}
 use Rattle.cdb_values.specs.declared.values.Value.TheVariants as values
-use Rattle.sql_grammar.specs.declared.types.Sign.{Sign}
-use Rattle.sql_grammar.specs.declared.types.Sign.TheVariants as signs
+use Rattle.sql_grammar.specs.declared.types.Comparison.{Comparison}
+use Rattle.sql_grammar.specs.declared.types.Comparison.TheVariants as signs
 use Rattle.sql_grammar.specs.Trees.{Name, Constant, NullValue, IntValue, TextValue, BlobValue, Column, Side, OfLiteral, OfColumn, Item, OfItem, CountAll, SumOf, MinOf, MaxOf, Key, Change, Setting, Query, Statement}
 use Rattle.sql_grammar.specs.Trees as written
 use Rattle.sql_bind.specs.declared.types.BoundAssign.{BoundAssign}
@@ -33,7 +33,7 @@ abbrev pub bound_side : List Visible → Side → BoundOperand
 bound_side scope (OfLiteral literal) = operands.Value (value_of literal)
 bound_side scope (OfColumn column) = operands.Column (meant scope column)
 
-abbrev pub cmp_of : Sign → Cmp
+abbrev pub cmp_of : Comparison → Cmp
 cmp_of signs.Eq = cmps.Eq
 cmp_of signs.Ne = cmps.Ne
 cmp_of signs.Lt = cmps.Lt

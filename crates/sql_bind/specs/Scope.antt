@@ -7,7 +7,7 @@ use Rattle.std.specs.Prelude.{ℕ, ◌+◌, ◌==◌, List, [], ◌∷◌, Bool,
 use Rattle.std.specs.Option.{option_and_then}
 use Rattle.std.specs.List.{list_any, count_by}
 use Rattle.std.specs.Str.{bytes_eq}
-use Rattle.cdb_values.specs.Named.{Place, table_named}
+use Rattle.cdb_values.specs.Named.{PlacedTable, table_named}
 use Rattle.cdb_values.specs.Columns.{column_at}
 use Rattle.cdb_values.specs.declared.tables.ColumnDef.{ColumnDef}
 use Rattle.cdb_values.specs.declared.tables.ColumnType.{ColumnType}
@@ -23,7 +23,7 @@ pub record Visible : Type 0 where
   pub columns : List ColumnDef
 
 -- a statement with an unknown table is refused for it; until then that table has place 0 and no columns
-abbrev pub visible_at : Name → Option Place → Visible
+abbrev pub visible_at : Name → Option PlacedTable → Visible
 visible_at name None = record { table = 0; name = name; columns = [] }
 visible_at name (Some found) = record { table = found.place; name = name; columns = found.table.columns }
 

@@ -18,15 +18,15 @@ level (Condition-F.IsNull side negated) = TestsNull side negated
 unfoldable pub cond_in : Condition → Cond
 cond_in = fold-Condition Cond level
 
-abbrev pub filter_in : Option Condition → Option Cond
-filter_in f = option_map cond_in f
+abbrev pub bound_filter_in : Option Condition → Option Cond
+bound_filter_in f = option_map cond_in f
 
-abbrev pub query_in : BoundSelect → BoundQuery
-query_in s = record {
+abbrev pub bound_query_in : BoundSelect → BoundQuery
+bound_query_in s = record {
   selectv = s.selectv;
   items = s.items;
   tables = s.tables;
-  filter = filter_in s.filter;
+  filter = bound_filter_in s.filter;
   group = s.group;
   order = s.order;
   limit = s.limit;
@@ -38,6 +38,6 @@ bound_in bounds.Commit = CommitIt
 bound_in bounds.Rollback = RollbackIt
 bound_in (bounds.SetLevel l) = SetIt l
 bound_in (bounds.Insert table rows) = InsertInto table rows
-bound_in (bounds.Update table assigns filter) = UpdateOf table assigns (filter_in filter)
-bound_in (bounds.Delete table filter) = DeleteFrom table (filter_in filter)
-bound_in (bounds.Select s) = SelectOf (query_in s)
+bound_in (bounds.Update table assigns filter) = UpdateOf table assigns (bound_filter_in filter)
+bound_in (bounds.Delete table filter) = DeleteFrom table (bound_filter_in filter)
+bound_in (bounds.Select s) = SelectOf (bound_query_in s)

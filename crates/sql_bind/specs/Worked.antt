@@ -4,7 +4,7 @@ use Rattle.std.specs.Prelude.{ℕ, pos, List, [], ◌∷◌, true, false, codes,
 use Rattle.cdb_values.specs.declared.tables.ColumnType.TheVariants as kinds
 use Rattle.cdb_values.specs.declared.tables.TableDef.{TableDef}
 use Rattle.cdb_values.specs.declared.values.Value.TheVariants as values
-use Rattle.sql_grammar.specs.declared.types.Sign.TheVariants as signs
+use Rattle.sql_grammar.specs.declared.types.Comparison.TheVariants as signs
 use Rattle.sql_grammar.specs.Trees.{Name, NullValue, IntValue, TextValue, Column, Side, OfLiteral, OfColumn, OfItem, CountAll, Source, Query, Statement}
 use Rattle.sql_grammar.specs.Trees as written
 use Rattle.sql_bind.specs.declared.types.BoundColumn.{BoundColumn}

@@ -1,14 +1,14 @@
 //! Operands and conditions: their values and columns in the place of what is written.
 ghost use Rattle.std.specs.Prelude.{◌≡◌, ◌≤◌, length, map, IfOk};
-ghost use Rattle.sql_grammar.specs.Views.{literal_in, operand_in, condition_in, filter_in as written_filter};
+ghost use Rattle.sql_grammar.specs.Views.{literal_in, operand_in, condition_in, filter_in};
 ghost use Rattle.sql_bind.specs.Meaning.{value_of, bound_side, cmp_of, bound_cond, bound_filter};
 ghost use Rattle.sql_bind.specs.Seen.{visible_in};
-ghost use Rattle.sql_bind.specs.Views.{cond_in, filter_in};
+ghost use Rattle.sql_bind.specs.Views.{cond_in, bound_filter_in};
 
 use crate::scope::{VisibleTable, column};
 use crate::types::{BoundOperand, Cmp, Condition};
 use cdb_values::{Bytes, Text, Value};
-use sql_grammar::{Literal, Operand, Seq, Sign, Test};
+use sql_grammar::{Comparison, Literal, Operand, Seq, Test};
 use std::alloc::{AllocError, Global};
 
 /// The value of a literal.
@@ -55,16 +55,16 @@ fn sides(
 }
 
 /// The comparison of a sign.
-fn comparison(sign: Sign) -> Cmp
+fn comparison(sign: Comparison) -> Cmp
     ensures { result ≡ cmp_of sign }
 {
     match sign {
-        Sign::Eq => Cmp::Eq,
-        Sign::Ne => Cmp::Ne,
-        Sign::Lt => Cmp::Lt,
-        Sign::Le => Cmp::Le,
-        Sign::Gt => Cmp::Gt,
-        Sign::Ge => Cmp::Ge,
+        Comparison::Eq => Cmp::Eq,
+        Comparison::Ne => Cmp::Ne,
+        Comparison::Lt => Cmp::Lt,
+        Comparison::Le => Cmp::Le,
+        Comparison::Gt => Cmp::Gt,
+        Comparison::Ge => Cmp::Ge,
     }
 }
 
@@ -116,7 +116,7 @@ pub(crate) fn filter(
     filter: &Option<Test>,
 ) -> Result<Option<Condition>, AllocError>
     requires { length scope.now ≤ 256 }
-    ensures { IfOk result (λ bound. filter_in bound ≡ bound_filter (map visible_in scope.now) (written_filter filter.now)) }
+    ensures { IfOk result (λ bound. bound_filter_in bound ≡ bound_filter (map visible_in scope.now) (filter_in filter.now)) }
 {
     match filter {
         None => Ok(None),

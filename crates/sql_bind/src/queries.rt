@@ -1,10 +1,10 @@
 //! What a query means: its items, tables, groups and order by their places.
 ghost use Rattle.std.specs.Prelude.{◌≡◌, ◌≤◌, ◌++◌, length, map, IfOk, OnOk};
-ghost use Rattle.sql_grammar.specs.Views.{column_in, item_in, items_in, key_in, query_in as written_query};
+ghost use Rattle.sql_grammar.specs.Views.{column_in, item_in, items_in, key_in, query_in};
 ghost use Rattle.sql_bind.specs.Meaning.{bound_item as item_meant, bound_items as items_meant, bound_key as key_meant, bound_query, columns_from, all_from};
 ghost use Rattle.sql_bind.specs.Scope.{meant};
 ghost use Rattle.sql_bind.specs.Seen.{visible_in};
-ghost use Rattle.sql_bind.specs.Views.{query_in};
+ghost use Rattle.sql_bind.specs.Views.{bound_query_in};
 
 use crate::conditions::filter;
 use crate::scope::{VisibleTable, column, named, with_places};
@@ -19,7 +19,7 @@ pub(crate) fn query(
     sources: &[VisibleTable],
     query: &SelectStmt,
 ) -> Result<BoundSelect, AllocError>
-    ensures { IfOk result (λ bound. query_in bound ≡ bound_query (map visible_in sources.now) (written_query query.now)) }
+    ensures { IfOk result (λ bound. bound_query_in bound ≡ bound_query (map visible_in sources.now) (query_in query.now)) }
 {
     let scope = named(sources);
     Ok(BoundSelect {

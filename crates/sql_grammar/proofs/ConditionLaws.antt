@@ -9,7 +9,7 @@ use Rattle.sql_tokens.specs.declared.kinds.Keyword.TheVariants as words
 use Rattle.sql_tokens.specs.declared.kinds.Sign.TheVariants as sign
 use Rattle.sql_tokens.specs.declared.kinds.Token.{Token}
 use Rattle.sql_tokens.specs.declared.kinds.Token.TheVariants as token
-use Rattle.sql_grammar.specs.declared.types.Sign.TheVariants as comparison
+use Rattle.sql_grammar.specs.declared.types.Comparison.TheVariants as comparison
 use Rattle.sql_grammar.specs.Trees.{Cond, AnyOf, AllOf, NotOf, Grouped}
 use Rattle.sql_grammar.specs.Words.{kind, code, keyword, sign_code, sign_is, a_name}
 use Rattle.sql_grammar.specs.Grammar.{SignS, NegationS, TestS, IsNullTest, CompareTest, tested, ComparisonS, AndS, OrS, NotS, ConditionS, WhereS, joined}

@@ -9,8 +9,8 @@ use Rattle.sql_tokens.specs.declared.kinds.Sign.{Sign}
 use Rattle.sql_tokens.specs.declared.kinds.Sign.TheVariants as sign
 use Rattle.sql_tokens.specs.declared.kinds.Token.{Token}
 use Rattle.sql_tokens.specs.declared.kinds.Token.TheVariants as token
-use Rattle.sql_grammar.specs.declared.types.Sign.{Sign as Comparison}
-use Rattle.sql_grammar.specs.declared.types.Sign.TheVariants as comparison
+use Rattle.sql_grammar.specs.declared.types.Comparison.{Comparison}
+use Rattle.sql_grammar.specs.declared.types.Comparison.TheVariants as comparison
 use Rattle.sql_grammar.specs.declared.types.Kind.{Kind}
 use Rattle.sql_grammar.specs.declared.types.Kind.TheVariants as kinds
 use Rattle.sql_grammar.specs.declared.types.Mark.{Mark}

@@ -1,7 +1,7 @@
 -- What a text of SQL says, as data alone: statements and table definitions without where they lie in memory.
 -- A name is the list of its bytes.
 use Rattle.std.specs.Prelude.{ℕ, ℤ, Bool, List, [], ◌∷◌, Option}
-use Rattle.sql_grammar.specs.declared.types.Sign.{Sign}
+use Rattle.sql_grammar.specs.declared.types.Comparison.{Comparison}
 use Rattle.sql_grammar.specs.declared.types.Kind.{Kind}
 use Rattle.sql_grammar.specs.declared.types.Mark.{Mark}
 
@@ -32,7 +32,7 @@ mutual
     AllOf : Conds → Cond
     NotOf : Cond → Cond
     Grouped : Cond → Cond
-    Compares : Sign → Side → Side → Cond
+    Compares : Comparison → Side → Side → Cond
     TestsNull : Side → Bool → Cond
 
   pub data Conds : Type 0 where

@@ -45,6 +45,6 @@ mod types;
 
 pub use seq::Seq;
 pub use types::{
-    Assign, ColumnName, CreatePart, CreateTable, FromTable, Kind, Literal, Mark, Operand, OrderKey,
-    SelectItem, SelectStmt, Sign, Step, Stmt, Test,
+    Assign, ColumnName, Comparison, CreatePart, CreateTable, FromTable, Kind, Literal, Mark,
+    Operand, OrderKey, SelectItem, SelectStmt, Step, Stmt, Test,
 };

@@ -122,7 +122,7 @@ pub enum Literal {
 
 /// A comparison: `=`, `<>` or `!=`, `<`, `<=`, `>`, `>=`.
 #[derive(Clone, Copy, PartialEq, Eq)]
-pub enum Sign {
+pub enum Comparison {
     Eq,
     Ne,
     Lt,
@@ -142,7 +142,7 @@ pub enum Test {
     /// A condition in parentheses.
     Group(Box<Test>),
     Compare {
-        op: Sign,
+        op: Comparison,
         left: Operand,
         right: Operand,
     },

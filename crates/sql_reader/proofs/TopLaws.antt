@@ -11,7 +11,7 @@ use Rattle.sql_tokens.specs.Spot.{Spot, token_of, place_of}
 use Rattle.sql_tokens.specs.Tokens.{Tokens}
 use Rattle.sql_tokens.proofs.ListLaws.{one_list}
 use Rattle.sql_grammar.specs.Words.{kind}
-use Rattle.sql_reader.specs.Promise.{Spells, IsRefusedAt, offset_of, StopsRight, Answers, Refuses}
+use Rattle.sql_reader.specs.Promise.{Spells, IsRefusedAt, offset_of, StopsRight, ReadsAs, Refuses}
 use Rattle.sql_reader.specs.Stops.{place_left, StopsAs}
 use Rattle.sql_reader.specs.Gives.{Fails}
 use Rattle.sql_reader.specs.declared.ReadStop.{ReadStop}
@@ -102,8 +102,8 @@ module _ {A : Type 0} (S : Spelling Token A) (r : Reader Token A) {null : _} {fi
     pub answers_ok : (y : X) (x : A) → only (r (map token_of ss)) ≡ Read (value y) [] → Spells S text x → value y ≡ x
     answers_ok y x h p = let e = sym h ∙ reads_it x p in cc
 
-    pub answers_stop : (e : ReadError) (stop : ReadStop) (x : A) → Fails e (only (r (map token_of ss))) → StopsAs ss (length text) e stop → Spells S text x → Answers value x (Err stop)
-    answers_stop errors.Memory stop x f e p = subst (λ s. Answers value x (Err s)) (sym e) tt
+    pub answers_stop : (e : ReadError) (stop : ReadStop) (x : A) → Fails e (only (r (map token_of ss))) → StopsAs ss (length text) e stop → Spells S text x → ReadsAs value x (Err stop)
+    answers_stop errors.Memory stop x f e p = subst (λ s. ReadsAs value x (Err s)) (sym e) tt
     answers_stop (errors.Refused k) stop x f e p = let h = sym f ∙ reads_it x p in cc
 
     pub refuses_stop : (e : ReadError) (stop : ReadStop) (at : ℕ) → Fails e (only (r (map token_of ss))) → StopsAs ss (length text) e stop → IsRefusedAt S text at → Refuses {X = X} at (Err stop)

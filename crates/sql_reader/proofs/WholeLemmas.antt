@@ -1,7 +1,7 @@
 -- A part and what may stand behind it, as a whole list.
 use Rattle.std.proofs.Common.{◌≡◌, List, [], ◌∷◌, Option, Result, Ok, Err, refl, ap, ◌∙◌}
 use Rattle.std.specs.Result.{result_and}
-use Rattle.grammar_forms.specs.Forms.{Reader, Outcome, Read, Refused, and_then, only}
+use Rattle.grammar_forms.specs.Forms.{Reader, ReadOutcome, Read, Refused, and_then, only}
 use Rattle.grammar_forms.specs.Parts.{first_of_two}
 use Rattle.sql_tokens.specs.declared.kinds.Token.{Token}
 use Rattle.sql_grammar.specs.Readers.{closed, closing, ended}
@@ -9,23 +9,23 @@ use Rattle.sql_reader.specs.Gives.{Fails, Gives}
 use Rattle.sql_reader.specs.declared.cursor.ReadError.{ReadError}
 use Rattle.sql_reader.specs.declared.cursor.ReadError.TheVariants as errors
 
-abbrev end_of : Outcome Token (Option (Unit {0})) → Outcome Token (Unit {0})
+abbrev end_of : ReadOutcome Token (Option (Unit {0})) → ReadOutcome Token (Unit {0})
 end_of o = only (and_then o (λ y j. Read tt j))
 
-abbrev read_unit : List Token → Outcome Token (Unit {0})
+abbrev read_unit : List Token → ReadOutcome Token (Unit {0})
 read_unit j = Read tt j
 
 module _ {A : Type 0} where
   -- the value, with what is found behind it
-  abbrev with_value : A → Outcome Token (Option (Unit {0})) → Outcome Token A
+  abbrev with_value : A → ReadOutcome Token (Option (Unit {0})) → ReadOutcome Token A
   with_value x o = only (and_then o (λ y j. Read x j))
 
-  ends : (x : A) (o : Outcome Token (Option (Unit {0}))) → end_of o ≡ read_unit [] → with_value x o ≡ Read x []
+  ends : (x : A) (o : ReadOutcome Token (Option (Unit {0}))) → end_of o ≡ read_unit [] → with_value x o ≡ Read x []
   ends x (Read y []) e = refl
   ends x (Read y (t ∷ k)) e = cc
   ends x (Refused k) e = cc
 
-  stops : (x : A) (o : Outcome Token (Option (Unit {0}))) (j : List Token) → end_of o ≡ Refused j → with_value x o ≡ Refused j
+  stops : (x : A) (o : ReadOutcome Token (Option (Unit {0}))) (j : List Token) → end_of o ≡ Refused j → with_value x o ≡ Refused j
   stops x (Read y []) j e = cc
   stops x (Read y (t ∷ k)) j e = let h : t ∷ k ≡ j = cc in ap Refused h
   stops x (Refused k) j e = let h : k ≡ j = cc in ap Refused h

@@ -35,10 +35,10 @@ StopsRight S text stops.NoMemory = Unit {0}
 StopsRight S text (stops.Syntax at) = IsRefusedAt S text at
 
 -- the answer where the text spells x: that, or no memory
-abbrev pub Answers : {X A : Type 0} → (X → A) → A → Result X ReadStop → Type 0
-Answers value x (Ok y) = value y ≡ x
-Answers value x (Err stops.NoMemory) = Unit {0}
-Answers value x (Err (stops.Syntax at)) = ⊥
+abbrev pub ReadsAs : {X A : Type 0} → (X → A) → A → Result X ReadStop → Type 0
+ReadsAs value x (Ok y) = value y ≡ x
+ReadsAs value x (Err stops.NoMemory) = Unit {0}
+ReadsAs value x (Err (stops.Syntax at)) = ⊥
 
 -- the answer where the text is refused at this offset: that, or no memory
 abbrev pub Refuses : {X : Type 0} → ℕ → Result X ReadStop → Type 0

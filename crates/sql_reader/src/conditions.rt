@@ -11,7 +11,7 @@ ghost use Rattle.sql_reader.specs.Gives.{Gives};
 
 use crate::cursor::{ReadError, beside, expect, expect_sign, is_next, is_sign, sign_as, word_as};
 use crate::operands::operand;
-use sql_grammar::{Operand, Seq, Sign as Comparison, Test};
+use sql_grammar::{Comparison, Operand, Seq, Test};
 use sql_tokens::{Keyword, Sign, Token};
 use std::alloc::Global;
 

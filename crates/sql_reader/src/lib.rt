@@ -53,7 +53,7 @@ ghost use Rattle.std.specs.Prelude.{◌≡◌, ℕ, ◌<◌, ◌^◌, length, If
 ghost use Rattle.sql_grammar.specs.Trees.{Statement, Definition};
 ghost use Rattle.sql_grammar.specs.Grammar.{StatementS, CreateS};
 ghost use Rattle.sql_grammar.specs.Views.{statement_in, definition_in};
-ghost use Rattle.sql_reader.specs.Promise.{Spells, IsRefusedAt, StopsRight, Answers, Refuses};
+ghost use Rattle.sql_reader.specs.Promise.{Spells, IsRefusedAt, StopsRight, ReadsAs, Refuses};
 ghost use Rattle.sql_reader.specs.Stops.{StopsAs};
 
 mod changes;
@@ -68,8 +68,8 @@ mod statements;
 
 use cursor::ReadError;
 pub use sql_grammar::{
-    Assign, ColumnName, CreatePart, CreateTable, FromTable, Kind, Literal, Mark, Operand, OrderKey,
-    SelectItem, SelectStmt, Seq, Sign, Step, Stmt, Test,
+    Assign, ColumnName, Comparison, CreatePart, CreateTable, FromTable, Kind, Literal, Mark,
+    Operand, OrderKey, SelectItem, SelectStmt, Seq, Step, Stmt, Test,
 };
 use sql_tokens::{Spots, tokens};
 use statements::{definition, statement};
@@ -104,7 +104,7 @@ pub fn read(alloc: Global, text: &str) -> Result<Stmt, ReadStop>
     // What is read is spelled by the text's tokens, all of them.
     ensures found { IfOk result (λ s. Spells StatementS text.now (statement_in s)) }
     // What is spelled is read, as that very statement, unless memory runs out.
-    ensures only { (x : Statement) → Spells StatementS text.now x → Answers statement_in x result }
+    ensures only { (x : Statement) → Spells StatementS text.now x → ReadsAs statement_in x result }
     // A text spells one statement at most.
     ensures one_reading { (x y : Statement) → Spells StatementS text.now x → Spells StatementS text.now y → x ≡ y }
     // A refusal is at its place.
@@ -127,7 +127,7 @@ pub fn read_create(alloc: Global, text: &str) -> Result<CreateTable, ReadStop>
     // What is read is spelled by the text's tokens, all of them.
     ensures found { IfOk result (λ s. Spells CreateS text.now (definition_in s)) }
     // What is spelled is read, as that very definition, unless memory runs out.
-    ensures only { (x : Definition) → Spells CreateS text.now x → Answers definition_in x result }
+    ensures only { (x : Definition) → Spells CreateS text.now x → ReadsAs definition_in x result }
     // A text spells one definition at most.
     ensures one_reading { (x y : Definition) → Spells CreateS text.now x → Spells CreateS text.now y → x ≡ y }
     // A refusal is at its place.

@@ -5,7 +5,7 @@ use Rattle.std.specs.Prelude.{slice_get, is_none, bytes_eq, unwrap_or}
 use Rattle.std.specs.List.{AllByRecursion, list_any}
 use Rattle.std.proofs.lemmas.Bool.{or_parts}
 use Rattle.std.proofs.lemmas.Option.{same_Some}
-use Rattle.cdb_values.specs.Named.{Place, found_at, with_place, table_named}
+use Rattle.cdb_values.specs.Named.{PlacedTable, found_at, with_place, table_named}
 use Rattle.cdb_values.specs.Tables.{place_of}
 use Rattle.cdb_values.specs.declared.tables.ColumnDef.{ColumnDef}
 use Rattle.cdb_values.specs.declared.tables.TableDef.{TableDef}
@@ -14,7 +14,7 @@ use Rattle.session_language.proofs.EachLaws.{all_found}
 use Rattle.session_language.specs.Spelled.{IsToldValue, IsToldRow, SpellsRow}
 use Rattle.sql_bind.specs.Binding.{binding}
 use Rattle.sql_bind.specs.Bound.{BoundStatement, BeginIt, CommitIt, RollbackIt, SetIt, InsertInto, UpdateOf, DeleteFrom, SelectOf}
-use Rattle.sql_bind.specs.Faults.{Kind, UnknownTable, UnknownColumn, AmbiguousName, WrongType, WrongCount, has_unknown_table, has_unknown_column, has_ambiguous_name, has_wrong_type, has_wrong_count}
+use Rattle.sql_bind.specs.Faults.{FaultKind, UnknownTable, UnknownColumn, AmbiguousName, WrongType, WrongCount, has_unknown_table, has_unknown_column, has_ambiguous_name, has_wrong_type, has_wrong_count}
 use Rattle.sql_bind.specs.Meaning.{value_of, bound_side, listed_value, bound_row, bound_setting, bound_item, columns_from, bound_items, bound_as}
 use Rattle.sql_bind.specs.Scope.{Visible, target, visible, visible_at, is_unknown_table, named_ones}
 use Rattle.sql_bind.specs.declared.types.BoundAssign.{BoundAssign}
@@ -57,7 +57,7 @@ HasAnItem (SelectOf query) = HasOne query.items
 
 -- ---- a statement that is bound has none of the errors
 
-unless : (t : Bool) (kind : Kind) (rest : Result BoundStatement Kind) (b : BoundStatement) → cond t (Err kind) rest ≡ Ok b → (t ≡ false) × (rest ≡ Ok b)
+unless : (t : Bool) (kind : FaultKind) (rest : Result BoundStatement FaultKind) (b : BoundStatement) → cond t (Err kind) rest ≡ Ok b → (t ≡ false) × (rest ≡ Ok b)
 unless true kind rest b is = absurd cc
 unless false kind rest b is = (refl, is)
 
@@ -69,7 +69,7 @@ pub record IsFaultless (tables : List TableDef) (s : Statement) (b : BoundStatem
   pub count : has_wrong_count tables s ≡ false
   pub is : bound_as tables s ≡ b
 
-abbrev bound_ok : BoundStatement → Result BoundStatement Kind
+abbrev bound_ok : BoundStatement → Result BoundStatement FaultKind
 bound_ok b = Ok b
 
 ok_same : (x y : BoundStatement) → bound_ok x ≡ bound_ok y → x ≡ y
@@ -78,11 +78,11 @@ ok_same x y same = cc
 pub faultless : (tables : List TableDef) (s : Statement) (b : BoundStatement) → binding tables s ≡ Ok b → IsFaultless tables s b
 unfolding binding
 faultless tables s b is =
-    let last : Result BoundStatement Kind = Ok (bound_as tables s) in
-    let counted : Result BoundStatement Kind = cond (has_wrong_count tables s) (Err WrongCount) last in
-    let typed : Result BoundStatement Kind = cond (has_wrong_type tables s) (Err WrongType) counted in
-    let named : Result BoundStatement Kind = cond (has_ambiguous_name tables s) (Err AmbiguousName) typed in
-    let known : Result BoundStatement Kind = cond (has_unknown_column tables s) (Err UnknownColumn) named in
+    let last : Result BoundStatement FaultKind = Ok (bound_as tables s) in
+    let counted : Result BoundStatement FaultKind = cond (has_wrong_count tables s) (Err WrongCount) last in
+    let typed : Result BoundStatement FaultKind = cond (has_wrong_type tables s) (Err WrongType) counted in
+    let named : Result BoundStatement FaultKind = cond (has_ambiguous_name tables s) (Err AmbiguousName) typed in
+    let known : Result BoundStatement FaultKind = cond (has_unknown_column tables s) (Err UnknownColumn) named in
     let a = unless (has_unknown_table tables s) UnknownTable known b is in
     let c = unless (has_unknown_column tables s) UnknownColumn named b a.1 in
     let d = unless (has_ambiguous_name tables s) AmbiguousName typed b c.1 in
@@ -92,19 +92,19 @@ faultless tables s b is =
 
 -- ---- a table that is known
 
-abbrev placed : ℕ → TableDef → Place
+abbrev placed : ℕ → TableDef → PlacedTable
 placed place table = record { place = place; table = table }
 
-placed_is : (place : ℕ) (found : Option TableDef) (p : Place) → with_place place found ≡ Some p → found ≡ Some p.table
+placed_is : (place : ℕ) (found : Option TableDef) (p : PlacedTable) → with_place place found ≡ Some p → found ≡ Some p.table
 placed_is place None p is = absurd cc
-placed_is place (Some table) p is = ap (λ (q : Place). Some q.table) (same_Some (placed place table) p is)
+placed_is place (Some table) p is = ap (λ (q : PlacedTable). Some q.table) (same_Some (placed place table) p is)
 
-pub named_table : (tables : List TableDef) (name : Name) (p : Place) → table_named tables name ≡ Some p → slice_get tables p.place ≡ Some p.table
+pub named_table : (tables : List TableDef) (name : Name) (p : PlacedTable) → table_named tables name ≡ Some p → slice_get tables p.place ≡ Some p.table
 named_table tables name p is = go (place_of tables name) refl is
   where
     place_is : (place : ℕ) (found : Option TableDef) → with_place place found ≡ Some p → place ≡ p.place
     place_is place None is = absurd cc
-    place_is place (Some table) is = ap (λ (q : Place). q.place) (same_Some (placed place table) p is)
+    place_is place (Some table) is = ap (λ (q : PlacedTable). q.place) (same_Some (placed place table) p is)
 
     go : (o : Option ℕ) → place_of tables name ≡ o → found_at tables o ≡ Some p → slice_get tables p.place ≡ Some p.table
     go None found is = absurd cc
@@ -117,7 +117,7 @@ has_one (c ∷ cs) has = tt
 has_columns : (tables : List TableDef) (name called : Name) → AllByRecursion HasColumns tables → is_none (table_named tables name) ≡ false → HasOne (visible_at called (table_named tables name)).columns
 has_columns tables name called all known = go (table_named tables name) refl known
   where
-    go : (o : Option Place) → table_named tables name ≡ o → is_none o ≡ false → HasOne (visible_at called o).columns
+    go : (o : Option PlacedTable) → table_named tables name ≡ o → is_none o ≡ false → HasOne (visible_at called o).columns
     go None found known = absurd cc
     go (Some p) found known = has_one p.table.columns (all_found HasColumns tables p.place p.table all (named_table tables name p found))
 

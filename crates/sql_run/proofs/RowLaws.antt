@@ -26,7 +26,7 @@ use Rattle.cdb_values.specs.declared.replies.Reply.TheVariants as reply
 use Rattle.sql_answer.specs.Answers.{Meaning, Outcome, Fails, Gives, told_only, net_given, given_unless, rows_met, updating, deleting, items_used, rows_given, finished, finish, found, tables_read, answer}
 use Rattle.sql_answer.specs.Combinations.{Seen, seen_version, own_or, own_from, is_left, of_table, seen, rows_of}
 use Rattle.sql_answer.specs.Conditions.{operand_value}
-use Rattle.sql_answer.specs.Language.{answered, bound_in, meaning, meant_by, meant_as}
+use Rattle.sql_answer.specs.Language.{answered, sql_binder, meaning, meant_by, meant_as}
 use Rattle.query_laws.specs.Alone.{reads_of}
 use Rattle.cdb_values.specs.declared.items.Interval.{Interval}
 use Rattle.sql_answer.specs.Reading.{reading}
@@ -35,7 +35,7 @@ use Rattle.sql_answer.specs.Writes.{changed, stepped, assigned, set_from, set_ro
 use Rattle.sql_answer.proofs.ReadingLemmas.{reading_spells}
 use Rattle.sql_bind.specs.Binding.{binding}
 use Rattle.sql_bind.specs.Bound.{BoundStatement, BeginIt, CommitIt, RollbackIt, SetIt, InsertInto, UpdateOf, DeleteFrom, SelectOf}
-use Rattle.sql_bind.specs.Faults.{Kind}
+use Rattle.sql_bind.specs.Faults.{FaultKind}
 use Rattle.sql_bind.specs.declared.types.BoundAssign.{BoundAssign}
 use Rattle.sql_bind.specs.declared.types.BoundOperand.{BoundOperand}
 use Rattle.sql_bind.specs.declared.types.BoundOperand.TheVariants as operand
@@ -268,37 +268,37 @@ finish_tells tables (Err cause) ops combos has are = (tt, tt)
 -- ---- what a text means
 
 bound_means : (P : BoundStatement → Type 0) (Q : Meaning → Type 0) (tables : List TableDef) (s : Statement) → ((b : BoundStatement) → P b → Q (Ok b))
-    → ((cause : StatementError) → Q (Err cause)) → ((b : BoundStatement) → binding tables s ≡ Ok b → P b) → Q (bound_in tables s)
+    → ((cause : StatementError) → Q (Err cause)) → ((b : BoundStatement) → binding tables s ≡ Ok b → P b) → Q (sql_binder tables s)
 bound_means P Q tables s bound failed each = go (binding tables s) each
   where
-    go : (r : Result BoundStatement Kind) → ((b : BoundStatement) → r ≡ Ok b → P b) → Q (meant_as r)
+    go : (r : Result BoundStatement FaultKind) → ((b : BoundStatement) → r ≡ Ok b → P b) → Q (meant_as r)
     go (Ok b) each = bound b (each b refl)
     go (Err kind) each = failed _
 
-pub means_well : (tables : List TableDef) (text : List ℕ) → is_utf8 text ≡ true → IsWell (meaning bound_in tables text)
+pub means_well : (tables : List TableDef) (text : List ℕ) → is_utf8 text ≡ true → IsWell (meaning sql_binder tables text)
 unfolding meaning
 means_well tables text utf8 = go (reading text) refl
   where
-    go : (r : Result Statement ℕ) → reading text ≡ r → IsWell (meant_by bound_in tables r)
+    go : (r : Result Statement ℕ) → reading text ≡ r → IsWell (meant_by sql_binder tables r)
     go (Ok s) read =
         bound_means IsBoundWell IsWell tables s (λ b is. is) (λ cause. tt) (λ b binds. bound_well tables s b (written text s utf8 (reading_spells text s read)) binds)
     go (Err at) read = tt
 
-means_items : (tables : List TableDef) (text : List ℕ) → AllByRecursion HasColumns tables → is_utf8 text ≡ true → HasItems (meaning bound_in tables text)
+means_items : (tables : List TableDef) (text : List ℕ) → AllByRecursion HasColumns tables → is_utf8 text ≡ true → HasItems (meaning sql_binder tables text)
 unfolding meaning
 means_items tables text has utf8 = go (reading text) refl
   where
-    go : (r : Result Statement ℕ) → reading text ≡ r → HasItems (meant_by bound_in tables r)
+    go : (r : Result Statement ℕ) → reading text ≡ r → HasItems (meant_by sql_binder tables r)
     go (Ok s) read =
         bound_means HasAnItem HasItems tables s (λ b is. is) (λ cause. tt) (λ b binds. items_bound tables s b has (written text s utf8 (reading_spells text s read)) binds)
     go (Err at) read = tt
 
 pub replies_by_such_rows : RepliesBySuchRows
 replies_by_such_rows tables versions done text has utf8 have all =
-    tells_too (reads_of tables versions done (meaning bound_in tables text)) done (answer tables versions done (meaning bound_in tables text))
-    (finish_tells tables (meaning bound_in tables text) done (found versions done (meaning bound_in tables text)) (means_items tables text has utf8) (all_found_are versions done (meaning bound_in tables text) have all))
+    tells_too (reads_of tables versions done (meaning sql_binder tables text)) done (answer tables versions done (meaning sql_binder tables text))
+    (finish_tells tables (meaning sql_binder tables text) done (found versions done (meaning sql_binder tables text)) (means_items tables text has utf8) (all_found_are versions done (meaning sql_binder tables text) have all))
 
 pub leaves_such_rows : LeavesSuchRows
 leaves_such_rows tables versions done text utf8 have all =
-    leaves_too (reads_of tables versions done (meaning bound_in tables text)) done (answer tables versions done (meaning bound_in tables text))
-    (finish_leaves tables (meaning bound_in tables text) done (found versions done (meaning bound_in tables text)) (means_well tables text utf8) all (all_found_are versions done (meaning bound_in tables text) have all))
+    leaves_too (reads_of tables versions done (meaning sql_binder tables text)) done (answer tables versions done (meaning sql_binder tables text))
+    (finish_leaves tables (meaning sql_binder tables text) done (found versions done (meaning sql_binder tables text)) (means_well tables text utf8) all (all_found_are versions done (meaning sql_binder tables text) have all))

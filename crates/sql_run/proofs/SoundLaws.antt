@@ -7,7 +7,7 @@ use Rattle.std.proofs.lemmas.List.{length-append, length-map}
 use Rattle.std.proofs.lemmas.List.Folds.{list_any-append}
 use Rattle.std.proofs.lemmas.Option.{same_Some}
 use Rattle.cdb_values.specs.Good.{FitsColumn, FitsColumns, FitsTable, bytes_of_row, bytes_of_key, key_of}
-use Rattle.cdb_values.specs.Named.{Place, table_named}
+use Rattle.cdb_values.specs.Named.{PlacedTable, table_named}
 use Rattle.cdb_values.specs.Tables.{has_twice}
 use Rattle.cdb_values.specs.declared.items.GenidItem.{GenidItem}
 use Rattle.cdb_values.specs.declared.limits.TheConstants.{MOST_NET_OPERATIONS, MOST_ROW_BYTES, MOST_KEY_BYTES}
@@ -29,7 +29,7 @@ use Rattle.session_language.specs.Intervals.{is_null}
 use Rattle.cdb_values.specs.declared.replies.Reply.TheVariants as reply
 use Rattle.sql_answer.specs.Answers.{Meaning, Outcome, Fails, Gives, told_only, net_given, given_unless, rows_met, updating, deleting, items_used, rows_given, finished, finish, found, tables_read, answer}
 use Rattle.sql_answer.specs.Combinations.{Seen, seen_version, own_or, own_from, is_left, of_table, seen, rows_of}
-use Rattle.sql_answer.specs.Language.{answered, bound_in, meaning, meant_by, meant_as}
+use Rattle.sql_answer.specs.Language.{answered, sql_binder, meaning, meant_by, meant_as}
 use Rattle.query_laws.specs.Alone.{reads_of}
 use Rattle.cdb_values.specs.declared.items.Interval.{Interval}
 use Rattle.sql_answer.specs.Reading.{reading}
@@ -37,7 +37,7 @@ use Rattle.sql_answer.specs.Shapes.{shape}
 use Rattle.sql_answer.specs.Writes.{set_row, has_null, is_too_long, row_error, or_later, rows_error}
 use Rattle.sql_bind.specs.Binding.{binding}
 use Rattle.sql_bind.specs.Bound.{BoundStatement, BeginIt, CommitIt, RollbackIt, SetIt, InsertInto, UpdateOf, DeleteFrom, SelectOf}
-use Rattle.sql_bind.specs.Faults.{Kind, own_column, own_columns, setting_columns, setting_differs, tuple_kinds, tuple_differs, width, filter_columns, filter_differs, has_unknown_table, has_unknown_column, has_wrong_type, has_wrong_count}
+use Rattle.sql_bind.specs.Faults.{FaultKind, own_column, own_columns, setting_columns, setting_differs, tuple_kinds, tuple_differs, width, filter_columns, filter_differs, has_unknown_table, has_unknown_column, has_wrong_type, has_wrong_count}
 use Rattle.sql_bind.specs.Meaning.{bound_row, bound_setting, bound_as}
 use Rattle.sql_bind.specs.Scope.{Visible, target, visible_at, is_unknown_table, is_unknown}
 use Rattle.sql_bind.specs.declared.types.BoundAssign.{BoundAssign}
@@ -282,7 +282,7 @@ record IsTargetOf (tables : List TableDef) (name : Name) : Type 0 where
 target_is : (tables : List TableDef) (name : Name) → is_none (table_named tables name) ≡ false → IsTargetOf tables name
 target_is tables name known = go (table_named tables name) refl known
   where
-    go : (o : Option Place) → table_named tables name ≡ o → is_none o ≡ false → IsTargetOf tables name
+    go : (o : Option PlacedTable) → table_named tables name ≡ o → is_none o ≡ false → IsTargetOf tables name
     go None found known = absurd cc
     go (Some p) found known =
         let same : visible_at name (Some p) ≡ target tables name = ap (visible_at name) (sym found) in
@@ -353,18 +353,18 @@ abbrev IsTypedMeaning : List TableDef → Meaning → Type 0
 IsTypedMeaning tables (Ok s) = IsTyped tables s
 IsTypedMeaning tables (Err cause) = Unit {0}
 
-meant_typed : (tables : List TableDef) (s : Statement) → AllByRecursion HasDistinctColumns tables → IsTypedMeaning tables (bound_in tables s)
+meant_typed : (tables : List TableDef) (s : Statement) → AllByRecursion HasDistinctColumns tables → IsTypedMeaning tables (sql_binder tables s)
 meant_typed tables s all = go (binding tables s) refl
   where
-    go : (r : Result BoundStatement Kind) → binding tables s ≡ r → IsTypedMeaning tables (meant_as r)
+    go : (r : Result BoundStatement FaultKind) → binding tables s ≡ r → IsTypedMeaning tables (meant_as r)
     go (Ok b) binds = let f = faultless tables s b binds in subst (IsTyped tables) f.is (typed_as tables s all f.table f.column f.type_ f.count)
     go (Err kind) binds = tt
 
-text_typed : (tables : List TableDef) (text : List ℕ) → AllByRecursion HasDistinctColumns tables → IsTypedMeaning tables (meaning bound_in tables text)
+text_typed : (tables : List TableDef) (text : List ℕ) → AllByRecursion HasDistinctColumns tables → IsTypedMeaning tables (meaning sql_binder tables text)
 unfolding meaning
 text_typed tables text all = go (reading text)
   where
-    go : (r : Result Statement ℕ) → IsTypedMeaning tables (meant_by bound_in tables r)
+    go : (r : Result Statement ℕ) → IsTypedMeaning tables (meant_by sql_binder tables r)
     go (Ok s) = meant_typed tables s all
     go (Err at) = tt
 
@@ -376,5 +376,5 @@ meaning_leaves tables versions done next (Err cause) sound all typed = all
 
 pub leaves_sound_ops : LeavesSoundOps
 leaves_sound_ops tables versions done text next distinct sound all =
-    sound_too tables next (reads_of tables versions done (meaning bound_in tables text)) done (answer tables versions done (meaning bound_in tables text))
-    (meaning_leaves tables versions done next (meaning bound_in tables text) sound all (text_typed tables text distinct))
+    sound_too tables next (reads_of tables versions done (meaning sql_binder tables text)) done (answer tables versions done (meaning sql_binder tables text))
+    (meaning_leaves tables versions done next (meaning sql_binder tables text) sound all (text_typed tables text distinct))

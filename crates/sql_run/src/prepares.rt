@@ -3,7 +3,7 @@ ghost use Rattle.std.specs.Prelude.{◌≡◌, ◌<◌, ◌^◌, [], true, lengt
 ghost use Rattle.std.specs.Str.{is_utf8};
 ghost use Rattle.query_plan.specs.Planned.{plan_of};
 ghost use Rattle.session_language.specs.Language.{OtherText};
-ghost use Rattle.sql_answer.specs.Language.{meaning as meaning_of, bound_in as bound_as};
+ghost use Rattle.sql_answer.specs.Language.{meaning as meaning_of, sql_binder};
 ghost use Rattle.sql_answer.specs.Reading.{kind_of, kind_of_text};
 ghost use Rattle.sql_bind.specs.Views.{bound_in};
 ghost use Rattle.sql_grammar.specs.Views.{statement_in};
@@ -60,7 +60,7 @@ pub fn prepare(alloc: Global, schema: &Schema, text: &[u8]) -> Result<Prepared, 
     requires utf8 { is_utf8 text.now ≡ true }
     requires short { length text.now < 2 ^ 32 }
     ensures kind { IfOk result (λ p. (text_in p).kind ≡ kind_of_text text.now) }
-    ensures meaning { IfOk result (λ p. (text_in p).meaning ≡ meaning_of bound_as schema.now text.now) }
+    ensures meaning { IfOk result (λ p. (text_in p).meaning ≡ meaning_of sql_binder schema.now text.now) }
     ensures plan { IfOk result (λ p. (text_in p).plan ≡ plan_by schema.now (text_in p).meaning) }
 {
     // The text is UTF-8, so the last case does not come.
@@ -75,7 +75,7 @@ pub fn prepare(alloc: Global, schema: &Schema, text: &[u8]) -> Result<Prepared, 
 fn prepare_text(alloc: Global, schema: &Schema, text: &str) -> Result<Prepared, AllocError>
     requires { length text.now < 2 ^ 32 }
     ensures kind { IfOk result (λ p. (text_in p).kind ≡ kind_of_text text.now) }
-    ensures meaning { IfOk result (λ p. (text_in p).meaning ≡ meaning_of bound_as schema.now text.now) }
+    ensures meaning { IfOk result (λ p. (text_in p).meaning ≡ meaning_of sql_binder schema.now text.now) }
     ensures plan { IfOk result (λ p. (text_in p).plan ≡ plan_by schema.now (text_in p).meaning) }
 {
     match read(alloc, text) {
@@ -92,7 +92,7 @@ fn prepare_statement(
     statement: &Stmt,
 ) -> Result<Prepared, AllocError>
     ensures kind { IfOk result (λ p. (text_in p).kind ≡ kind_of (statement_in statement.now)) }
-    ensures meaning { IfOk result (λ p. (text_in p).meaning ≡ bound_as schema.now (statement_in statement.now)) }
+    ensures meaning { IfOk result (λ p. (text_in p).meaning ≡ sql_binder schema.now (statement_in statement.now)) }
     ensures plan { IfOk result (λ p. (text_in p).plan ≡ plan_by schema.now (text_in p).meaning) }
 {
     let meaning = meaning_in_schema(alloc, schema, statement)?;
@@ -121,7 +121,7 @@ fn meaning_in_schema(
     schema: &Schema,
     statement: &Stmt,
 ) -> Result<Meaning, AllocError>
-    ensures meaning { IfOk result (λ m. meaning_in m ≡ bound_as schema.now (statement_in statement.now)) }
+    ensures meaning { IfOk result (λ m. meaning_in m ≡ sql_binder schema.now (statement_in statement.now)) }
     ensures plan { IfOk result (λ m. plan_in m ≡ plan_by schema.now (meaning_in m)) }
 {
     match bind(alloc, statement, schema) {

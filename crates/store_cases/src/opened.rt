@@ -4,7 +4,7 @@ ghost use Rattle.std.specs.Prelude.{◌≡◌, [], IfOk};
 use cdb_outside::MemStore;
 use log_replay::PagedLog;
 use std::alloc::{AllocError, Global};
-use store_log::{OpenFault, Opened, Standing, open_log, standing_of};
+use store_log::{OpenFault, OpenedLog, Standing, open_log, standing_of};
 
 /// Each store is one of this node and cluster.
 pub(crate) const NODE: u8 = 2;
@@ -53,8 +53,8 @@ pub(crate) fn opened_told(alloc: Global, bytes: &[u8]) -> Result<String, AllocEr
 }
 
 /// What an opened store stands for, and how many bytes it has.
-fn log_told(alloc: Global, opened: Opened<MemStore>) -> Result<String, AllocError> {
-    let Opened {
+fn log_told(alloc: Global, opened: OpenedLog<MemStore>) -> Result<String, AllocError> {
+    let OpenedLog {
         held,
         promised,
         accepted,

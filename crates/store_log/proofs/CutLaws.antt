@@ -4,7 +4,7 @@ use Rattle.std.specs.List.{flat_map, AllByRecursion}
 use Rattle.std.proofs.lemmas.List.{append-nil}
 use Rattle.std.proofs.lemmas.Bool.{cases_lt}
 use Rattle.frame_code.specs.Codes.{kind_of, payload, frame_code}
-use Rattle.frame_code.specs.Fronts.{IsKind, IsFront}
+use Rattle.frame_code.specs.Fronts.{IsKind, IsFrameFront}
 use Rattle.frame_code.specs.Spelled.{IsSpelled}
 use Rattle.frame_code.specs.declared.frames.Frame.{Frame}
 use Rattle.frame_code.specs.declared.frames.Frame.TheVariants as frame
@@ -19,7 +19,7 @@ pub record IsCutOff (gs : List Frame) (cut : List ℕ) : Type 0 where
   pub rest : List ℕ
   pub split : some ++ others ≡ gs
   pub is : flat_map frame_code some ++ rest ≡ cut
-  pub unfinished : IsFront rest
+  pub unfinished : IsFrameFront rest
 
 kinds_are_known : (f : Frame) → IsKind (kind_of f)
 kinds_are_known (frame.Header v n c) = (omega arith, omega arith)

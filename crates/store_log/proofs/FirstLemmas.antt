@@ -4,7 +4,7 @@ use Rattle.std.proofs.lemmas.List.{append-nil}
 use Rattle.std.proofs.lemmas.Bool.{cases_lt}
 use Rattle.byteorder.specs.Endian.{big_from}
 use Rattle.frame_code.specs.Codes.{payload, kind_of, sixteen_bytes, frame_code}
-use Rattle.frame_code.specs.Fronts.{IsFront}
+use Rattle.frame_code.specs.Fronts.{IsFrameFront}
 use Rattle.frame_code.specs.Spelled.{IsSpelled}
 use Rattle.frame_code.specs.declared.frames.Frame.{Frame}
 use Rattle.frame_code.specs.declared.frames.Frame.TheVariants as frame
@@ -18,7 +18,7 @@ use Rattle.store_log.specs.Firsts.{IsFirst, IsOther, IsWhose, agrees}
 use Rattle.store_log.specs.Held.{header, IsUnbegun, IsBadFirst, IsForeign, HasFrames}
 
 -- fewer bytes than a header that are a front of one are less than an envelope
-unbegun_is_front : (bytes : List ℕ) → IsUnbegun bytes → IsFront bytes
+unbegun_is_front : (bytes : List ℕ) → IsUnbegun bytes → IsFrameFront bytes
 unbegun_is_front bytes u =
     let all : length (bytes ++ u.more) ≡ length (frame_code (frame.Header u.version u.node u.cluster)) = ap length u.front in
     let parts : length (bytes ++ u.more) ≡ length bytes + length u.more = length-append bytes u.more in
@@ -59,7 +59,7 @@ bad_first bytes b = record {
   begun = λ u. b.no_front (unbegun_is_front bytes u);
 }
 
-pub short_first : (bytes : List ℕ) → IsFront bytes → (IsUnbegun bytes → ⊥) → IsBadFirst bytes
+pub short_first : (bytes : List ℕ) → IsFrameFront bytes → (IsUnbegun bytes → ⊥) → IsBadFirst bytes
 short_first bytes front never = record {
   no_header = λ v k c rest s e. no_frames bytes rest (frame.Header v k c) front s e;
   begun = never;

@@ -7,14 +7,14 @@ use Rattle.cdb_outside.specs.Stores.{JoinsFront}
 use Rattle.frame_code.specs.Codes.{frame_code}
 use Rattle.frame_code.specs.declared.frames.Frame.{Frame}
 use Rattle.store_log.specs.Cuts.{StandsAfter}
-use Rattle.store_log.specs.Follows.{MayFollow, AreNext, IsOfLog, StandForLog}
+use Rattle.store_log.specs.Follows.{MayFollow, AreNextFrames, IsOfLog, StandForLog}
 use Rattle.store_log.specs.Held.{Held, after_all, IsLogOf}
 use Rattle.store_log.specs.Holds.{Holds}
 use Rattle.store_log.specs.Keeps.{Stored}
 use Rattle.store_log.proofs.KeptLaws.{cut_held, kept_hold, two_fronts}
 
 -- no frame follows
-none_follow : (node cluster : ℕ) (bytes : List ℕ) (held : Held) → Holds node cluster bytes held → AreNext bytes []
+none_follow : (node cluster : ℕ) (bytes : List ℕ) (held : Held) → Holds node cluster bytes held → AreNextFrames bytes []
 none_follow node cluster bytes held holds = record {
   frames = [];
   follow = record { node = node; cluster = cluster; held = held; holds = holds; spelled = tt; may = tt };
@@ -25,21 +25,21 @@ pub opened_of_log : (node cluster : ℕ) (held : Held) (store : Stored) → Hold
 opened_of_log node cluster held store holds settled = record { next = []; are = none_follow node cluster store.synced held holds; waits = (0, settled) }
 
 -- behind a call that wrote them, and behind one that failed
-kept_next : (old new next : List ℕ) → AreNext old next → new ≡ old ++ next → AreNext new []
+kept_next : (old new next : List ℕ) → AreNextFrames old next → new ≡ old ++ next → AreNextFrames new []
 kept_next old new next a same =
     let f = a.follow in
     none_follow f.node f.cluster new (after_all f.held a.frames)
     (subst (λ (bytes : List ℕ). Holds f.node f.cluster bytes (after_all f.held a.frames)) (ap (λ (code : List ℕ). old ++ code) (sym a.code) ∙ sym same)
     (kept_hold f.node f.cluster old f.held a.frames f.holds f.spelled f.may))
 
-pub written_of_log : {T E : Type 0} (r : Result T E) (old next : List ℕ) (new : Stored) → AreNext old next
+pub written_of_log : {T E : Type 0} (r : Result T E) (old next : List ℕ) (new : Stored) → AreNextFrames old next
     → OnOk r (new.synced ≡ old ++ next) → OnOk r (new.pending ≡ []) → OnErr r (new.synced ≡ old) → OnErr r (IsFront new.pending next) → IsOfLog new
 written_of_log (Ok x) old next new a synced settled same part = record { next = []; are = kept_next old new.synced next a synced; waits = (0, settled) }
 written_of_log (Err e) old next new a synced settled same part =
-    record { next = next; are = subst (λ (bytes : List ℕ). AreNext bytes next) (sym same) a; waits = part }
+    record { next = next; are = subst (λ (bytes : List ℕ). AreNextFrames bytes next) (sym same) a; waits = part }
 
 -- the bytes of frames that may follow
-pub next_of : (bytes next : List ℕ) (frames : List Frame) → next ≡ flat_map frame_code frames → ∥ MayFollow bytes frames ∥₁ → ∥ AreNext bytes next ∥₁
+pub next_of : (bytes next : List ℕ) (frames : List Frame) → next ≡ flat_map frame_code frames → ∥ MayFollow bytes frames ∥₁ → ∥ AreNextFrames bytes next ∥₁
 next_of bytes next frames code follow = ∥∥₁_map follow (λ f. record { frames = frames; follow = f; code = code })
 
 -- a store that is stopped

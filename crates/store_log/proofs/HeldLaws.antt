@@ -2,7 +2,7 @@
 use Rattle.std.proofs.Common.{◌≡◌, inl, inr, ℕ, ◌+◌, ◌<◌, ◌^◌, List, [], ◌∷◌, ◌++◌, length, refl, sym, ap, ◌∙◌, subst, append_assoc, arith, length-append}
 use Rattle.std.specs.List.{flat_map, AllByRecursion}
 use Rattle.frame_code.specs.Codes.{frame_code}
-use Rattle.frame_code.specs.Fronts.{IsFront}
+use Rattle.frame_code.specs.Fronts.{IsFrameFront}
 use Rattle.frame_code.specs.Spelled.{IsSpelled}
 use Rattle.frame_code.specs.declared.frames.Frame.{Frame}
 use Rattle.frame_code.specs.declared.frames.Frame.TheVariants as frame
@@ -17,7 +17,7 @@ use Rattle.store_log.specs.Held.{Held, at_first, May, after, AllMay, after_all, 
 abbrev pub Ends : Held → List ℕ → Type 0
 Ends h rest = (f : Frame) (behind : List ℕ) → IsSpelled f → frame_code f ++ behind ≡ rest → May h f → ⊥
 
-pub front_ends : (h : Held) (rest : List ℕ) → IsFront rest → Ends h rest
+pub front_ends : (h : Held) (rest : List ℕ) → IsFrameFront rest → Ends h rest
 front_ends h rest front f behind s e may = no_frames rest behind f front s e
 
 -- the frames at the front of bytes are told, as far as they may follow each other
@@ -89,7 +89,7 @@ log_or_bad node cluster bytes p a es at s (inr x) (inl y) =
 log_or_bad node cluster bytes p a es at s (inr x) (inr y) =
     let same = frames_are_one node cluster bytes x.frames y.frames x.rest y.rest s x.held y.held
     (front_ends (after_all at_first x.frames) x.rest x.unfinished) y.bad in
-    y.finished (subst IsFront same.1 x.unfinished)
+    y.finished (subst IsFrameFront same.1 x.unfinished)
 
 log_or_foreign : (node cluster : ℕ) (bytes : List ℕ) (p a : ℕ) (es : List Entry) → IsSpelled (header node cluster)
     → StandsFor node cluster bytes (Log p a es) → IsForeign node cluster bytes → ⊥

@@ -5,7 +5,7 @@ use Rattle.std.proofs.lemmas.List.{append-nil, take-append-drop, length-take}
 use Rattle.std.specs.List.{flat_map, AllByRecursion}
 use Rattle.cdb_outside.specs.Parts as parts
 use Rattle.frame_code.specs.Codes.{frame_code}
-use Rattle.frame_code.specs.Fronts.{IsFront}
+use Rattle.frame_code.specs.Fronts.{IsFrameFront}
 use Rattle.frame_code.specs.Spelled.{IsSpelled}
 use Rattle.frame_code.specs.declared.frames.Frame.{Frame}
 use Rattle.frame_code.specs.declared.frames.Frame.TheVariants as frame
@@ -14,8 +14,8 @@ use Rattle.phys_log.specs.declared.entries.Entry.{Entry}
 use Rattle.store_log.specs.declared.finds.Found.{Found}
 use Rattle.store_log.specs.declared.standings.Standing.{Standing}
 use Rattle.store_log.specs.declared.standings.Standing.TheVariants.{Log}
-use Rattle.store_log.specs.Cuts.{IsSameLog}
-use Rattle.store_log.specs.Held.{Held, at_first, May, with_entry, after, AllMay, after_all, header, HasFrames, IsLogOf, IsUnbegun, StandsFor}
+use Rattle.store_log.specs.Cuts.{HoldSameLog}
+use Rattle.store_log.specs.Held.{Held, at_first, May, held_with_entry, after, AllMay, after_all, header, HasFrames, IsLogOf, IsUnbegun, StandsFor}
 use Rattle.store_log.specs.Holds.{Holds, plain}
 use Rattle.store_log.specs.Mends.{IsPart}
 use Rattle.store_log.specs.Opens.{AllOpen, IsTrimmed, IsOpened, StandsAlike}
@@ -26,22 +26,22 @@ use Rattle.store_log.proofs.HeldLaws.{one_standing, header_is_spelled}
 use Rattle.store_log.proofs.WindowLemmas.{front_shrinks}
 
 -- while an adoption is open the log is as before
-same_entry : (p a : ℕ) (es : List Entry) (e : Entry) (o : Option (List Entry)) → is_some (with_entry p a es e o).adopting ≡ true
-    → IsSameLog (record { promised = p; accepted = a; entries = es; adopting = o }) (with_entry p a es e o)
+same_entry : (p a : ℕ) (es : List Entry) (e : Entry) (o : Option (List Entry)) → is_some (held_with_entry p a es e o).adopting ≡ true
+    → HoldSameLog (record { promised = p; accepted = a; entries = es; adopting = o }) (held_with_entry p a es e o)
 same_entry p a es e None open_is = absurd (cc)
 same_entry p a es e (Some adopted) open_is = record { promised = refl; accepted = refl; entries = refl }
 
-still_same : (h : Held) (f : Frame) → May h f → is_some (after h f).adopting ≡ true → IsSameLog h (after h f)
+still_same : (h : Held) (f : Frame) → May h f → is_some (after h f).adopting ≡ true → HoldSameLog h (after h f)
 still_same h (frame.Header v n c) m o = absurd m
 still_same h (frame.Promise g) m o = absurd (cc)
 still_same h (frame.Accept g) m o = absurd (cc)
 still_same h (frame.Entry e) m o = same_entry h.promised h.accepted h.entries e h.adopting o
 still_same h (frame.Cut n) m o = record { promised = refl; accepted = refl; entries = refl }
 
-same_on : (h k l : Held) → IsSameLog h k → IsSameLog k l → IsSameLog h l
+same_on : (h k l : Held) → HoldSameLog h k → HoldSameLog k l → HoldSameLog h l
 same_on h k l s t = record { promised = s.promised ∙ t.promised; accepted = s.accepted ∙ t.accepted; entries = s.entries ∙ t.entries }
 
-pub open_same : (h : Held) (gs : List Frame) → AllMay h gs → AllOpen h gs → IsSameLog h (after_all h gs)
+pub open_same : (h : Held) (gs : List Frame) → AllMay h gs → AllOpen h gs → HoldSameLog h (after_all h gs)
 open_same h [] m o = record { promised = refl; accepted = refl; entries = refl }
 open_same h (f ∷ fs) m o =
     same_on h (after h f) (after_all (after h f) fs) (still_same h f m.0 o.0) (open_same (after h f) fs m.1 o.1)
@@ -51,7 +51,7 @@ open_front h [] ys o = tt
 open_front h (x ∷ xs) ys o = (o.0, open_front (after h x) xs ys o.1)
 
 -- a front of the bytes of frames and of less than an envelope behind them
-cut_anywhere : (gs : List Frame) (rest cut more : List ℕ) → AllByRecursion IsSpelled gs → IsFront rest
+cut_anywhere : (gs : List Frame) (rest cut more : List ℕ) → AllByRecursion IsSpelled gs → IsFrameFront rest
     → cut ++ more ≡ flat_map frame_code gs ++ rest → IsCutOff gs cut
 cut_anywhere gs rest cut more s front e = elim (cases_lt (length (flat_map frame_code gs)) (length cut)) [
   | inl h ↦
@@ -62,7 +62,7 @@ cut_anywhere gs rest cut more s front e = elim (cases_lt (length (flat_map frame
         rest = l.between;
         split = append-nil gs;
         is = l.longer;
-        unfinished = front_shrinks l.between more (subst IsFront (sym l.rest) front);
+        unfinished = front_shrinks l.between more (subst IsFrameFront (sym l.rest) front);
       }
   | inr h ↦
       let l = longer_front (flat_map frame_code gs) cut rest more h (sym e) in
@@ -124,7 +124,7 @@ closing_trimmed node cluster bytes p a es closed x = record {
 
 -- the frames that are kept hold the same log
 closing_same : (node cluster : ℕ) (bytes : List ℕ) (p a : ℕ) (es : List Entry) (closed : ℕ)
-    → (x : IsClosing node cluster bytes p a es closed) → IsSameLog (after_all at_first x.kept) (plain p a es)
+    → (x : IsClosing node cluster bytes p a es closed) → HoldSameLog (after_all at_first x.kept) (plain p a es)
 closing_same node cluster bytes p a es closed x =
     let same = open_same (after_all at_first x.kept) x.gone (may_back at_first x.kept x.gone x.has.rules) x.opens in
     let joined : after_all at_first (x.kept ++ x.gone) ≡ after_all (after_all at_first x.kept) x.gone = after_join at_first x.kept x.gone in
@@ -134,7 +134,7 @@ closing_same node cluster bytes p a es closed x =
       entries = same.entries ∙ ap (λ (k : Held). k.entries) (sym joined) ∙ x.entries;
     }
 
-plain_is : (k : Held) (p a : ℕ) (es : List Entry) → k.adopting ≡ None → IsSameLog k (plain p a es) → k ≡ plain p a es
+plain_is : (k : Held) (p a : ℕ) (es : List Entry) → k.adopting ≡ None → HoldSameLog k (plain p a es) → k ≡ plain p a es
 plain_is k p a es none same =
     ap (λ (n : ℕ). record { promised = n; accepted = k.accepted; entries = k.entries; adopting = k.adopting }) same.promised
     ∙ ap (λ (n : ℕ). record { promised = p; accepted = n; entries = k.entries; adopting = k.adopting }) same.accepted
@@ -164,7 +164,7 @@ closing_stands node cluster bytes p a es closed x = record {
 -- where some of the bytes behind it are left
 partly_left : (node cluster : ℕ) (front : List ℕ) (p a : ℕ) (es : List Entry) (kept gone : List Frame) (cut : List ℕ)
     → AllByRecursion IsSpelled (kept ++ gone) → AllMay at_first (kept ++ gone) → AllOpen (after_all at_first kept) gone
-    → IsSameLog (after_all at_first kept) (plain p a es) → (c : IsCutOff gone cut)
+    → HoldSameLog (after_all at_first kept) (plain p a es) → (c : IsCutOff gone cut)
     → (frame_code (header node cluster) ++ flat_map frame_code kept) ++ cut ≡ front → IsLogOf node cluster front p a es
 partly_left node cluster front p a es kept gone cut s m o same c e =
     let some_open : AllOpen (after_all at_first kept) c.some =

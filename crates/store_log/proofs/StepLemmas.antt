@@ -3,7 +3,7 @@ use Rattle.std.proofs.Common.{◌≡◌, inl, inr, ℕ, zero, suc, ◌+◌, ◌-
 use Rattle.std.proofs.lemmas.List.{append-nil}
 use Rattle.std.specs.List.{flat_map, AllByRecursion}
 use Rattle.frame_code.specs.Codes.{kind_of, payload, number, frame_code}
-use Rattle.frame_code.specs.Fronts.{IsFront}
+use Rattle.frame_code.specs.Fronts.{IsFrameFront}
 use Rattle.frame_code.specs.Spelled.{IsSpelled}
 use Rattle.frame_code.specs.declared.frames.Frame.{Frame}
 use Rattle.frame_code.specs.declared.frames.Frame.TheVariants as frame
@@ -84,7 +84,7 @@ read_more node cluster bytes h now rest at n r m =
       place = further;
     }
 
-pub read_log : (node cluster : ℕ) (bytes : List ℕ) (h : Held) (rest : List ℕ) (at : ℕ) → IsReadTo node cluster bytes h rest at → IsFront rest
+pub read_log : (node cluster : ℕ) (bytes : List ℕ) (h : Held) (rest : List ℕ) (at : ℕ) → IsReadTo node cluster bytes h rest at → IsFrameFront rest
     → IsLogOf node cluster bytes h.promised h.accepted h.entries
 read_log node cluster bytes h rest at r front = record {
   frames = r.frames;
@@ -141,7 +141,7 @@ offset_within node cluster bytes h now rest at n r m =
     omega arith
 
 pub log_stands : (node cluster : ℕ) (bytes : List ℕ) (h now : Held) (rest : List ℕ) (at : ℕ) → IsReadTo node cluster bytes h rest at
-    → IsFront rest × (now ≡ h) → StandsFor node cluster bytes (Log now.promised now.accepted now.entries)
+    → IsFrameFront rest × (now ≡ h) → StandsFor node cluster bytes (Log now.promised now.accepted now.entries)
 log_stands node cluster bytes h now rest at r e =
     inr (read_log node cluster bytes now rest at (subst (λ (k : Held). IsReadTo node cluster bytes k rest at) (sym e.1) r) e.0)
 

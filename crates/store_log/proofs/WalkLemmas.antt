@@ -4,7 +4,7 @@ use Rattle.std.proofs.lemmas.List.{append-nil, drop-drop}
 use Rattle.std.specs.Io.{StartsWith}
 use Rattle.std.specs.List.{flat_map, AllByRecursion}
 use Rattle.frame_code.specs.Codes.{frame_code}
-use Rattle.frame_code.specs.Fronts.{IsFront}
+use Rattle.frame_code.specs.Fronts.{IsFrameFront}
 use Rattle.frame_code.specs.Spelled.{IsSpelled}
 use Rattle.frame_code.specs.declared.frames.Frame.{Frame}
 use Rattle.phys_log.specs.declared.entries.Entry.{Entry}
@@ -221,7 +221,7 @@ walk_grown bytes h r next n w at_is closed_is used_is s more some = (
         omega arith
 
 -- the end
-pub walk_ended : (bytes window : List ℕ) (h : Held) (r : Reach) (e : Ended) → IsWalk bytes h r → IsFront (drop r.used r.window.items)
+pub walk_ended : (bytes window : List ℕ) (h : Held) (r : Reach) (e : Ended) → IsWalk bytes h r → IsFrameFront (drop r.used r.window.items)
     → window ≡ drop r.at bytes → length window ≡ length (drop r.used r.window.items) → e.held ≡ h → e.closed ≡ r.closed
     → e.end ≡ r.at + length window → IsEnded bytes e
 walk_ended bytes window h r e w front all size held_is closed_is end_is =
@@ -236,7 +236,7 @@ walk_ended bytes window h r e w front all size held_is closed_is end_is =
       at = r.at;
       walked = subst (λ (k : Held). IsWalked bytes k r.at e.closed) (sym held_is)
           (subst (λ (k : ℕ). IsWalked bytes h r.at k) (sym closed_is) w.walked);
-      unfinished = subst IsFront same front;
+      unfinished = subst IsFrameFront same front;
       end = end;
     }
 

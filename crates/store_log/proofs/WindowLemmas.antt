@@ -3,7 +3,7 @@ use Rattle.std.proofs.Common.{◌≡◌, ◌⊎◌, inl, inr, ℕ, zero, suc, �
 use Rattle.std.proofs.lemmas.Bool.{cases_lt}
 use Rattle.byteorder.specs.Numbers.{length-bytes_high_first}
 use Rattle.frame_code.specs.Codes.{number, payload, kind_of, frame_code}
-use Rattle.frame_code.specs.Fronts.{IsKind, IsUnfinished, IsFront}
+use Rattle.frame_code.specs.Fronts.{IsKind, IsUnfinished, IsFrameFront}
 use Rattle.frame_code.specs.Spelled.{IsSpelled}
 use Rattle.frame_code.specs.declared.frames.Frame.{Frame}
 use Rattle.frame_code.proofs.FrontLaws.{longer_front, frames_have_fronts}
@@ -42,7 +42,7 @@ behind_front xs more (inr u) = elim (cases_lt (length xs) 8) [
 ]
 
 -- a front of less than an envelope is less than one
-pub front_shrinks : (window more : List ℕ) → IsFront (window ++ more) → IsFront window
+pub front_shrinks : (window more : List ℕ) → IsFrameFront (window ++ more) → IsFrameFront window
 front_shrinks [] more f = tt
 front_shrinks (k ∷ xs) more f = (f.0, behind_front xs more f.1)
 

@@ -11,7 +11,7 @@ pub record StandsAfter (node cluster : ℕ) (bytes : List ℕ) (before : Held) (
   pub stands : IsLogOf node cluster bytes (after_all before some).promised (after_all before some).accepted (after_all before some).entries
 
 -- the same generations and the same log, whatever adoption is open
-pub record IsSameLog (h k : Held) : Type 0 where
+pub record HoldSameLog (h k : Held) : Type 0 where
   pub promised : h.promised ≡ k.promised
   pub accepted : h.accepted ≡ k.accepted
   pub entries : h.entries ≡ k.entries
@@ -22,4 +22,4 @@ pub record IsSettled (before : Held) (fs : List Frame) : Type 0 where
   pub gone : List Frame
   pub split : kept ++ gone ≡ fs
   pub closed : (after_all before kept).adopting ≡ None
-  pub same : IsSameLog (after_all before kept) (after_all before fs)
+  pub same : HoldSameLog (after_all before kept) (after_all before fs)

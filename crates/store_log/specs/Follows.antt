@@ -24,7 +24,7 @@ pub record MayFollow (bytes : List ℕ) (frames : List Frame) : Type 0 where
   pub may : AllMay held frames
 
 -- the bytes of such frames
-pub record AreNext (bytes next : List ℕ) : Type 0 where
+pub record AreNextFrames (bytes next : List ℕ) : Type 0 where
   pub frames : List Frame
   pub follow : MayFollow bytes frames
   pub code : next ≡ flat_map frame_code frames
@@ -32,7 +32,7 @@ pub record AreNext (bytes next : List ℕ) : Type 0 where
 -- a store of a log: what is synced holds it, and what waits is a front of frames that may follow
 pub record IsOfLog (store : Stored) : Type 0 where
   pub next : List ℕ
-  pub are : AreNext store.synced next
+  pub are : AreNextFrames store.synced next
   pub waits : IsFront store.pending next
 
 -- bytes that stand for a log, whoever's store these are

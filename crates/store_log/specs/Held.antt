@@ -2,7 +2,7 @@
 use Rattle.std.specs.Prelude.{◌≡◌, ◌⊎◌, ℕ, ◌+◌, ◌<◌, ◌≤◌, List, [], ◌∷◌, ◌++◌, length, take, Option, Some, None}
 use Rattle.std.specs.List.{flat_map, AllByRecursion}
 use Rattle.frame_code.specs.Codes.{frame_code}
-use Rattle.frame_code.specs.Fronts.{IsFront}
+use Rattle.frame_code.specs.Fronts.{IsFrameFront}
 use Rattle.frame_code.specs.Spelled.{IsSpelled}
 use Rattle.frame_code.specs.declared.frames.Frame.{Frame}
 use Rattle.frame_code.specs.declared.frames.Frame.TheVariants as frame
@@ -39,10 +39,10 @@ May h (frame.Accept generation) = (generation ≡ h.promised) × (h.accepted < g
 May h (frame.Entry e) = MayAdd h.accepted h.entries e h.adopting
 May h (frame.Cut n) = n ≤ length h.entries
 
-abbrev pub with_entry : ℕ → ℕ → List Entry → Entry → Option (List Entry) → Held
-with_entry promised accepted entries e (Some adopted) =
+abbrev pub held_with_entry : ℕ → ℕ → List Entry → Entry → Option (List Entry) → Held
+held_with_entry promised accepted entries e (Some adopted) =
     record { promised = promised; accepted = accepted; entries = entries; adopting = Some (adopted ++ e ∷ []) }
-with_entry promised accepted entries e None =
+held_with_entry promised accepted entries e None =
     record { promised = promised; accepted = accepted; entries = entries ++ e ∷ []; adopting = None }
 
 -- the log that is accepted: that of the open adoption, or the one before
@@ -56,7 +56,7 @@ after h (frame.Header version node cluster) = h
 after h (frame.Promise generation) = record { promised = generation; accepted = h.accepted; entries = h.entries; adopting = None }
 after h (frame.Accept generation) =
     record { promised = h.promised; accepted = generation; entries = adopted_or h.entries h.adopting; adopting = None }
-after h (frame.Entry e) = with_entry h.promised h.accepted h.entries e h.adopting
+after h (frame.Entry e) = held_with_entry h.promised h.accepted h.entries e h.adopting
 after h (frame.Cut n) =
     record { promised = h.promised; accepted = h.accepted; entries = h.entries; adopting = Some (take n h.entries) }
 
@@ -94,7 +94,7 @@ pub record IsLogOf (node cluster : ℕ) (bytes : List ℕ) (p a : ℕ) (es : Lis
   pub frames : List Frame
   pub rest : List ℕ
   pub held : HasFrames node cluster bytes frames rest
-  pub unfinished : IsFront rest
+  pub unfinished : IsFrameFront rest
   pub promised : (after_all at_first frames).promised ≡ p
   pub accepted : (after_all at_first frames).accepted ≡ a
   pub entries : (after_all at_first frames).entries ≡ es
@@ -111,7 +111,7 @@ pub record IsBadLater (node cluster : ℕ) (bytes : List ℕ) (offset : ℕ) : T
   pub frames : List Frame
   pub rest : List ℕ
   pub held : HasFrames node cluster bytes frames rest
-  pub finished : IsFront rest → ⊥
+  pub finished : IsFrameFront rest → ⊥
   pub bad : (f : Frame) (behind : List ℕ) → IsSpelled f → frame_code f ++ behind ≡ rest → May (after_all at_first frames) f → ⊥
   pub place : length (frame_code (header node cluster)) + length (flat_map frame_code frames) ≡ offset
 

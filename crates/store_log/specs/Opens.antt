@@ -2,7 +2,7 @@
 use Rattle.std.specs.Prelude.{◌≡◌, ◌⊎◌, ℕ, ◌≤◌, List, [], ◌∷◌, ◌++◌, length, true, is_some, None, Some}
 use Rattle.cdb_outside.specs.Faults.{Rose}
 use Rattle.frame_code.specs.Codes.{frame_code}
-use Rattle.frame_code.specs.Fronts.{IsFront}
+use Rattle.frame_code.specs.Fronts.{IsFrameFront}
 use Rattle.frame_code.specs.declared.frames.Frame.{Frame}
 use Rattle.store_log.specs.declared.opens.OpenFault.{OpenFault}
 use Rattle.store_log.specs.declared.opens.OpenFault.TheVariants as fault
@@ -23,7 +23,7 @@ pub record IsTrimmed (node cluster : ℕ) (old new : List ℕ) : Type 0 where
   pub gone : List Frame
   pub rest : List ℕ
   pub has : HasFrames node cluster old (kept ++ gone) rest
-  pub unfinished : IsFront rest
+  pub unfinished : IsFrameFront rest
   pub closed : (after_all at_first kept).adopting ≡ None
   pub opens : AllOpen (after_all at_first kept) gone
   pub left : HasFrames node cluster new kept []

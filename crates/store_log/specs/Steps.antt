@@ -2,7 +2,7 @@
 use Rattle.std.specs.Prelude.{◌≡◌, ℕ, ◌+◌, List, [], ◌∷◌, ◌++◌, length, Result, Ok, Err}
 use Rattle.std.specs.List.{flat_map}
 use Rattle.frame_code.specs.Codes.{frame_code}
-use Rattle.frame_code.specs.Fronts.{IsFront}
+use Rattle.frame_code.specs.Fronts.{IsFrameFront}
 use Rattle.frame_code.specs.Spelled.{IsSpelled}
 use Rattle.frame_code.specs.declared.frames.Frame.{Frame}
 use Rattle.log_replay.specs.declared.logs.AppendFault.{AppendFault}
@@ -36,12 +36,12 @@ pub record IsMore (before now : Held) (n : ℕ) (bytes : List ℕ) : Type 0 wher
 
 -- the bytes are not less than an envelope, and begin with no frame that may stand there
 pub record IsWrong (held : Held) (bytes : List ℕ) : Type 0 where
-  pub finished : IsFront bytes → ⊥
+  pub finished : IsFrameFront bytes → ⊥
   pub bad : (f : Frame) (behind : List ℕ) → IsSpelled f → frame_code f ++ behind ≡ bytes → May held f → ⊥
 
 abbrev pub IsStep : Step → Held → List ℕ → Type 0
 IsStep (More now size) before bytes = IsMore before now size bytes
-IsStep (End now) before bytes = IsFront bytes × (now ≡ before)
+IsStep (End now) before bytes = IsFrameFront bytes × (now ≡ before)
 IsStep Wrong before bytes = IsWrong before bytes
 
 -- the frames at the front of a store were read: what is held after them, and what is behind them, from an offset on

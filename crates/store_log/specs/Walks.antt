@@ -4,7 +4,7 @@ use Rattle.std.specs.Io.{StartsWith}
 use Rattle.std.specs.List.{flat_map, AllByRecursion}
 use Rattle.cdb_outside.specs.Faults.{Rose}
 use Rattle.frame_code.specs.Codes.{frame_code}
-use Rattle.frame_code.specs.Fronts.{IsFront}
+use Rattle.frame_code.specs.Fronts.{IsFrameFront}
 use Rattle.frame_code.specs.Spelled.{IsSpelled}
 use Rattle.frame_code.specs.declared.frames.Frame.{Frame}
 use Rattle.phys_log.specs.declared.entries.Entry.{Entry}
@@ -58,7 +58,7 @@ further adopting r size = record r {
 pub record IsEnded (bytes : List ℕ) (e : Ended) : Type 0 where
   pub at : ℕ
   pub walked : IsWalked bytes e.held at e.closed
-  pub unfinished : IsFront (drop at bytes)
+  pub unfinished : IsFrameFront (drop at bytes)
   pub end : e.end ≡ length bytes
 
 abbrev pub IsTurn : Turn → List ℕ → ℕ → Type 0
@@ -94,7 +94,7 @@ pub record IsClosing (node cluster : ℕ) (bytes : List ℕ) (p a : ℕ) (es : L
   pub gone : List Frame
   pub rest : List ℕ
   pub has : HasFrames node cluster bytes (kept ++ gone) rest
-  pub unfinished : IsFront rest
+  pub unfinished : IsFrameFront rest
   pub none : (after_all at_first kept).adopting ≡ None
   pub opens : AllOpen (after_all at_first kept) gone
   pub close : 27 + length (flat_map frame_code kept) ≡ closed

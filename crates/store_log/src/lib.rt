@@ -40,7 +40,7 @@ pub use laws::{
     cut_frames_stand, held_bytes_stand, kept_frames_stand, left_frames_stand,
     open_adoptions_can_go, standings_are_apart,
 };
-pub use opens::{OpenFault, Opened, Unopened, open_log};
+pub use opens::{OpenFault, OpenedLog, Unopened, open_log};
 pub use readings::standing_of;
 pub use standings::Standing;
 pub use stores::{Held, KeepFault};

@@ -33,7 +33,7 @@ pub enum OpenFault {
 
 /// A store that was opened, with what it stands for.
 #[derive(Drop)]
-pub struct Opened<D: LogStore> {
+pub struct OpenedLog<D: LogStore> {
     /// The store, without an unfinished frame or an open adoption.
     pub held: Held<D>,
     /// The promised generation.
@@ -61,7 +61,7 @@ pub fn open_log<D: LogStore + Drop>(
     store: D,
     node: u8,
     cluster: u128,
-) -> Result<Opened<D>, Unopened<D>>
+) -> Result<OpenedLog<D>, Unopened<D>>
     requires settled { D.pending store ≡ [] }
     ensures stands { IfOk result (λ o.
         StandsFor node cluster (D.synced store) (Log o.promised o.accepted o.entries)) }
@@ -79,7 +79,7 @@ pub fn open_log<D: LogStore + Drop>(
 {
     let mut store = store;
     match make_ready(alloc, &mut store, node, cluster) {
-        Ok(found) => Ok(Opened {
+        Ok(found) => Ok(OpenedLog {
             held: Held::of(store),
             promised: found.promised,
             accepted: found.accepted,

@@ -6,7 +6,7 @@ ghost use Rattle.cdb_outside.specs.Parts.{IsFront};
 ghost use Rattle.cdb_outside.specs.Stores.{JoinsFront};
 ghost use Rattle.frame_code.specs.Codes.{frame_code};
 ghost use Rattle.frame_code.specs.Spelled.{IsSpelled};
-ghost use Rattle.store_log.specs.Follows.{AreNext, IsOfLog, MayFollow, StandForLog};
+ghost use Rattle.store_log.specs.Follows.{AreNextFrames, IsOfLog, MayFollow, StandForLog};
 ghost use Rattle.store_log.specs.Keeps.{AreKept, AreLeft, IsKept};
 
 use cdb_outside::{Failed, LogStore};
@@ -93,7 +93,7 @@ impl<D: LogStore> Held<D> {
     /// Takes no memory. After `Failed` the store can only be given back.
     pub fn keep_bytes(&mut self, bytes: &[u8]) -> Result<(), Failed>
         requires settled { self.old.pending ≡ [] }
-        requires next { ∥ AreNext self.old.synced bytes.now ∥₁ }
+        requires next { ∥ AreNextFrames self.old.synced bytes.now ∥₁ }
         ensures kept { OnOk result (AreKept self.old self.new bytes.now) }
         ensures left { OnErr result (AreLeft self.old self.new bytes.now) }
     {

@@ -1,7 +1,7 @@
 //! The frames of a store are read one after the other, through a window that grows with the greatest frame.
 ghost use Rattle.std.specs.Prelude.{◌≡◌, ◌≤◌, ◌<◌, ◌+◌, length, drop, is_some, if◌then◌else◌, IfOk, IfErr, OnOk};
 ghost use Rattle.std.specs.Io.{StartsWith};
-ghost use Rattle.frame_code.specs.Fronts.{IsFront};
+ghost use Rattle.frame_code.specs.Fronts.{IsFrameFront};
 ghost use Rattle.store_log.specs.declared.opens.OpenFault.TheVariants as fault;
 ghost use Rattle.store_log.specs.Opens.{IsLater};
 ghost use Rattle.store_log.specs.Steps.{IsStep};
@@ -157,7 +157,7 @@ fn read_more<D: LogStore>(
     reach: Reach,
 ) -> Result<Turn, OpenFault>
     requires walk { IsWalk (D.synced store.old) held reach }
-    requires short { IsFront (drop reach.used reach.window.items) }
+    requires short { IsFrameFront (drop reach.used reach.window.items) }
     ensures turn { IfOk result (λ t. IsTurn t (D.synced store.old) (ahead (D.synced store.old) reach)) }
     ensures why { IfErr result (λ w. IsWalkFault w (D.synced store.old) (D.faults store.old) (D.faults store.new)) }
     ensures synced { D.synced store.new ≡ D.synced store.old }

@@ -5,7 +5,7 @@ use Rattle.std.specs.List.{AllByRecursion}
 use Rattle.std.specs.Option.{is_some}
 use Rattle.page_store.specs.Image.{Image}
 use Rattle.std.proofs.lemmas.Bool.{false≢true}
-use Rattle.btree_index.specs.Changes.{Stands, Becomes, IsInserted}
+use Rattle.btree_index.specs.Changes.{TreeStands, Becomes, IsInserted}
 use Rattle.btree_index.specs.Pairs.{value_at, with_pair}
 use Rattle.btree_index.specs.declared.inserts.InsertFault.{InsertFault}
 use Rattle.btree_index.specs.declared.inserts.InsertFault.TheVariants.{Duplicate, Gone, NoMemory}
@@ -85,7 +85,7 @@ put_both key (v ∷ a) b list =
 -- all that goes: what is left to be taken out leaves what is to be left
 pub taken_more : (old now next : ℕ → Image) (root table : ℕ) (own free : List ℕ) (key : Option KeyDef) (op : RowOp) (ops rest : List RowOp) (all : List Pair)
     → rest ≡ op ∷ ops → BecomesSome old now root own free (λ list. removed key (gone table rest) list ≡ all)
-    → ((own free : List ℕ) (list : List Pair) → Stands now root own free list → Becomes now next root own free (removed key (gone table (op ∷ [])) list))
+    → ((own free : List ℕ) (list : List Pair) → TreeStands now root own free list → Becomes now next root own free (removed key (gone table (op ∷ [])) list))
     → BecomesSome old next root own free (λ list. removed key (gone table ops) list ≡ all)
 taken_more old now next root table own free key op ops rest all is before step = record {
   list = removed key (gone table (op ∷ [])) before.list;
@@ -101,14 +101,14 @@ pub taken_all : (old now : ℕ → Image) (root table : ℕ) (own free : List �
 taken_all old now root table own free key rest all is before =
     subst (λ (l : List Pair). Becomes old now root own free l) (sym (ap (λ (l : List RowOp). removed key (gone table l) before.list) is) ∙ before.is) before.becomes
 
-pub begins : (pages : ℕ → Image) (root : ℕ) (own free : List ℕ) (list : List Pair) (P : List Pair → Type 0) → Stands pages root own free list → P list
+pub begins : (pages : ℕ → Image) (root : ℕ) (own free : List ℕ) (list : List Pair) (P : List Pair → Type 0) → TreeStands pages root own free list → P list
     → BecomesSome pages pages root own free P
 begins pages root own free list P stands p = record { list = list; becomes = becomes_none pages root own free list stands; is = p }
 
 -- all that comes: what is left to be put gives what all gives
 pub put_more : (old now next : ℕ → Image) (root table n : ℕ) (own free : List ℕ) (key : Option KeyDef) (op : RowOp) (ops rest : List RowOp) (all : Option (List Pair))
     → rest ≡ op ∷ ops → BecomesSome old now root own free (λ list. put_all key (born table n rest) list ≡ all)
-    → ((own free : List ℕ) (list : List Pair) → Stands now root own free list → IsPut now next root own free (put_all key (born table n (op ∷ [])) list) (Ok tt))
+    → ((own free : List ℕ) (list : List Pair) → TreeStands now root own free list → IsPut now next root own free (put_all key (born table n (op ∷ [])) list) (Ok tt))
     → BecomesSome old next root own free (λ list. put_all key (born table (next_of n op) ops) list ≡ all)
 put_more old now next root table n own free key op ops rest all is before step =
     go (put_all key (born table n (op ∷ [])) before.list) refl (step before.becomes.more before.becomes.spare before.list before.becomes.stands)
@@ -130,7 +130,7 @@ put_more old now next root table n own free key op ops rest all is before step =
 -- where one pair cannot be put, not all can
 pub put_stops : (old now next : ℕ → Image) (root table n : ℕ) (own free : List ℕ) (key : Option KeyDef) (op : RowOp) (ops rest : List RowOp) (all : Option (List Pair))
     (fault : InsertFault) → rest ≡ op ∷ ops → BecomesSome old now root own free (λ list. put_all key (born table n rest) list ≡ all)
-    → ((own free : List ℕ) (list : List Pair) → Stands now root own free list → IsPut now next root own free (put_all key (born table n (op ∷ [])) list) (Err fault))
+    → ((own free : List ℕ) (list : List Pair) → TreeStands now root own free list → IsPut now next root own free (put_all key (born table n (op ∷ [])) list) (Err fault))
     → IsPut old next root own free all (Err fault)
 put_stops old now next root table n own free key op ops rest all fault is before step =
     go (put_all key (born table n (op ∷ [])) before.list) refl (step before.becomes.more before.becomes.spare before.list before.becomes.stands)

@@ -3,7 +3,7 @@ use Rattle.std.proofs.Common.{◌≡◌, ℕ, true, List, [], ◌∷◌, ◌++�
 use Rattle.std.specs.Prelude.{Option, Some, None, Result, Ok, Err, OnOk}
 use Rattle.std.specs.Option.{is_some}
 use Rattle.page_store.specs.Image.{Image}
-use Rattle.btree_index.specs.Changes.{Stands, Becomes}
+use Rattle.btree_index.specs.Changes.{TreeStands, Becomes}
 use Rattle.btree_index.specs.Pairs.{value_at, without_key}
 use Rattle.btree_index.specs.Prunes.{FreesEmptied}
 use Rattle.btree_index.specs.declared.inserts.InsertFault.{InsertFault}
@@ -19,8 +19,8 @@ use Rattle.table_changes.proofs.ChangedLemmas.{gone_more}
 
 -- one version alone
 pub pair_taken : (old new : ℕ → Image) (root : ℕ) (key : Option KeyDef) (v : Version) (k : List ℕ) → k ≡ (pair_of_version key v).0
-    → ((own free : List ℕ) (list : List Pair) → Stands old root own free list → Becomes old new root own free (without_key k list))
-    → ((own free : List ℕ) (list : List Pair) → Stands old root own free list → is_some (value_at k list) ≡ true → FreesEmptied old new root k)
+    → ((own free : List ℕ) (list : List Pair) → TreeStands old root own free list → Becomes old new root own free (without_key k list))
+    → ((own free : List ℕ) (list : List Pair) → TreeStands old root own free list → is_some (value_at k list) ≡ true → FreesEmptied old new root k)
     → TakesPairs old new root key (v ∷ [])
 pair_taken old new root key v k is becomes freed = (
   new,
@@ -59,7 +59,7 @@ pairs_none pages root table key rest is = subst (λ (l : List RowOp). TakesPairs
 -- what comes is put behind what was taken
 pub then_put : (old between new : ℕ → Image) (root : ℕ) (key : Option KeyDef) (gone born : List Version) (result : Result (Unit {0}) InsertFault)
     → TakesPairs old between root key gone
-    → ((own free : List ℕ) (list : List Pair) → Stands between root own free list → IsPut between new root own free (put_all key born list) result)
+    → ((own free : List ℕ) (list : List Pair) → TreeStands between root own free list → IsPut between new root own free (put_all key born list) result)
     → OnOk result (TakesThenPuts old new root key gone born)
 then_put old between new root key gone born (Ok x) taken put = record {
   between = between;

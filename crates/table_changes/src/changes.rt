@@ -3,7 +3,7 @@ ghost use Rattle.std.specs.Prelude.{ℕ, ◌≡◌, ◌+◌, ◌<◌, ◌^◌, L
 ghost use Rattle.std.specs.List.{AllByRecursion};
 ghost use Rattle.std.specs.Option.{option_copied};
 ghost use Rattle.page_workspace.specs.Drafts.{meant};
-ghost use Rattle.btree_index.specs.Changes.{Stands, IsExcusedInsert};
+ghost use Rattle.btree_index.specs.Changes.{TreeStands, IsExcusedInsert};
 ghost use Rattle.btree_index.specs.Filled.{KeepsFilled};
 ghost use Rattle.table_store.specs.Forests.{Pair};
 ghost use Rattle.table_store.specs.Operations.{born, gone, put_all as put_all_of, removed};
@@ -39,12 +39,12 @@ pub fn change_tree<P: PageSource>(
 ) -> Result<(), InsertFault>
     requires few { next + length ops.now < 2 ^ 64 }
     requires fit { AllByRecursion (IsPuttable (option_copied key)) (born table next ops.now) }
-    ensures changed { (own free : Many ℕ) (list : Many Pair) → Stands (meant P.pages space.old) root own free list →
+    ensures changed { (own free : Many ℕ) (list : Many Pair) → TreeStands (meant P.pages space.old) root own free list →
         IsPut (meant P.pages space.old) (meant P.pages space.new) root own free
         (put_all_of (option_copied key.entry) (born table next ops.now) (removed (option_copied key.entry) (gone table ops.now) list)) result }
     ensures freed { OnOk result (TakesThenPuts (meant P.pages space.old) (meant P.pages space.new) root
         (option_copied key.entry) (gone table ops.now) (born table next ops.now)) }
-    ensures filled { (own free : Many ℕ) (list : Many Pair) → Stands (meant P.pages space.old) root own free list →
+    ensures filled { (own free : Many ℕ) (list : Many Pair) → TreeStands (meant P.pages space.old) root own free list →
         OnOk result (KeepsFilled (meant P.pages space.old) (meant P.pages space.new) root) }
     ensures base { P.pages space.new.base ≡ P.pages space.old.base }
     ensures excused { IsExcusedInsert result (P.losses space.old.base) (P.losses space.new.base) }

@@ -3,7 +3,7 @@ ghost use Rattle.std.specs.Prelude.{ℕ, ◌≡◌, ◌+◌, ◌<◌, ◌^◌, �
 ghost use Rattle.std.specs.List.{AllByRecursion};
 ghost use Rattle.std.specs.Option.{option_copied};
 ghost use Rattle.page_workspace.specs.Drafts.{meant};
-ghost use Rattle.btree_index.specs.Changes.{Stands, IsExcusedInsert};
+ghost use Rattle.btree_index.specs.Changes.{TreeStands, IsExcusedInsert};
 ghost use Rattle.btree_index.specs.Filled.{KeepsFilled};
 ghost use Rattle.cdb_values.specs.Rows.{version};
 ghost use Rattle.table_store.specs.Forests.{Pair};
@@ -29,10 +29,10 @@ pub(crate) fn put_all<P: PageSource>(
 ) -> Result<(), InsertFault>
     requires few { next + length ops.now < 2 ^ 64 }
     requires fit { AllByRecursion (IsPuttable (option_copied key)) (born table next ops.now) }
-    ensures put { (own free : Many ℕ) (list : Many Pair) → Stands (meant P.pages space.old) root own free list →
+    ensures put { (own free : Many ℕ) (list : Many Pair) → TreeStands (meant P.pages space.old) root own free list →
         IsPut (meant P.pages space.old) (meant P.pages space.new) root own free
         (put_all_of (option_copied key.entry) (born table next ops.now) list) result }
-    ensures filled { (own free : Many ℕ) (list : Many Pair) → Stands (meant P.pages space.old) root own free list →
+    ensures filled { (own free : Many ℕ) (list : Many Pair) → TreeStands (meant P.pages space.old) root own free list →
         OnOk result (KeepsFilled (meant P.pages space.old) (meant P.pages space.new) root) }
     ensures base { P.pages space.new.base ≡ P.pages space.old.base }
     ensures excused { IsExcusedInsert result (P.losses space.old.base) (P.losses space.new.base) }
@@ -86,10 +86,10 @@ fn put_one<P: PageSource>(
     op: &RowOp,
 ) -> Result<(), InsertFault>
     requires { AllByRecursion (IsPuttable (option_copied key)) (born table next (op.now ∷ [])) }
-    ensures put { (own free : Many ℕ) (list : Many Pair) → Stands (meant P.pages space.old) root own free list →
+    ensures put { (own free : Many ℕ) (list : Many Pair) → TreeStands (meant P.pages space.old) root own free list →
         IsPut (meant P.pages space.old) (meant P.pages space.new) root own free
         (put_all_of (option_copied key.entry) (born table next (op.now ∷ [])) list) result }
-    ensures filled { (own free : Many ℕ) (list : Many Pair) → Stands (meant P.pages space.old) root own free list →
+    ensures filled { (own free : Many ℕ) (list : Many Pair) → TreeStands (meant P.pages space.old) root own free list →
         OnOk result (KeepsFilled (meant P.pages space.old) (meant P.pages space.new) root) }
     ensures base { P.pages space.new.base ≡ P.pages space.old.base }
     ensures excused { IsExcusedInsert result (P.losses space.old.base) (P.losses space.new.base) }
@@ -120,10 +120,10 @@ fn put_updated<P: PageSource>(
     row: &Row,
 ) -> Result<(), InsertFault>
     requires { AllByRecursion (IsPuttable (option_copied key)) (born_by is_here next target.now row.now) }
-    ensures put { (own free : Many ℕ) (list : Many Pair) → Stands (meant P.pages space.old) root own free list →
+    ensures put { (own free : Many ℕ) (list : Many Pair) → TreeStands (meant P.pages space.old) root own free list →
         IsPut (meant P.pages space.old) (meant P.pages space.new) root own free
         (put_all_of (option_copied key.entry) (born_by is_here next target.now row.now) list) result }
-    ensures filled { (own free : Many ℕ) (list : Many Pair) → Stands (meant P.pages space.old) root own free list →
+    ensures filled { (own free : Many ℕ) (list : Many Pair) → TreeStands (meant P.pages space.old) root own free list →
         OnOk result (KeepsFilled (meant P.pages space.old) (meant P.pages space.new) root) }
     ensures base { P.pages space.new.base ≡ P.pages space.old.base }
     ensures excused { IsExcusedInsert result (P.losses space.old.base) (P.losses space.new.base) }
@@ -145,10 +145,10 @@ fn put_new<P: PageSource>(
     row: &Row,
 ) -> Result<(), InsertFault>
     requires { AllByRecursion (IsPuttable (option_copied key)) (born_if is_here genid row.now) }
-    ensures put { (own free : Many ℕ) (list : Many Pair) → Stands (meant P.pages space.old) root own free list →
+    ensures put { (own free : Many ℕ) (list : Many Pair) → TreeStands (meant P.pages space.old) root own free list →
         IsPut (meant P.pages space.old) (meant P.pages space.new) root own free
         (put_all_of (option_copied key.entry) (born_if is_here genid row.now) list) result }
-    ensures filled { (own free : Many ℕ) (list : Many Pair) → Stands (meant P.pages space.old) root own free list →
+    ensures filled { (own free : Many ℕ) (list : Many Pair) → TreeStands (meant P.pages space.old) root own free list →
         OnOk result (KeepsFilled (meant P.pages space.old) (meant P.pages space.new) root) }
     ensures base { P.pages space.new.base ≡ P.pages space.old.base }
     ensures excused { IsExcusedInsert result (P.losses space.old.base) (P.losses space.new.base) }
@@ -170,10 +170,10 @@ fn put_version<P: PageSource>(
     row: &Row,
 ) -> Result<(), InsertFault>
     requires { IsPuttable (option_copied key) (version genid row.now) }
-    ensures put { (own free : Many ℕ) (list : Many Pair) → Stands (meant P.pages space.old) root own free list →
+    ensures put { (own free : Many ℕ) (list : Many Pair) → TreeStands (meant P.pages space.old) root own free list →
         IsPut (meant P.pages space.old) (meant P.pages space.new) root own free
         (put_all_of (option_copied key.entry) (version genid row.now ∷ []) list) result }
-    ensures filled { (own free : Many ℕ) (list : Many Pair) → Stands (meant P.pages space.old) root own free list →
+    ensures filled { (own free : Many ℕ) (list : Many Pair) → TreeStands (meant P.pages space.old) root own free list →
         OnOk result (KeepsFilled (meant P.pages space.old) (meant P.pages space.new) root) }
     ensures base { P.pages space.new.base ≡ P.pages space.old.base }
     ensures excused { IsExcusedInsert result (P.losses space.old.base) (P.losses space.new.base) }

@@ -3,7 +3,7 @@ ghost use Rattle.std.specs.Prelude.{ℕ, ◌≡◌, ◌∷◌, [], List as Many,
 ghost use Rattle.std.specs.Option.{option_copied};
 ghost use Rattle.page_store.specs.Sources.{IsExcused};
 ghost use Rattle.page_workspace.specs.Drafts.{meant};
-ghost use Rattle.btree_index.specs.Changes.{Stands, Becomes};
+ghost use Rattle.btree_index.specs.Changes.{TreeStands, Becomes};
 ghost use Rattle.btree_index.specs.Filled.{KeepsFilled};
 ghost use Rattle.cdb_values.specs.Rows.{version};
 ghost use Rattle.table_store.specs.Forests.{Pair};
@@ -27,12 +27,12 @@ pub(crate) fn take_all<P: PageSource>(
     table: u16,
     ops: &[RowOp],
 ) -> Result<(), PageFault>
-    ensures taken { (own free : Many ℕ) (list : Many Pair) → Stands (meant P.pages space.old) root own free list →
+    ensures taken { (own free : Many ℕ) (list : Many Pair) → TreeStands (meant P.pages space.old) root own free list →
         OnOk result (Becomes (meant P.pages space.old) (meant P.pages space.new) root own free
         (removed (option_copied key.entry) (gone table ops.now) list)) }
     ensures freed { OnOk result (TakesPairs (meant P.pages space.old) (meant P.pages space.new) root
         (option_copied key.entry) (gone table ops.now)) }
-    ensures filled { (own free : Many ℕ) (list : Many Pair) → Stands (meant P.pages space.old) root own free list →
+    ensures filled { (own free : Many ℕ) (list : Many Pair) → TreeStands (meant P.pages space.old) root own free list →
         OnOk result (KeepsFilled (meant P.pages space.old) (meant P.pages space.new) root) }
     ensures base { P.pages space.new.base ≡ P.pages space.old.base }
     ensures excused { IsExcused result (P.losses space.old.base) (P.losses space.new.base) }
@@ -55,12 +55,12 @@ fn take_one<P: PageSource>(
     table: u16,
     op: &RowOp,
 ) -> Result<(), PageFault>
-    ensures taken { (own free : Many ℕ) (list : Many Pair) → Stands (meant P.pages space.old) root own free list →
+    ensures taken { (own free : Many ℕ) (list : Many Pair) → TreeStands (meant P.pages space.old) root own free list →
         OnOk result (Becomes (meant P.pages space.old) (meant P.pages space.new) root own free
         (removed (option_copied key.entry) (gone table (op.now ∷ [])) list)) }
     ensures freed { OnOk result (TakesPairs (meant P.pages space.old) (meant P.pages space.new) root
         (option_copied key.entry) (gone table (op.now ∷ []))) }
-    ensures filled { (own free : Many ℕ) (list : Many Pair) → Stands (meant P.pages space.old) root own free list →
+    ensures filled { (own free : Many ℕ) (list : Many Pair) → TreeStands (meant P.pages space.old) root own free list →
         OnOk result (KeepsFilled (meant P.pages space.old) (meant P.pages space.new) root) }
     ensures base { P.pages space.new.base ≡ P.pages space.old.base }
     ensures excused { IsExcused result (P.losses space.old.base) (P.losses space.new.base) }
@@ -91,12 +91,12 @@ fn take_old<P: PageSource>(
     target: &RowRef,
     old: &Row,
 ) -> Result<(), PageFault>
-    ensures taken { (own free : Many ℕ) (list : Many Pair) → Stands (meant P.pages space.old) root own free list →
+    ensures taken { (own free : Many ℕ) (list : Many Pair) → TreeStands (meant P.pages space.old) root own free list →
         OnOk result (Becomes (meant P.pages space.old) (meant P.pages space.new) root own free
         (removed (option_copied key.entry) (gone_by is_here target.now old.now) list)) }
     ensures freed { OnOk result (TakesPairs (meant P.pages space.old) (meant P.pages space.new) root
         (option_copied key.entry) (gone_by is_here target.now old.now)) }
-    ensures filled { (own free : Many ℕ) (list : Many Pair) → Stands (meant P.pages space.old) root own free list →
+    ensures filled { (own free : Many ℕ) (list : Many Pair) → TreeStands (meant P.pages space.old) root own free list →
         OnOk result (KeepsFilled (meant P.pages space.old) (meant P.pages space.new) root) }
     ensures base { P.pages space.new.base ≡ P.pages space.old.base }
     ensures excused { IsExcused result (P.losses space.old.base) (P.losses space.new.base) }
@@ -117,12 +117,12 @@ fn take_here<P: PageSource>(
     genid: u64,
     row: &Row,
 ) -> Result<(), PageFault>
-    ensures taken { (own free : Many ℕ) (list : Many Pair) → Stands (meant P.pages space.old) root own free list →
+    ensures taken { (own free : Many ℕ) (list : Many Pair) → TreeStands (meant P.pages space.old) root own free list →
         OnOk result (Becomes (meant P.pages space.old) (meant P.pages space.new) root own free
         (removed (option_copied key.entry) (born_if is_here genid row.now) list)) }
     ensures freed { OnOk result (TakesPairs (meant P.pages space.old) (meant P.pages space.new) root
         (option_copied key.entry) (born_if is_here genid row.now)) }
-    ensures filled { (own free : Many ℕ) (list : Many Pair) → Stands (meant P.pages space.old) root own free list →
+    ensures filled { (own free : Many ℕ) (list : Many Pair) → TreeStands (meant P.pages space.old) root own free list →
         OnOk result (KeepsFilled (meant P.pages space.old) (meant P.pages space.new) root) }
     ensures base { P.pages space.new.base ≡ P.pages space.old.base }
     ensures excused { IsExcused result (P.losses space.old.base) (P.losses space.new.base) }
@@ -143,12 +143,12 @@ fn take_version<P: PageSource>(
     genid: u64,
     row: &Row,
 ) -> Result<(), PageFault>
-    ensures taken { (own free : Many ℕ) (list : Many Pair) → Stands (meant P.pages space.old) root own free list →
+    ensures taken { (own free : Many ℕ) (list : Many Pair) → TreeStands (meant P.pages space.old) root own free list →
         OnOk result (Becomes (meant P.pages space.old) (meant P.pages space.new) root own free
         (removed (option_copied key.entry) (version genid row.now ∷ []) list)) }
     ensures freed { OnOk result (TakesPairs (meant P.pages space.old) (meant P.pages space.new) root
         (option_copied key.entry) (version genid row.now ∷ [])) }
-    ensures filled { (own free : Many ℕ) (list : Many Pair) → Stands (meant P.pages space.old) root own free list →
+    ensures filled { (own free : Many ℕ) (list : Many Pair) → TreeStands (meant P.pages space.old) root own free list →
         OnOk result (KeepsFilled (meant P.pages space.old) (meant P.pages space.new) root) }
     ensures base { P.pages space.new.base ≡ P.pages space.old.base }
     ensures excused { IsExcused result (P.losses space.old.base) (P.losses space.new.base) }

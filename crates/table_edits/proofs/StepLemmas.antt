@@ -5,7 +5,7 @@ use Rattle.std.specs.List.{slice_get, slice_set, list_any}
 use Rattle.page_store.specs.Image.{Image}
 use Rattle.btree_index.specs.Filled.{KeepsFilled}
 use Rattle.btree_index.proofs.FilledLemmas.{filled_none}
-use Rattle.btree_index.specs.Changes.{Stands as StandsAlone, Changes, LosesNone, Becomes}
+use Rattle.btree_index.specs.Changes.{TreeStands, Changes, LosesNone, Becomes}
 use Rattle.btree_index.specs.declared.inserts.InsertFault.{InsertFault}
 use Rattle.btree_index.specs.declared.inserts.InsertFault.TheVariants.{Duplicate, Gone, NoMemory}
 use Rattle.btree_index.proofs.StandLemmas.{changes_none, changes_after, loses_none, loses_after}
@@ -36,7 +36,7 @@ use Rattle.table_edits.proofs.StateLemmas.{versions_at}
 pub record Laws : Type 0 where
   pub stands : (pages : ℕ → Image) (root at : ℕ) (owns : List (List ℕ)) (free own : List ℕ)
       (lists : List (List Pair)) (list : List Pair) → Forest pages root owns free lists →
-      slice_get owns at ≡ Some own → slice_get lists at ≡ Some list → StandsAlone pages (root + at) own free list
+      slice_get owns at ≡ Some own → slice_get lists at ≡ Some list → TreeStands pages (root + at) own free list
   pub keeps : (old new : ℕ → Image) (root at : ℕ) (owns : List (List ℕ)) (free own : List ℕ)
       (lists : List (List Pair)) (list after : List Pair) → Forest old root owns free lists →
       slice_get owns at ≡ Some own → slice_get lists at ≡ Some list →
@@ -89,7 +89,7 @@ record IsNext (pages : ℕ → Image) (rows : Rows) (p : Planned) (left : List P
   list_at : slice_get (before ++ behind) (length before) ≡ Some list
   lists : Lists p.key (versions_of rows p.table) list
   same : AreLists rows left rest
-  alone : StandsAlone pages root own free list
+  alone : TreeStands pages root own free list
 
 next_from : Laws → (pages : ℕ → Image) (rows : Rows) (p : Planned) (left : List Planned) (owns : List (List ℕ)) (free : List ℕ)
     (before behind : List (List Pair)) (root : ℕ) → root ≡ 1 + length before → Forest pages 1 owns free (before ++ behind) → AreLists rows (p ∷ left) behind
@@ -110,7 +110,7 @@ next_from laws pages rows p left owns free before (list ∷ rest) root r f h =
       list_at = there;
       lists = h.0;
       same = h.1;
-      alone = subst (λ (n : ℕ). StandsAlone pages n found.0 free list) (sym r) (laws.stands pages 1 (length before) owns free found.0 (before ++ list ∷ rest) list f found.1 there);
+      alone = subst (λ (n : ℕ). TreeStands pages n found.0 free list) (sym r) (laws.stands pages 1 (length before) owns free found.0 (before ++ list ∷ rest) list f found.1 there);
     }
 
 next_tree : Laws → (start : Store) (pages : ℕ → Image) (rows : Rows) (ops : List RowOp) (plan : List Planned) (next root : ℕ) (p : Planned) (left : List Planned)
@@ -120,7 +120,7 @@ next_tree laws start pages rows ops plan next root p left h =
     let is : root ≡ 1 + length h.done = h.root_is in
     next_from laws pages rows p left h.owns h.free h.before h.behind root (omega (arith, is, long)) h.forest h.same
 
-tree_of : (pages : ℕ → Image) (root : ℕ) (own free : List ℕ) (list : List Pair) → StandsAlone pages root own free list → IsTree pages root own list
+tree_of : (pages : ℕ → Image) (root : ℕ) (own free : List ℕ) (list : List Pair) → TreeStands pages root own free list → IsTree pages root own list
 tree_of pages root own free list s = record { height = s.height; cells = s.cells; holds = s.holds; own_is = s.own_is; pairs = s.pairs }
 
 -- what the pages are after it
@@ -184,10 +184,10 @@ became laws old new root owns free own before behind rest list after plan ops p 
 
 pub stepped : Laws → (start : Store) (old new : ℕ → Image) (rows : Rows) (ops : List RowOp) (plan : List Planned) (next root later : ℕ) (p : Planned) (left : List Planned)
     → later ≡ root + 1 → p.table < length rows.tables → list_any (names p.table) ops ≡ true → IsHalfway start old rows ops plan next root (p ∷ left) → (result : Result (Unit {0}) InsertFault)
-    → ((own free : List ℕ) (list : List Pair) → StandsAlone old root own free list
+    → ((own free : List ℕ) (list : List Pair) → TreeStands old root own free list
     → IsPut old new root own free (put_all p.key (born p.table next ops) (removed p.key (gone p.table ops) list)) result)
     → OnOk result (TakesThenPuts old new root p.key (gone p.table ops) (born p.table next ops))
-    → ((own free : List ℕ) (list : List Pair) → StandsAlone old root own free list → OnOk result (KeepsFilled old new root))
+    → ((own free : List ℕ) (list : List Pair) → TreeStands old root own free list → OnOk result (KeepsFilled old new root))
     → TellsOne result (IsHalfway start new rows ops plan next later left) (breaks_in p.key (versions_of (apply_all rows ops) p.table))
 stepped laws start old new rows ops plan next root later p left e known named h result put freed filled =
     go (put_all p.key (born p.table next ops) (removed p.key (gone p.table ops) n.list)) refl result (put n.own h.free n.list n.alone) freed

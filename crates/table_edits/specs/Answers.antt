@@ -31,11 +31,11 @@ TellsOne (Err tree.Gone) Done broken = Unit {0}
 TellsOne (Err tree.NoMemory) Done broken = Unit {0}
 
 -- each answer against the counts of losses before and after the call, which never fall: `Gone` comes only where they rose
-abbrev pub IsExcused : {T : Type 0} → Result T OpsFault → ℕ → ℕ → Type 0
-IsExcused (Ok x) before now = before ≤ now
-IsExcused (Err (Duplicate table key)) before now = before ≤ now
-IsExcused (Err Gone) before now = (before ≤ now) × Rose before now
-IsExcused (Err NoMemory) before now = before ≤ now
+abbrev pub AreOpsExcused : {T : Type 0} → Result T OpsFault → ℕ → ℕ → Type 0
+AreOpsExcused (Ok x) before now = before ≤ now
+AreOpsExcused (Err (Duplicate table key)) before now = before ≤ now
+AreOpsExcused (Err Gone) before now = (before ≤ now) × Rose before now
+AreOpsExcused (Err NoMemory) before now = before ≤ now
 
 -- the next genid is below 2^62, and so is the number of pages where it was
 pub record AreWithin (old new : ℕ → Image) : Type 0 where

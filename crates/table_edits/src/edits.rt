@@ -5,7 +5,7 @@ ghost use Rattle.page_workspace.specs.Drafts.{meant, edited_by, AreFit};
 ghost use Rattle.page_workspace.specs.Spare.{next_genid};
 ghost use Rattle.cdb_values.specs.Rows.{Rows, apply_all};
 ghost use Rattle.table_store.specs.Stored.{Stands};
-ghost use Rattle.table_edits.specs.Answers.{Tells, TellsBroken, IsExcused, AreWithin};
+ghost use Rattle.table_edits.specs.Answers.{Tells, TellsBroken, AreOpsExcused, AreWithin};
 ghost use Rattle.table_edits.specs.Broken.{broken_place};
 ghost use Rattle.table_edits.specs.Fits.{WritesFitting, AreAllDoable};
 ghost use Rattle.table_edits.specs.Freed.{FreesLeaves};
@@ -47,7 +47,7 @@ pub fn ops_to_edits<P: PageSource + Drop>(
         schema.now rows ops.now stands) }
     ensures freed { (rows : Rows) → Stands (P.pages pages) schema.now rows → AreAllDoable rows ops.now →
         IfOk result (λ edits. FreesLeaves (P.pages pages) (edited_by edits.items (P.pages pages)) schema.now ops.now) }
-    ensures excused { (later : P) × (P.pages later ≡ P.pages pages) × IsExcused result (P.losses pages) (P.losses later) }
+    ensures excused { (later : P) × (P.pages later ≡ P.pages pages) × AreOpsExcused result (P.losses pages) (P.losses later) }
 {
     let mut space = Workspace::new(alloc, pages);
     match change_rows(alloc, &mut space, schema, ops) {
@@ -77,7 +77,7 @@ pub fn change_rows<P: PageSource>(
     ensures freed { (rows : Rows) → Stands (meant P.pages space.old) schema.now rows → AreAllDoable rows ops.now →
         OnOk result (FreesLeaves (meant P.pages space.old) (meant P.pages space.new) schema.now ops.now) }
     ensures base { P.pages space.new.base ≡ P.pages space.old.base }
-    ensures excused { IsExcused result (P.losses space.old.base) (P.losses space.new.base) }
+    ensures excused { AreOpsExcused result (P.losses space.old.base) (P.losses space.new.base) }
 {
     match read_next(space) {
         Ok(next) => change_from(alloc, space, schema, next, ops),
@@ -102,7 +102,7 @@ fn change_from<P: PageSource>(
         × FreesLeaves (meant P.pages space.old) (meant P.pages space.new) schema.now ops.now)
         (broken_place (apply_all rows ops.now) 0 schema.now) }
     ensures base { P.pages space.new.base ≡ P.pages space.old.base }
-    ensures excused { IsExcused result (P.losses space.old.base) (P.losses space.new.base) }
+    ensures excused { AreOpsExcused result (P.losses space.old.base) (P.losses space.new.base) }
 {
     let Some(last) = next_behind(next, ops) else {
         return Err(OpsFault::NoMemory);
@@ -121,7 +121,7 @@ fn tell_genid<P: PageSource>(
 ) -> Result<(), OpsFault>
     ensures set { Tells result (λ _. SetsGenid (meant P.pages space.old) (meant P.pages space.new) genid) None }
     ensures base { P.pages space.new.base ≡ P.pages space.old.base }
-    ensures excused { IsExcused result (P.losses space.old.base) (P.losses space.new.base) }
+    ensures excused { AreOpsExcused result (P.losses space.old.base) (P.losses space.new.base) }
 {
     match set_genid(alloc, space, genid) {
         Ok(()) => Ok(()),

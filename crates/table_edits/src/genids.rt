@@ -1,7 +1,7 @@
 //! The next genid: read from the meta page, raised by operations, and written to the meta page.
 ghost use Rattle.std.specs.Prelude.{ℕ, ◌≡◌, ◌+◌, ◌<◌, ◌^◌, IfOk, IfSome, IsSome, OnOk, length};
 ghost use Rattle.page_store.specs.Sources.{IsExcused};
-ghost use Rattle.page_workspace.specs.Drafts.{meant, IsExcused as IsEditExcused};
+ghost use Rattle.page_workspace.specs.Drafts.{meant, IsEditExcused};
 ghost use Rattle.page_workspace.specs.Spare.{next_genid};
 ghost use Rattle.table_changes.specs.Changed.{next_of, next_by};
 ghost use Rattle.table_edits.specs.Genids.{next_after, SetsGenid};

@@ -8,7 +8,7 @@ ghost use Rattle.cdb_values.specs.Rows.{Rows, versions_of, apply_all};
 ghost use Rattle.table_store.specs.Operations.{born, breaks_in};
 ghost use Rattle.table_store.specs.Plans.{Planned, key_trees, plan_from};
 ghost use Rattle.table_changes.specs.Changed.{IsPuttable};
-ghost use Rattle.table_edits.specs.Answers.{Tells, TellsOne, IsExcused};
+ghost use Rattle.table_edits.specs.Answers.{Tells, TellsOne, AreOpsExcused};
 ghost use Rattle.table_edits.specs.Broken.{broken_from, broken_place, or_later};
 ghost use Rattle.table_edits.specs.Fits.{WritesFitting, names as names_of};
 ghost use Rattle.table_edits.specs.Halfway.{planned, IsHalfway};
@@ -39,7 +39,7 @@ pub(crate) fn change_tables<P: PageSource>(
         Tells result (λ _. (root : ℕ) × IsHalfway start (meant P.pages space.new) rows ops.now (plan_from 0 schema.now) next root [])
         (broken_place (apply_all rows ops.now) 0 schema.now) }
     ensures base { P.pages space.new.base ≡ P.pages space.old.base }
-    ensures excused { IsExcused result (P.losses space.old.base) (P.losses space.new.base) }
+    ensures excused { AreOpsExcused result (P.losses space.old.base) (P.losses space.new.base) }
 {
     let count = schema.tables().len();
     if count > MOST_TABLES {
@@ -78,7 +78,7 @@ fn change_table<P: PageSource>(
         (or_later place (broken_from 0 (versions_of (apply_all rows ops.now) place) keys.now) None) }
     ensures behind { IfOk result (λ behind. behind ≡ root + 1 + length keys.now) }
     ensures base { P.pages space.new.base ≡ P.pages space.old.base }
-    ensures excused { IsExcused result (P.losses space.old.base) (P.losses space.new.base) }
+    ensures excused { AreOpsExcused result (P.losses space.old.base) (P.losses space.new.base) }
 {
     if !is_named(place, ops) {
         // laws, which run nothing: such a tree lists the state after as it lists the state before
@@ -125,7 +125,7 @@ fn change_rows_tree<P: PageSource>(
         IsHalfway start (meant P.pages space.old) rows ops.now plan next root (planned place None ∷ left) →
         Tells result (λ _. IsHalfway start (meant P.pages space.new) rows ops.now plan next (root + 1) left) None }
     ensures base { P.pages space.new.base ≡ P.pages space.old.base }
-    ensures excused { IsExcused result (P.losses space.old.base) (P.losses space.new.base) }
+    ensures excused { AreOpsExcused result (P.losses space.old.base) (P.losses space.new.base) }
 {
     match change_one(alloc, space, None, place, root, next, ops) {
         Ok(()) => Ok(()),
@@ -157,7 +157,7 @@ fn change_keys<P: PageSource>(
         (or_later place (broken_from 0 (versions_of (apply_all rows ops.now) place) keys.now) None) }
     ensures behind { IfOk result (λ behind. behind ≡ root + length keys.now) }
     ensures base { P.pages space.new.base ≡ P.pages space.old.base }
-    ensures excused { IsExcused result (P.losses space.old.base) (P.losses space.new.base) }
+    ensures excused { AreOpsExcused result (P.losses space.old.base) (P.losses space.new.base) }
 {
     let mut at = 0u8;
     let mut rest = keys;
@@ -192,7 +192,7 @@ fn change_key<P: PageSource>(
         Tells result (λ _. IsHalfway start (meant P.pages space.new) rows ops.now plan next (root + 1) left)
         (or_later place (broken_from at (versions_of (apply_all rows ops.now) place) (key.now ∷ [])) None) }
     ensures base { P.pages space.new.base ≡ P.pages space.old.base }
-    ensures excused { IsExcused result (P.losses space.old.base) (P.losses space.new.base) }
+    ensures excused { AreOpsExcused result (P.losses space.old.base) (P.losses space.new.base) }
 {
     match change_one(alloc, space, Some(key), place, root, next, ops) {
         Ok(()) => Ok(()),

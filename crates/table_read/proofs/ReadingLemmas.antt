@@ -1,7 +1,7 @@
 -- The tokens of a text are those that the function cuts, and its definition is the one that they spell.
 use Rattle.std.proofs.Common.{◌≡◌, ℕ, zero, suc, ◌+◌, ◌<◌, ◌≤◌, false, List, [], ◌∷◌, ◌++◌, length, map, drop, Option, Some, None, if◌then◌else◌, refl, sym, ◌∙◌, ap, subst, arith, inl, inr, length-append}
 use Rattle.std.proofs.Math.Seq.{drop-append_seam}
-use Rattle.grammar_forms.specs.Forms.{Outcome, Read, Refused, only}
+use Rattle.grammar_forms.specs.Forms.{ReadOutcome, Read, Refused, only}
 use Rattle.grammar_forms.proofs.Verdicts.{is_read, was_spelled}
 use Rattle.sql_tokens.specs.Letters.{is_blank}
 use Rattle.sql_tokens.specs.Spot.{Spot, spot, token_of}
@@ -70,12 +70,12 @@ has_tokens text = let l : length text ≤ length text = omega arith in has_token
 tokens_are : (text : List ℕ) (ss : List Spot) → Tokens 0 text ss → map token_of ss ≡ tokens_of text
 tokens_are text ss are = let h : HasTokens 0 text (tokens_of text) = has_tokens text in ap (map token_of) (one_list 0 text ss h.spots are h.are) ∙ h.same
 
-all_read : {T A : Type 0} (o : Outcome T A) (x : A) → all_of o ≡ Some x → only o ≡ Read x []
+all_read : {T A : Type 0} (o : ReadOutcome T A) (x : A) → all_of o ≡ Some x → only o ≡ Read x []
 all_read (Read y []) x e = let h : y ≡ x = cc in ap (λ z. Read z []) h
 all_read (Read y (t ∷ ts)) x e = cc
 all_read (Refused ts) x e = cc
 
-read_all : {T A : Type 0} (o : Outcome T A) (x : A) → only o ≡ Read x [] → all_of o ≡ Some x
+read_all : {T A : Type 0} (o : ReadOutcome T A) (x : A) → only o ≡ Read x [] → all_of o ≡ Some x
 read_all (Read y []) x e = let h : y ≡ x = cc in ap (λ z. Some z) h
 read_all (Read y (t ∷ ts)) x e = cc
 read_all (Refused ts) x e = cc

@@ -14,9 +14,9 @@ Stops stops.Unlawful answer = answer ≡ Err Unlawful
 Stops stops.Limit answer = answer ≡ Err Limit
 Stops stops.NoMemory answer = Unit {0}
 
-abbrev pub Answers : Result TableDef TableStop → Result TableDef TableFault → Type 0
-Answers (Ok table) answer = answer ≡ Ok table
-Answers (Err stop) answer = Stops stop answer
+abbrev pub AnswersDefinition : Result TableDef TableStop → Result TableDef TableFault → Type 0
+AnswersDefinition (Ok table) answer = answer ≡ Ok table
+AnswersDefinition (Err stop) answer = Stops stop answer
 
 -- the same of the definition that a text spells
 abbrev pub StopsReading : TableStop → Option Definition → Type 0

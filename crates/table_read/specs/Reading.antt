@@ -2,7 +2,7 @@
 -- passed over, and each token goes as far as its own rule says; where no token begins, the last one is `Unknown`. All the
 -- tokens have to be a definition.
 use Rattle.std.specs.Prelude.{ℕ, zero, suc, List, [], ◌∷◌, length, drop, Option, Some, None, if◌then◌else◌}
-use Rattle.grammar_forms.specs.Forms.{Outcome, Read, Refused}
+use Rattle.grammar_forms.specs.Forms.{ReadOutcome, Read, Refused}
 use Rattle.sql_tokens.specs.Letters.{is_blank}
 use Rattle.sql_tokens.specs.Reading.{next}
 use Rattle.sql_tokens.specs.declared.kinds.Token.{Token}
@@ -30,7 +30,7 @@ abbrev pub tokens_of : List ℕ → List Token
 tokens_of text = tokens_within (length text) text
 
 -- what was read, where no token is left
-abbrev pub all_of : {T A : Type 0} → Outcome T A → Option A
+abbrev pub all_of : {T A : Type 0} → ReadOutcome T A → Option A
 all_of (Read x []) = Some x
 all_of (Read x (t ∷ ts)) = None
 all_of (Refused ts) = None

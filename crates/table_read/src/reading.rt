@@ -5,7 +5,7 @@ ghost use Rattle.sql_grammar.specs.Views.{definition_in};
 ghost use Rattle.table_read.specs.Reading.{definition_of};
 ghost use Rattle.table_read.specs.Tables.{table_said};
 ghost use Rattle.table_read.specs.Verdict.{judged, table_of};
-ghost use Rattle.table_read.specs.Answers.{Answers, Reads};
+ghost use Rattle.table_read.specs.Answers.{AnswersDefinition, Reads};
 
 use crate::columns::columns;
 use crate::keys::written_keys;
@@ -37,7 +37,7 @@ pub enum TableStop {
 #[tactic(auto, unfolding(crate::specs::Verdict::table_of))]
 pub fn read_table(alloc: Global, text: &str, schema: &mut Schema) -> Result<TableDef, TableStop>
     requires { length text.now < 2 ^ 32 }
-    ensures gives { Answers result (table_of schema.old text.now) }
+    ensures gives { AnswersDefinition result (table_of schema.old text.now) }
     ensures added { IfOk result (λ table. schema.new ≡ schema.old ++ table ∷ []) }
     ensures unchanged { OnErr result (schema.new ≡ schema.old) }
 {
@@ -75,7 +75,7 @@ fn table(alloc: Global, definition: &CreateTable) -> Result<TableDef, AllocError
 
 /// Adds a table as the last one, and gives a copy of it.
 fn add(schema: &mut Schema, table: TableDef) -> Result<TableDef, TableStop>
-    ensures gives { Answers result (judged schema.old table) }
+    ensures gives { AnswersDefinition result (judged schema.old table) }
     ensures added { IfOk result (λ copy. schema.new ≡ schema.old ++ copy ∷ []) }
     ensures unchanged { OnErr result (schema.new ≡ schema.old) }
 {

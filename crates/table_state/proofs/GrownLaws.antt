@@ -3,7 +3,7 @@ use Rattle.std.proofs.Common.{◌≡◌, ◌⊎◌, inl, inr, ℕ, zero, suc, �
 use Rattle.std.specs.List.{AllByRecursion}
 use Rattle.page_store.specs.Image.{Image}
 use Rattle.page_workspace.specs.Spare.{IsIn, AreApart, IsChain, first_free, count_of}
-use Rattle.btree_index.specs.Trees.{top, pages_of, leaves}
+use Rattle.btree_index.specs.Trees.{top, tree_pages, leaves}
 use Rattle.table_state.specs.Listed.{Climb, AllClimb}
 use Rattle.table_state.proofs.ClimbLaws.{cells_climb}
 use Rattle.btree_index.proofs.ApartLaws.{in_left, in_right, in_either, apart_left, apart_right, apart_cross, apart_join}
@@ -49,7 +49,7 @@ same_own : (pages : ℕ → Image) (root limit : ℕ) (t : Walked) (own : List �
     → own ≡ own_of t
 same_own pages root limit t own list w tree =
     let same : tree.height ≡ w.0 = one_height pages tree.height w.0 (record { low = []; page = root }) [] tree.holds.shaped w.1.shaped in
-    sym tree.own_is ∙ ap (λ (h : ℕ). pages_of pages h (top root)) same ∙ sym w.2
+    sym tree.own_is ∙ ap (λ (h : ℕ). tree_pages pages h (top root)) same ∙ sym w.2
 
 pub same_owns : (pages : ℕ → Image) (root limit : ℕ) (trees : List Walked) (owns : List (List ℕ)) (lists : List (List Pair)) → AreWalked pages root limit trees
     → AreTrees pages root owns lists → length trees ≡ length lists → owns ≡ owns_of trees

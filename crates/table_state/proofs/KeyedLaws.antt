@@ -4,7 +4,7 @@ use Rattle.std.specs.Bool.{Decides}
 use Rattle.std.proofs.lemmas.Bool.{false≢true}
 use Rattle.std.specs.List.{AllByRecursion}
 use Rattle.btree_index.specs.Keys.{Key, before}
-use Rattle.btree_index.specs.Cells.{key_of}
+use Rattle.btree_index.specs.Cells.{key_of_cell}
 use Rattle.btree_index.specs.Trees.{pair_of}
 use Rattle.std.specs.List.Sorted.{IsPartitionPoint, IsPartitionedBy}
 use Rattle.std.specs.Result.{IfOk}
@@ -126,14 +126,14 @@ pairs_differ key (v ∷ vs) next small h = (λ i. clash (pair_some key (pair_of_
         (pair_tells key v m.found (below v h.0) (below m.found (rise_below m.found vs next h.2 m.among)) m.is)
 
 -- those of climbing cells differ
-behind_cell : (key : Key) (cells : List (List ℕ)) (q : Pair) → AllByRecursion (λ d. before key (key_of d) ≡ true) cells → IsAmong q (map pair_of cells) → before key q.0 ≡ true
+behind_cell : (key : Key) (cells : List (List ℕ)) (q : Pair) → AllByRecursion (λ d. before key (key_of_cell d) ≡ true) cells → IsAmong q (map pair_of cells) → before key q.0 ≡ true
 behind_cell key [] q h i = absurd i
 behind_cell key (c ∷ cs) q h (inl e) = ap (λ (p : Pair). before key p.0) e ∙ h.0
 behind_cell key (c ∷ cs) q h (inr i) = behind_cell key cs q h.1 i
 
 cells_differ : (cells : List (List ℕ)) → Climb cells → Differ (map pair_of cells)
 cells_differ [] h = tt
-cells_differ (c ∷ cs) h = (λ i. false≢true (sym (irreflexive (key_of c)) ∙ behind_cell (key_of c) cs (pair_of c) h.0 i), cells_differ cs h.1)
+cells_differ (c ∷ cs) h = (λ i. false≢true (sym (irreflexive (key_of_cell c)) ∙ behind_cell (key_of_cell c) cs (pair_of c) h.0 i), cells_differ cs h.1)
 
 -- as many pairs, and one for each version
 pub listed_all : (key : Option KeyDef) (cells : List (List ℕ)) (vs : List Version) (next : ℕ) → next < 2 ^ 62 → Rise vs next → length cells ≡ length vs
@@ -179,7 +179,7 @@ listed_long key cells vs next small rise climb h =
     long (c ∷ cs) = ap (λ (n : ℕ). suc n) (long cs)
 
 -- a pair is among cells exactly where the first cell from its place on has it
-not_in_front : (key : Key) (value : List ℕ) (cells : List (List ℕ)) → AllByRecursion (λ c. before (key_of c) key ≡ true) cells → IsAmong (key, value) (map pair_of cells) → ⊥
+not_in_front : (key : Key) (value : List ℕ) (cells : List (List ℕ)) → AllByRecursion (λ c. before (key_of_cell c) key ≡ true) cells → IsAmong (key, value) (map pair_of cells) → ⊥
 not_in_front key value [] h i = absurd i
 not_in_front key value (c ∷ cs) h (inl e) =
     false≢true (sym (irreflexive key) ∙ ap (λ (p : Pair). before p.0 key) e ∙ h.0)
@@ -209,10 +209,10 @@ pub from_back : (cells : List (List ℕ)) (key : Key) (value : List ℕ) (place 
 from_back cells key value place i =
     subst (λ (l : List Pair). IsAmong (key, value) l) (sym (map_split place cells)) (among_right (key, value) (map pair_of (take place cells)) (map pair_of (drop place cells)) i)
 
-is_first : (key : Key) (value : List ℕ) (c : List ℕ) (cs : List (List ℕ)) → Climb (c ∷ cs) → before (key_of c) key ≡ false → IsAmong (key, value) (map pair_of (c ∷ cs))
+is_first : (key : Key) (value : List ℕ) (c : List ℕ) (cs : List (List ℕ)) → Climb (c ∷ cs) → before (key_of_cell c) key ≡ false → IsAmong (key, value) (map pair_of (c ∷ cs))
     → (key, value) ≡ pair_of c
 is_first key value c cs climb late (inl e) = e
-is_first key value c cs climb late (inr i) = absurd (false≢true (sym late ∙ behind_cell (key_of c) cs (key, value) climb.0 i))
+is_first key value c cs climb late (inr i) = absurd (false≢true (sym late ∙ behind_cell (key_of_cell c) cs (key, value) climb.0 i))
 
 pub none_found : (cells rest : List (List ℕ)) (key : Key) (value : List ℕ) (place : ℕ) → IsPlaceOf cells key place → rest ≡ drop place cells → rest ≡ []
     → Decides false (IsAmong (key, value) (map pair_of cells))
@@ -224,7 +224,7 @@ pub first_found : (cells rest others : List (List ℕ)) (c : List ℕ) (key : Ke
 first_found cells rest others c key value place t climb h e f d = (
   λ k. from_back cells key value place (subst (λ (l : List (List ℕ)). IsAmong (key, value) (map pair_of l)) (sym is) (inl (d.0 k))),
   λ i. d.1 (is_first key value c others (subst Climb is (climb_drop place cells climb))
-      (subst (λ (l : List (List ℕ)). AllByRecursion (λ x. before (key_of x) key ≡ false) l) is h.back).0
+      (subst (λ (l : List (List ℕ)). AllByRecursion (λ x. before (key_of_cell x) key ≡ false) l) is h.back).0
       (subst (λ (l : List (List ℕ)). IsAmong (key, value) (map pair_of l)) is (in_back cells key value place h i))),
 )
   where
@@ -244,21 +244,21 @@ like_lists key cells vs next (Ok t) small rise e d = (λ k. listed_all key cells
 like_lists key cells vs next (Err f) small rise e d = tt
 
 -- the cells before a place, and those from there on
-front_all : (cells : List (List ℕ)) (key : Key) (place : ℕ) → place ≤ length cells → ((k : ℕ) (d : List ℕ) → k < place → before (key_of (get_or cells k d)) key ≡ true)
-    → AllByRecursion (λ c. before (key_of c) key ≡ true) (take place cells)
+front_all : (cells : List (List ℕ)) (key : Key) (place : ℕ) → place ≤ length cells → ((k : ℕ) (d : List ℕ) → k < place → before (key_of_cell (get_or cells k d)) key ≡ true)
+    → AllByRecursion (λ c. before (key_of_cell c) key ≡ true) (take place cells)
 front_all cells key zero within h = tt
 front_all [] key (suc place) within h = tt
 front_all (c ∷ cs) key (suc place) within h = (h 0 [] (omega arith), front_all cs key place (omega (arith, within)) (λ k d less. h (suc k) d (omega (arith, less))))
 
-back_all : (cells : List (List ℕ)) (key : Key) (place : ℕ) → ((k : ℕ) (d : List ℕ) → place ≤ k → k < length cells → before (key_of (get_or cells k d)) key ≡ false)
-    → AllByRecursion (λ c. before (key_of c) key ≡ false) (drop place cells)
+back_all : (cells : List (List ℕ)) (key : Key) (place : ℕ) → ((k : ℕ) (d : List ℕ) → place ≤ k → k < length cells → before (key_of_cell (get_or cells k d)) key ≡ false)
+    → AllByRecursion (λ c. before (key_of_cell c) key ≡ false) (drop place cells)
 back_all [] key zero h = tt
 back_all [] key (suc place) h = tt
 back_all (c ∷ cs) key zero h = (h 0 [] (omega arith) (omega arith), back_all cs key zero (λ k d late less. h (suc k) d (omega arith) (omega (arith, less))))
 back_all (c ∷ cs) key (suc place) h = back_all cs key place (λ k d late less. h (suc k) d (omega (arith, late)) (omega (arith, less)))
 
 pub place_there : (cells : List (List ℕ)) (key : Key) (place : ℕ) → place ≤ length cells
-    → IsPartitionPoint (λ c. before (key_of c) key ≡ true) (λ c. before (key_of c) key ≡ false) cells place → IsPlaceOf cells key place
+    → IsPartitionPoint (λ c. before (key_of_cell c) key ≡ true) (λ c. before (key_of_cell c) key ≡ false) cells place → IsPlaceOf cells key place
 place_there cells key place within h = record {
   within = within;
   front = front_all cells key place within (λ k d less. h.0 k d (omega arith) less);
@@ -274,14 +274,14 @@ all_at P (c ∷ cs) zero d less a = a.0
 all_at P (c ∷ cs) (suc k) d less a = all_at P cs k d (omega (arith, less)) a.1
 
 -- climbing cells split at every key
-pub cells_split : (cells : List (List ℕ)) (key : Key) → Climb cells → IsPartitionedBy (λ c. before (key_of c) key) cells
+pub cells_split : (cells : List (List ℕ)) (key : Key) → Climb cells → IsPartitionedBy (λ c. before (key_of_cell c) key) cells
 cells_split [] key climb i j d less within h = absurd (none j within)
   where
     none : (n : ℕ) → n < 0 → ⊥
     none n h = omega arith
 cells_split (c ∷ cs) key climb zero zero d less within h = h
 cells_split (c ∷ cs) key climb zero (suc j) d less within h =
-    before_before (key_of c) (key_of (get_or cs j d)) key (all_at (λ (x : List ℕ). before (key_of c) (key_of x) ≡ true) cs j d (omega (arith, within)) climb.0) h
+    before_before (key_of_cell c) (key_of_cell (get_or cs j d)) key (all_at (λ (x : List ℕ). before (key_of_cell c) (key_of_cell x) ≡ true) cs j d (omega (arith, within)) climb.0) h
 cells_split (c ∷ cs) key climb (suc i) zero d less within h = absurd (none i less)
   where
     none : (n : ℕ) → suc n ≤ 0 → ⊥

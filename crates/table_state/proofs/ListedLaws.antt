@@ -3,7 +3,7 @@ use Rattle.std.proofs.Common.{◌≡◌, ℕ, suc, ◌+◌, ◌^◌, ◌≤◌, 
 use Rattle.byteorder.specs.Endian.{big_bytes}
 use Rattle.byteorder.specs.Numbers.{length-bytes_high_first}
 use Rattle.btree_index.specs.Trees.{pair_of}
-use Rattle.btree_index.specs.Cells.{key_of, value_of}
+use Rattle.btree_index.specs.Cells.{key_of_cell, value_of_cell}
 use Rattle.cdb_values.specs.Good.{FitsTable}
 use Rattle.cdb_values.specs.declared.rows.Version.{Version}
 use Rattle.cdb_values.specs.declared.tables.TableDef.{TableDef}
@@ -114,38 +114,38 @@ pub read_begins : (table : TableDef) (next : ℕ) (cells : List (List ℕ)) (all
 read_begins table next cells all h = record { left = all; whole = refl; cells_are = h }
 
 -- one cell
-pub cell_there : (table : TableDef) (least next genid : ℕ) (row : List Value) (cell : List ℕ) → big_bytes 8 genid ≡ key_of cell
-    → Decodes row_value IsRowValue (Some row) (value_of cell) → least ≤ genid → genid < next → FitsTable table row
+pub cell_there : (table : TableDef) (least next genid : ℕ) (row : List Value) (cell : List ℕ) → big_bytes 8 genid ≡ key_of_cell cell
+    → Decodes row_value IsRowValue (Some row) (value_of_cell cell) → least ≤ genid → genid < next → FitsTable table row
     → IsCellOf table least next cell (record { genid = genid; row = row })
 cell_there table least next genid row cell key value from below fits = record {
   fitting = record { from = from; below = below; coded = value.0; fits = fits };
-  pair = ap (λ (k : List ℕ). (k, value_of cell)) (sym key) ∙ ap (λ (l : List ℕ). (big_bytes 8 genid, l)) (sym value.1);
+  pair = ap (λ (k : List ℕ). (k, value_of_cell cell)) (sym key) ∙ ap (λ (l : List ℕ). (big_bytes 8 genid, l)) (sym value.1);
 }
 
-pub cell_unkeyed : (table : TableDef) (least next : ℕ) (cell : List ℕ) → next < 2 ^ 62 → ((n : ℕ) → n < 2 ^ 64 → key_of cell ≡ big_bytes 8 n → ⊥)
+pub cell_unkeyed : (table : TableDef) (least next : ℕ) (cell : List ℕ) → next < 2 ^ 62 → ((n : ℕ) → n < 2 ^ 64 → key_of_cell cell ≡ big_bytes 8 n → ⊥)
     → (v : Version) → IsCellOf table least next cell v → ⊥
 cell_unkeyed table least next cell small none v h =
     let below : v.genid < next = h.fitting.below in
     none v.genid (omega (arith, below, small)) (ap (λ (p : Pair). p.0) h.pair)
 
 -- the genid of a version is that of its cell
-same_genid : (table : TableDef) (least next genid : ℕ) (cell : List ℕ) (v : Version) → next < 2 ^ 62 → genid < 2 ^ 64 → big_bytes 8 genid ≡ key_of cell
+same_genid : (table : TableDef) (least next genid : ℕ) (cell : List ℕ) (v : Version) → next < 2 ^ 62 → genid < 2 ^ 64 → big_bytes 8 genid ≡ key_of_cell cell
     → IsCellOf table least next cell v → genid ≡ v.genid
 same_genid table least next genid cell v small fits key h =
     let below : v.genid < next = h.fitting.below in
     genid_tells genid v.genid fits (omega (arith, below, small)) (key ∙ ap (λ (p : Pair). p.0) h.pair)
 
-pub cell_outside : (table : TableDef) (least next genid : ℕ) (cell : List ℕ) → next < 2 ^ 62 → genid < 2 ^ 64 → big_bytes 8 genid ≡ key_of cell
+pub cell_outside : (table : TableDef) (least next genid : ℕ) (cell : List ℕ) → next < 2 ^ 62 → genid < 2 ^ 64 → big_bytes 8 genid ≡ key_of_cell cell
     → (least ≤ genid → genid < next → ⊥) → (v : Version) → IsCellOf table least next cell v → ⊥
 cell_outside table least next genid cell small fits key out v h =
     let same = same_genid table least next genid cell v small fits key h in
     out (subst (λ (n : ℕ). least ≤ n) (sym same) h.fitting.from) (subst (λ (n : ℕ). n < next) (sym same) h.fitting.below)
 
-pub cell_uncoded : (table : TableDef) (least next : ℕ) (cell : List ℕ) → Decodes row_value IsRowValue None (value_of cell) → (v : Version)
+pub cell_uncoded : (table : TableDef) (least next : ℕ) (cell : List ℕ) → Decodes row_value IsRowValue None (value_of_cell cell) → (v : Version)
     → IsCellOf table least next cell v → ⊥
 cell_uncoded table least next cell none v h = none v.row h.fitting.coded (sym (ap (λ (p : Pair). p.1) h.pair))
 
-pub cell_unfit : (table : TableDef) (least next : ℕ) (row : List Value) (cell : List ℕ) → Decodes row_value IsRowValue (Some row) (value_of cell)
+pub cell_unfit : (table : TableDef) (least next : ℕ) (row : List Value) (cell : List ℕ) → Decodes row_value IsRowValue (Some row) (value_of_cell cell)
     → (FitsTable table row → ⊥) → (v : Version) → IsCellOf table least next cell v → ⊥
 cell_unfit table least next row cell d unfit v h =
     let same : row ≡ v.row = rows_tell row v.row d.0 h.fitting.coded (d.1 ∙ ap (λ (p : Pair). p.1) h.pair) in

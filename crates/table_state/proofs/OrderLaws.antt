@@ -2,7 +2,7 @@
 use Rattle.std.proofs.Common.{◌≡◌, ℕ, ◌^◌, ◌<◌, true, List, [], ◌∷◌, map, None, sym, subst}
 use Rattle.std.specs.List.{AllByRecursion}
 use Rattle.btree_index.specs.Keys.{before}
-use Rattle.btree_index.specs.Cells.{key_of}
+use Rattle.btree_index.specs.Cells.{key_of_cell}
 use Rattle.btree_index.specs.Trees.{pair_of}
 use Rattle.cdb_values.specs.declared.rows.Version.{Version}
 use Rattle.table_store.specs.Forests.{Pair}
@@ -16,8 +16,8 @@ pairs_rise : (cells : List (List ℕ)) → Climb cells → AreRising (map pair_o
 pairs_rise [] h = tt
 pairs_rise (c ∷ cs) h = (each cs h.0, pairs_rise cs h.1)
   where
-    each : (ds : List (List ℕ)) → AllByRecursion (λ d. before (key_of c) (key_of d) ≡ true) ds
-        → AllByRecursion (λ (q : Pair). before (key_of c) q.0 ≡ true) (map pair_of ds)
+    each : (ds : List (List ℕ)) → AllByRecursion (λ d. before (key_of_cell c) (key_of_cell d) ≡ true) ds
+        → AllByRecursion (λ (q : Pair). before (key_of_cell c) q.0 ≡ true) (map pair_of ds)
     each [] a = tt
     each (d ∷ ds) a = (a.0, each ds a.1)
 

@@ -5,7 +5,7 @@
 use Rattle.std.specs.Prelude.{◌≡◌, ℕ, suc, ◌≤◌, ◌<◌, true, false, List, [], ◌∷◌, map, take, drop, length, None, Some}
 use Rattle.std.specs.List.{AllByRecursion}
 use Rattle.btree_index.specs.Keys.{before}
-use Rattle.btree_index.specs.Cells.{key_of}
+use Rattle.btree_index.specs.Cells.{key_of_cell}
 use Rattle.btree_index.specs.Trees.{pair_of}
 use Rattle.cdb_values.specs.Good.{FitsTable}
 use Rattle.cdb_values.specs.declared.rows.Version.{Version}
@@ -20,7 +20,7 @@ use Rattle.tree_walk.specs.declared.walks.Walked.{Walked}
 -- each cell's key is before those of all later ones
 abbrev pub Climb : List (List ℕ) → Type 0
 Climb [] = Unit {0}
-Climb (c ∷ cs) = AllByRecursion (λ d. before (key_of c) (key_of d) ≡ true) cs × Climb cs
+Climb (c ∷ cs) = AllByRecursion (λ d. before (key_of_cell c) (key_of_cell d) ≡ true) cs × Climb cs
 
 -- a version that may stand in a table, with a genid in these bounds
 pub record IsFitting (table : TableDef) (least next : ℕ) (v : Version) : Type 0 where
@@ -75,5 +75,5 @@ AllClimb (tree ∷ trees) = Climb tree.cells.items × AllClimb trees
 -- a place among cells: those before it have keys before this one, and the first one from there on has not
 pub record IsPlaceOf (cells : List (List ℕ)) (key : List ℕ) (place : ℕ) : Type 0 where
   pub within : place ≤ length cells
-  pub front : AllByRecursion (λ c. before (key_of c) key ≡ true) (take place cells)
-  pub back : AllByRecursion (λ c. before (key_of c) key ≡ false) (drop place cells)
+  pub front : AllByRecursion (λ c. before (key_of_cell c) key ≡ true) (take place cells)
+  pub back : AllByRecursion (λ c. before (key_of_cell c) key ≡ false) (drop place cells)

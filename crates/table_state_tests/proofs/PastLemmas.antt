@@ -2,7 +2,7 @@
 use Rattle.std.proofs.Common.{◌≡◌, ◌⊎◌, inl, inr, ℕ, zero, suc, ◌+◌, ◌≤◌, ◌<◌, List, [], ◌∷◌, ◌++◌, length, refl, subst, arith}
 use Rattle.std.proofs.lemmas.Bool.{cases_lt}
 use Rattle.page_store.specs.Image.{Image, blank_image}
-use Rattle.page_store.specs.Sources.{pages_of}
+use Rattle.page_store.specs.Sources.{listed_pages}
 use Rattle.page_workspace.specs.Spare.{IsIn}
 use Rattle.page_workspace.proofs.InLaws.{in_more, in_end}
 
@@ -15,7 +15,7 @@ one_more limit ns all n l = go (cases_lt n limit)
     go (inr above) = let e : n ≡ limit = omega arith in subst (λ k. IsIn n (ns ++ k ∷ [])) e (in_end n ns)
 
 -- past the end of a list there are blank pages
-past_end : (pages : List Image) (n : ℕ) → length pages ≤ n → pages_of pages n ≡ blank_image
+past_end : (pages : List Image) (n : ℕ) → length pages ≤ n → listed_pages pages n ≡ blank_image
 past_end [] n l = refl
 past_end (p ∷ ps) zero l = absurd (none l)
   where
@@ -25,9 +25,9 @@ past_end (p ∷ ps) (suc n) l = past_end ps n (omega arith)
 
 -- so where the numbers of all pages of a list are told, each other page is blank
 pub blank_beyond : (pages : List Image) (numbers : List ℕ) → ((n : ℕ) → n < length pages → IsIn n numbers)
-    → (n : ℕ) → (IsIn n numbers → ⊥) → pages_of pages n ≡ blank_image
+    → (n : ℕ) → (IsIn n numbers → ⊥) → listed_pages pages n ≡ blank_image
 blank_beyond pages numbers all n none = go (cases_lt n (length pages))
   where
-    go : (n < length pages) ⊎ (length pages ≤ n) → pages_of pages n ≡ blank_image
+    go : (n < length pages) ⊎ (length pages ≤ n) → listed_pages pages n ≡ blank_image
     go (inl below) = absurd (none (all n below))
     go (inr above) = past_end pages n above

@@ -1,7 +1,7 @@
 //! The state for which pages in memory stand.
 ghost use Rattle.std.specs.Prelude.{ℕ, ◌≡◌, ◌<◌, IfOk, MatchOption};
 ghost use Rattle.page_store.specs.Image.{blank_image};
-ghost use Rattle.page_store.specs.Sources.{pages_of};
+ghost use Rattle.page_store.specs.Sources.{listed_pages};
 ghost use Rattle.page_workspace.specs.Spare.{IsIn};
 ghost use Rattle.cdb_values.specs.Rows.{Rows};
 ghost use Rattle.table_state.specs.States.{HasState};
@@ -22,7 +22,7 @@ struct Numbered {
 fn number_pages(alloc: Global, pages: Vec<Page>) -> Result<Numbered, AllocError>
     ensures pages { IfOk result (λ found. found.source.pages ≡ pages.items) }
     ensures others { IfOk result (λ found. (n : ℕ) → (IsIn n found.edited.items → ⊥) →
-        pages_of pages.items n ≡ blank_image) }
+        listed_pages pages.items n ≡ blank_image) }
 {
     let edited = numbers_below(alloc, pages.len() as u64)?;
     let source = MemPages::new(alloc, pages)?;
@@ -36,8 +36,8 @@ pub(crate) fn state_on(
     pages: Vec<Page>,
     schema: &Schema,
 ) -> Result<Option<State>, PageFault>
-    ensures { IfOk result (λ r. MatchOption r ((rows : Rows) → HasState (pages_of pages.items) schema.now rows → ⊥)
-        (λ state. HasState (pages_of pages.items) schema.now state)) }
+    ensures { IfOk result (λ r. MatchOption r ((rows : Rows) → HasState (listed_pages pages.items) schema.now rows → ⊥)
+        (λ state. HasState (listed_pages pages.items) schema.now state)) }
 {
     match number_pages(alloc, pages) {
         Ok(found) => {

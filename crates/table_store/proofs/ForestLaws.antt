@@ -5,8 +5,8 @@ use Rattle.std.specs.List.{slice_get, slice_set, remove}
 use Rattle.page_store.specs.Image.{Image}
 use Rattle.page_workspace.specs.Spare.{IsIn, AreApart, AreFree, count_of}
 use Rattle.btree_index.specs.Keys.{Key}
-use Rattle.btree_index.specs.Trees.{Holds, top, pages_of, cells_of, leaves, pair_of}
-use Rattle.btree_index.specs.Changes.{Stands, Changes, Becomes}
+use Rattle.btree_index.specs.Trees.{Holds, top, tree_pages, cells_of, leaves, pair_of}
+use Rattle.btree_index.specs.Changes.{TreeStands, Changes, Becomes}
 use Rattle.btree_index.proofs.ApartLaws.{in_left, in_right, in_either, apart_left, apart_right, apart_cross, apart_join}
 use Rattle.btree_index.proofs.LeafLaws.{holds_same}
 use Rattle.btree_index.proofs.RootLaws.{pages_same}
@@ -17,7 +17,7 @@ use Rattle.table_store.specs.Forests.{Pair, IsTree, AreTrees, joined, Forest}
 pub tree_same : (old new : ℕ → Image) (root : ℕ) (own : List ℕ) (list : List Pair) → ((n : ℕ) → IsIn n own → new n ≡ old n)
     → IsTree old root own list → IsTree new root own list
 tree_same old new root own list same t =
-    let same_own : (n : ℕ) → IsIn n (pages_of old t.height (top root)) → new n ≡ old n = λ n i. same n (subst (λ (l : List ℕ). IsIn n l) t.own_is i) in
+    let same_own : (n : ℕ) → IsIn n (tree_pages old t.height (top root)) → new n ≡ old n = λ n i. same n (subst (λ (l : List ℕ). IsIn n l) t.own_is i) in
     record {
       height = t.height;
       cells = t.cells;
@@ -41,7 +41,7 @@ pub one_tree : (pages : ℕ → Image) (root : ℕ) (o p : List ℕ) (xs ys : Li
 one_tree pages root o p xs ys a b =
     let same : a.height ≡ b.height = one_height pages a.height b.height (record { low = []; page = root }) [] a.holds.shaped b.holds.shaped in
     let cells : a.cells ≡ b.cells = sym a.holds.is ∙ ap (λ (h : ℕ). cells_of pages (leaves pages h (top root))) same ∙ b.holds.is in (
-      sym a.own_is ∙ ap (λ (h : ℕ). pages_of pages h (top root)) same ∙ b.own_is,
+      sym a.own_is ∙ ap (λ (h : ℕ). tree_pages pages h (top root)) same ∙ b.own_is,
       sym a.pairs ∙ ap (λ (cs : List (List ℕ)). map pair_of cs) cells ∙ b.pairs,
     )
 
@@ -157,7 +157,7 @@ trees_set old new root (suc at) id (x ∷ xs) (y ∷ ys) own more list after o l
 
 -- what a change of one tree needs
 pub stands_at : (pages : ℕ → Image) (root at id : ℕ) (owns : List (List ℕ)) (free : List ℕ) (lists : List (List Pair)) (own : List ℕ) (list : List Pair)
-    → slice_get owns at ≡ Some own → slice_get lists at ≡ Some list → id ≡ root + at → Forest pages root owns free lists → Stands pages id own free list
+    → slice_get owns at ≡ Some own → slice_get lists at ≡ Some list → id ≡ root + at → Forest pages root owns free lists → TreeStands pages id own free list
 stands_at pages root at id owns free lists own list o l e f =
     let t = tree_at pages root at id owns lists own list o l e f.trees in
     record {

@@ -15,7 +15,7 @@ use Rattle.page_store.specs.Image.{Image}
 use Rattle.page_workspace.specs.Spare.{IsIn}
 use Rattle.btree_index.specs.Keys.{Key, before}
 use Rattle.btree_index.specs.Pairs.{between}
-use Rattle.btree_index.specs.Cells.{key_of}
+use Rattle.btree_index.specs.Cells.{key_of_cell}
 use Rattle.btree_index.specs.Trees.{TreeList, cells_of, leaves, top, pair_of}
 use Rattle.btree_index.proofs.KeyLaws.{irreflexive, not_back, none_before_empty}
 use Rattle.cdb_values.specs.Rows.{Rows, version, versions_of}
@@ -94,8 +94,8 @@ pairs_rise : (cells : List (List ℕ)) → Rises cells → AreRising (map pair_o
 pairs_rise [] h = tt
 pairs_rise (c ∷ cs) h = (each cs h.0, pairs_rise cs h.1)
   where
-    each : (ds : List (List ℕ)) → AllByRecursion (λ d. before (key_of c) (key_of d) ≡ true) ds
-        → AllByRecursion (λ (q : Pair). before (key_of c) q.0 ≡ true) (map pair_of ds)
+    each : (ds : List (List ℕ)) → AllByRecursion (λ d. before (key_of_cell c) (key_of_cell d) ≡ true) ds
+        → AllByRecursion (λ (q : Pair). before (key_of_cell c) q.0 ≡ true) (map pair_of ds)
     each [] a = tt
     each (d ∷ ds) a = (a.0, each ds a.1)
 

@@ -4,7 +4,7 @@ use Rattle.std.specs.List.{AllByRecursion}
 use Rattle.page_store.specs.Image.{Image, HasRoom, blank_image}
 use Rattle.page_workspace.specs.Spare.{IsIn, AreFree, IsMeta, count_of}
 use Rattle.btree_index.specs.Keys.{before}
-use Rattle.btree_index.specs.Cells.{key_of, IsLeafCell}
+use Rattle.btree_index.specs.Cells.{key_of_cell, IsLeafCell}
 use Rattle.btree_index.specs.Trees.{Holds, IsLeafPage, IsFenced, top, pair_of}
 use Rattle.cdb_values.specs.declared.rows.Version.{Version}
 use Rattle.cdb_values.specs.declared.tables.KeyDef.{KeyDef}

@@ -14,7 +14,7 @@ use Rattle.std.specs.Prelude.{◌≡◌, ℕ, suc, ◌<◌, List, [], ◌∷◌,
 use Rattle.page_store.specs.Image.{Image}
 use Rattle.page_workspace.specs.Spare.{IsIn, AreApart, AreFree, count_of}
 use Rattle.btree_index.specs.Keys.{Key}
-use Rattle.btree_index.specs.Trees.{Holds, top, pages_of, pair_of}
+use Rattle.btree_index.specs.Trees.{Holds, top, tree_pages, pair_of}
 
 -- a key and its value
 abbrev pub Pair : Type 0
@@ -25,7 +25,7 @@ pub record IsTree (pages : ℕ → Image) (root : ℕ) (own : List ℕ) (list : 
   pub height : ℕ
   pub cells : List (List ℕ)
   pub holds : Holds pages height (top root) cells
-  pub own_is : pages_of pages height (top root) ≡ own
+  pub own_is : tree_pages pages height (top root) ≡ own
   pub pairs : map pair_of cells ≡ list
 
 -- the trees of these lists, below this root and the ones that follow it

@@ -2,7 +2,7 @@ ghost use Rattle.std.specs.Prelude.{ℕ, ◌≡◌, ◌+◌, ◌<◌, List, leng
 ghost use Rattle.std.specs.List.{slice_get, slice_set};
 ghost use Rattle.page_store.specs.Image.{Image};
 ghost use Rattle.btree_index.specs.Keys.{same_key};
-ghost use Rattle.btree_index.specs.Changes.{Stands as StandsAlone, Becomes};
+ghost use Rattle.btree_index.specs.Changes.{TreeStands, Becomes};
 ghost use Rattle.cdb_values.specs.Good.{first_broken, AllFit, IsGood};
 ghost use Rattle.cdb_values.specs.Rows.{Rows, versions_of, apply_all};
 ghost use Rattle.cdb_values.specs.declared.rows.RowOp.{RowOp};
@@ -42,7 +42,7 @@ pub fn pages_hold_one_forest()
 pub fn a_change_of_one_tree_keeps_the_others()
     ensures stands { (pages : ℕ → Image) (root at : ℕ) (owns : List (List ℕ)) (free own : List ℕ)
         (lists : List (List Pair)) (list : List Pair) → Forest pages root owns free lists →
-        slice_get owns at ≡ Some own → slice_get lists at ≡ Some list → StandsAlone pages (root + at) own free list }
+        slice_get owns at ≡ Some own → slice_get lists at ≡ Some list → TreeStands pages (root + at) own free list }
     ensures once { (pages : ℕ → Image) (root : ℕ) (own : List ℕ) (list : List Pair) (p q : Pair) →
         IsTree pages root own list → IsAmong p list → IsAmong q list → same_key p.0 q.0 ≡ true → p ≡ q }
     ensures kept { (old new : ℕ → Image) (root at : ℕ) (owns : List (List ℕ)) (free own : List ℕ)

@@ -56,5 +56,5 @@ pub use laws::{
     pages_stand_for_one_state, pages_that_stand_keep_their_keys,
 };
 pub use pairs::{key_for, key_pair, key_values, pair_for};
-pub use reads::read_table;
+pub use reads::table_versions;
 pub use worked::two_rows_stand;

@@ -21,7 +21,7 @@ use std::alloc::{AllocError, Global};
 /// place in the schema, from 0. Over pages that stand for no state the answer says nothing.
 ///
 /// Answers `Gone` only where the source lost its pages; `NoMemory` is want of memory.
-pub fn read_table<P: PageSource>(
+pub fn table_versions<P: PageSource>(
     alloc: Global,
     pages: &mut P,
     schema: &Schema,

@@ -6,7 +6,7 @@ use Rattle.page_store.specs.Image.{Image, blank_image}
 use Rattle.page_store.specs.declared.pages.PageKind.{PageKind}
 use Rattle.page_store.specs.declared.pages.PageKind.TheVariants.{Free, Leaf, Inner}
 use Rattle.page_workspace.specs.Spare.{IsIn, AreApart}
-use Rattle.btree_index.specs.Trees.{Entry, page_of, spread, top, pages_of, IsShaped, IsLeafPage, IsInnerPage, Holds}
+use Rattle.btree_index.specs.Trees.{Entry, page_of, spread, top, tree_pages, IsShaped, IsLeafPage, IsInnerPage, Holds}
 use Rattle.btree_index.proofs.ApartLaws.{in_either, in_more}
 use Rattle.btree_index.proofs.TreeLaws.{one_height}
 use Rattle.tree_walk.specs.declared.walks.Walked.{Walked}
@@ -70,13 +70,13 @@ each_written pages P written [] h n i = absurd i
 each_written pages P written (e ∷ es) h n (inl same) = λ blank. written (pages e.page) h.0 (ap pages (sym same) ∙ blank)
 each_written pages P written (e ∷ es) h n (inr i) = each_written pages P written es h.1 n i
 
-pub tree_written : (pages : ℕ → Image) (height : ℕ) (level : List Entry) → IsShaped pages height level → (n : ℕ) → IsIn n (pages_of pages height level)
+pub tree_written : (pages : ℕ → Image) (height : ℕ) (level : List Entry) → IsShaped pages height level → (n : ℕ) → IsIn n (tree_pages pages height level)
     → pages n ≡ blank_image → ⊥
 tree_written pages zero level shaped n i = each_written pages (λ i. IsLeafPage i) leaf_written level shaped n i
 tree_written pages (suc height) level shaped n i =
-    go (in_either n (map page_of level) (pages_of pages height (spread pages level)) i) (tree_written pages height (spread pages level) shaped.1 n)
+    go (in_either n (map page_of level) (tree_pages pages height (spread pages level)) i) (tree_written pages height (spread pages level) shaped.1 n)
   where
-    go : IsIn n (map page_of level) ⊎ IsIn n (pages_of pages height (spread pages level)) → (IsIn n (pages_of pages height (spread pages level)) → pages n ≡ blank_image → ⊥)
+    go : IsIn n (map page_of level) ⊎ IsIn n (tree_pages pages height (spread pages level)) → (IsIn n (tree_pages pages height (spread pages level)) → pages n ≡ blank_image → ⊥)
         → pages n ≡ blank_image → ⊥
     go (inl j) deeper = each_written pages (λ i. IsInnerPage (suc height) i) (inner_written (suc height)) level shaped.0 n j
     go (inr j) deeper = deeper j
@@ -86,15 +86,15 @@ pub no_tree : (pages : ℕ → Image) (root : ℕ) (edited : List ℕ) → ((n :
     → IsWalked pages root (length edited) None → (height : ℕ) (cells : List (List ℕ)) → Holds pages height (top root) cells → ⊥
 no_tree pages root edited blank none height cells holds =
     none height cells (record { shaped = holds.shaped; fenced = holds.fenced; linked = holds.linked; is = holds.is })
-    (apart_inside (pages_of pages height (top root)) edited holds.apart (λ n i. go n i (in_or_out n edited)))
+    (apart_inside (tree_pages pages height (top root)) edited holds.apart (λ n i. go n i (in_or_out n edited)))
   where
-    go : (n : ℕ) → IsIn n (pages_of pages height (top root)) → IsIn n edited ⊎ (IsIn n edited → ⊥) → IsIn n edited
+    go : (n : ℕ) → IsIn n (tree_pages pages height (top root)) → IsIn n edited ⊎ (IsIn n edited → ⊥) → IsIn n edited
     go n i (inl j) = j
     go n i (inr off) = absurd (tree_written pages height (top root) holds.shaped n i (blank n off))
 
 -- and one that finds a tree tells the tree where no page comes twice, and that there is none where one does
 pub some_tree : (pages : ℕ → Image) (root limit : ℕ) (w : Walked) → IsWalked pages root limit (Some w) → AreApart w.own.items
-    → (height : ℕ) × Holds pages height (top root) w.cells.items × (w.own.items ≡ pages_of pages height (top root))
+    → (height : ℕ) × Holds pages height (top root) w.cells.items × (w.own.items ≡ tree_pages pages height (top root))
 some_tree pages root limit w h apart =
     (h.0, record { shaped = h.1.shaped; fenced = h.1.fenced; linked = h.1.linked; apart = subst AreApart h.2 apart; is = h.1.is }, h.2)
 
@@ -102,4 +102,4 @@ pub twice_tree : (pages : ℕ → Image) (root limit : ℕ) (w : Walked) → IsW
     → (height : ℕ) (cells : List (List ℕ)) → Holds pages height (top root) cells → ⊥
 twice_tree pages root limit w h twice height cells holds =
     let same : h.0 ≡ height = one_height pages h.0 height (record { low = []; page = root }) [] h.1.shaped holds.shaped in
-    twice (subst AreApart (sym (h.2 ∙ ap (λ (n : ℕ). pages_of pages n (top root)) same)) holds.apart)
+    twice (subst AreApart (sym (h.2 ∙ ap (λ (n : ℕ). tree_pages pages n (top root)) same)) holds.apart)

@@ -2,14 +2,14 @@
 use Rattle.std.specs.Prelude.{◌≡◌, ◌≤◌, ℕ, List, length, None, Some}
 use Rattle.page_store.specs.Image.{Image, blank_image}
 use Rattle.page_workspace.specs.Spare.{IsIn, AreApart}
-use Rattle.btree_index.specs.Trees.{Holds, top, pages_of}
+use Rattle.btree_index.specs.Trees.{Holds, top, tree_pages}
 use Rattle.tree_walk.specs.declared.walks.Walked.{Walked}
 use Rattle.tree_walk.specs.Walks.{IsWalked}
 
 -- where the pages of what it gives are apart, that is a tree
 abbrev pub SomeTree : Type 0
 SomeTree = (pages : ℕ → Image) (root limit : ℕ) (w : Walked) → IsWalked pages root limit (Some w) → AreApart w.own.items
-    → (height : ℕ) × Holds pages height (top root) w.cells.items × (w.own.items ≡ pages_of pages height (top root))
+    → (height : ℕ) × Holds pages height (top root) w.cells.items × (w.own.items ≡ tree_pages pages height (top root))
 
 -- where they are not, there is none
 abbrev pub TwiceTree : Type 0

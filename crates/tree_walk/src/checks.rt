@@ -3,7 +3,7 @@ ghost use Rattle.std.specs.Prelude.{◌≡◌, ◌+◌, not, length, nat_le};
 ghost use Rattle.std.specs.List.{list_all};
 ghost use Rattle.page_store.specs.Image.{taken};
 ghost use Rattle.btree_index.specs.Keys.{before};
-ghost use Rattle.btree_index.specs.Cells.{key_of};
+ghost use Rattle.btree_index.specs.Cells.{key_of_cell};
 ghost use Rattle.tree_walk.specs.Walks.{is_leaf_kind, is_inner_kind, is_leaf_cell, is_inner_cell, begins_empty, is_leaf, is_inner, is_under, is_up_to, ascend, is_fenced, is_linked, is_leaf_of};
 
 use crate::cells::{may_stand_above, may_stand_in_leaf};
@@ -116,14 +116,14 @@ fn is_rising(cells: &[Cell]) -> bool
 
 /// Whether no key of cells comes before a least one.
 fn are_from(cells: &[Cell], low: &[u8]) -> bool
-    ensures { result ≡ list_all (λ c. not (before (key_of c) low.now)) cells.now }
+    ensures { result ≡ list_all (λ c. not (before (key_of_cell c) low.now)) cells.now }
 {
     cells.iter().all(|c| !is_before(key_in(c.as_slice()), low))
 }
 
 /// Whether each key of cells comes before the least one of the next page.
 fn are_under(cells: &[Cell], others: &[Low]) -> bool
-    ensures { result ≡ list_all (λ c. is_under (key_of c) others.now) cells.now }
+    ensures { result ≡ list_all (λ c. is_under (key_of_cell c) others.now) cells.now }
 {
     cells
         .iter()

@@ -19,9 +19,9 @@ use Rattle.phys_log.specs.declared.requests.CommitRequest.{CommitRequest}
 use Rattle.session_language.specs.Touched.{FirstUse, Used, first_use, first_used, or_use, ranges_at}
 use Rattle.session_turns.specs.Decisions.{decision, judged}
 use Rattle.session_turns.specs.Outcomes.{outcome_told, IsRefusal, IsRightFor}
-use Rattle.session_turns.specs.Worlds.{Grows, IsEntered, outcome_at}
-use Rattle.session_turns.specs.declared.answers.Outcome.{Outcome}
-use Rattle.session_turns.specs.declared.answers.Outcome.TheVariants.{Committed, Conflict, Duplicate, Lost, NoMajority}
+use Rattle.session_turns.specs.Worlds.{Grows, IsEntryBehind, outcome_at}
+use Rattle.session_turns.specs.declared.answers.CommitOutcome.{CommitOutcome}
+use Rattle.session_turns.specs.declared.answers.CommitOutcome.TheVariants.{Committed, Conflict, Duplicate, Lost, NoMajority}
 use Rattle.turn_cases.specs.Decided.{told_by, Decides, Judges}
 use Rattle.turn_cases.specs.Plain.{changes_in, rows_at, rows_in, rows_of, used_of, world_by}
 use Rattle.turn_cases.specs.declared.plain.Decided.{Decided}
@@ -74,7 +74,7 @@ module _ (tables : List TableDef) (es : List PlainEntry) (e : PlainEntry) (some 
   }
 
   entered : (ops : List RowOp) → rows_of e.rows ≡ apply_all (rows_at es (length es)) ops → e.changes ≡ changes_of ops (rows_at es (length es)).next →
-      IsEntered (world_by tables (es ++ e ∷ [])) (length es) ops
+      IsEntryBehind (world_by tables (es ++ e ∷ [])) (length es) ops
   entered ops behind made = record {
     within = omega (arith, count);
     changes =
@@ -163,14 +163,14 @@ abbrev pub told_asked : List TableDef → List PlainEntry → CommitRequest → 
 told_asked tables es r = told_by tables es r.begin (used_of r.genids (ranges_at r.level r.ranges)) r.ops
 
 -- one that is refused
-refused_by : (tables : List TableDef) (es : List PlainEntry) (s : Session) (op : RowOp) (ops : List RowOp) (o : Outcome) → s.ops ≡ op ∷ ops → IsRefusal o → outcome_told tables o ≡ told_of tables es s → IsRightFor (world_by tables es) (world_by tables es) s o
+refused_by : (tables : List TableDef) (es : List PlainEntry) (s : Session) (op : RowOp) (ops : List RowOp) (o : CommitOutcome) → s.ops ≡ op ∷ ops → IsRefusal o → outcome_told tables o ≡ told_of tables es s → IsRightFor (world_by tables es) (world_by tables es) s o
 refused_by tables es s op ops (Committed position) are refusal told = absurd refusal
 refused_by tables es s op ops (Conflict position item) are refusal told = record { position = length es; between = record { from = omega arith; to = omega arith }; decided = told ∙ told_at tables es s op ops are }
 refused_by tables es s op ops (Duplicate position table key) are refusal told = record { position = length es; between = record { from = omega arith; to = omega arith }; decided = told ∙ told_at tables es s op ops are }
 refused_by tables es s op ops (Lost node down) are refusal told = tt
 refused_by tables es s op ops (NoMajority up nodes) are refusal told = tt
 
-pub refused_right : (tables : List TableDef) (es : List PlainEntry) (s : Session) (r : CommitRequest) (o : Outcome) → Some r ≡ request_of s → Decides tables es (told_asked tables es r) r.ops (Told o) →
+pub refused_right : (tables : List TableDef) (es : List PlainEntry) (s : Session) (r : CommitRequest) (o : CommitOutcome) → Some r ≡ request_of s → Decides tables es (told_asked tables es r) r.ops (Told o) →
     IsRightFor (world_by tables es) (world_by tables es) s o
 refused_right tables es s r o is decided =
     let asked : IsAsked s r = asked_if s r s.ops refl is in

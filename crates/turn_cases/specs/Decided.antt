@@ -10,7 +10,7 @@ use Rattle.osql_session.specs.Sessions.{Session}
 use Rattle.session_language.specs.Touched.{Used, first_use}
 use Rattle.session_turns.specs.Decisions.{judged}
 use Rattle.session_turns.specs.Outcomes.{outcome_told, IsRefusal, IsRightFor}
-use Rattle.session_turns.specs.declared.answers.Outcome.TheVariants.{Committed}
+use Rattle.session_turns.specs.declared.answers.CommitOutcome.TheVariants.{Committed}
 use Rattle.turn_cases.specs.Plain.{changes_in, rows_at, rows_of, world_by}
 use Rattle.turn_cases.specs.declared.plain.Decided.{Decided}
 use Rattle.turn_cases.specs.declared.plain.Decided.TheVariants.{Told, Enters}

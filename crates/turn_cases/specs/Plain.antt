@@ -10,8 +10,8 @@ use Rattle.cdb_values.specs.declared.rows.Version.{Version}
 use Rattle.cdb_values.specs.declared.tables.KeyDef.{KeyDef}
 use Rattle.cdb_values.specs.declared.tables.TableDef.{TableDef}
 use Rattle.session_language.specs.Touched.{FirstUse, Used, TheVersion, TheRange}
-use Rattle.session_turns.specs.Decisions.{item_of, key_named, table_named}
-use Rattle.session_turns.specs.Doing.{Doing, reading}
+use Rattle.session_turns.specs.Decisions.{item_of, key_named, table_name_at}
+use Rattle.session_turns.specs.Doing.{Doing, open_begin}
 use Rattle.session_turns.specs.Step.{World, world_of}
 use Rattle.turn_cases.specs.declared.broken.BrokenKey.{BrokenKey}
 use Rattle.turn_cases.specs.declared.plain.PlainNode.{PlainNode}
@@ -43,7 +43,7 @@ world_in n = world_by n.schema n.entries
 
 -- a history of so many entries has begun, and has the rows that a session reads
 abbrev pub CanGoOn : ℕ → Doing → Type 0
-CanGoOn last what = (0 < last) × AllByRecursion (λ at. (0 < at) × (at ≤ last)) (reading what)
+CanGoOn last what = (0 < last) × AllByRecursion (λ at. (0 < at) × (at ≤ last)) (open_begin what)
 
 -- what was used, by versions and intervals
 abbrev pub used_of : List GenidItem → List Interval → List Used
@@ -61,7 +61,7 @@ key_at keys (Some key) = slice_get keys key
 -- a key by the names of its place, if there is one
 abbrev pub named : List TableDef → Option BrokenKey → Option KeyName
 named tables None = None
-named tables (Some b) = Some (record { table = table_named tables b.table; key = key_named tables b.table (Some b.key) })
+named tables (Some b) = Some (record { table = table_name_at tables b.table; key = key_named tables b.table (Some b.key) })
 
 -- whether one of these versions has the same values at the key as the first of the others, if there is one
 abbrev pub is_first_taken : KeyDef → List Version → List Version → Bool

@@ -14,7 +14,7 @@ use cdb_values::{Interval, Level, List, Reply, RowOp, Schema, TableDef};
 use osql_session::OsqlSession;
 use phys_log::CommitRequest;
 use plan_run::MemRows;
-use session_turns::{Begun, Outcome, SessionNode, SessionReader, Told, answer_over};
+use session_turns::{Begun, CommitOutcome, SessionNode, SessionReader, Told, answer_over};
 use sql_run::Prepared;
 use std::alloc::{AllocError, Global};
 
@@ -103,12 +103,12 @@ impl SessionNode for PlainNode {
         &mut self,
         alloc: Global,
         session: &OsqlSession,
-    ) -> Result<Told<Outcome>, AllocError> {
+    ) -> Result<Told<CommitOutcome>, AllocError> {
         match judge(alloc, &self.schema, self.entries.as_slice(), session)? {
             Decided::Told(outcome) => Ok(Told::Now(outcome)),
             Decided::Enters(entry) => {
                 self.entries.push(entry)?;
-                Ok(Told::Now(Outcome::Committed(self.entries.len() as u64)))
+                Ok(Told::Now(CommitOutcome::Committed(self.entries.len() as u64)))
             }
         }
     }
@@ -118,7 +118,7 @@ impl SessionNode for PlainNode {
 #[derive(Drop)]
 enum Decided {
     /// It is told so, and no entry comes of it.
-    Told(Outcome),
+    Told(CommitOutcome),
     /// It is committed, and this is its entry.
     Enters(PlainEntry),
 }
@@ -136,7 +136,7 @@ fn judge(
     ensures { IfOk result (Judges schema.now entries.now session.now) }
 {
     let Some(request) = session.request(alloc)? else {
-        return Ok(Decided::Told(Outcome::Committed(session.begin())));
+        return Ok(Decided::Told(CommitOutcome::Committed(session.begin())));
     };
     let decided = decide(alloc, schema, entries, &request);
     drop(request);
@@ -204,7 +204,7 @@ fn decide(
         request.genids.as_slice(),
         ranges,
     ) {
-        Some(touch) => Ok(Decided::Told(Outcome::Conflict {
+        Some(touch) => Ok(Decided::Told(CommitOutcome::Conflict {
             position: touch.position,
             item: touch.item,
         })),
@@ -238,7 +238,7 @@ fn decide_now(
         return Err(AllocError);
     }
     match first_broken(schema, entry.rows.tables.as_slice()) {
-        Some(broken) => Ok(Decided::Told(Outcome::Duplicate {
+        Some(broken) => Ok(Decided::Told(CommitOutcome::Duplicate {
             position: entries.len() as u64,
             table: broken.table,
             key: broken.key,

@@ -3,7 +3,7 @@ ghost use Rattle.std.specs.Prelude.{◌≡◌, ◌≤◌, IfOk};
 
 use super::all_of;
 use crate::counters::{Counters, count};
-use actor_trace::{Actor, Naming, Note, Opened, Trace};
+use actor_trace::{Actor, Naming, Note, OpenedTrace, Trace};
 use crossbeam_channel::{Receiver, Sender, unbounded};
 use std::alloc::{Alloc, AllocError, Global};
 use std::marker::Brand;
@@ -29,7 +29,7 @@ fn threads_make_one_history(rt: HostRuntime) -> Result<(), Fail> {
 
 #[test]
 fn an_early_note_is_met_late(rt: HostRuntime) -> Result<(), Fail> {
-    let opened = Opened::<Counters>::new(rt.alloc(), 3)?;
+    let opened = OpenedTrace::<Counters>::new(rt.alloc(), 3)?;
     late::<Brand, HostRuntime>(&rt, rt.alloc(), opened)
 }
 
@@ -39,14 +39,14 @@ fn counted<R: Threads + Wait + Abort + Sync>(
     actors: u32,
     steps: u32,
 ) -> Result<(), Fail> {
-    let opened = Opened::<Counters>::new(alloc, actors)?;
+    let opened = OpenedTrace::<Counters>::new(alloc, actors)?;
     run::<Brand, R>(rt, alloc, opened, steps)
 }
 
 fn run<N: Naming + Send + Sync, R: Threads + Wait + Abort + Sync>(
     rt: &R,
     alloc: Global,
-    opened: Opened<Counters>,
+    opened: OpenedTrace<Counters>,
     steps: u32,
 ) -> Result<(), Fail>
     requires table { opened.table ≡ N.table }
@@ -132,7 +132,11 @@ fn is_counted(
     Ok(next.iter().all(|value| *value == u64::from(steps)))
 }
 
-fn late<N: Naming, R: Abort>(rt: &R, alloc: Global, opened: Opened<Counters>) -> Result<(), Fail>
+fn late<N: Naming, R: Abort>(
+    rt: &R,
+    alloc: Global,
+    opened: OpenedTrace<Counters>,
+) -> Result<(), Fail>
     requires table { opened.table ≡ N.table }
     requires actors { opened.actors ≡ N.actors }
 {

@@ -2,7 +2,7 @@
 ghost use Rattle.std.specs.Prelude.{◌≡◌, ◌<◌, IfOk};
 
 use crate::counters::{Counters, count};
-use actor_trace::{Actor, Closed, History, Naming, Opened, Trace};
+use actor_trace::{Actor, Closed, History, Naming, OpenedTrace, Trace};
 use std::alloc::{Alloc, AllocError, Global};
 use std::marker::Brand;
 use std::process::Abort;
@@ -15,17 +15,17 @@ fn want_of_memory_hands_all_back(rt: HostRuntime) -> Result<(), Fail> {
 }
 
 /// Opens for two actors, and once more where memory was refused.
-fn opened(alloc: Global) -> Result<Opened<Counters>, AllocError> {
-    match Opened::<Counters>::new(alloc, 2) {
+fn opened(alloc: Global) -> Result<OpenedTrace<Counters>, AllocError> {
+    match OpenedTrace::<Counters>::new(alloc, 2) {
         Ok(opened) => Ok(opened),
-        Err(_) => Opened::<Counters>::new(alloc, 2),
+        Err(_) => OpenedTrace::<Counters>::new(alloc, 2),
     }
 }
 
 fn handed_back<N: Naming, R: Abort>(
     rt: &R,
     alloc: Global,
-    opened: Opened<Counters>,
+    opened: OpenedTrace<Counters>,
 ) -> Result<(), Fail>
     requires table { opened.table ≡ N.table }
     requires actors { opened.actors ≡ N.actors }

@@ -6,7 +6,7 @@ use super::all_of;
 use crate::entries::Entry;
 use crate::ledger::Ledger;
 use crate::turns::{Turn, add, first, give, read};
-use actor_trace::{Actor, Naming, Opened, Trace};
+use actor_trace::{Actor, Naming, OpenedTrace, Trace};
 use crossbeam_channel::{Receiver, Sender, unbounded};
 use std::alloc::{Alloc, AllocError, Global};
 use std::marker::Brand;
@@ -36,14 +36,14 @@ fn opened<R: Threads + Wait + Abort + Sync>(
     actors: u32,
     rounds: u32,
 ) -> Result<(), Fail> {
-    let opened = Opened::<Ledger>::new(alloc, actors)?;
+    let opened = OpenedTrace::<Ledger>::new(alloc, actors)?;
     run::<Brand, R>(rt, alloc, opened, rounds)
 }
 
 fn run<N: Naming + Send + Sync, R: Threads + Wait + Abort + Sync>(
     rt: &R,
     alloc: Global,
-    opened: Opened<Ledger>,
+    opened: OpenedTrace<Ledger>,
     rounds: u32,
 ) -> Result<(), Fail>
     requires table { opened.table ≡ N.table }

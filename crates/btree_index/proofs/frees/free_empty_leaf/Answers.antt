@@ -6,7 +6,7 @@ use Rattle.page_workspace.specs.Drafts.{meant, IsNotUnfit}
 use Rattle.page_workspace.specs.Metas.{TellsMeta}
 use Rattle.page_workspace.specs.Spare.{count_of}
 use Rattle.page_workspace.proofs.OwnLaws.{ok_all}
-use Rattle.btree_index.specs.Changes.{Stands}
+use Rattle.btree_index.specs.Changes.{TreeStands}
 use Rattle.btree_index.specs.Prunes.{lone_leaf, CanFree, CanUnlink, GoesOn, IsFound, IsFork, IsLone, LeadsTo, LosesLeaf, Unlinks}
 use Rattle.btree_index.specs.Trees.{Holds, top}
 use Rattle.btree_index.specs.declared.prunes.Found.{Found}
@@ -32,7 +32,7 @@ returns-in-Lone-clause-freed g c = λ own free list stands.
     (subst (λ (p : ℕ → Image). Holds p stands.height (top root) stands.cells) (sym one) stands.holds) refl) in
     let lone : IsFound pages stands.height [] [] root [] stands.cells (Lone c.in-Lone.field-0) =
     subst (λ (f : Found). IsFound pages stands.height [] [] root [] stands.cells f) c.in-Lone.is there in
-    let R : (ℕ → Image) → Type 0 = λ p. (s : Stands p root own free list) → IsLone p s.height root → OnOk c.flatten.result (LosesLeaf p new root own free list (lone_leaf p s.height root)) in
+    let R : (ℕ → Image) → Type 0 = λ p. (s : TreeStands p root own free list) → IsLone p s.height root → OnOk c.flatten.result (LosesLeaf p new root own free list (lone_leaf p s.height root)) in
     ok_all c.flatten.result (λ (l : LosesLeaf pages new root own free list (lone_leaf pages stands.height root)). l.becomes)
     (subst R same (λ s l. c.flatten.ensures.flattened own free list s l) stands lone.0)
 
@@ -69,7 +69,7 @@ returns-in-Lone-clause-gone g c = λ own free list stands.
     (subst (λ (p : ℕ → Image). Holds p stands.height (top root) stands.cells) (sym one) stands.holds) refl) in
     let lone : IsFound pages stands.height [] [] root [] stands.cells (Lone c.in-Lone.field-0) =
     subst (λ (f : Found). IsFound pages stands.height [] [] root [] stands.cells f) c.in-Lone.is there in
-    let R : (ℕ → Image) → Type 0 = λ p. (s : Stands p root own free list) → IsLone p s.height root → OnOk c.flatten.result (LosesLeaf p new root own free list (lone_leaf p s.height root)) in
+    let R : (ℕ → Image) → Type 0 = λ p. (s : TreeStands p root own free list) → IsLone p s.height root → OnOk c.flatten.result (LosesLeaf p new root own free list (lone_leaf p s.height root)) in
     ok_all c.flatten.result (λ (l : LosesLeaf pages new root own free list (lone_leaf pages stands.height root)). frees_lone pages new root c.args.key.now own free list stands lone.0 l)
     (subst R same (λ s l. c.flatten.ensures.flattened own free list s l) stands lone.0)
 
@@ -120,7 +120,7 @@ returns-in-Lone-clause-filled g c = λ own free list stands.
     (subst (λ (p : ℕ → Image). Holds p stands.height (top root) stands.cells) (sym one) stands.holds) refl) in
     let lone : IsFound pages stands.height [] [] root [] stands.cells (Lone c.in-Lone.field-0) =
     subst (λ (f : Found). IsFound pages stands.height [] [] root [] stands.cells f) c.in-Lone.is there in
-    let R : (ℕ → Image) → Type 0 = λ p. (s : Stands p root own free list) → IsLone p s.height root → OnOk c.flatten.result (LosesLeaf p new root own free list (lone_leaf p s.height root)) in
+    let R : (ℕ → Image) → Type 0 = λ p. (s : TreeStands p root own free list) → IsLone p s.height root → OnOk c.flatten.result (LosesLeaf p new root own free list (lone_leaf p s.height root)) in
     ok_all c.flatten.result (λ (l : LosesLeaf pages new root own free list (lone_leaf pages stands.height root)). l.filled)
     (subst R same (λ s l. c.flatten.ensures.flattened own free list s l) stands lone.0)
 
@@ -181,7 +181,7 @@ returns-in-Lone-clause-fit g c = λ own free list stands.
     let told : TellsMeta pages c.in_ok-meta.meta = c.in_ok-meta.ensures.told in
     let count : c.in_ok-meta.meta.count ≡ count_of pages = told.count in
     let all : count_of pages ≤ c.in_ok-meta.meta.count = omega arith in
-    let R : (ℕ → Image) → Type 0 = λ p. (s : Stands p root own free list) → IsLone p s.height root → count_of p ≤ c.in_ok-meta.meta.count → IsNotUnfit c.flatten.result in
+    let R : (ℕ → Image) → Type 0 = λ p. (s : TreeStands p root own free list) → IsLone p s.height root → count_of p ≤ c.in_ok-meta.meta.count → IsNotUnfit c.flatten.result in
     (subst R same (λ s l a. c.flatten.ensures.fit own free list s l a)) stands lone.0 all
 
 pub returns-in-Forked-clause-fit : goal.returns-in-Forked-clause-fit

@@ -6,7 +6,7 @@ use Rattle.page_store.specs.Image.{Image, HasRoom, taken}
 use Rattle.page_workspace.specs.Drafts.{meant}
 use Rattle.btree_index.specs.Cells.{leaf_cell}
 use Rattle.btree_index.specs.Pairs.{cell_value, place_in}
-use Rattle.btree_index.specs.Changes.{Stands, Becomes, LeadsOver}
+use Rattle.btree_index.specs.Changes.{TreeStands, Becomes, LeadsOver}
 use Rattle.btree_index.specs.Filled.{IsEmptyLeaf, KeepsFilled}
 use Rattle.btree_index.specs.Fits.{IsFull, IsFullUnder}
 use Rattle.btree_index.specs.Steps.{Alters}
@@ -41,7 +41,7 @@ returns-clause-passed g c = λ own free list stands absent.
     let new = meant g.P.PageSource.pages c.make_room.new.space in
     let way = c.in_ok-way.way in
     let said = c.in_ok-way.ensures in
-    let R : (ℕ → Image) → Type 0 = λ f. LeadsOver f c.args.root c.args.key.now way.roomy → Stands f c.args.root own free list
+    let R : (ℕ → Image) → Type 0 = λ f. LeadsOver f c.args.root c.args.key.now way.roomy → TreeStands f c.args.root own free list
     → Becomes f new c.args.root own free list in
     subst R said.pages (λ over there. c.in_ok-make_room.ensures.room over own free list there) said.way.roomy stands
 
@@ -76,7 +76,7 @@ returns-in_err-make_room-clause-fit g c = λ own free list stands.
     let here : IsFull image = omega arith in
     let full : IsFull (old way.leaf) = subst IsFull is here in
     let under : IsFullUnder old key way.roomy = until_under old key way.roomy way.leaf said.way.full full in
-    let R : (ℕ → Image) → Type 0 = λ f. LeadsOver f c.args.root key way.roomy × IsFullUnder f key way.roomy × Stands f c.args.root own free list in
+    let R : (ℕ → Image) → Type 0 = λ f. LeadsOver f c.args.root key way.roomy × IsFullUnder f key way.roomy × TreeStands f c.args.root own free list in
     let there : R (meant g.P.PageSource.pages c.way_for.new.space) = subst R (sym said.pages) (said.way.roomy, under, stands) in
     search (rules, c.in_err-make_room.ensures.fit there.0 there.1 own free list there.2)
 
@@ -112,5 +112,5 @@ returns-clause-filled g c = λ own free list stands.
     let none : taken image.cells ≡ 0 =
     ap (λ (i : Image). taken i.cells) is ∙ ap (λ (n : ℕ). taken (old n).cells) (sym here) ∙ ap taken e.none in
     omega arith) in
-    let R : (ℕ → Image) → Type 0 = λ f. Stands f root own free list → (IsEmptyLeaf (f root) → ⊥) → KeepsFilled f new root in
+    let R : (ℕ → Image) → Type 0 = λ f. TreeStands f root own free list → (IsEmptyLeaf (f root) → ⊥) → KeepsFilled f new root in
     subst R said.pages (λ there full. c.in_ok-make_room.ensures.filled own free list there full) stands some

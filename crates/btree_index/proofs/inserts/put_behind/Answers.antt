@@ -6,7 +6,7 @@ use Rattle.page_store.specs.Image.{Image, HasRoom, taken}
 use Rattle.page_workspace.specs.Drafts.{meant}
 use Rattle.btree_index.specs.Cells.{leaf_cell}
 use Rattle.btree_index.specs.Pairs.{cell_value, place_in, with_pair}
-use Rattle.btree_index.specs.Changes.{Stands, Becomes}
+use Rattle.btree_index.specs.Changes.{TreeStands, Becomes}
 use Rattle.btree_index.specs.Filled.{KeepsFilled}
 use Rattle.btree_index.specs.Steps.{Alters}
 use Rattle.btree_index.specs.Trees.{Ascends}
@@ -40,14 +40,14 @@ returns-then-has_room-clause-put g c = λ own free list stands absent said.
 pub returns-clause-put : goal.returns-clause-put
 returns-clause-put g c = λ own free list stands absent said.
     let new = meant g.P.PageSource.pages c.put_new.new.space in
-    let P : (ℕ → Image) → Type 0 = λ f. Stands f c.args.root own free list
+    let P : (ℕ → Image) → Type 0 = λ f. TreeStands f c.args.root own free list
     → OnOk c.put_new.result (Becomes f new c.args.root own free (with_pair c.args.key.now c.args.value.now list)) in
     subst P c.in_ok-load_to_edit.ensures.pages (λ there. c.put_new.ensures.put own free list there absent) stands
 
 pub returns-clause-fit : goal.returns-clause-fit
 returns-clause-fit g c = λ own free list stands absent.
     c.put_new.ensures.fit own free list
-    (subst (λ (f : ℕ → Image). Stands f c.args.root own free list) (sym c.in_ok-load_to_edit.ensures.pages) stands) absent
+    (subst (λ (f : ℕ → Image). TreeStands f c.args.root own free list) (sym c.in_ok-load_to_edit.ensures.pages) stands) absent
 
 pub returns-then-has_room-clause-fit : goal.returns-then-has_room-clause-fit
 returns-then-has_room-clause-fit g c = λ own free list stands absent.
@@ -83,5 +83,5 @@ returns-then-has_room-clause-filled g c = λ own free list stands absent said.
 pub returns-clause-filled : goal.returns-clause-filled
 returns-clause-filled g c = λ own free list stands absent said.
     let new = meant g.P.PageSource.pages c.put_new.new.space in
-    let P : (ℕ → Image) → Type 0 = λ f. Stands f c.args.root own free list → OnOk c.put_new.result (KeepsFilled f new c.args.root) in
+    let P : (ℕ → Image) → Type 0 = λ f. TreeStands f c.args.root own free list → OnOk c.put_new.result (KeepsFilled f new c.args.root) in
     subst P c.in_ok-load_to_edit.ensures.pages (λ there. c.put_new.ensures.filled own free list there absent) stands

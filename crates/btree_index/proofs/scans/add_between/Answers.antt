@@ -1,7 +1,7 @@
 use Rattle.std.proofs.Common.{◌≡◌, ◌≤◌, ℕ, List, ◌++◌, map, drop, true, false, sym, ap, ◌∙◌, arith}
 use Rattle.std.specs.Prelude.{option_copied}
 use Rattle.btree_index.specs.Keys.{Key}
-use Rattle.btree_index.specs.Cells.{key_of}
+use Rattle.btree_index.specs.Cells.{key_of_cell}
 use Rattle.btree_index.specs.Pairs.{between, is_below, place_in}
 use Rattle.btree_index.specs.Trees.{pair_of}
 use Rattle.btree_index.proofs.RowLemmas.{beyond_here}
@@ -23,20 +23,20 @@ returns-in_default-clause-pairs c = λ up.
 
 pub returns-then-not-is_key_below-clause-pairs : goal.returns-then-not-is_key_below-clause-pairs
 returns-then-not-is_key_below-clause-pairs c = λ up.
-    let past : is_below (option_copied c.args.high) (key_of c.in-Some.cell.now) ≡ false =
+    let past : is_below (option_copied c.args.high) (key_of_cell c.in-Some.cell.now) ≡ false =
     ap (is_below (option_copied c.args.high)) (sym c.key_in.ensures) ∙ sym c.is_key_below.ensures ∙ c.if-not-is_key_below.true in
     between_end c.args.low.now (option_copied c.args.high) c.args.page.now.cells c.adding.at c.in-Some.cell.now c.adding.found.items _ up c.in-Some.ensures past
     (c.adding.invariant.pairs up)
 
 pub returns-then-not-is_key_below-clause-beyond : goal.returns-then-not-is_key_below-clause-beyond
 returns-then-not-is_key_below-clause-beyond c = λ stops.
-    let past : is_below (option_copied c.args.high) (key_of c.in-Some.cell.now) ≡ false =
+    let past : is_below (option_copied c.args.high) (key_of_cell c.in-Some.cell.now) ≡ false =
     ap (is_below (option_copied c.args.high)) (sym c.key_in.ensures) ∙ sym c.is_key_below.ensures ∙ c.if-not-is_key_below.true in
     beyond_here (option_copied c.args.high) c.args.page.now.cells c.adding.at c.in-Some.cell.now c.in-Some.ensures past
 
 pub adding-preserved : goal.adding-preserved
 adding-preserved c =
-    let below : is_below (option_copied c.args.high) (key_of c.in-Some.cell.now) ≡ true =
+    let below : is_below (option_copied c.args.high) (key_of_cell c.in-Some.cell.now) ≡ true =
     ap (is_below (option_copied c.args.high)) (sym c.key_in.ensures) ∙ sym c.is_key_below.ensures ∙ c.if-not-is_key_below.false in
     record {
       from = λ up. (let so_far : place_in c.args.low.now c.args.page.now.cells ≤ c.adding.at = c.adding.invariant.from up in omega arith);

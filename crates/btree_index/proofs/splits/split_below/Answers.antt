@@ -6,7 +6,7 @@ use Rattle.std.specs.List.{insert, slice_get}
 use Rattle.page_store.specs.Image.{Image, HasRoom}
 use Rattle.page_store.specs.Edits.{IsFit}
 use Rattle.page_store.specs.declared.edits.Edit.TheVariants.{PutCell}
-use Rattle.page_workspace.specs.Drafts.{meant, IsExcused}
+use Rattle.page_workspace.specs.Drafts.{meant, IsEditExcused}
 use Rattle.page_workspace.proofs.DraftLaws.{excused_after}
 use Rattle.btree_index.specs.Cells.{inner_cell}
 use Rattle.btree_index.specs.Pairs.{choice}
@@ -61,7 +61,7 @@ returns-in_err-cell-clause-excused g c =
     let b : losses c.take_page.new.self.base ≤ losses c.load_to_edit.new.self.base = c.in_ok-load_to_edit.ensures.excused in
     let d : losses c.load_to_edit.new.self.base ≤ losses c.halve.new.space.base = c.in_ok-separator.ensures.excused in
     let rose : losses c.args.space.now.base ≤ losses c.halve.new.space.base = omega arith in
-    let here : IsExcused c.from_residual-in_err-cell.result (losses c.halve.new.space.base) (losses c.halve.new.space.base) = search rules in
+    let here : IsEditExcused c.from_residual-in_err-cell.result (losses c.halve.new.space.base) (losses c.halve.new.space.base) = search rules in
     excused_after c.from_residual-in_err-cell.result (losses c.args.space.now.base) (losses c.halve.new.space.base) rose here
 
 pub returns-in_err-fresh-clause-fit : goal.returns-in_err-fresh-clause-fit

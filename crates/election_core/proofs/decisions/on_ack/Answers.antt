@@ -1,12 +1,12 @@
 use Rattle.std.proofs.Common.{ℕ, ◌≤◌, sym, subst}
-use Rattle.election_core.specs.Allowed.{MayLearn, Decides, IsMost}
+use Rattle.election_core.specs.Allowed.{MayLearn, AllowsExactly, IsMost}
 use Rattle.election_core.specs.declared.messages.Message.TheVariants.{Ack}
 use Rattle.election_core.proofs.Refusals.{no_learn}
 use Rattle.election_core.proofs.decisions.on_ack.Goals as goal
 
 pub returns-in-Some-clause-event : goal.returns-in-Some-clause-event
 returns-in-Some-clause-event c =
-    subst (λ a. Decides c.args.vote.now (Ack c.args.from c.args.generation c.args.length) a) (sym c.know.ensures.event)
+    subst (λ a. AllowsExactly c.args.vote.now (Ack c.args.from c.args.generation c.args.length) a) (sym c.know.ensures.event)
     (subst (λ v. MayLearn v c.args.generation c.in-Some.best) c.count_length.ensures c.in-Some.ensures.some)
 
 pub returns-in-Some-clause-greatest : goal.returns-in-Some-clause-greatest

@@ -2,7 +2,7 @@ use Rattle.std.proofs.Common.{ap, sym, subst, ◌≡◌, ◌≤◌, ℕ, ◌∙�
 use Rattle.page_store.specs.Image.{Image}
 use Rattle.page_store.specs.declared.edits.Edit.{Edit}
 use Rattle.page_workspace.specs.Owned.{IsKept}
-use Rattle.page_workspace.specs.Drafts.{IsExcused, IsNotUnfit}
+use Rattle.page_workspace.specs.Drafts.{IsEditExcused, IsNotUnfit}
 use Rattle.std.specs.Result.{IsErr}
 use Rattle.page_workspace.proofs.DraftLaws.{reading_tells, excused_after}
 use Rattle.page_workspace.proofs.OwnLaws.{kept_same, kept_edit}
@@ -17,7 +17,7 @@ returns-in_err-hold-clause-fits g c = λ _.
 pub returns-in_err-edit_own-clause-excused : goal.returns-in_err-edit_own-clause-excused
 returns-in_err-edit_own-clause-excused g c =
     let rose : g.P.PageSource.losses c.args.base.now ≤ g.P.PageSource.losses c.hold.new.base = c.in_ok-hold.ensures.excused in
-    let here : IsExcused c.from_residual-in_err-edit_own.result (g.P.PageSource.losses c.hold.new.base) (g.P.PageSource.losses c.hold.new.base) = search rules in
+    let here : IsEditExcused c.from_residual-in_err-edit_own.result (g.P.PageSource.losses c.hold.new.base) (g.P.PageSource.losses c.hold.new.base) = search rules in
     excused_after c.from_residual-in_err-edit_own.result (g.P.PageSource.losses c.args.base.now) (g.P.PageSource.losses c.hold.new.base) rose here
 
 pub returns-clause-kept : goal.returns-clause-kept

@@ -1,7 +1,7 @@
 use Rattle.std.proofs.Common.{sym, subst, ap, ◌∙◌, length, List}
 use Rattle.std.proofs.lemmas.Result.{IfOk-weaker}
 use Rattle.phys_log.specs.declared.entries.Entry.{Entry}
-use Rattle.script_form.specs.CanRun.{tables_of}
+use Rattle.script_form.specs.CanRun.{script_tables}
 use Rattle.script_play.specs.Down.{history_of}
 use Rattle.script_play.specs.Ready.{AreEarlier, CanBegin}
 use Rattle.script_play.specs.RunViews.{IsOpenedBehind}
@@ -22,10 +22,10 @@ play-requires g c κs within =
           (
             b.place ∙ ap (λ (es : List Entry). length es) (sym same),
             (
-              subst (λ (es : List Entry). IsOpenedBehind (tables_of c.args.script.now) c.args.begun.log.accepted es c.args.begun.log.entries) (sym same) b.opened,
+              subst (λ (es : List Entry). IsOpenedBehind (script_tables c.args.script.now) c.args.begun.log.accepted es c.args.begun.log.entries) (sym same) b.opened,
               (
                 subst (λ (es : List Entry). AreEarlier c.args.begun.log.accepted es) (sym same) b.earlier,
-                subst (λ (es : List Entry). CanBegin (tables_of c.args.script.now) es g.start.rows) (sym same) b.behind,
+                subst (λ (es : List Entry). CanBegin (script_tables c.args.script.now) es g.start.rows) (sym same) b.behind,
               ),
             ),
           ),

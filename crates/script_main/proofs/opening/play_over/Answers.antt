@@ -1,6 +1,6 @@
 use Rattle.std.proofs.Common.{◌≡◌, ◌∙◌, ap, map, List}
 use Rattle.std.proofs.lemmas.Result.{IfOk-weaker}
-use Rattle.script_form.specs.CanRun.{tables_of}
+use Rattle.script_form.specs.CanRun.{script_tables}
 use Rattle.script_form.specs.declared.scripts.TableLine.{TableLine}
 use Rattle.script_main.proofs.BegunLemmas.{opened_as}
 use Rattle.script_main.proofs.RanLemmas.{left_as, left_cut, length_as, not_up_text, place_in, run_cut, run_text, why_of}
@@ -12,7 +12,7 @@ use Rattle.script_main.proofs.opening.play_over.Goals as goal
 
 pub play_up-requires-clause-opened : goal.play_up-requires-clause-opened
 play_up-requires-clause-opened g c =
-    let same : c.in-Ok.schema ≡ tables_of c.args.script.now =
+    let same : c.in-Ok.schema ≡ script_tables c.args.script.now =
     c.in-Ok.ensures ∙ ap (λ (ts : List TableLine). map (λ (t : TableLine). t.table) ts) c.as_slice.ensures in
     let old = kept_by g.D.LogStore.synced g.D.LogStore.pending g.D.LogStore.faults g.D.LogStore.writes c.args.store in
     let told = c.in-Ok-open_node.ensures in
@@ -20,7 +20,7 @@ play_up-requires-clause-opened g c =
 
 pub not_up-requires-clause-place : goal.not_up-requires-clause-place
 not_up-requires-clause-place g c =
-    let same : c.in-Ok.schema ≡ tables_of c.args.script.now =
+    let same : c.in-Ok.schema ≡ script_tables c.args.script.now =
     c.in-Ok.ensures ∙ ap (λ (ts : List TableLine). map (λ (t : TableLine). t.table) ts) c.as_slice.ensures in
     let w = c.in-Err.down.why in
     let old = g.D.LogStore.synced c.args.store in
@@ -31,7 +31,7 @@ not_up-requires-clause-place g c =
 
 pub returns-in-Ok-open_node-clause-text : goal.returns-in-Ok-open_node-clause-text
 returns-in-Ok-open_node-clause-text g c =
-    let same : c.in-Ok.schema ≡ tables_of c.args.script.now =
+    let same : c.in-Ok.schema ≡ script_tables c.args.script.now =
     c.in-Ok.ensures ∙ ap (λ (ts : List TableLine). map (λ (t : TableLine). t.table) ts) c.as_slice.ensures in
     let script = c.args.script.now in
     let up = c.in-Ok-open_node.up in
@@ -48,7 +48,7 @@ returns-in-Ok-open_node-clause-text g c =
 
 pub returns-clause-text : goal.returns-clause-text
 returns-clause-text g c =
-    let same : c.in-Ok.schema ≡ tables_of c.args.script.now =
+    let same : c.in-Ok.schema ≡ script_tables c.args.script.now =
     c.in-Ok.ensures ∙ ap (λ (ts : List TableLine). map (λ (t : TableLine). t.table) ts) c.as_slice.ensures in
     let script = c.args.script.now in
     let down = c.in-Err.down in
@@ -66,7 +66,7 @@ returns-clause-text g c =
 
 pub returns-in-Ok-open_node-clause-left : goal.returns-in-Ok-open_node-clause-left
 returns-in-Ok-open_node-clause-left g c =
-    let same : c.in-Ok.schema ≡ tables_of c.args.script.now =
+    let same : c.in-Ok.schema ≡ script_tables c.args.script.now =
     c.in-Ok.ensures ∙ ap (λ (ts : List TableLine). map (λ (t : TableLine). t.table) ts) c.as_slice.ensures in
     let script = c.args.script.now in
     let up = c.in-Ok-open_node.up in
@@ -77,7 +77,7 @@ returns-in-Ok-open_node-clause-left g c =
 
 pub returns-clause-left : goal.returns-clause-left
 returns-clause-left g c =
-    let same : c.in-Ok.schema ≡ tables_of c.args.script.now =
+    let same : c.in-Ok.schema ≡ script_tables c.args.script.now =
     c.in-Ok.ensures ∙ ap (λ (ts : List TableLine). map (λ (t : TableLine). t.table) ts) c.as_slice.ensures in
     let script = c.args.script.now in
     let down = c.in-Err.down in

@@ -3,7 +3,7 @@ use Rattle.std.specs.List.{AllByRecursion}
 use Rattle.sql_run.specs.Texts.{plan_by}
 use Rattle.sql_run.specs.Views.{text_in}
 use Rattle.session_turns.specs.Answers.{IfOpen, IsDone}
-use Rattle.session_turns.specs.Doing.{reading}
+use Rattle.session_turns.specs.Doing.{open_begin}
 use Rattle.session_turns.specs.Views.{doing_in, IsOwn}
 use Rattle.session_turns.specs.declared.turns.Turn.{Turn}
 use Rattle.script_play.proofs.TakeLemmas.{of_ok}
@@ -15,7 +15,7 @@ use Rattle.script_play.proofs.effects.effect_of.Goals as goal
 pub take_turn-requires : goal.take_turn-requires
 take_turn-requires g c = record {
   ready = subst (λ (n : Reader). IsReadyFor g.J.Footing.start n.tables n.log) (sym c.new-reader.ensures) c.requires.ready;
-  readable = subst (λ (n : Reader). AllByRecursion (CanRead g.J.Footing.start n.tables n.log) (reading (doing_in c.args.state.doing))) (sym c.new-reader.ensures)
+  readable = subst (λ (n : Reader). AllByRecursion (CanRead g.J.Footing.start n.tables n.log) (open_begin (doing_in c.args.state.doing))) (sym c.new-reader.ensures)
       (reads_open g.J.Footing.start c.args.schema.now c.args.log.now c.args.state.doing c.requires.ready c.requires.going);
   own = subst (λ (n : Reader). IsOwn n.generation c.args.name.now c.args.state) (sym c.new-reader.ensures) c.requires.own;
   plan = subst (λ (n : Reader). (text_in c.args.prepared.now).plan ≡ plan_by n.tables (text_in c.args.prepared.now).meaning) (sym c.new-reader.ensures) c.requires.plan;

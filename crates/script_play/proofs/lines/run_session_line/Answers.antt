@@ -6,7 +6,7 @@ use Rattle.script_play.specs.RunViews.{run_in, AreOver, CanGoOn, IsReadyFor, IsT
 use Rattle.session_turns.specs.Views.{IsOwn}
 use Rattle.session_turns.specs.declared.states.SessionState.{SessionState}
 use Rattle.script_play.proofs.TakeLemmas.{cut_taken, of_ok}
-use Rattle.sql_answer.specs.Language.{meaning, bound_in}
+use Rattle.sql_answer.specs.Language.{meaning, sql_binder}
 use Rattle.sql_answer.specs.Reading.{kind_of_text}
 use Rattle.sql_run.specs.Texts.{plan_by}
 use Rattle.sql_run.specs.Views.{kind_in, text_in}
@@ -35,7 +35,7 @@ run_whole-done-requires g c = λ κs lives. (
                 (
                   c.args.text.now,
                   subst (λ r. OnOk r (is_utf8 c.args.text.now ≡ true)) c.in_ok-state.ensures.1 c.read_text.ensures.utf8,
-                  subst (λ r. IfOk r (λ p. (text_in p).meaning ≡ meaning bound_in c.args.schema.now c.args.text.now)) c.in_ok-state.ensures.1 c.read_text.ensures.meaning,
+                  subst (λ r. IfOk r (λ p. (text_in p).meaning ≡ meaning sql_binder c.args.schema.now c.args.text.now)) c.in_ok-state.ensures.1 c.read_text.ensures.meaning,
                 ),
               ),
             ),

@@ -3,7 +3,7 @@ use Rattle.blkseq_table.specs.Known.{AreApart}
 use Rattle.blkseq_table.specs.OfLogs.{identities_of}
 use Rattle.node_log.specs.Logged.{Logged}
 use Rattle.phys_log.specs.declared.entries.Entry.{Entry}
-use Rattle.script_form.specs.CanRun.{tables_of}
+use Rattle.script_form.specs.CanRun.{script_tables}
 use Rattle.script_play.specs.Played.{IsPlayed}
 use Rattle.script_play.specs.Ready.{AreEarlier}
 use Rattle.script_play.specs.RunViews.{IsOpenedBehind}
@@ -14,7 +14,7 @@ use Rattle.script_play.proofs.playing.play_behind.Goals as goal
 pub of_entries-requires : goal.of_entries-requires
 of_entries-requires g c =
     subst (λ (es : List Entry). AreApart (identities_of es)) (sym (c.entries.ensures ∙ c.log.ensures.entries))
-    (opened_apart (tables_of c.args.script.now) c.args.log.accepted g.start.before g.start.rows c.args.log.entries c.requires.1.1.1.1.0 c.requires.1.1.1.1.1.1)
+    (opened_apart (script_tables c.args.script.now) c.args.log.accepted g.start.before g.start.rows c.args.log.entries c.requires.1.1.1.1.0 c.requires.1.1.1.1.1.1)
 
 pub play_on-requires : goal.play_on-requires
 play_on-requires g c κs within = (
@@ -26,7 +26,7 @@ play_on-requires g c κs within = (
       (
         c.requires.1.1.1.0,
         (
-          subst (λ (l : Logged). IsOpenedBehind (tables_of c.args.script.now) l.accepted g.start.before l.entries) (sym c.opened-so_far.ensures.log) c.requires.1.1.1.1.0,
+          subst (λ (l : Logged). IsOpenedBehind (script_tables c.args.script.now) l.accepted g.start.before l.entries) (sym c.opened-so_far.ensures.log) c.requires.1.1.1.1.0,
           (
             subst (λ (l : Logged). AreEarlier l.accepted g.start.before) (sym c.opened-so_far.ensures.log) c.requires.1.1.1.1.1.0,
             (c.requires.1.1.1.1.1.1, (c.opened-so_far.ensures.lines, c.opened-so_far.ensures.entries)),

@@ -1,6 +1,6 @@
 use Rattle.std.proofs.Common.{◌∙◌, ◌++◌, ◌∷◌, [], List, ap, map, subst, sym}
 use Rattle.cdb_values.specs.Rows.{Rows}
-use Rattle.script_form.specs.CanRun.{tables_of}
+use Rattle.script_form.specs.CanRun.{script_tables}
 use Rattle.script_form.specs.declared.scripts.BodyLine.{BodyLine}
 use Rattle.script_play.specs.Down.{down_line}
 use Rattle.session_turns.specs.Views.{state_in}
@@ -27,8 +27,8 @@ lines-preserved c = (
 
 pub returns : goal.returns
 returns c =
-    let out : (rows : Rows) → IsOutReport c.args.script.now (record { position = c.args.base; tables = tables_of c.args.script.now; rows = rows }) c.report_with.result = λ rows.
-    reports_out c.args.script.now (record { position = c.args.base; tables = tables_of c.args.script.now; rows = rows }) c.lines.rest.now c.lines.lines.items (map state_in c.lines.states) c.new.result.items c.report_with.result
+    let out : (rows : Rows) → IsOutReport c.args.script.now (record { position = c.args.base; tables = script_tables c.args.script.now; rows = rows }) c.report_with.result = λ rows.
+    reports_out c.args.script.now (record { position = c.args.base; tables = script_tables c.args.script.now; rows = rows }) c.lines.rest.now c.lines.lines.items (map state_in c.lines.states) c.new.result.items c.report_with.result
     c.lines.invariant.0 c.in_default.ensures.cases c.new.ensures.items c.report_with.ensures in
     let any = out (record { tables = []; next = 0 }) in
     record {

@@ -1,5 +1,5 @@
 use Rattle.std.proofs.Common.{◌∙◌, ℕ, [], List, ap, map, refl, subst, sym}
-use Rattle.script_form.specs.CanRun.{tables_of}
+use Rattle.script_form.specs.CanRun.{script_tables}
 use Rattle.script_form.specs.declared.scripts.BodyLine.{BodyLine}
 use Rattle.script_play.specs.RunViews.{run_in, IsBeforeLine}
 use Rattle.script_play.specs.SoFar.{at_start}
@@ -15,7 +15,7 @@ lines-init g c =
       subst (λ (bs : List BodyLine). IsBeforeLine c.args.script.now g.start c.accepted-generation.result c.args.run.now.log.store.faults bs (run_of c.args.run.now.lines.items c.open_history.new.entries.items c.args.run.now.log) c.in_ok-states.states) (sym c.as_slice-rest.ensures)
           (subst (λ (n : ℕ). IsBeforeLine c.args.script.now g.start n c.args.run.now.log.store.faults c.args.script.now.body (run_of c.args.run.now.lines.items c.open_history.new.entries.items c.args.run.now.log) c.in_ok-states.states) (sym c.accepted-generation.ensures)
           (begins_at c.args.script.now g.start c.args.run.now.log c.args.run.now.lines.items c.open_history.new.entries.items c.in_ok-states.states c.requires.1.0 c.requires.1.1.0 c.requires.1.1.1.1.1.0 c.requires.1.1.1.1.1.1.1.0
-          (opening_is (tables_of c.args.script.now) c.args.run.now.log.accepted c.args.base g.start.before c.open_history.new.entries.items c.args.run.now.log.entries c.requires.1.1.1.0 c.in_ok-open_history.ensures.first c.in_ok-open_history.ensures.later c.requires.1.1.1.1.0)
+          (opening_is (script_tables c.args.script.now) c.args.run.now.log.accepted c.args.base g.start.before c.open_history.new.entries.items c.args.run.now.log.entries c.requires.1.1.1.0 c.in_ok-open_history.ensures.first c.in_ok-open_history.ensures.later c.requires.1.1.1.1.0)
           c.requires.1.1.1.1.1.1.0 starts)),
       c.accepted-generation.ensures,
       c.schema.view_is ∙ are,

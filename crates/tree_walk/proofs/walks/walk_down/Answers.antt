@@ -2,7 +2,7 @@ use Rattle.std.proofs.Common.{ℕ, ◌≡◌, ◌≤◌, ◌++◌, List, map, So
 use Rattle.std.proofs.lemmas.List.{length-map}
 use Rattle.std.proofs.lemmas.Bool.{ltb-true}
 use Rattle.page_store.specs.Image.{Image}
-use Rattle.btree_index.specs.Trees.{Entry, page_of, top, pages_of}
+use Rattle.btree_index.specs.Trees.{Entry, page_of, top, tree_pages}
 use Rattle.btree_index.proofs.FindLemmas.{ok_before}
 use Rattle.tree_walk.specs.Walks.{descend, walk_from}
 use Rattle.tree_walk.proofs.StepLemmas.{walk_next, walk_stop}
@@ -15,7 +15,7 @@ returns-then-is_past-clause-down g c =
     let ok = ok_before c.add_pages.result c.map_err-in-down.result _ c.in_ok-map_err.field-0 c.map_err-in-down.ensures.cases c.in_ok-map_err.was in
     let added : c.add_pages.new.own.items ≡ c.down.own.items ++ map page_of c.as_slice.result.now = rw ok at c.add_pages.ensures in
     let long : c.args.limit < length c.add_pages.new.own.items = ltb-true c.args.limit (length c.add_pages.new.own.items) (sym c.is_past.ensures.told ∙ c.if-is_past.true) in
-    inr (pages_past old c.down.above c.args.limit c.down.level.items c.down.own.items c.add_pages.new.own.items (pages_of old c.args.height (top c.args.root))
+    inr (pages_past old c.down.above c.args.limit c.down.level.items c.down.own.items c.add_pages.new.own.items (tree_pages old c.args.height (top c.args.root))
     (added ∙ ap (λ (l : List Entry). c.down.own.items ++ map page_of l) c.as_slice.ensures.value) c.down.invariant.own long)
 
 pub down-preserved : goal.down-preserved
@@ -39,7 +39,7 @@ down-preserved g c =
       losses = omega arith;
       few = c.is_past.ensures.few c.if-is_past.false;
       visited = omega (arith, sum, visited, asked, same);
-      own = pages_next old c.down.above c.down.level.items c.in-Some.next.items c.down.own.items c.add_pages.new.own.items (pages_of old c.args.height (top c.args.root)) c.down-test.true below
+      own = pages_next old c.down.above c.down.level.items c.in-Some.next.items c.down.own.items c.add_pages.new.own.items (tree_pages old c.args.height (top c.args.root)) c.down-test.true below
           (added ∙ ap (λ (l : List Entry). c.down.own.items ++ map page_of l) c.as_slice.ensures.value) c.down.invariant.own;
       found = walk_next old c.down.above c.down.level.items c.in-Some.next.items (walk_from old c.args.height (top c.args.root)) c.down-test.true below c.down.invariant.found;
     }

@@ -9,7 +9,7 @@ use Rattle.phys_log.specs.declared.requests.Decision.TheVariants.{Commit}
 use Rattle.node_state.specs.Commits.{MaySettle}
 use Rattle.node_state.specs.Stores.{held_of}
 use Rattle.node_commits.specs.Asked.{ground_of}
-use Rattle.node_commits.specs.Commits.{Does, IsGiven}
+use Rattle.node_commits.specs.Commits.{DoesCommit, IsGiven}
 use Rattle.node_commits.specs.Ledgers.{Book, IsUntold}
 use Rattle.node_commits.proofs.CommitLaws.{can_be_decided, may_enter, may_settle}
 use Rattle.node_commits.proofs.GivenLaws.{given, tells}
@@ -56,7 +56,7 @@ pub returns-in-Commit-clause-given : goal.returns-in-Commit-clause-given
 returns-in-Commit-clause-given g c =
     let footing = ground_of g.J.Plan.setting c.args.node.now.actor.seen c.args.node.now.vote.node g.sent in
     IfOk-weaker c.answer_by_entry.result
-    (λ s. Does c.in_ok-id.id (Commit c.in-Commit.entry) s c.args.self.now c.answer_by_entry.new.self (held_of c.args.node.now) (held_of c.answer_by_entry.new.node))
+    (λ s. DoesCommit c.in_ok-id.id (Commit c.in-Commit.entry) s c.args.self.now c.answer_by_entry.new.self (held_of c.args.node.now) (held_of c.answer_by_entry.new.node))
     (λ s. IsGiven footing c.args.request s c.args.self.now c.answer_by_entry.new.self (held_of c.args.node.now) (held_of c.answer_by_entry.new.node))
     (given footing c.args.request c.in_ok-id.id (Commit c.in-Commit.entry) c.args.self.now c.answer_by_entry.new.self (held_of c.args.node.now) (held_of c.answer_by_entry.new.node) c.in_ok-id.ensures c.requires.1.1.1.untold
     (subst (λ (d : Decision). Decides footing c.args.request c.args.node.now.entries c.args.node.now.vote.accepted d) c.in-Commit.is c.in_ok-decision.ensures))
@@ -77,7 +77,7 @@ pub returns-in_default-clause-given : goal.returns-in_default-clause-given
 returns-in_default-clause-given g c =
     let footing = ground_of g.J.Plan.setting c.args.node.now.actor.seen c.args.node.now.vote.node g.sent in
     IfOk-weaker c.answer_by_telling.result
-    (λ s. Does c.in_ok-id.id c.in_ok-decision.decision s c.args.self.now c.answer_by_telling.new.self (held_of c.args.node.now) (held_of c.answer_by_telling.new.node))
+    (λ s. DoesCommit c.in_ok-id.id c.in_ok-decision.decision s c.args.self.now c.answer_by_telling.new.self (held_of c.args.node.now) (held_of c.answer_by_telling.new.node))
     (λ s. IsGiven footing c.args.request s c.args.self.now c.answer_by_telling.new.self (held_of c.args.node.now) (held_of c.answer_by_telling.new.node))
     (given footing c.args.request c.in_ok-id.id c.in_ok-decision.decision c.args.self.now c.answer_by_telling.new.self (held_of c.args.node.now) (held_of c.answer_by_telling.new.node) c.in_ok-id.ensures c.requires.1.1.1.untold c.in_ok-decision.ensures)
     c.answer_by_telling.ensures.does

@@ -1,7 +1,7 @@
 -- What was written may follow, and so does a front of it.
 use Rattle.std.proofs.Common.{sym, subst}
 use Rattle.std.proofs.Math.Logic.{∥∥₁_map}
-use Rattle.store_log.specs.Follows.{AreNext}
+use Rattle.store_log.specs.Follows.{AreNextFrames}
 use Rattle.store_log.specs.Keeps.{Stored}
 use Rattle.store_log.proofs.FollowLemmas.{written_of_log}
 use Rattle.store_log.proofs.stores.Held.keep_bytes.Goals as goal
@@ -19,5 +19,5 @@ invariant_of-self g c =
     } in
     let told = c.write_synced.ensures in
     ∥∥₁_map c.requires.next (λ a.
-    written_of_log c.write_synced.result old next new (subst (λ (s : Stored). AreNext s.synced next) (sym c.self.view_is) a)
+    written_of_log c.write_synced.result old next new (subst (λ (s : Stored). AreNextFrames s.synced next) (sym c.self.view_is) a)
     told.synced told.settled told.same told.part)

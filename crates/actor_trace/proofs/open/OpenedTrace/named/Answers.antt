@@ -1,10 +1,10 @@
 use Rattle.std.proofs.Common.{ℕ, zero, suc, ◌≡◌, ◌<◌, ◌+◌, [], ◌∷◌, ◌++◌, ◌∙◌, sym, ap, subst, arith}
 use Rattle.actor_trace.proofs.Dealt.{fresh_blank}
-use Rattle.actor_trace.proofs.open.Opened.named.Given as given
+use Rattle.actor_trace.proofs.open.OpenedTrace.named.Given as given
 use Rattle.actor_trace.specs.Actors.{Knows, fresh}
 use Rattle.actor_trace.specs.Lists.{In, deal}
 use Rattle.actor_trace.specs.Views.{a_view}
-use Rattle.actor_trace.proofs.open.Opened.named.Goals as goal
+use Rattle.actor_trace.proofs.open.OpenedTrace.named.Goals as goal
 
 left : (i k n : ℕ) → i + k ≡ n → i < n → (x : ℕ) × (k ≡ x + 1) × (i + 1 + x ≡ n)
 left i zero n e lt = absurd (omega arith)

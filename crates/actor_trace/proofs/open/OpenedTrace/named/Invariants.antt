@@ -2,7 +2,7 @@ use Rattle.std.proofs.Common.{ℕ, ◌≡◌, ◌+◌, []}
 use Rattle.actor_trace.specs.Actors.{fresh}
 use Rattle.actor_trace.specs.Lists.{deal}
 use Rattle.actor_trace.specs.Views.{a_view}
-use Rattle.actor_trace.proofs.open.Opened.named.Given as goal
+use Rattle.actor_trace.proofs.open.OpenedTrace.named.Given as goal
 
 abbrev pub invariant-loop-number : goal.invariant-loop-number
 invariant-loop-number g l =

@@ -5,7 +5,7 @@ use Rattle.cdb_values.specs.declared.tables.TableDef.{TableDef}
 use Rattle.table_store.specs.Plans.{plan_from}
 use Rattle.table_store.specs.Readings.{row_pairs}
 use Rattle.table_store.proofs.ReadLaws.{IsToRead, to_read}
-use Rattle.table_store.proofs.reads.read_table.Goals as goal
+use Rattle.table_store.proofs.reads.table_versions.Goals as goal
 
 pub returns-in-Ok-clause-versions : goal.returns-in-Ok-clause-versions
 returns-in-Ok-clause-versions g c = λ rows stands.
