@@ -50,7 +50,7 @@ pub record IsFoundAt (G : Setting) (h : List (ℕ × Event)) (o : Opened) : Type
   pub found : find_log (world G h) o.gen o.begin G.nodes ≡ Some log
   pub as_durable : (g : ℕ) (d : List KeptEntry) → DurableIn G.nodes (world G h) g d → o.begin ≤ length d → log ≡ take o.begin d
 
-found_by : (G : Setting) (h : List (ℕ × Event)) → AreLegalSteps G h → (o : Opened) → Pinged (field (steps G h)) o.begin o.gen → IsFoundAt G h o
+pub found_by : (G : Setting) (h : List (ℕ × Event)) → AreLegalSteps G h → (o : Opened) → Pinged (field (steps G h)) o.begin o.gen → IsFoundAt G h o
 found_by G h l o p = record { log = take o.begin ship.it.log; found = found; as_durable = same }
   where
     inv : Inv G.nodes (world G h)
