@@ -1,0 +1,4 @@
+pub mod WorkLaws
+pub mod SeatLaws
+pub mod RunLaws
+pub mod OutcomeLaws
