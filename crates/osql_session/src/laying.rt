@@ -14,6 +14,7 @@ use crate::requests::copied_op;
 use cdb_values::limits::MOST_NET_OPERATIONS;
 use cdb_values::{Interval, List, Reply, RowOp, RowRef, StatementError};
 use net_writes::Overlay;
+use own_writes::OwnWrites;
 use std::alloc::{AllocError, Global};
 
 /// One line alone.
@@ -43,27 +44,45 @@ pub(crate) fn append_both<A: Drop, B: Drop>(
     first.append(&mut to_first)
 }
 
+/// Adds these writes to the operations, and these intervals to the ranges: all of them, or none for want of memory.
+fn add_both(
+    ops: &mut OwnWrites,
+    writes: List<RowOp>,
+    ranges: &mut Vec<Interval>,
+    read: List<Interval>,
+) -> Result<(), AllocError>
+    ensures ops { ops.new ≡ (if is_ok result then ops.old ++ writes else ops.old) }
+    ensures ranges { ranges.new.items ≡ (if is_ok result then ranges.old.items ++ read else ranges.old.items) }
+{
+    let mut read = read.into_vec();
+    ranges.reserve(read.len())?;
+    ops.add_all(writes)?;
+    // There is room for these.
+    ranges.append(&mut read)
+}
+
 /// The answer of writes, where no row has an error. The operations and the ranges are as before where it is not given,
 /// and where the writes would leave too many operations.
 pub(crate) fn written(
     alloc: Global,
-    ops: &mut Vec<RowOp>,
+    ops: &mut OwnWrites,
     writes: List<RowOp>,
     ranges: &mut Vec<Interval>,
     read: List<Interval>,
 ) -> Result<List<Reply>, AllocError>
-    requires { list_all is_on_base_of ops.old.items ≡ true }
-    ensures replies { IfOk result (λ lines. lines ≡ replies_of (net_given ops.old.items writes)) }
-    ensures ops { OnOk result (ops.new.items ≡ ops_after ops.old.items (net_given ops.old.items writes)) }
-    ensures ranges { OnOk result (ranges.new.items ≡ ranges.old.items ++ used_of (net_given ops.old.items writes) read) }
-    ensures ops_stay { OnErr result (ops.new.items ≡ ops.old.items) }
+    requires { list_all is_on_base_of ops.old ≡ true }
+    ensures replies { IfOk result (λ lines. lines ≡ replies_of (net_given ops.old writes)) }
+    ensures ops { OnOk result (ops.new ≡ ops_after ops.old (net_given ops.old writes)) }
+    ensures ranges { OnOk result (ranges.new.items ≡ ranges.old.items ++ used_of (net_given ops.old writes) read) }
+    ensures ops_stay { OnErr result (ops.new ≡ ops.old) }
     ensures ranges_stay { OnErr result (ranges.new.items ≡ ranges.old.items) }
-    ensures based { list_all is_on_base_of ops.new.items ≡ true }
+    ensures based { list_all is_on_base_of ops.new ≡ true }
 {
-    if add_up(ops.len(), writes.as_slice()) {
+    let count = ops.as_slice().len();
+    if add_up(count, writes.as_slice()) {
         return added(alloc, ops, writes, ranges, read);
     }
-    match place_alone(ops.len(), writes.as_slice()) {
+    match place_alone(count, writes.as_slice()) {
         Some(at) => laid_over(alloc, ops, at, writes, ranges, read),
         None => laid(alloc, ops, writes, ranges, read),
     }
@@ -116,23 +135,23 @@ fn is_base(target: &RowRef) -> bool
 #[tactic(auto, using(sql_answer_plain::proofs::LaidLemmas::few_fit, sql_answer_plain::proofs::LaidLemmas::base_is_net, crate::proofs::BaseLemmas::both_are_based))]
 fn added(
     alloc: Global,
-    ops: &mut Vec<RowOp>,
+    ops: &mut OwnWrites,
     writes: List<RowOp>,
     ranges: &mut Vec<Interval>,
     read: List<Interval>,
 ) -> Result<List<Reply>, AllocError>
-    requires based { list_all is_on_base_of ops.old.items ≡ true }
+    requires based { list_all is_on_base_of ops.old ≡ true }
     requires own { list_all is_on_base_of writes ≡ true }
-    requires few { length ops.old.items + length writes ≤ 16384 }
-    ensures replies { IfOk result (λ lines. lines ≡ replies_of (net_given ops.old.items writes)) }
-    ensures ops { OnOk result (ops.new.items ≡ ops_after ops.old.items (net_given ops.old.items writes)) }
-    ensures ranges { OnOk result (ranges.new.items ≡ ranges.old.items ++ used_of (net_given ops.old.items writes) read) }
-    ensures ops_stay { OnErr result (ops.new.items ≡ ops.old.items) }
+    requires few { length ops.old + length writes ≤ 16384 }
+    ensures replies { IfOk result (λ lines. lines ≡ replies_of (net_given ops.old writes)) }
+    ensures ops { OnOk result (ops.new ≡ ops_after ops.old (net_given ops.old writes)) }
+    ensures ranges { OnOk result (ranges.new.items ≡ ranges.old.items ++ used_of (net_given ops.old writes) read) }
+    ensures ops_stay { OnErr result (ops.new ≡ ops.old) }
     ensures ranges_stay { OnErr result (ranges.new.items ≡ ranges.old.items) }
-    ensures based { list_all is_on_base_of ops.new.items ≡ true }
+    ensures based { list_all is_on_base_of ops.new ≡ true }
 {
     let lines = alone(alloc, Reply::Changed(writes.len() as u64))?;
-    append_both(ops, writes, ranges, read)?;
+    add_both(ops, writes, ranges, read)?;
     Ok(lines)
 }
 
@@ -140,20 +159,20 @@ fn added(
 #[tactic(auto, using(crate::proofs::OwnLemmas::over_is_net, crate::proofs::OwnLemmas::one_fits, crate::proofs::OwnLemmas::over_is_based))]
 fn laid_over(
     alloc: Global,
-    ops: &mut Vec<RowOp>,
+    ops: &mut OwnWrites,
     at: usize,
     writes: List<RowOp>,
     ranges: &mut Vec<Interval>,
     read: List<Interval>,
 ) -> Result<List<Reply>, AllocError>
-    requires based { list_all is_on_base_of ops.old.items ≡ true }
-    requires place { place_alone_of (length ops.old.items) writes ≡ Some at }
-    ensures replies { IfOk result (λ lines. lines ≡ replies_of (net_given ops.old.items writes)) }
-    ensures ops { OnOk result (ops.new.items ≡ ops_after ops.old.items (net_given ops.old.items writes)) }
-    ensures ranges { OnOk result (ranges.new.items ≡ ranges.old.items ++ used_of (net_given ops.old.items writes) read) }
-    ensures ops_stay { OnErr result (ops.new.items ≡ ops.old.items) }
+    requires based { list_all is_on_base_of ops.old ≡ true }
+    requires place { place_alone_of (length ops.old) writes ≡ Some at }
+    ensures replies { IfOk result (λ lines. lines ≡ replies_of (net_given ops.old writes)) }
+    ensures ops { OnOk result (ops.new ≡ ops_after ops.old (net_given ops.old writes)) }
+    ensures ranges { OnOk result (ranges.new.items ≡ ranges.old.items ++ used_of (net_given ops.old writes) read) }
+    ensures ops_stay { OnErr result (ops.new ≡ ops.old) }
     ensures ranges_stay { OnErr result (ranges.new.items ≡ ranges.old.items) }
-    ensures based { list_all is_on_base_of ops.new.items ≡ true }
+    ensures based { list_all is_on_base_of ops.new ≡ true }
 {
     let lines = alone(alloc, Reply::Changed(writes.len() as u64))?;
     let now = over(alloc, ops.as_slice(), at, writes)?;
@@ -165,18 +184,18 @@ fn laid_over(
 #[tactic(auto, using(crate::proofs::BaseLemmas::net_is_based))]
 fn laid(
     alloc: Global,
-    ops: &mut Vec<RowOp>,
+    ops: &mut OwnWrites,
     writes: List<RowOp>,
     ranges: &mut Vec<Interval>,
     read: List<Interval>,
 ) -> Result<List<Reply>, AllocError>
-    requires { list_all is_on_base_of ops.old.items ≡ true }
-    ensures replies { IfOk result (λ lines. lines ≡ replies_of (net_given ops.old.items writes)) }
-    ensures ops { OnOk result (ops.new.items ≡ ops_after ops.old.items (net_given ops.old.items writes)) }
-    ensures ranges { OnOk result (ranges.new.items ≡ ranges.old.items ++ used_of (net_given ops.old.items writes) read) }
-    ensures ops_stay { OnErr result (ops.new.items ≡ ops.old.items) }
+    requires { list_all is_on_base_of ops.old ≡ true }
+    ensures replies { IfOk result (λ lines. lines ≡ replies_of (net_given ops.old writes)) }
+    ensures ops { OnOk result (ops.new ≡ ops_after ops.old (net_given ops.old writes)) }
+    ensures ranges { OnOk result (ranges.new.items ≡ ranges.old.items ++ used_of (net_given ops.old writes) read) }
+    ensures ops_stay { OnErr result (ops.new ≡ ops.old) }
     ensures ranges_stay { OnErr result (ranges.new.items ≡ ranges.old.items) }
-    ensures based { list_all is_on_base_of ops.new.items ≡ true }
+    ensures based { list_all is_on_base_of ops.new ≡ true }
 {
     let count = writes.len() as u64;
     let net = net_with(alloc, ops.as_slice(), writes)?;
@@ -191,21 +210,21 @@ fn laid(
 fn replaced(
     alloc: Global,
     count: u64,
-    ops: &mut Vec<RowOp>,
+    ops: &mut OwnWrites,
     net: List<RowOp>,
     ranges: &mut Vec<Interval>,
     read: List<Interval>,
 ) -> Result<List<Reply>, AllocError>
     ensures replies { IfOk result (λ lines. lines ≡ reply.Changed count ∷ []) }
-    ensures ops { OnOk result (ops.new.items ≡ net) }
+    ensures ops { OnOk result (ops.new ≡ net) }
     ensures ranges { OnOk result (ranges.new.items ≡ ranges.old.items ++ read) }
-    ensures ops_stay { OnErr result (ops.new.items ≡ ops.old.items) }
+    ensures ops_stay { OnErr result (ops.new ≡ ops.old) }
     ensures ranges_stay { OnErr result (ranges.new.items ≡ ranges.old.items) }
 {
     let lines = alone(alloc, Reply::Changed(count))?;
     let mut read = read.into_vec();
     ranges.append(&mut read)?;
-    *ops = net.into_vec();
+    *ops = OwnWrites::from_writes(alloc, net);
     Ok(lines)
 }
 

@@ -10,6 +10,7 @@ use crate::requests::copied_op;
 use cdb_values::limits::MOST_NET_OPERATIONS;
 use cdb_values::{Interval, List, RowOp, RowRef};
 use net_writes::Overlay;
+use own_writes::OwnWrites;
 use std::alloc::{AllocError, Global};
 
 /// The place, among so many operations, of the one that writes name, where they are one write that names one.
@@ -133,21 +134,19 @@ fn on_first(op: RowOp) -> RowOp
 
 /// Takes an operation out, and adds these at the end, and intervals to the ranges: all of it, or nothing for want of memory.
 pub(crate) fn exchange(
-    ops: &mut Vec<RowOp>,
+    ops: &mut OwnWrites,
     at: usize,
     now: List<RowOp>,
     ranges: &mut Vec<Interval>,
     read: List<Interval>,
 ) -> Result<(), AllocError>
-    requires { at < length ops.old.items }
-    ensures ops { ops.new.items ≡ (if is_ok result then exchanged ops.old.items at now else ops.old.items) }
+    requires { at < length ops.old }
+    ensures ops { ops.new ≡ (if is_ok result then exchanged ops.old at now else ops.old) }
     ensures ranges { ranges.new.items ≡ (if is_ok result then ranges.old.items ++ read else ranges.old.items) }
 {
-    let mut now = now.into_vec();
     let mut read = read.into_vec();
-    ops.reserve(now.len())?;
-    ranges.append(&mut read)?;
-    let _before = ops.remove(at);
+    ranges.reserve(read.len())?;
+    ops.exchange(at, now)?;
     // There is room for these.
-    ops.append(&mut now)
+    ranges.append(&mut read)
 }

@@ -20,7 +20,8 @@ ghost use Rattle.osql_session.specs.Used.{used_of};
 
 use crate::laying::{alone, append_both, written};
 use crate::requests::asked;
-use cdb_values::{GenidItem, Interval, Level, List, Reply, RowOp, Schema};
+use cdb_values::{GenidItem, Interval, Level, List, Reply, Schema};
+use own_writes::OwnWrites;
 use phys_log::{CommitId, CommitRequest};
 use plan_run::{Executed, RowFault, RowSource, execute};
 use query_plan::Plan;
@@ -37,7 +38,7 @@ pub struct OsqlSession {
     id: CommitId,
     begin: u64,
     level: Level,
-    ops: Vec<RowOp>,
+    ops: OwnWrites,
     /// The versions that SELECTV used, in order.
     genids: Vec<GenidItem>,
     /// The intervals that were read, in order.
@@ -52,10 +53,10 @@ impl Model for OsqlSession {
 
     ghost Value = { Session };
 
-    ghost view = { λ s. record { id = s.id; begin = s.begin; level = s.level; ops = s.ops.items; genids = s.genids.items; ranges = s.ranges.items } };
+    ghost view = { λ s. record { id = s.id; begin = s.begin; level = s.level; ops = s.ops; genids = s.genids.items; ranges = s.ranges.items } };
 
     // The net operations name no own write, so that those of a statement that names none are added behind them.
-    ghost invariant = { λ s. list_all is_on_base s.ops.items ≡ true };
+    ghost invariant = { λ s. list_all is_on_base s.ops ≡ true };
 }
 
 /// An answer, after which a value that it came from is let go: the steps of its destructor are no part of who answers.
@@ -63,6 +64,14 @@ fn with_no<T: Drop, U>(_value: T, answer: U) -> U
     ensures { result ≡ answer }
 {
     answer
+}
+
+/// Whether a prepared text reads tables.
+fn reads(prepared: &Prepared) -> bool {
+    match prepared.meaning() {
+        Meaning::Runs { plan, .. } => plan.len() > 0,
+        Meaning::Fails(_) => false,
+    }
 }
 
 impl OsqlSession {
@@ -74,7 +83,7 @@ impl OsqlSession {
             id,
             begin,
             level,
-            ops: Vec::new(alloc),
+            ops: OwnWrites::new(alloc),
             genids: Vec::new(alloc),
             ranges: Vec::new(alloc),
         }
@@ -156,7 +165,25 @@ impl OsqlSession {
         ensures versions { S.versions source.new ≡ S.versions source.old }
         ensures excused { AreRowsExcused result (S.losses source.old) (S.losses source.new) }
     {
+        self.mark_before(prepared);
         self.answered(alloc, schema, prepared, source)
+    }
+
+    /// Marks the operations before a text that reads tables, so that it finds those that it asks for.
+    fn mark_before(&mut self, prepared: &Prepared)
+        ensures { self.new ≡ self.old }
+    {
+        if !reads(prepared) {
+            return;
+        }
+        self.mark();
+    }
+
+    /// Marks the operations.
+    fn mark(&mut self)
+        ensures { self.new ≡ self.old }
+    {
+        self.ops.mark();
     }
 
     /// The position that the transaction began at. Takes no memory.
@@ -170,7 +197,8 @@ impl OsqlSession {
     pub fn request(&self, alloc: Global) -> Result<Option<CommitRequest>, AllocError>
         ensures { IfOk result (λ request. request ≡ request_of self.now) }
     {
-        if self.ops.is_empty() {
+        let ops = self.ops.as_slice();
+        if ops.is_empty() {
             return Ok(None);
         }
         let request = asked(
@@ -178,7 +206,7 @@ impl OsqlSession {
             &self.id,
             self.begin,
             self.level,
-            self.ops.as_slice(),
+            ops,
             self.genids.as_slice(),
             self.ranges.as_slice(),
         )?;
@@ -249,7 +277,7 @@ impl OsqlSession {
         ensures excused { AreRowsExcused result (S.losses source.old) (S.losses source.new) }
     {
         let tables = schema.tables();
-        let executed = execute(alloc, tables, statement, plan, source, self.ops.as_slice())?;
+        let executed = execute(alloc, tables, statement, plan, source, &self.ops)?;
         Ok(self.met(alloc, executed)?)
     }
 

@@ -1,4 +1,3 @@
 pub mod Keeping
-pub mod Passed
 pub mod PlanWalks
 pub mod Sources

@@ -15,7 +15,6 @@
 //! | what a source means | `sources` | `specs/Sources` |
 //! | how far a conjunct reaches, and the outer combinations | `reaches`, `outers` | `query_laws`, `Conjuncts` and `Walks` |
 //! | whether a row lies in an interval | `lying` | `query_laws`, `Intervals` |
-//! | own rows that are passed over | `passing` | `specs/Passed` |
 //! | the walk by a plan | `walks` | `specs/PlanWalks` |
 //! | the last place of a query's walk | `folds` | `sql_eval`, `Shaped` |
 //! | its rows, kept while the interval is the same | `keeping`, `sameness` | `specs/Keeping` |
@@ -34,7 +33,6 @@ mod folds;
 mod keeping;
 mod lying;
 mod outers;
-mod passing;
 mod reaches;
 mod sameness;
 mod sources;

@@ -9,6 +9,7 @@ use crate::shown::{
 use crate::texts::LONGEST;
 use cdb_values::{Interval, Level, List, Name, Reply, Row, RowOp, Schema, StatementError, Version};
 use osql_session::{CommitId, CommitRequest, OsqlSession};
+use own_writes::OwnWrites;
 use plan_run::{Executed, RowFault, execute};
 use query_plan::Plan;
 use sql_answer_plain::{Outcome, answer, answered_by};
@@ -237,11 +238,19 @@ impl Case {
     fn planned(&self, alloc: Global, bound: &Bound) -> Result<Executed, AllocError> {
         let mut rows = rows_of(alloc, &self.schema, self.versions.as_slice())?;
         let plan = Plan::new(alloc, bound, &self.schema)?;
+        let own = self.own(alloc)?;
         let tables = self.schema.tables();
-        match execute(alloc, tables, bound, &plan, &mut rows, self.ops.as_slice()) {
+        match execute(alloc, tables, bound, &plan, &mut rows, &own) {
             Ok(executed) => Ok(executed),
             Err(_) => Err(AllocError),
         }
+    }
+
+    /// The operations so far, with their marks.
+    fn own(&self, alloc: Global) -> Result<OwnWrites, AllocError> {
+        let mut own = OwnWrites::from_writes(alloc, self.ops.clone()?);
+        own.mark();
+        Ok(own)
     }
 
     /// Adds what a text is answered. Afterwards the transaction has the operations of the plain outcome.

@@ -1,0 +1,5 @@
+pub mod ColumnLemmas
+pub mod KeptLemmas
+pub mod MarkLemmas
+pub mod OutLemmas
+pub mod PlaceLemmas
