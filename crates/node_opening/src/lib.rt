@@ -39,4 +39,5 @@ mod stands;
 mod tables;
 mod up;
 
+pub use tables::difference;
 pub use up::{NotUp, UpNode, WhyNotUp, open_node};

@@ -7,7 +7,7 @@ use cdb_values::{ColumnDef, KeyDef, Name, TableDef};
 
 /// The place of the first given table that differs from the log's table there, or has none there; where there is none,
 /// and the log has more tables, that of the last given one. None where no tables are given, or those of the log.
-pub(crate) fn difference(given: &[TableDef], logged: &[TableDef]) -> Option<u64>
+pub fn difference(given: &[TableDef], logged: &[TableDef]) -> Option<u64>
     ensures { MatchOption result (AreMatched given.now logged.now) (IsDifference given.now logged.now) }
 {
     let same = count_same(given, logged);
