@@ -1,0 +1,2 @@
+pub mod LawfulLaws
+pub mod SettingLaws
