@@ -1,0 +1,4 @@
+pub mod SendLaws
+pub mod SettledLaws
+pub mod LearnLaws
+pub mod GenerationLaws

@@ -1,0 +1,4 @@
+pub mod CountLaws
+pub mod MoveLaws
+pub mod SiteLaws
+pub mod FallenLaws
