@@ -1,14 +1,14 @@
 -- What a node answers to a request, and what it does about it.
 use Rattle.std.specs.declared.alloc.Global.{Global}
-use Rattle.std.specs.Prelude.{Vec, ℕ, ◌≡◌, ◌⊎◌, true, false, List, [], ◌∷◌, ◌++◌, Option, Some, None}
+use Rattle.std.specs.Prelude.{Vec, ℕ, ◌≡◌, ◌⊎◌, true, false, List, [], ◌∷◌, ◌++◌}
 use Rattle.block_processor.specs.Decided.{Decides}
 use Rattle.log_rows.specs.History.{Ground}
 use Rattle.kept_log.specs.Kept.{OverStore}
-use Rattle.cdb_outside.specs.Faults.{Rose}
 use Rattle.node_state.specs.Calls.{Falls, IsAsBefore}
 use Rattle.node_state.specs.Commits.{Enters, Settles}
 use Rattle.node_state.specs.Nodes.{Held}
 use Rattle.node_state.specs.Packets.{SentPacket}
+use Rattle.node_state.specs.Stores.{HasFailed, IsCalm}
 use Rattle.phys_log.specs.declared.entries.CommitId.{CommitId}
 use Rattle.phys_log.specs.declared.entries.Entry.{Entry}
 use Rattle.phys_log.specs.declared.requests.CommitRequest.{CommitRequest}
@@ -44,11 +44,6 @@ IsDone id d ps b c old new = Settles id d old new × (ps ≡ []) × (c.told ≡ 
 abbrev pub IsFault : Decision → Book → Book → Held → Held → Type 0
 IsFault (decision.Commit next) b c old new = Falls true old new × (c ≡ b)
 IsFault d b c old new = ⊥
-
--- an entry is appended and shipped, or the store failed at it
-abbrev pub IsPutIn : Entry → Option (Vec SentPacket Global) → Book → Book → Held → Held → Type 0
-IsPutIn next (Some ps) b c old new = Enters next ps.items old new × (c.told ≡ b.told)
-IsPutIn next None b c old new = Falls true old new × (c ≡ b)
 
 -- it gives this decision, and does that
 abbrev pub DoesCommit : CommitId → Decision → CommitStep (Vec SentPacket Global) → Book → Book → Held → Held → Type 0
@@ -90,9 +85,5 @@ IsAnswered footing request g (step.Decided d ps) b c old new = LeadsIn old.vote 
 abbrev pub AsksAtCommit : CommitStep (Vec SentPacket Global) → OverStore → OverStore → Type 0
 AsksAtCommit step.Down old new = new ≡ old
 AsksAtCommit (step.NotMaster h) old new = new ≡ old
-AsksAtCommit step.Fault old new = Rose old.faults new.faults
-AsksAtCommit (step.Decided d ps) old new = new.faults ≡ old.faults
-
-abbrev pub AsksAtEntry : Option (Vec SentPacket Global) → OverStore → OverStore → Type 0
-AsksAtEntry None old new = Rose old.faults new.faults
-AsksAtEntry (Some ps) old new = new.faults ≡ old.faults
+AsksAtCommit step.Fault old new = HasFailed old new
+AsksAtCommit (step.Decided d ps) old new = IsCalm old new

@@ -9,7 +9,7 @@ ghost use Rattle.log_rows.specs.History.{Ground};
 ghost use Rattle.node_state.specs.Commits.{MayEnter, MaySettle};
 ghost use Rattle.node_state.specs.Stores.{held_of};
 ghost use Rattle.node_commits.specs.Asked.{IsOver, IsSentTo, IsToAnswer, LeadsIn, ground_of, log_at};
-ghost use Rattle.node_commits.specs.Commits.{AsksAtCommit, AsksAtEntry, DoesCommit, IsAnswered, IsGiven, IsPutIn, IsTelling};
+ghost use Rattle.node_commits.specs.Commits.{AsksAtCommit, DoesCommit, IsAnswered, IsGiven, IsTelling};
 ghost use Rattle.node_commits.specs.Ledgers.{IsBookOf, IsUntold};
 ghost use Rattle.phys_log.specs.Logs.{Fits};
 ghost use Rattle.phys_log.specs.declared.requests.Decision.TheVariants as decision;
@@ -115,7 +115,8 @@ impl Ledger {
         }
     }
 
-    /// Answers a request by its entry, which is appended and shipped.
+    /// Answers a request by its entry, which is appended and shipped. Its identity is put in before the node is called, and
+    /// taken out again where no entry came of it.
     fn answer_by_entry<D: LogStore + Drop, J: Plan, N: Naming>(
         &mut self,
         alloc: Global,
@@ -137,43 +138,16 @@ impl Ledger {
         ensures unchanged { OnErr result ((self.new ≡ self.old) × (node.new ≡ node.old)) }
     {
         let told = copy_entry(alloc, &entry)?;
-        match self.enter(alloc, trace, node, id, entry)? {
-            Some(packets) => Ok(CommitStep::Decided {
-                decision: Decision::Commit(told),
-                packets,
-            }),
-            None => Ok(CommitStep::Fault),
-        }
-    }
-
-    /// Appends the entry of a request; `None` where the store failed at it, and the node is down now. Its identity is
-    /// put in before the node is called, and taken out again where no entry came of it.
-    fn enter<D: LogStore + Drop, J: Plan, N: Naming>(
-        &mut self,
-        alloc: Global,
-        trace: &Trace<Cluster<J>, N>,
-        node: &mut Node<D, J, N>,
-        id: CommitId,
-        entry: Entry,
-    ) -> Result<Option<Vec<Packet<J, N>>>, AllocError>
-        requires room { 0 < node.old.actor.room }
-        requires book { IsBookOf self.old (held_of node.old) }
-        requires may { MayEnter J.setting node.old.actor.seen node.old.vote.node entry }
-        requires fits { Fits node.old.entries entry }
-        requires its { id_of entry ≡ Some id }
-        requires absent { IsAbsent self.old.known id }
-        ensures put { IfOk result (λ o. IsPutIn entry o self.old self.new (held_of node.old) (held_of node.new)) }
-        ensures store { IfOk result (λ o. AsksAtEntry o node.old.over node.new.over) }
-        ensures book { IsBookOf self.new (held_of node.new) }
-        ensures unchanged { OnErr result ((self.new ≡ self.old) × (node.new ≡ node.old)) }
-    {
         let last = node.entries().len() as u64;
         self.known.insert(id, last + 1)?;
         match node.append(alloc, trace, entry) {
-            Ok(Step::Sent(packets)) => Ok(Some(packets)),
+            Ok(Step::Sent(packets)) => Ok(CommitStep::Decided {
+                decision: Decision::Commit(told),
+                packets,
+            }),
             Ok(Step::Fault) => {
                 self.known.drop_above(last);
-                Ok(None)
+                Ok(CommitStep::Fault)
             }
             // it leads, so it was up
             Ok(Step::Down) => unreachable!(),

@@ -1,8 +1,9 @@
 -- What was read may be taken up.
-use Rattle.std.proofs.Common.{◌≡◌, ◌⊎◌, inl, inr, ℕ, List, [], ◌∷◌, Some, Result, Ok, Err, IfOk, IfErr, OnOk, refl, sym, subst, ap}
+use Rattle.std.proofs.Common.{◌≡◌, ◌⊎◌, inl, inr, ℕ, List, [], ◌∷◌, length, Option, Some, Result, Ok, Err, IfOk, IfErr, OnOk, refl, sym, subst, ap}
 use Rattle.std.specs.List.{AllByRecursion}
 use mathlib.Core.Logic.{∥∥₁_map}
 use Rattle.cdb_values.specs.Rows.{Rows}
+use Rattle.cdb_values.specs.declared.tables.TableDef.{TableDef}
 use Rattle.phys_log.specs.Logs.{pages_of}
 use Rattle.phys_log.specs.declared.entries.Entry.{Entry}
 use Rattle.phys_log.specs.declared.entries.Entry.TheVariants as entry
@@ -21,7 +22,7 @@ use Rattle.kept_log.specs.Kept.{OverStore, StandForAny, StandsStill, kept, stopp
 use Rattle.node_reading.specs.declared.readings.Found.{Found}
 use Rattle.node_reading.specs.declared.readings.WhyUnread.{WhyUnread}
 use Rattle.node_reading.specs.declared.readings.WhyUnread.TheVariants as why
-use Rattle.node_reading.specs.Reading.{HasSoundRows, IsBegunBy, IsJudged, IsWhyUnread, MayBegin, WasRead, unread_for}
+use Rattle.node_reading.specs.Reading.{HasSoundRows, IsBegunBy, IsJudged, IsWhyUnread, MayBegin, WasFound, WasRead, unread_for}
 use Rattle.node_reading.proofs.RightLemmas.{stands_right}
 
 all_begun : (a : ℕ) (es : List Entry) → AllByRecursion (HasBegunBy a) (ids_in es) → AllByRecursion (IsBegunBy a) es
@@ -63,6 +64,22 @@ pub found_is : (told : Result Found WhyUnread) (old new : OverStore) (r : Readin
 found_is (Ok f) old new r same stood still p a good =
     subst (λ k. WasRead old new k f.accepted f.state) (sym p) (subst (λ k. WasRead old new r.promised k f.state) (sym a) (was_read old new r.promised r.accepted r.entries f.state same stood still good))
 found_is (Err w) old new r same stood still p a good = tt
+
+-- with its length and its tables
+was_found : (old new : OverStore) (p a size : ℕ) (tables : Option (List TableDef)) (es : List Entry) (rows : Rows) → new ≡ stopped_from old new.synced new.faults
+    → StandsFor old.node old.cluster old.synced (Log p a es) → StandsStill old.node old.cluster old.synced new.synced → HasSoundRows a es rows
+    → size ≡ length es → tables ≡ schema_of es → WasFound old new p a size tables rows
+unfolding was_read
+was_found old new p a size tables es rows same stood still good had schema =
+    record { was = was_read old new p a es rows same stood still good; had = had; schema = schema }
+
+pub log_is : (told : Result Found WhyUnread) (old new : OverStore) (r : Reading) → new ≡ stopped_from old new.synced new.faults
+    → StandsFor old.node old.cluster old.synced (Log r.promised r.accepted r.entries) → StandsStill old.node old.cluster old.synced new.synced
+    → IfOk told (λ f. f.promised ≡ r.promised) → IfOk told (λ f. f.accepted ≡ r.accepted) → IfOk told (λ f. f.length ≡ length r.entries) → IfOk told (λ f. f.tables ≡ schema_of r.entries)
+    → IfOk told (λ f. HasSoundRows r.accepted r.entries f.state) → IfOk told (λ f. WasFound old new f.promised f.accepted f.length f.tables f.state)
+log_is (Ok f) old new r same stood still p a had schema good =
+    subst (λ k. WasFound old new k f.accepted f.length f.tables f.state) (sym p) (subst (λ k. WasFound old new r.promised k f.length f.tables f.state) (sym a) (was_found old new r.promised r.accepted f.length f.tables r.entries f.state same stood still good had schema))
+log_is (Err w) old new r same stood still p a had schema good = tt
 
 pub calm_is : (told : Result Found WhyUnread) (P : Type 0) → P → OnOk told P
 calm_is (Ok f) P p = p

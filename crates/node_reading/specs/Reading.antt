@@ -1,8 +1,9 @@
 -- What a store stood for when it was read the first time, and why it was not taken up.
-use Rattle.std.specs.Prelude.{◌≡◌, ◌⊎◌, ℕ, ◌≤◌, List, [], ◌∷◌, Some}
+use Rattle.std.specs.Prelude.{◌≡◌, ◌⊎◌, ℕ, ◌≤◌, List, [], ◌∷◌, length, Option, Some}
 use Rattle.std.specs.List.{AllByRecursion}
 use Rattle.cdb_outside.specs.Faults.{Rose}
 use Rattle.cdb_values.specs.Rows.{Rows}
+use Rattle.cdb_values.specs.declared.tables.TableDef.{TableDef}
 use Rattle.phys_log.specs.Logs.{IsLog, pages_of}
 use Rattle.phys_log.specs.declared.entries.Entry.{Entry}
 use Rattle.phys_log.specs.declared.entries.Entry.TheVariants as entry
@@ -46,6 +47,12 @@ pub record WasRead (old new : OverStore) (promised accepted : ℕ) (rows : Rows)
   pub holds : HoldsAny new (kept promised accepted entries ∷ [])
   pub good : HasSoundRows accepted entries rows
   pub may : MayBegin promised accepted entries rows
+
+-- and how long that log is, and which tables it has
+pub record WasFound (old new : OverStore) (promised accepted size : ℕ) (tables : Option (List TableDef)) (rows : Rows) : Type 0 where
+  pub was : WasRead old new promised accepted rows
+  pub had : size ≡ length was.entries
+  pub schema : tables ≡ schema_of was.entries
 
 -- the store stood for a log that is not sound
 pub record WasUnsound (node cluster : ℕ) (bytes : List ℕ) : Type 0 where

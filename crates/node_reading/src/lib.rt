@@ -13,9 +13,9 @@
 //!
 //! ```text
 //! what the store stands for                 answer
-//! no byte                                   found 0 0, no tables
-//! promise 3, accept 2, setup of t and u     found 3 2, the tables t and u without rows
-//! the same bytes, but for the last one      found 3 2, no tables
+//! no byte                                   found 0 0, length 0, no tables
+//! promise 3, accept 2, setup of t and u     found 3 2, length 1, the tables t and u without rows
+//! the same bytes, but for the last one      found 3 2, length 0, no tables
 //! a header of node 1                        Corrupt 0
 //! a commit alone                            Unsound
 //! ```
@@ -25,7 +25,7 @@
 //!
 //! | Notion | Code | Definition |
 //! |---|---|---|
-//! | what was read | `Found` | `WasRead` of `specs/Reading.antt` |
+//! | what was read | `Found` | `WasRead`, `WasFound` of `specs/Reading.antt` |
 //! | what a node may come up with | | `MayBegin` |
 //! | why it may not | `WhyUnread` | `IsWhyUnread` |
 #![tactic(auto)]

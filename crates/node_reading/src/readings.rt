@@ -1,12 +1,15 @@
 //! A node's store is read for the first time.
-ghost use Rattle.std.specs.Prelude.{◌≡◌, false, IfOk, IfErr, OnOk};
+ghost use Rattle.std.specs.Prelude.{◌≡◌, false, length, IfOk, IfErr, OnOk};
 ghost use Rattle.kept_log.specs.Kept.{StandsStill, stopped_from};
-ghost use Rattle.node_reading.specs.Reading.{HasSoundRows, IsJudged, IsWhyUnread, WasRead, unread_for};
+ghost use Rattle.log_replay.specs.Answers.{schema_of};
+ghost use Rattle.node_reading.specs.Reading.{HasSoundRows, IsJudged, IsWhyUnread, WasFound, WasRead, unread_for};
 
 use cdb_outside::LogStore;
+use cdb_values::Schema;
 use kept_log::{KeptLog, OpenFault, Reading};
+use log_replay::PagedLog;
 use sound_log::sound_state;
-use std::alloc::Global;
+use std::alloc::{AllocError, Global};
 use table_state::State;
 
 /// What a store holds.
@@ -16,6 +19,10 @@ pub struct Found {
     pub promised: u64,
     /// The accepted generation.
     pub accepted: u64,
+    /// How many entries its log has.
+    pub length: u64,
+    /// Its tables, where it has entries.
+    pub tables: Option<Schema>,
     /// The rows for which the pages of its log stand.
     pub state: State,
 }
@@ -45,6 +52,7 @@ pub fn read_store<D: LogStore + Drop>(
     requires stopped { log.old.is_open ≡ false }
     ensures same { log.new ≡ stopped_from log.old log.new.synced log.new.faults }
     ensures found { IfOk result (λ f. WasRead log.old log.new f.promised f.accepted f.state) }
+    ensures log { IfOk result (λ f. WasFound log.old log.new f.promised f.accepted f.length f.tables f.state) }
     ensures still { StandsStill log.old.node log.old.cluster log.old.synced log.new.synced }
     ensures calm { OnOk result (log.new.faults ≡ log.old.faults) }
     ensures why { IfErr result (λ w.
@@ -60,6 +68,8 @@ pub fn read_store<D: LogStore + Drop>(
 fn judge(alloc: Global, reading: Reading) -> Result<Found, WhyUnread>
     ensures promised { IfOk result (λ f. f.promised ≡ reading.promised) }
     ensures accepted { IfOk result (λ f. f.accepted ≡ reading.accepted) }
+    ensures length { IfOk result (λ f. f.length ≡ length reading.entries) }
+    ensures tables { IfOk result (λ f. f.tables ≡ schema_of reading.entries) }
     ensures good { IfOk result (λ f. HasSoundRows reading.accepted reading.entries f.state) }
     ensures why { IfErr result (λ w. IsJudged w reading.accepted reading.entries) }
 {
@@ -69,13 +79,40 @@ fn judge(alloc: Global, reading: Reading) -> Result<Found, WhyUnread>
         entries,
     } = reading;
     match sound_state(alloc, accepted, &entries) {
-        Ok(Some(state)) => Ok(Found {
-            promised,
-            accepted,
-            state,
-        }),
+        Ok(Some(state)) => found_of(promised, accepted, &entries, state),
         Ok(None) => Err(WhyUnread::Unsound),
         Err(_) => Err(WhyUnread::NoMemory),
+    }
+}
+
+/// What is told of a log that is sound.
+fn found_of(promised: u64, accepted: u64, log: &PagedLog, state: State) -> Result<Found, WhyUnread>
+    ensures promised { IfOk result (λ f. f.promised ≡ promised) }
+    ensures accepted { IfOk result (λ f. f.accepted ≡ accepted) }
+    ensures length { IfOk result (λ f. f.length ≡ length log.now) }
+    ensures tables { IfOk result (λ f. f.tables ≡ schema_of log.now) }
+    ensures state { IfOk result (λ f. f.state ≡ state) }
+    ensures memory { IfErr result (λ w. w ≡ WhyUnread.NoMemory) }
+{
+    match tables_in(log) {
+        Ok(tables) => Ok(Found {
+            promised,
+            accepted,
+            length: log.entries().len() as u64,
+            tables,
+            state,
+        }),
+        Err(_) => Err(WhyUnread::NoMemory),
+    }
+}
+
+/// The tables of a log, where it has entries.
+fn tables_in(log: &PagedLog) -> Result<Option<Schema>, AllocError>
+    ensures { IfOk result (λ tables. tables ≡ schema_of log.now) }
+{
+    match log.schema() {
+        Some(schema) => Ok(Some(schema.clone()?)),
+        None => Ok(None),
     }
 }
 

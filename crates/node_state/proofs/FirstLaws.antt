@@ -1,21 +1,20 @@
 -- A node that was never up comes up with what its store stood for, once the operator admitted that.
 use Rattle.std.proofs.Common.{ℕ, ◌≡◌, ◌+◌, ◌≤◌, List, [], ◌∷◌, ◌++◌, length, length-append, map, arith, refl, sym, subst, ap, ◌∙◌}
 use Rattle.std.specs.List.{AllByRecursion}
-use Rattle.std.specs.Prelude.{◌==◌, cond, true, false, Some}
+use Rattle.std.specs.Prelude.{true, false, Some}
 use Rattle.std.specs.declared.snapshot.Snapshot.{Snapshot}
 use mathlib.Core.Logic.{◌⊎◌, inl, inr}
 use Rattle.actor_trace.specs.History.{entries_of}
 use Rattle.actor_trace.proofs.Entries.{idle_step, not_eq}
-use Rattle.cdb_values.specs.Rows.{Rows, no_rows}
-use Rattle.cluster_consensus.specs.Events.{NodeEvent}
-use Rattle.cluster_consensus.specs.Facts.{Admit, Own, blank}
+use Rattle.cdb_values.specs.Rows.{Rows}
+use Rattle.cluster_consensus.specs.Facts.{Own, blank}
 use Rattle.cluster_events.specs.Guards.{BeganBy}
-use Rattle.cluster_events.specs.Parts.{field, lines, lines_by, part}
+use Rattle.cluster_events.specs.Parts.{lines, lines_by, part}
 use Rattle.cluster_events.specs.Settings.{Setting}
 use Rattle.cluster_events.proofs.LinePlaces.{other_lines}
 use Rattle.cluster_requests.specs.KeptEntries.{KeptEntry, plain, rows_behind, state_from, state_of}
 use Rattle.cluster_requests.specs.Requests.{Field}
-use Rattle.cluster_steps.specs.Guards.{ArePages, PagesStand}
+use Rattle.cluster_steps.specs.Guards.{PagesStand}
 use Rattle.cluster_steps.specs.Named.{kept_all, kept_with, named, steps, world}
 use Rattle.cluster_steps.specs.declared.events.Event.{Event}
 use Rattle.cluster_steps.specs.declared.events.Woken.TheVariants as woken
@@ -28,7 +27,7 @@ use Rattle.log_rows.specs.History.{tables_of}
 use Rattle.phys_log.specs.Logs.{pages_of}
 use Rattle.phys_log.specs.declared.entries.Entry.{Entry}
 use Rattle.phys_log.specs.declared.entries.Entry.TheVariants as entry
-use Rattle.report_laws.specs.Nodes.{is_up, up_from}
+use Rattle.report_laws.specs.Nodes.{is_up}
 use Rattle.report_laws.proofs.NodesLaws.{up_append}
 use Rattle.table_store.specs.Stored.{Stands}
 use Rattle.node_reading.specs.Reading.{IsBegunBy, MayBegin}

@@ -1,8 +1,7 @@
 -- An entry that a node takes in the generation that it accepted was appended in it.
-use Rattle.std.proofs.Common.{ℕ, ◌≡◌, ◌+◌, ◌<◌, ◌≤◌, List, [], ◌∷◌, ◌++◌, length, map, length-append, arith, refl, sym, subst, ap, ◌∙◌}
-use Rattle.std.specs.Prelude.{◌==◌, Bool, true, false, cond}
+use Rattle.std.proofs.Common.{ℕ, ◌≡◌, ◌+◌, ◌≤◌, List, [], ◌∷◌, ◌++◌, length, map, length-append, arith, refl, sym, subst, ap, ◌∙◌}
+use Rattle.std.specs.Prelude.{◌==◌, true, cond}
 use Rattle.std.proofs.lemmas.Bool.Decides.{Decides-eqb}
-use mathlib.Core.Logic.{◌⊎◌, inl, inr}
 use Rattle.cluster_consensus.specs.Enabled.{CanGrow, Enabled}
 use Rattle.cluster_consensus.specs.Events.{NodeEvent, change}
 use Rattle.cluster_consensus.specs.Facts.{Claim, Own, World}
@@ -17,13 +16,12 @@ use Rattle.cluster_requests.specs.KeptEntries.{KeptEntry, plain}
 use Rattle.cluster_requests.specs.KeptEntries.KeptEntry.{SetupKept, CommitKept}
 use Rattle.cluster_requests.specs.Requests.{Field}
 use Rattle.cluster_requests.proofs.Settled.{Added, Good}
-use Rattle.cluster_steps.specs.Guards.{AreLegalSteps}
-use Rattle.cluster_steps.specs.Named.{kept_over, log_named, named, steps, world}
+use Rattle.cluster_steps.specs.Named.{kept_over, log_named, steps, world}
 use Rattle.cluster_steps.specs.declared.events.Event.{Event}
 use Rattle.cluster_steps.specs.declared.events.Event.TheVariants as event
 use Rattle.cluster_steps.proofs.StepLaws.{legal_steps}
 use Rattle.core_lists.specs.Fronts.{Front}
-use Rattle.core_lists.specs.Lists.{In, Has}
+use Rattle.core_lists.specs.Lists.{In}
 use Rattle.core_lists.proofs.Fronts.{front_length, front_rest}
 use Rattle.election_core.specs.declared.votes.NodeVote.{NodeVote}
 use Rattle.phys_log.specs.declared.entries.Entry.{Entry}

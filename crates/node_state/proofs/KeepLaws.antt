@@ -1,9 +1,9 @@
 -- A node that asks its store before an event: the log is the node's then, and where the store fails, what it may hold the node may
 -- come up with.
 use Rattle.std.proofs.Common.{ℕ, ◌≡◌, ◌+◌, ◌<◌, ◌≤◌, List, [], ◌∷◌, ◌++◌, length, length-append, arith, refl, sym, ap, ◌∙◌, subst}
-use Rattle.std.specs.Prelude.{Bool, true, false, Option, None, Some}
+use Rattle.std.specs.Prelude.{true, false, Option, None, Some}
 use Rattle.std.specs.declared.snapshot.Snapshot.{Snapshot}
-use mathlib.Core.Logic.{◌⊎◌, inl, inr, ∥∥₁_map}
+use mathlib.Core.Logic.{inl, inr, ∥∥₁_map}
 use Rattle.actor_trace.specs.Actors.{Knows}
 use Rattle.actor_trace.specs.Steps.{Adds}
 use Rattle.cdb_outside.specs.Faults.{Rose}
@@ -27,7 +27,7 @@ use Rattle.node_state.specs.declared.faults.UnderWay.TheVariants as way
 use Rattle.node_state.specs.Calls.{Falls, Joins, down_vote}
 use Rattle.node_state.specs.Nodes.{Follows, Held, IsNode, IsOwn, held}
 use Rattle.node_state.specs.Restarts.{Kept, MayWake, kept}
-use Rattle.node_state.specs.Stores.{FallsAfter, FallsOver, HasNumbers, IsKeptBy, MayBeNext, MayReturn, StopsShort, lasting, woken_of}
+use Rattle.node_state.specs.Stores.{FallsAfter, FallsOver, HasFailed, HasNumbers, IsCalm, IsKeptBy, MayBeNext, MayReturn, StopsShort, lasting, woken_of}
 use Rattle.node_state.proofs.FallLaws.{stop_part}
 use Rattle.node_state.proofs.LeftLaws.{awake, fallen_appending, fallen_leading, fallen_taking}
 use Rattle.node_state.proofs.CallLaws.{nothing_partly, unchanged}
@@ -91,7 +91,7 @@ falls_over : (G : Setting) (v : NodeVote) (a : Knows Event) (o p q : OverStore) 
     → FallsOver G (held v o.entries a) (held w q.entries b) o q u
 falls_over G v a o p q w b u ks promise next own up f same falls d after least holds may = record {
   falls = subst (λ es. Falls true (held v es a) (held w q.entries b)) (ap (λ (x : OverStore). x.entries) f.stopped) falls;
-  rose = subst (λ (x : OverStore). Rose o.faults x.faults) (sym same) f.rose;
+  failed = subst (λ (x : OverStore). HasFailed o x) (sym same) (f.rose, ap (λ (x : OverStore). x.cluster) f.stopped);
   returns = subst (λ t. MayReturn G (held t q.entries b) q u) (sym falls.vote) (subst (λ es. MayReturn G (held (down_vote v) es b) q u) (sym entries) back);
 }
   where
@@ -225,20 +225,20 @@ stop_returns G v w a b o p q es u own up k stopped holds same d fell entries =
 pub falls_at_once : (G : Setting) (m : Message) (es : List Entry) (old new : Held) (o q : OverStore) (u : UnderWay) → FallsOver G old new o q u → FallsAfter G m es old new o q u
 falls_at_once G m es old new o q u f = record {
   falls = record { mid = old; partly = nothing_partly m es old old (unchanged old); falls = f.falls };
-  rose = f.rose;
+  failed = f.failed;
   returns = f.returns;
 }
 
 pub short_at_once : (m : Message) (es : List Entry) (old : Held) (o : OverStore) → StopsShort m es old old o o
-short_at_once m es old o = record { partly = nothing_partly m es old old (unchanged old); calm = refl }
+short_at_once m es old o = record { partly = nothing_partly m es old old (unchanged old); calm = (refl, refl) }
 
 -- and after the first entries
-pub falls_later : (G : Setting) (m : Message) (es : List Entry) (old mid new : Held) (o p q : OverStore) (u : UnderWay) → Joins old.vote m es → HasTaken G m es old mid → p.faults ≡ o.faults → FallsOver G mid new p q u → FallsAfter G m es old new o q u
+pub falls_later : (G : Setting) (m : Message) (es : List Entry) (old mid new : Held) (o p q : OverStore) (u : UnderWay) → Joins old.vote m es → HasTaken G m es old mid → IsCalm o p → FallsOver G mid new p q u → FallsAfter G m es old new o q u
 falls_later G m es old mid new o p q u j h calm f = record {
   falls = record { mid = mid; partly = partly_taken G m es old mid j h; falls = f.falls };
-  rose = subst (λ k. Rose k q.faults) calm f.rose;
+  failed = (subst (λ k. Rose k q.faults) calm.0 f.failed.0, f.failed.1 ∙ calm.1);
   returns = f.returns;
 }
 
-pub short_later : (G : Setting) (m : Message) (es : List Entry) (old mid : Held) (o p : OverStore) → Joins old.vote m es → HasTaken G m es old mid → p.faults ≡ o.faults → StopsShort m es old mid o p
+pub short_later : (G : Setting) (m : Message) (es : List Entry) (old mid : Held) (o p : OverStore) → Joins old.vote m es → HasTaken G m es old mid → IsCalm o p → StopsShort m es old mid o p
 short_later G m es old mid o p j h calm = record { partly = partly_taken G m es old mid j h; calm = calm }

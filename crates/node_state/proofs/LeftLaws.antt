@@ -1,6 +1,6 @@
 -- What a store may hold of a node that goes down, an event by which it comes up takes: as the node was, with another promise, or
 -- as the event that was under way would have left it.
-use Rattle.std.proofs.Common.{ℕ, ◌≡◌, ◌≤◌, ◌<◌, List, [], ◌∷◌, ◌++◌, length, map, refl, sym, subst, ap, ◌∙◌}
+use Rattle.std.proofs.Common.{ℕ, ◌≡◌, ◌≤◌, List, [], ◌∷◌, ◌++◌, length, map, refl, sym, subst, ap, ◌∙◌}
 use Rattle.std.specs.Prelude.{◌==◌, ◌≢◌, Bool, true, false, cond, Some, slice_get}
 use Rattle.std.specs.declared.snapshot.Snapshot.{Snapshot}
 use Rattle.std.proofs.lemmas.Bool.Decides.{Decides-eqb}
@@ -9,7 +9,6 @@ use Rattle.cdb_values.specs.Rows.{Rows}
 use Rattle.cluster_consensus.specs.Enabled.{CanGrow, CanLead, CanTake, Enabled}
 use Rattle.cluster_consensus.specs.Events.{NodeEvent, change}
 use Rattle.cluster_consensus.specs.Facts.{Own, World}
-use Rattle.cluster_consensus.specs.Histories.{happens}
 use Rattle.cluster_consensus.proofs.Invariant.{Inv}
 use Rattle.cluster_consensus.proofs.Kept.{self_row}
 use Rattle.cluster_events.specs.Guards.{IsRightlyAppended}
@@ -20,7 +19,7 @@ use Rattle.cluster_requests.specs.KeptEntries.{KeptEntry, plain}
 use Rattle.cluster_requests.specs.KeptEntries.KeptEntry.{SetupKept, CommitKept}
 use Rattle.cluster_requests.specs.Requests.{FieldAct, Field, IsAskedFor, May, MayAppend, does}
 use Rattle.cluster_steps.specs.Guards.{IsLogFound, IsOfSchema, MayTakeStep, PagesStand, AreLegalSteps}
-use Rattle.cluster_steps.specs.Named.{back_append, kept_over, kept_with, log_named, named, steps, world}
+use Rattle.cluster_steps.specs.Named.{back_append, kept_over, kept_with, log_named, steps, world}
 use Rattle.cluster_steps.specs.declared.events.Event.{Event}
 use Rattle.cluster_steps.specs.declared.events.Event.TheVariants as event
 use Rattle.cluster_steps.specs.declared.events.Woken.TheVariants as woken
@@ -38,7 +37,7 @@ use Rattle.phys_log.specs.declared.entries.CommitId.{CommitId}
 use Rattle.phys_log.specs.declared.entries.Entry.{Entry}
 use Rattle.phys_log.specs.declared.entries.Entry.TheVariants as entry
 use Rattle.node_state.specs.Nodes.{IsNode, Follows}
-use Rattle.node_state.specs.Restarts.{Kept, MayRise, MayWake, kept, woken_by}
+use Rattle.node_state.specs.Restarts.{MayRise, MayWake, kept, woken_by}
 use Rattle.node_state.proofs.LogLists.{map_size}
 
 -- a node's part when it is down

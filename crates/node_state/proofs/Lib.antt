@@ -20,6 +20,7 @@ pub mod StoreLaws
 pub mod KeepLaws
 pub mod NumberLaws
 pub mod OverLaws
+pub mod RoomLaws
 pub mod GenerationLaws
 pub mod StartLaws
 pub mod SpellLaws

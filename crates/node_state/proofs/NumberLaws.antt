@@ -1,7 +1,7 @@
 -- What an action leaves of the numbers that a store keeps.
 use Rattle.std.proofs.Common.{ℕ, ◌≡◌, ◌<◌, ◌≤◌, List, arith, refl, sym, subst, ap, ◌∙◌}
 use Rattle.std.specs.Prelude.{Bool, true, false, cond}
-use mathlib.Core.Logic.{◌⊎◌, inl, inr}
+use mathlib.Core.Logic.{inl, inr}
 use Rattle.cluster_events.specs.Settings.{Setting}
 use Rattle.cluster_steps.specs.Named.{world}
 use Rattle.cluster_steps.specs.declared.events.Event.{Event}

@@ -1,7 +1,6 @@
 -- What a call leaves of a node over its store.
-use Rattle.std.proofs.Common.{ℕ, ◌≡◌, List, refl, sym, ap, ◌∙◌, subst}
+use Rattle.std.proofs.Common.{ℕ, ◌≡◌, List, refl, ap, ◌∙◌, subst}
 use Rattle.std.specs.Prelude.{true}
-use Rattle.cdb_outside.specs.Faults.{Rose}
 use Rattle.cdb_values.specs.declared.tables.TableDef.{TableDef}
 use Rattle.cluster_events.specs.Settings.{Setting}
 use Rattle.election_core.specs.Counted.{acted, counted}
@@ -12,11 +11,11 @@ use Rattle.election_core.specs.declared.votes.NodeVote.{NodeVote}
 use Rattle.kept_log.specs.Kept.{OverStore}
 use Rattle.phys_log.specs.declared.entries.Entry.{Entry}
 use Rattle.node_state.specs.declared.faults.UnderWay.{UnderWay}
-use Rattle.node_state.specs.Calls.{Answers, FallsPartly, IsAsBefore, SetsUp, StandsAsCandidate, Probes, through}
+use Rattle.node_state.specs.Calls.{Answers, IsAsBefore, SetsUp, StandsAsCandidate, Probes, through}
 use Rattle.node_state.specs.Commits.{Enters}
 use Rattle.node_state.specs.Nodes.{Held, IsOwn}
 use Rattle.node_state.specs.Packets.{SentPacket}
-use Rattle.node_state.specs.Stores.{FallsAfter, IsKeptBy, IsStored, StopsShort}
+use Rattle.node_state.specs.Stores.{HasFailed, IsCalm, IsKeptBy, IsStored, StopsShort}
 use Rattle.node_state.proofs.CallLaws.{partly_before}
 use Rattle.node_state.proofs.NumberLaws.{counted_keeps}
 use Rattle.node_state.proofs.StartLaws.{stored_up}
@@ -47,8 +46,11 @@ stored_answered G m es ps old new o u own k up a =
     stored_up G new o u own k (ap (λ (v : NodeVote). v.up) a.acts.vote ∙ (acted_up (counted old.vote m) (through m a.action) ∙ ((counted_keeps old.vote m).up ∙ up)))
 
 -- after a look
-pub short_before : (m : Message) (es : List Entry) (old mid new : Held) (o p q : OverStore) → IsAsBefore old mid → p ≡ o → StopsShort m es mid new p q → StopsShort m es old new o q
-short_before m es old mid new o p q a e s = record { partly = partly_before m es old mid new a s.partly; calm = s.calm ∙ ap (λ (x : OverStore). x.faults) e }
+pub calm_before : (o p q : OverStore) → p ≡ o → IsCalm p q → IsCalm o q
+calm_before o p q e c = subst (λ (x : OverStore). IsCalm x q) e c
 
-pub rose_before : (o p q : OverStore) → p ≡ o → Rose p.faults q.faults → Rose o.faults q.faults
-rose_before o p q e r = subst (λ (x : OverStore). Rose x.faults q.faults) e r
+pub short_before : (m : Message) (es : List Entry) (old mid new : Held) (o p q : OverStore) → IsAsBefore old mid → p ≡ o → StopsShort m es mid new p q → StopsShort m es old new o q
+short_before m es old mid new o p q a e s = record { partly = partly_before m es old mid new a s.partly; calm = calm_before o p q e s.calm }
+
+pub failed_before : (o p q : OverStore) → p ≡ o → HasFailed p q → HasFailed o q
+failed_before o p q e r = subst (λ (x : OverStore). HasFailed x q) e r

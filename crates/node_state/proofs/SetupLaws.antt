@@ -1,29 +1,28 @@
 -- A leader with an empty log appends the setup of the script's tables.
-use Rattle.std.proofs.Common.{ℕ, ◌≡◌, ◌≢◌, ◌+◌, ◌≤◌, List, [], ◌∷◌, ◌++◌, length, map, arith, refl, sym, subst, ap, ◌∙◌}
+use Rattle.std.proofs.Common.{ℕ, ◌≡◌, ◌+◌, ◌≤◌, List, [], ◌∷◌, ◌++◌, length, map, arith, refl, sym, subst, ap, ◌∙◌}
 use Rattle.std.proofs.lemmas.Option.{none-some}
-use Rattle.std.specs.Prelude.{Option, None, true, false}
+use Rattle.std.specs.Prelude.{None, true}
 use Rattle.std.specs.declared.snapshot.Snapshot.{Snapshot}
-use mathlib.Core.Logic.{◌⊎◌, inl, inr}
+use mathlib.Core.Logic.{inr}
 use Rattle.actor_trace.specs.Steps.{Adds}
-use Rattle.cdb_values.specs.Rows.{Rows, no_rows}
+use Rattle.cdb_values.specs.Rows.{no_rows}
 use Rattle.cdb_values.specs.declared.tables.TableDef.{TableDef}
-use Rattle.cluster_consensus.specs.Enabled.{Enabled}
 use Rattle.cluster_consensus.specs.Events.{NodeEvent, change}
-use Rattle.cluster_consensus.specs.Facts.{Own, World, Claim}
+use Rattle.cluster_consensus.specs.Facts.{Own}
 use Rattle.cluster_events.specs.Arms.{last_fired, HasFallen}
-use Rattle.cluster_events.specs.Parts.{ActorEvent, field}
+use Rattle.cluster_events.specs.Parts.{ActorEvent}
 use Rattle.cluster_events.specs.Settings.{Setting}
 use Rattle.cluster_requests.specs.KeptEntries.{KeptEntry, plain}
 use Rattle.cluster_requests.specs.KeptEntries.KeptEntry.{SetupKept}
-use Rattle.cluster_steps.specs.Guards.{IsAllowed, MayTakeStep, PagesStand, AreLegalSteps}
+use Rattle.cluster_steps.specs.Guards.{IsAllowed, PagesStand, AreLegalSteps}
 use Rattle.cluster_steps.specs.Named.{kept_over, named, steps, world}
 use Rattle.cluster_steps.specs.declared.events.Event.{Event}
 use Rattle.cluster_steps.specs.declared.events.Event.TheVariants.{Append}
 use Rattle.cluster_steps.proofs.OwnLaws.{own_adds}
 use Rattle.cluster_steps.proofs.StepLaws.{inv_of}
-use Rattle.core_lists.specs.Lists.{In, Has}
+use Rattle.core_lists.specs.Lists.{Has}
 use Rattle.core_lists.specs.Lists.In.{here}
-use Rattle.election_core.specs.Told.{IsPart, IsMessageTold, IsCounted}
+use Rattle.election_core.specs.Told.{IsPart}
 use Rattle.election_core.specs.declared.messages.Message.TheVariants.{Ship, Ack}
 use Rattle.election_core.specs.declared.votes.NodeVote.{NodeVote}
 use Rattle.log_rows.specs.Setups.{IsSetup}
@@ -33,10 +32,9 @@ use Rattle.phys_log.specs.declared.entries.Entry.{Entry}
 use Rattle.phys_log.specs.declared.entries.Entry.TheVariants as entry
 use Rattle.phys_log.specs.declared.entries.LogRecord.{LogRecord}
 use Rattle.table_store.specs.Stored.{Stands}
-use Rattle.node_state.specs.Calls.{Did, IsAsBefore, IsAppend, SetsUp}
-use Rattle.node_state.specs.Nodes.{IsNode, IsOwn, Held, Follows}
+use Rattle.node_state.specs.Calls.{Did, IsAsBefore, SetsUp}
+use Rattle.node_state.specs.Nodes.{IsNode, Held, Follows}
 use Rattle.node_state.specs.Packets.{SentPacket, IsPacket, IsTailOf, AreSent, packet, others, appending_packets}
-use Rattle.node_state.proofs.ActionLaws.{own_adds_of}
 use Rattle.node_state.proofs.CallLaws.{did_behind}
 use Rattle.node_state.proofs.SentLaws.{sent_more, others_sent, one_sent}
 

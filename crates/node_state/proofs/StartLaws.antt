@@ -6,11 +6,12 @@ use Rattle.std.proofs.lemmas.Bool.Decides.{Decides-eqb}
 use Rattle.std.specs.Coded.{Coded, Coded-set, coded_list, coded_ℕ, coded_bool}
 use Rattle.std.specs.declared.snapshot.Snapshot.{Snapshot}
 use Rattle.std.specs.Prelude.{◌==◌, ◌&&◌, ltb, Bool, true, false, cond, Option, None, Some}
-use mathlib.Core.Logic.{◌⊎◌, inl, inr, ∥∥₁_elim, ∥∥₁_map, ∥∥₁_prop}
+use mathlib.Core.Logic.{inl, inr, ∥∥₁_elim, ∥∥₁_map, ∥∥₁_prop}
 use mathlib.Core.Path.{fun_ext}
 use Rattle.actor_trace.specs.Actors.{Knows}
 use Rattle.actor_trace.specs.Steps.{Adds, Rests}
 use Rattle.cdb_outside.specs.Faults.{Rose}
+use Rattle.cdb_values.specs.Rows.{Rows}
 use Rattle.cluster_consensus.specs.Events.{NodeEvent}
 use Rattle.cluster_consensus.specs.Facts.{Own}
 use Rattle.cluster_events.specs.Operator.{IsStartOrdered}
@@ -28,6 +29,8 @@ use Rattle.cluster_steps.proofs.OwnLaws.{own_adds}
 use Rattle.cluster_steps.proofs.StepLaws.{idle}
 use Rattle.election_core.specs.declared.votes.NodeVote.{NodeVote}
 use Rattle.kept_log.specs.Kept.{HoldsAny, IsAny, OverStore, StandForAny, StandsStill, kept_by, stopped_from}
+use Rattle.node_reading.specs.declared.readings.WhyUnread.{WhyUnread}
+use Rattle.node_reading.specs.Reading.{IsWhyUnread}
 use Rattle.phys_log.specs.contracts.entries.Entry as entry_row
 use Rattle.phys_log.specs.declared.entries.Entry.{Entry}
 use Rattle.stopped_log.specs.Stopped.{Excuses}
@@ -40,8 +43,8 @@ use Rattle.node_state.specs.declared.steps.Started.{Started}
 use Rattle.node_state.specs.declared.steps.Started.TheVariants as started
 use Rattle.node_state.specs.Calls.{Did, IsAsBefore, down_vote}
 use Rattle.node_state.specs.Nodes.{Held, IsNode, IsOwn, held}
-use Rattle.node_state.specs.Restarts.{IsStartTold, Kept, MayWake, Wakes, kept, woken_vote}
-use Rattle.node_state.specs.Stores.{IsFoundIn, IsKeptBy, IsStored, MayBeFirst, MayBeNext, MayReturn, IsTried, IsUnopened, StaysShut, WasOpened, how_of, lasting, woken_of}
+use Rattle.node_state.specs.Restarts.{IsStarted, IsStartTold, Kept, MayWake, Wakes, kept, woken_vote}
+use Rattle.node_state.specs.Stores.{IsCalm, IsFoundIn, IsKeptBy, IsStartedSo, IsStored, MayBeFirst, MayBeNext, MayReturn, MayStart, IsTried, IsUnopened, StaysShut, Stored, WasOpened, held_of, how_by, how_of, lasting, woken_of}
 use Rattle.node_state.proofs.CallLaws.{as_reserved, did_before}
 use Rattle.node_state.proofs.LeftLaws.{down_as_left, fallen, fell, lain, same_either}
 use Rattle.node_state.proofs.ShipLaws.{sized}
@@ -276,19 +279,18 @@ stored_still G v es a o q u s down of_log shut =
 fell_still : (G : Setting) (v : NodeVote) (a b : Knows Event) → v.node ≡ a.number → Adds a.number (event.Down true) a.seen b.seen → AreLegalSteps G b.seen → ((world G b.seen).nodes v.node).was_up ≡ ((world G a.seen).nodes v.node).was_up
 fell_still G v a b n d legal = ap (λ (o : Own KeptEntry). o.was_up) (own_adds G v.node (event.Down true) NodeEvent.Down a.seen b.seen refl tt (subst (λ t. Adds t (event.Down true) a.seen b.seen) (sym n) d) legal)
 
-pub stored_again : (G : Setting) (v w : NodeVote) (es fs : List Entry) (a b : Knows Event) (o q r : OverStore) (u z : UnderWay) → IsStored G (held v es a) o u → v.up ≡ false → StaysShut o q → Adds a.number (event.Down true) a.seen b.seen
-    → IsOwn G (held w fs b) → w ≡ down_vote v → fs ≡ es → r ≡ q → z ≡ u → IsStored G (held w fs b) r z
-stored_again G v w es fs a b o q r u z s down shut d after fell_so se same su = record {
+pub stored_again : (G : Setting) (v w : NodeVote) (es : List Entry) (a b : Knows Event) (o q : OverStore) (u z : UnderWay) → IsStored G (held v o.entries a) o u → v.up ≡ false → Adds a.number (event.Down true) a.seen b.seen
+    → IsOwn G (held w es b) → w ≡ down_vote v → es ≡ o.entries → q ≡ o → z ≡ u → IsStored G (held w es b) q z
+stored_again G v w es a b o q u z s down d after fell_so se same su = record {
   own = after;
-  over = kept_still v w o q r s.over down shut.same fell_so same;
-  down = λ still was. returns_again G v w es fs a b o r u z s.own down d after fell_so se su (λ ks h. subst (λ (x : OverStore). HoldsAny x ks) (sym same) (shut.holds ks h))
+  over = kept_still v w o o q s.over down (ap (λ t. record o { is_open = t }) (shut_up v o s.over down)) fell_so same;
+  down = λ still was. returns_again G v w o.entries es a b o q u z s.own down d after fell_so se su (λ ks h. subst (λ (x : OverStore). HoldsAny x ks) (sym same) h)
       (s.down down (sym (fell_still G v a b s.own.number_is d after.node.legal) ∙ (ap (λ (t : NodeVote). ((world G b.seen).nodes t.node).was_up) (sym fell_so) ∙ was)));
 }
 
 -- what its store holds it comes up with, for the first time
-pub first_may : (G : Setting) (h : Held) (a : Knows Event) (o q : OverStore) (how : Woken) → MayBeFirst G h o how → a.seen ≡ h.actor.seen → IsFoundIn o q → MayWake G (field (steps G a.seen)) h.vote.node how (kept_by q)
-first_may G h a o q how f e found =
-    subst (λ t. MayWake G (field (steps G t)) h.vote.node how (kept_by q)) (sym e) (subst (λ k. MayWake G (field (steps G h.actor.seen)) h.vote.node how k) same f.may)
+first_may : (G : Setting) (h : Held) (o q : OverStore) (how : Woken) → MayBeFirst G h o how → IsFoundIn o q → MayWake G (field (steps G h.actor.seen)) h.vote.node how (kept_by q)
+first_may G h o q how f found = subst (λ k. MayWake G (field (steps G h.actor.seen)) h.vote.node how k) same f.may
   where
     any : ∥ IsAny (kept_by q) (f.found ∷ []) ∥₁
     any = found (f.found ∷ []) f.holds
@@ -303,6 +305,31 @@ first_may G h a o q how f e found =
         (∥∥₁_elim any (Coded-set coded_ℕ f.found.accepted q.accepted) (λ x. ap (λ (t : Kept). t.accepted) (one x)))
         (∥∥₁_elim any (Coded-set entries_code f.found.entries q.entries) (λ x. ap (λ (t : Kept). t.entries) (one x)))
 
+pub may_start_first : (G : Setting) (h : Held) (o : OverStore) (u : UnderWay) (rows : Snapshot Rows) → MayBeFirst G h o (woken.First rows) → IsStartTold G h.actor.seen h.vote.node (woken.First rows) → MayStart G h o u (Some rows)
+may_start_first G h o u rows first told = record {
+  some = first.found ∷ [];
+  holds = first.holds;
+  may = λ q found. first_may G h o q (woken.First rows) first found;
+  told = λ k. told;
+}
+
+-- and once more
+pub may_start_again : (G : Setting) (h : Held) (o : OverStore) (u : UnderWay) → IsStored G h o u → h.vote.up ≡ false → ((world G h.actor.seen).nodes h.vote.node).was_up ≡ true → IsStartOrdered (lines_to_do G) (steps G h.actor.seen) h.vote.node
+    → MayStart G h o u None
+may_start_again G h o u s down was told =
+    let r = s.down down was in
+    record {
+      some = lasting h.vote.promised h.vote.accepted h.entries r.promise r.next;
+      holds = r.holds;
+      may = λ q found. found_may G h.vote h.entries h.actor o u (kept_by q) s.own down r found;
+      told = λ k. told_found G h.actor.seen h.vote.node h.vote u k.accepted (length k.entries) told;
+    }
+
+-- it comes up in one way
+pub comes_up : (s : Started) (how : Woken) (old new : Stored) → IsStartedSo s how old new → IsStarted s (held_of old) (held_of new)
+comes_up started.Up how old new x = ((how, kept_by new.over, x.0), x.1)
+comes_up started.Fault how old new x = x
+
 -- it came up after it made room
 pub wakes_behind : (how : Woken) (k : Kept) (old mid new : Held) → IsAsBefore old mid → Wakes how k mid new → Wakes how k old new
 wakes_behind how k old mid new a w = record { event = w.event; up = w.up; did = did_before (w.event ∷ []) old mid new a w.did; vote = w.vote ∙ ap (λ v. woken_vote v k.promised k.accepted (length k.entries)) a.vote; entries = w.entries }
@@ -314,11 +341,9 @@ excused_rose w read before now e x = subst (λ t. Excuses t before now) e x
 pub excused_calm : (w : OpenFault) (before now : ℕ) → w ≡ fault.NoMemory → Excuses w before now → now ≡ before
 excused_calm w before now e x = subst (λ t. Excuses t before now) e x
 
-pub never_foreign : (w : OpenFault) (before now : ℕ) → w ≡ fault.Foreign → Excuses w before now → ⊥
-never_foreign w before now e x = subst (λ t. Excuses t before now) e x
-
-pub never_corrupt : (w : OpenFault) (at before now : ℕ) → w ≡ fault.Corrupt at → Excuses w before now → ⊥
-never_corrupt w at before now e x = subst (λ t. Excuses t before now) e x
+-- why it was not read
+pub unread_as : (w u : WhyUnread) (node cluster : ℕ) (bytes : List ℕ) (before now : ℕ) → w ≡ u → IsWhyUnread w node cluster bytes before now → IsWhyUnread u node cluster bytes before now
+unread_as w u node cluster bytes before now e x = subst (λ t. IsWhyUnread t node cluster bytes before now) e x
 
 -- the node whose store was not opened is the history's still
 pub own_shut : (G : Setting) (v : NodeVote) (o q : OverStore) (a : Knows Event) → StaysShut o q → IsOwn G (held v o.entries a) → IsOwn G (held v q.entries a)
@@ -329,9 +354,9 @@ own_reserved G v es a b n e own = record { node = subst (λ t. IsNode G v es t) 
 
 -- memory was wanted
 pub unopened_none : (v : NodeVote) (a b : Knows Event) (o : OverStore) → b.number ≡ a.number → b.made ≡ a.made → b.seen ≡ a.seen → a.room ≤ b.room → IsUnopened (held v o.entries a) (held v o.entries b) o o
-unopened_none v a b o n m s r = record { same = as_reserved (held v o.entries a) (held v o.entries b) refl refl n m s r; holds = λ ks h. h; calm = refl }
+unopened_none v a b o n m s r = record { same = as_reserved (held v o.entries a) (held v o.entries b) refl refl n m s r; holds = λ ks h. h; calm = (refl, refl) }
 
-pub unopened_shut : (v : NodeVote) (a b : Knows Event) (o q : OverStore) → b.number ≡ a.number → b.made ≡ a.made → b.seen ≡ a.seen → a.room ≤ b.room → StaysShut o q → q.faults ≡ o.faults → IsUnopened (held v o.entries a) (held v q.entries b) o q
+pub unopened_shut : (v : NodeVote) (a b : Knows Event) (o q : OverStore) → b.number ≡ a.number → b.made ≡ a.made → b.seen ≡ a.seen → a.room ≤ b.room → StaysShut o q → IsCalm o q → IsUnopened (held v o.entries a) (held v q.entries b) o q
 unopened_shut v a b o q n m s r shut calm = record {
   same = as_reserved (held v o.entries a) (held v q.entries b) refl (ap (λ (x : OverStore). x.entries) shut.same) n m s r;
   holds = shut.holds;
@@ -339,21 +364,17 @@ unopened_shut v a b o q n m s r shut calm = record {
 }
 
 -- how it comes up, by what was read off
-pub may_as : (G : Setting) (v : NodeVote) (u : UnderWay) (a : Knows Event) (q : OverStore) (how : Woken) (acc l : ℕ) → how ≡ how_of v u acc l → acc ≡ q.accepted → l ≡ length q.entries
-    → MayWake G (field (steps G a.seen)) v.node (how_of v u q.accepted (length q.entries)) (kept_by q) → MayWake G (field (steps G a.seen)) v.node how (kept_by q)
-may_as G v u a q how acc l e ea el m =
-    subst (λ h. MayWake G (field (steps G a.seen)) v.node h (kept_by q)) (sym (e ∙ (ap (λ x. how_of v u x l) ea ∙ ap (λ x. how_of v u q.accepted x) el))) m
+pub may_as : (G : Setting) (i : ℕ) (seen old : List (ℕ × Event)) (how by : Woken) (k : Kept) → how ≡ by → seen ≡ old → MayWake G (field (steps G old)) i by k → MayWake G (field (steps G seen)) i how k
+may_as G i seen old how by k e s m = subst (λ h. MayWake G (field (steps G seen)) i h k) (sym e) (subst (λ t. MayWake G (field (steps G t)) i by k) (sym s) m)
 
-pub told_as : (G : Setting) (seen old : List (ℕ × Event)) (i : ℕ) (v : NodeVote) (u : UnderWay) (how : Woken) (acc l : ℕ) → how ≡ how_of v u acc l → seen ≡ old → IsStartOrdered (lines_to_do G) (steps G old) i → IsStartTold G seen i how
-told_as G seen old i v u how acc l e s told =
-    subst (λ h. IsStartTold G seen i h) (sym e) (subst (λ t. IsStartTold G t i (how_of v u acc l)) (sym s) (told_found G old i v u acc l told))
-
-pub was_up_on : (G : Setting) (v : NodeVote) (a b : Knows Event) → b.seen ≡ a.seen → ((world G a.seen).nodes v.node).was_up ≡ true → ((world G b.seen).nodes v.node).was_up ≡ true
-was_up_on G v a b e was = subst (λ t. ((world G t).nodes v.node).was_up ≡ true) (sym e) was
+pub told_as : (G : Setting) (i : ℕ) (seen old : List (ℕ × Event)) (how by : Woken) → how ≡ by → seen ≡ old → IsStartTold G old i by → IsStartTold G seen i how
+told_as G i seen old how by e s told = subst (λ h. IsStartTold G seen i h) (sym e) (subst (λ t. IsStartTold G t i by) (sym s) told)
 
 -- it came up with what its log has
-pub wakes_first : (how : Woken) (o q : OverStore) (old mid new : Held) → q ≡ o → IsAsBefore old mid → Wakes how (kept_by o) mid new → Wakes how (kept_by q) old new
-wakes_first how o q old mid new e a w = subst (λ (x : OverStore). Wakes how (kept_by x) old new) (sym e) (wakes_behind how (kept_by o) old mid new a w)
+pub wakes_so : (first : Option (Snapshot Rows)) (v : NodeVote) (u : UnderWay) (how : Woken) (o q : OverStore) (old mid new : Held) → how ≡ how_by first v u (kept_by o) → q ≡ o → IsAsBefore old mid → Wakes how (kept_by o) mid new
+    → Wakes (how_by first v u (kept_by q)) (kept_by q) old new
+wakes_so first v u how o q old mid new is e a w =
+    subst (λ (x : OverStore). Wakes (how_by first v u (kept_by x)) (kept_by x) old new) (sym e) (subst (λ h. Wakes h (kept_by o) old new) is (wakes_behind how (kept_by o) old mid new a w))
 
 -- what came of opening it
 pub tried_up : (s : Started) (o q : OverStore) → s ≡ started.Up → IsTried s o q → WasOpened o q

@@ -1,6 +1,6 @@
 -- What each call of a node's log may leave of its store, the node may come up with: the log before the call, the same with another
 -- promise, and the log after it.
-use Rattle.std.proofs.Common.{ℕ, ◌≡◌, ◌≤◌, List, [], ◌∷◌, ◌++◌, refl, ap, ◌∙◌, subst, arith}
+use Rattle.std.proofs.Common.{ℕ, ◌≡◌, ◌≤◌, List, [], ◌∷◌, ap, ◌∙◌, subst, arith}
 use Rattle.std.specs.Prelude.{Bool, true}
 use Rattle.std.specs.declared.snapshot.Snapshot.{Snapshot}
 use Rattle.actor_trace.specs.Steps.{Adds, Rests}

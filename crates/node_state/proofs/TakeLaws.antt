@@ -3,7 +3,6 @@ use Rattle.std.proofs.Common.{ℕ, ◌≡◌, ◌+◌, ◌-◌, ◌<◌, ◌≤�
 use Rattle.std.specs.Prelude.{zero, suc, Some, Bool, true, false, ltb, if◌then◌else◌, slice_get, ◌==◌, ◌&&◌}
 use Rattle.std.proofs.lemmas.Bool.Decides.{nat_tests, Decides-eqb}
 use mathlib.Core.Logic.{inl, inr}
-use Rattle.actor_trace.specs.Lists.{Begins}
 use Rattle.actor_trace.specs.Steps.{Adds}
 use Rattle.cluster_events.specs.Settings.{Setting}
 use Rattle.cluster_requests.specs.KeptEntries.{plain}
@@ -20,7 +19,7 @@ use Rattle.election_core.specs.declared.messages.Message.TheVariants.{Ack}
 use Rattle.election_core.specs.declared.votes.NodeVote.{NodeVote}
 use Rattle.phys_log.specs.declared.entries.Entry.{Entry}
 use Rattle.node_state.specs.Calls.{Did, Joins, Acts, IsPartly, TakesOne, Continues, takes, left_of, through, vote_taken}
-use Rattle.node_state.specs.Nodes.{IsOwn, Held, Follows, events_of}
+use Rattle.node_state.specs.Nodes.{IsOwn, Held, Follows}
 use Rattle.node_state.specs.Packets.{IsPacket, AreSent, packet, packets_of, shipped_in, shipped_length}
 use Rattle.node_state.proofs.LogLists.{drop_at, put_step, none_behind, map_size}
 use Rattle.node_state.proofs.SentLaws.{packet_on, take_acked, ack_sent}

@@ -1,5 +1,5 @@
 -- A node comes up with what its store holds, where it may; and it may, whatever others do.
-use Rattle.std.proofs.Common.{ℕ, ◌≡◌, ◌≤◌, List, [], ◌∷◌, ◌++◌, length, map, replicate, refl, sym, subst, ap, ◌∙◌}
+use Rattle.std.proofs.Common.{ℕ, ◌≡◌, List, [], ◌∷◌, ◌++◌, length, refl, sym, subst, ap, ◌∙◌}
 use Rattle.std.specs.Prelude.{◌==◌, Bool, true, false, cond, Option, Some, None, slice_get}
 use Rattle.std.specs.declared.snapshot.Snapshot.{Snapshot}
 use Rattle.actor_trace.specs.Steps.{Rests}
@@ -14,9 +14,8 @@ use Rattle.cluster_events.specs.Settings.{Setting, lines_to_do}
 use Rattle.cluster_events.proofs.Stays.{stays_long}
 use Rattle.cluster_masters.specs.WholeLogs.{Leaves}
 use Rattle.cluster_requests.specs.KeptEntries.{KeptEntry, plain}
-use Rattle.cluster_requests.specs.Requests.{Field}
-use Rattle.cluster_steps.specs.Guards.{HasSchema, ComesUpWith, IsPlan, IsTakenLogFound, MayTakeStep, PagesStand, AreLegalSteps}
-use Rattle.cluster_steps.specs.Named.{back_append, kept_over, log_named, named_up, steps, world}
+use Rattle.cluster_steps.specs.Guards.{HasSchema, ComesUpWith, IsPlan, IsTakenLogFound, PagesStand, AreLegalSteps}
+use Rattle.cluster_steps.specs.Named.{back_append, log_named, named_up, steps, world}
 use Rattle.cluster_steps.specs.declared.events.Event.{Event}
 use Rattle.cluster_steps.specs.declared.events.Event.TheVariants as event
 use Rattle.cluster_steps.specs.declared.events.Woken.{Woken}
@@ -24,11 +23,11 @@ use Rattle.cluster_steps.specs.declared.events.Woken.TheVariants as woken
 use Rattle.cluster_steps.proofs.StepLaws.{legal_steps, inv_of, more_steps, steps_append, idle_more, idle, ticket_of}
 use Rattle.cluster_steps.proofs.TellsLaws.{tells}
 use Rattle.cluster_steps.proofs.NameLaws.{up_same}
-use Rattle.election_core.specs.Told.{IsPart, IsCounted}
+use Rattle.election_core.specs.Told.{IsCounted}
 use Rattle.election_core.specs.declared.votes.NodeVote.{NodeVote}
 use Rattle.election_core.proofs.Acted.{no_bit}
 use Rattle.phys_log.specs.declared.entries.Entry.{Entry}
-use Rattle.node_state.specs.Calls.{Did, IsAsBefore}
+use Rattle.node_state.specs.Calls.{Did}
 use Rattle.node_state.specs.Nodes.{IsNode, Held, Follows}
 use Rattle.node_state.specs.Restarts.{Kept, IsStartTold, MayRise, MayWake, Wakes, kept, woken_by, woken_vote}
 use Rattle.node_state.proofs.FallLaws.{counts}

@@ -9,12 +9,12 @@
 --   to take the log [c] of 5   4 3 [a, b]   5 3 [a, b]   5 5 [c]
 --
 -- It comes up with any of these, by an event that says which it is.
-use Rattle.std.specs.Prelude.{ℕ, ◌≡◌, ◌⊎◌, ◌≤◌, Bool, true, false, List, [], ◌∷◌, length, replicate}
+use Rattle.std.specs.Prelude.{ℕ, ◌≡◌, ◌⊎◌, ◌≤◌, true, false, List, [], ◌∷◌, length, replicate}
 use Rattle.cluster_consensus.specs.Events.{NodeEvent, change}
 use Rattle.cluster_events.specs.Arms.{IsStopArmed}
 use Rattle.cluster_events.specs.Guards.{IsActedBy, MayStep}
 use Rattle.cluster_events.specs.Operator.{IsStartOrdered, IsStopOrdered}
-use Rattle.cluster_events.specs.Parts.{field, lines}
+use Rattle.cluster_events.specs.Parts.{lines}
 use Rattle.cluster_events.specs.Settings.{Setting, lines_to_do}
 use Rattle.cluster_masters.specs.WholeLogs.{Leaves}
 use Rattle.cluster_requests.specs.KeptEntries.{KeptEntry}

@@ -13,7 +13,7 @@ ghost use Rattle.election_core.specs.declared.messages.Action.TheVariants as dee
 ghost use Rattle.node_state.specs.Calls.{Acts, Answers, Did, IsAsBefore, Judges, MayProbe, Probes, Ships};
 ghost use Rattle.node_state.specs.Calls.{StandsAsCandidate, through};
 ghost use Rattle.node_state.specs.Nodes.{Follows, IsOwn, held};
-ghost use Rattle.node_state.specs.Stores.{FallsAfter, FallsOver, IsKeptBy, StopsShort};
+ghost use Rattle.node_state.specs.Stores.{FallsAfter, FallsOver, IsCalm, IsKeptBy, StopsShort};
 ghost use Rattle.node_state.specs.Packets.{AreSent, IsPacket, IsSent, ask_of, asked_in, packets_of};
 
 use crate::drafts::{Draft, packets_after, packets_probing, packets_standing};
@@ -179,7 +179,7 @@ impl<D: LogStore + Drop, J: Plan, N: Naming> Body<D, J, N> {
             (held self.old.vote self.old.log.entries self.old.actor) (held self.new.vote self.new.log.entries self.new.actor)) }
         ensures sends { OnOk result (AreSent J.setting self.new.actor.seen
             (packets_of self.new.vote (through message.now action) self.new.log.entries (sender_of message.now))) }
-        ensures calm { OnOk result (self.new.log.faults ≡ self.old.log.faults) }
+        ensures calm { OnOk result (IsCalm self.old.log self.new.log) }
         ensures unchanged { IsErrOf result Unkept.NoMemory → self.new ≡ self.old }
         ensures falls { IsErrOf result Unkept.Fault → FallsOver J.setting
             (held self.old.vote self.old.log.entries self.old.actor) (held self.new.vote self.new.log.entries self.new.actor)
@@ -218,7 +218,7 @@ impl<D: LogStore + Drop, J: Plan, N: Naming> Body<D, J, N> {
             (held self.old.vote self.old.log.entries self.old.actor) (held self.new.vote self.new.log.entries self.new.actor)) }
         ensures sends { OnOk result (AreSent J.setting self.new.actor.seen
             (packets_of self.new.vote (through message.now action) self.new.log.entries (sender_of message.now))) }
-        ensures calm { OnOk result (self.new.log.faults ≡ self.old.log.faults) }
+        ensures calm { OnOk result (IsCalm self.old.log self.new.log) }
         ensures unchanged { IsErrOf result Unkept.NoMemory → self.new ≡ self.old }
         ensures falls { IsErrOf result Unkept.Fault → FallsOver J.setting
             (held self.old.vote self.old.log.entries self.old.actor) (held self.new.vote self.new.log.entries self.new.actor)
@@ -309,7 +309,7 @@ impl<D: LogStore + Drop, J: Plan, N: Naming> Body<D, J, N> {
             (held self.old.vote self.old.log.entries self.old.actor) (held self.new.vote self.new.log.entries self.new.actor)) }
         ensures sends { OnOk result (AreSent J.setting self.new.actor.seen
             (packets_of self.new.vote (through message.now action) self.new.log.entries (sender_of message.now))) }
-        ensures calm { OnOk result (self.new.log.faults ≡ self.old.log.faults) }
+        ensures calm { OnOk result (IsCalm self.old.log self.new.log) }
         ensures short { IsErrOf result Unkept.NoMemory → StopsShort message.now entries.now
             (held self.old.vote self.old.log.entries self.old.actor) (held self.new.vote self.new.log.entries self.new.actor)
             self.old.log self.new.log }
@@ -361,7 +361,7 @@ impl<D: LogStore + Drop, J: Plan, N: Naming> Body<D, J, N> {
         ensures kept { IsKeptBy self.new.vote self.new.log }
         ensures delivers { IfOk result (λ ps. Answers message.now entries.now ps.items
             (held self.old.vote self.old.log.entries self.old.actor) (held self.new.vote self.new.log.entries self.new.actor)) }
-        ensures calm { OnOk result (self.new.log.faults ≡ self.old.log.faults) }
+        ensures calm { OnOk result (IsCalm self.old.log self.new.log) }
         ensures short { IsErrOf result Unkept.NoMemory → StopsShort message.now entries.now
             (held self.old.vote self.old.log.entries self.old.actor) (held self.new.vote self.new.log.entries self.new.actor)
             self.old.log self.new.log }
@@ -447,7 +447,7 @@ impl<D: LogStore + Drop, J: Plan, N: Naming> Body<D, J, N> {
         ensures stands { IfOk result (λ ps. StandsAsCandidate generation ps.items
             (held self.old.vote self.old.log.entries self.old.actor)
             (held self.new.vote self.new.log.entries self.new.actor)) }
-        ensures calm { OnOk result (self.new.log.faults ≡ self.old.log.faults) }
+        ensures calm { OnOk result (IsCalm self.old.log self.new.log) }
         ensures falls { IsErrOf result Unkept.Fault → FallsOver J.setting
             (held self.old.vote self.old.log.entries self.old.actor) (held self.new.vote self.new.log.entries self.new.actor)
             self.old.log self.new.log self.new.under_way }

@@ -2,7 +2,7 @@
 ghost use Rattle.std.specs.Prelude.{◌≡◌, ◌+◌, ◌<◌, IfOk, IsErrOf, OnOk};
 ghost use Rattle.node_state.specs.Commits.{Enters, MayEnter, MaySettle, Settles};
 ghost use Rattle.node_state.specs.Nodes.{IsOwn, held};
-ghost use Rattle.node_state.specs.Stores.{FallsOver, IsKeptBy};
+ghost use Rattle.node_state.specs.Stores.{FallsOver, IsCalm, IsKeptBy};
 ghost use Rattle.phys_log.specs.Logs.{Fits};
 
 use crate::bodies::Body;
@@ -34,7 +34,7 @@ impl<D: LogStore + Drop, J: Plan, N: Naming> Body<D, J, N> {
         ensures kept { IsKeptBy self.new.vote self.new.log }
         ensures enters { IfOk result (λ ps. Enters entry ps.items (held self.old.vote self.old.log.entries self.old.actor)
             (held self.new.vote self.new.log.entries self.new.actor)) }
-        ensures calm { OnOk result (self.new.log.faults ≡ self.old.log.faults) }
+        ensures calm { OnOk result (IsCalm self.old.log self.new.log) }
         ensures unchanged { IsErrOf result Unkept.NoMemory → self.new ≡ self.old }
         ensures falls { IsErrOf result Unkept.Fault → FallsOver J.setting
             (held self.old.vote self.old.log.entries self.old.actor) (held self.new.vote self.new.log.entries self.new.actor)

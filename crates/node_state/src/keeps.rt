@@ -5,7 +5,7 @@ ghost use Rattle.actor_trace.specs.Steps.{Adds};
 ghost use Rattle.cluster_steps.specs.declared.events.Event.TheVariants as event;
 ghost use Rattle.node_state.specs.Calls.{Appends, Did};
 ghost use Rattle.node_state.specs.Nodes.{Follows, IsOwn, held};
-ghost use Rattle.node_state.specs.Stores.{FallsOver, HasNumbers, IsKeptBy};
+ghost use Rattle.node_state.specs.Stores.{FallsOver, HasNumbers, IsCalm, IsKeptBy};
 ghost use Rattle.phys_log.specs.declared.entries.Entry.{Entry};
 ghost use Rattle.store_log.specs.Held.{generation_of};
 
@@ -47,7 +47,7 @@ impl<D: LogStore + Drop, J: Plan, N: Naming> Body<D, J, N> {
         ensures adds { OnOk result (Adds self.old.actor.number event self.old.actor.seen self.new.actor.seen) }
         ensures vote { OnOk result (self.new.vote ≡ vote) }
         ensures entries { OnOk result (self.new.log.entries ≡ self.old.log.entries) }
-        ensures calm { OnOk result (self.new.log.faults ≡ self.old.log.faults) }
+        ensures calm { OnOk result (IsCalm self.old.log self.new.log) }
         ensures unchanged { IsErrOf result Unkept.NoMemory → self.new ≡ self.old }
         ensures falls { IsErrOf result Unkept.Fault → FallsOver J.setting
             (held self.old.vote self.old.log.entries self.old.actor) (held self.new.vote self.new.log.entries self.new.actor)
@@ -94,7 +94,7 @@ impl<D: LogStore + Drop, J: Plan, N: Naming> Body<D, J, N> {
             self.new.actor.seen) }
         ensures vote { OnOk result (self.new.vote ≡ vote) }
         ensures entries { OnOk result (self.new.log.entries ≡ self.old.log.entries) }
-        ensures calm { OnOk result (self.new.log.faults ≡ self.old.log.faults) }
+        ensures calm { OnOk result (IsCalm self.old.log self.new.log) }
         ensures unchanged { IsErrOf result Unkept.NoMemory → self.new ≡ self.old }
         ensures falls { IsErrOf result Unkept.Fault → FallsOver J.setting
             (held self.old.vote self.old.log.entries self.old.actor) (held self.new.vote self.new.log.entries self.new.actor)
@@ -141,7 +141,7 @@ impl<D: LogStore + Drop, J: Plan, N: Naming> Body<D, J, N> {
             self.new.actor.seen) }
         ensures vote { OnOk result (self.new.vote ≡ vote) }
         ensures entries { OnOk result (self.new.log.entries ≡ entries.items) }
-        ensures calm { OnOk result (self.new.log.faults ≡ self.old.log.faults) }
+        ensures calm { OnOk result (IsCalm self.old.log self.new.log) }
         ensures unchanged { IsErrOf result Unkept.NoMemory → self.new ≡ self.old }
         ensures falls { IsErrOf result Unkept.Fault → FallsOver J.setting
             (held self.old.vote self.old.log.entries self.old.actor) (held self.new.vote self.new.log.entries self.new.actor)
@@ -191,7 +191,7 @@ impl<D: LogStore + Drop, J: Plan, N: Naming> Body<D, J, N> {
         ensures room { OnOk result (self.new.actor.room + 1 ≡ self.old.actor.room) }
         ensures vote { OnOk result (self.new.vote ≡ vote) }
         ensures entries { OnOk result (self.new.log.entries ≡ self.old.log.entries ++ entry ∷ []) }
-        ensures calm { OnOk result (self.new.log.faults ≡ self.old.log.faults) }
+        ensures calm { OnOk result (IsCalm self.old.log self.new.log) }
         ensures unchanged { IsErrOf result Unkept.NoMemory → self.new ≡ self.old }
         ensures falls { IsErrOf result Unkept.Fault → FallsOver J.setting
             (held self.old.vote self.old.log.entries self.old.actor) (held self.new.vote self.new.log.entries self.new.actor)
@@ -236,7 +236,7 @@ impl<D: LogStore + Drop, J: Plan, N: Naming> Body<D, J, N> {
         ensures room { OnOk result (self.new.actor.room + 1 ≡ self.old.actor.room) }
         ensures vote { OnOk result (self.new.vote ≡ vote) }
         ensures entries { OnOk result (self.new.log.entries ≡ self.old.log.entries ++ entry ∷ []) }
-        ensures calm { OnOk result (self.new.log.faults ≡ self.old.log.faults) }
+        ensures calm { OnOk result (IsCalm self.old.log self.new.log) }
         ensures unchanged { IsErrOf result Unkept.NoMemory → self.new ≡ self.old }
         ensures falls { IsErrOf result Unkept.Fault → FallsOver J.setting
             (held self.old.vote self.old.log.entries self.old.actor) (held self.new.vote self.new.log.entries self.new.actor)

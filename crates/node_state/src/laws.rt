@@ -1,9 +1,11 @@
-//! The laws of a node that is down: what its store may hold is what it may come up with.
-ghost use Rattle.std.specs.Prelude.{ℕ, ◌≡◌, ◌≤◌, List, [], ◌∷◌, Bool, true, false};
+//! The laws of a node that is down: what its store may hold is what it may come up with. And how much room calls take.
+ghost use Rattle.std.specs.Prelude.{ℕ, ◌≡◌, ◌≤◌, ◌+◌, List, [], ◌∷◌, length, Bool, Vec, true, false};
+ghost use Rattle.std.specs.declared.alloc.Global.{Global};
 ghost use Rattle.std.specs.declared.snapshot.Snapshot.{Snapshot};
 ghost use Rattle.actor_trace.specs.History.{entries_of};
 ghost use Rattle.actor_trace.specs.Steps.{Adds, Rests};
 ghost use Rattle.cdb_values.specs.Rows.{Rows};
+ghost use Rattle.cdb_values.specs.declared.tables.TableDef.{TableDef};
 ghost use Rattle.cluster_events.specs.Parts.{field, lines};
 ghost use Rattle.cluster_events.specs.Settings.{Setting};
 ghost use Rattle.cluster_requests.specs.Requests.{Field};
@@ -14,8 +16,14 @@ ghost use Rattle.cluster_steps.specs.declared.events.Event.TheVariants as event;
 ghost use Rattle.cluster_steps.specs.declared.events.Woken.{Woken};
 ghost use Rattle.cluster_steps.specs.declared.events.Woken.TheVariants as woken;
 ghost use Rattle.core_lists.specs.Lists.{In};
+ghost use Rattle.election_core.specs.declared.messages.Message.{Message};
 ghost use Rattle.election_core.specs.declared.votes.NodeVote.{NodeVote};
-ghost use Rattle.node_state.specs.Nodes.{Follows, IsNode};
+ghost use Rattle.node_state.specs.declared.steps.BeginStep.{BeginStep};
+ghost use Rattle.node_state.specs.declared.steps.Step.{Step};
+ghost use Rattle.node_state.specs.Calls.{IsBegun, IsDelivered, IsPartly, IsSetUp, IsStood};
+ghost use Rattle.node_state.specs.Commits.{IsEntered};
+ghost use Rattle.node_state.specs.Nodes.{Follows, Held, IsNode};
+ghost use Rattle.node_state.specs.Packets.{SentPacket};
 ghost use Rattle.node_reading.specs.Reading.{MayBegin};
 ghost use Rattle.node_state.specs.Restarts.{Kept, MayWake, MayWakeAny, kept};
 ghost use Rattle.phys_log.specs.declared.entries.Entry.{Entry};
@@ -94,4 +102,20 @@ pub fn what_was_read_may_come_up()
         → (((world G seen).nodes i).up ≡ false) × (((world G seen).nodes i).was_up ≡ false) }
     ensures untold { (G : Setting) (i : ℕ) (seen : List (ℕ × Event)) → entries_of i seen ≡ []
         → is_up i (lines G (steps G seen)) ≡ true }
+{}
+
+/// Each event of a node takes room for one, and no call takes more.
+pub fn what_calls_take_of_room()
+    ensures stood { (g : ℕ) (s : Step (Vec SentPacket Global)) (old new : Held) → IsStood g s old new
+        → old.actor.room ≤ new.actor.room + 1 }
+    ensures delivered { (p : SentPacket) (s : Step (Vec SentPacket Global)) (old new : Held) → IsDelivered p s old new
+        → old.actor.room ≤ new.actor.room + (length p.entries + 1) }
+    ensures short { (m : Message) (es : List Entry) (old new : Held) → IsPartly m es old new
+        → old.actor.room ≤ new.actor.room + length es }
+    ensures begun { (ask : ℕ) (s : BeginStep (Vec SentPacket Global)) (old new : Held) → IsBegun ask s old new
+        → old.actor.room ≤ new.actor.room + 1 }
+    ensures set_up { (tables : List TableDef) (s : Step (Vec SentPacket Global)) (old new : Held) → IsSetUp tables s old new
+        → old.actor.room ≤ new.actor.room + 1 }
+    ensures entered { (next : Entry) (s : Step (Vec SentPacket Global)) (old new : Held) → IsEntered next s old new
+        → old.actor.room ≤ new.actor.room + 1 }
 {}

@@ -50,8 +50,8 @@ mod steps;
 mod takes;
 
 pub use laws::{
-    what_a_call_may_leave_may_come_up, what_a_store_may_hold_may_come_up, what_may_come_up_stays,
-    what_was_read_may_come_up,
+    what_a_call_may_leave_may_come_up, what_a_store_may_hold_may_come_up, what_calls_take_of_room,
+    what_may_come_up_stays, what_was_read_may_come_up,
 };
 pub use nodes::Node;
 pub use packets::Packet;

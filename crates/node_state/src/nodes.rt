@@ -9,8 +9,8 @@ ghost use Rattle.cluster_steps.specs.Named.{steps, world};
 ghost use Rattle.cluster_steps.specs.declared.events.Event.TheVariants as event;
 ghost use Rattle.cluster_steps.specs.declared.events.Woken.TheVariants as woken;
 ghost use Rattle.core_lists.specs.Lists.{In};
-ghost use Rattle.kept_log.specs.Kept.{HoldsAny, kept_by};
-ghost use Rattle.node_reading.specs.Reading.{IsWhyUnread, WasRead};
+ghost use Rattle.kept_log.specs.Kept.{HoldsAny, StandsStill, kept_by};
+ghost use Rattle.node_reading.specs.Reading.{IsWhyUnread, WasFound, WasRead};
 ghost use Rattle.node_state.specs.Commits.{IsEntered, MayEnter, MaySettle, Settles};
 ghost use Rattle.node_state.specs.Nodes.{blank_vote};
 ghost use Rattle.node_state.specs.Restarts.{Falls, IsStarted, IsStartTold, IsStopTold};
@@ -57,8 +57,8 @@ impl<D: LogStore, J: Plan, N: Naming> Model for Node<D, J, N> {
 impl<D: LogStore + Drop, J: Plan, N: Naming> Node<D, J, N> {
     ghost use Rattle.node_state.specs.Calls.{IsAsBefore, IsBegun, IsBehind, IsDelivered, IsSetUp, IsStood};
     ghost use Rattle.node_state.specs.Nodes.{IsOwn};
-    ghost use Rattle.node_state.specs.Stores.{AsksStore, IsFirst, IsKeptBy, IsUnopened, MayBeFirst, OpensStore, StopsShort};
-    ghost use Rattle.node_state.specs.Stores.{HoldsStill, held_of};
+    ghost use Rattle.node_state.specs.Stores.{AsksStore, IsCalm, IsKeptBy, IsLeft, IsRead, IsStartedSo, IsUnopened, MayBeFirst};
+    ghost use Rattle.node_state.specs.Stores.{OpensStore, StaysShut, StopsShort, held_of};
 
     /// A node that is down, with a log that was not opened yet.
     pub fn new(node: u8, nodes: u8, log: KeptLog<D>, actor: Actor<Cluster<J>, N>) -> Node<D, J, N>
@@ -102,11 +102,13 @@ impl<D: LogStore + Drop, J: Plan, N: Naming> Node<D, J, N> {
         self.body.log.log()
     }
 
-    /// It is the history's node over its store, and what it did is its part of what it knows.
+    /// It is the history's node over its store, and what it did is its part of what it knows. Where it is down and was up before,
+    /// this is what its store may hold.
     pub fn knows(&self)
         ensures own { IsOwn J.setting (held_of self.now) }
         ensures over { IsKeptBy self.now.vote self.now.over × (self.now.over.entries ≡ self.now.entries) }
         ensures made { self.now.actor.made ≡ entries_of self.now.actor.number self.now.actor.seen }
+        ensures left { IsLeft J.setting self.now }
     {
         self.body.actor.knows();
     }
@@ -302,18 +304,36 @@ impl<D: LogStore + Drop, J: Plan, N: Naming> Node<D, J, N> {
         self.body.ship(alloc, trace, to)
     }
 
-    /// Reads its store, where it is down: what that holds, or why a node may not come up with it. It holds what it held.
-    pub fn read_store(&mut self, alloc: Global) -> Result<Found, WhyUnread>
+    /// Reads its store, where it is down: what that holds, or why a node may not come up with it. Where a call of the store fails
+    /// there the node goes down once more.
+    pub fn read_store(
+        &mut self,
+        alloc: Global,
+        trace: &Trace<Cluster<J>, N>,
+    ) -> Result<Found, WhyUnread>
+        requires room { 0 < self.old.actor.room }
         requires down { self.old.vote.up ≡ false }
-        ensures same { (self.new.vote ≡ self.old.vote) × (self.new.entries ≡ self.old.entries)
-            × (self.new.actor ≡ self.old.actor) }
+        ensures read { IsRead result (held_of self.old) (held_of self.new) }
         ensures found { IfOk result (λ f. WasRead self.old.over self.new.over f.promised f.accepted f.state) }
-        ensures holds { HoldsStill self.old.over self.new.over }
+        ensures log { IfOk result (λ f.
+            WasFound self.old.over self.new.over f.promised f.accepted f.length f.tables f.state) }
+        ensures shut { StaysShut self.old.over self.new.over }
+        ensures still { StandsStill self.old.over.node self.old.over.cluster self.old.over.synced self.new.over.synced }
         ensures calm { OnOk result (self.new.over.faults ≡ self.old.over.faults) }
         ensures why { IfErr result (λ w. IsWhyUnread w self.old.over.node self.old.over.cluster self.old.over.synced
             self.old.over.faults self.new.over.faults) }
     {
-        node_reading::read_store(alloc, &mut self.body.log)
+        self.body.read_store(alloc, trace)
+    }
+
+    /// Goes down by a fault: its store failed as it was read, before the node was made. Takes no memory.
+    pub fn fail_unread(&mut self, trace: &Trace<Cluster<J>, N>)
+        requires room { 0 < self.old.actor.room }
+        requires down { self.old.vote.up ≡ false }
+        ensures falls { Falls true (held_of self.old) (held_of self.new) }
+        ensures over { self.new.over ≡ self.old.over }
+    {
+        self.body.fall_again(trace);
     }
 
     /// Goes down by a stop that it knows of, and answers the ticket of that. Takes no memory.
@@ -323,7 +343,7 @@ impl<D: LogStore + Drop, J: Plan, N: Naming> Node<D, J, N> {
         requires told { IsStopTold J.setting self.old.actor.seen self.old.vote.node }
         ensures falls { Falls false (held_of self.old) (held_of self.new) }
         ensures holds { HoldsAny self.new.over (kept_by self.old.over ∷ []) }
-        ensures calm { self.new.over.faults ≡ self.old.over.faults }
+        ensures calm { IsCalm self.old.over self.new.over }
         ensures ticket { self.new.actor.made ≡ self.old.actor.made ++ (result, event.Down false) ∷ [] }
     {
         self.body.stop(trace)
@@ -343,7 +363,7 @@ impl<D: LogStore + Drop, J: Plan, N: Naming> Node<D, J, N> {
         ensures store { IfOk result (λ s. OpensStore s self.old.over self.new.over) }
         ensures unchanged { OnErr result (IsUnopened (held_of self.old) (held_of self.new) self.old.over self.new.over) }
     {
-        self.body.start(alloc, trace)
+        self.body.start(alloc, trace, None)
     }
 
     /// So for the first time: its store holds what was read, which stands for these rows.
@@ -356,11 +376,11 @@ impl<D: LogStore + Drop, J: Plan, N: Naming> Node<D, J, N> {
         requires down { self.old.vote.up ≡ false }
         requires first { MayBeFirst J.setting (held_of self.old) self.old.over (woken.First rows) }
         requires told { IsStartTold J.setting self.old.actor.seen self.old.vote.node (woken.First rows) }
-        ensures first { IfOk result (λ s. IsFirst s (woken.First rows) self.old self.new) }
+        ensures first { IfOk result (λ s. IsStartedSo s (woken.First rows) self.old self.new) }
         ensures store { IfOk result (λ s. OpensStore s self.old.over self.new.over) }
         ensures unchanged { OnErr result (IsUnopened (held_of self.old) (held_of self.new) self.old.over self.new.over) }
     {
-        self.body.start_first(alloc, trace, rows)
+        self.body.start(alloc, trace, Some(rows))
     }
 
     /// Its store, which is stopped, and its actor. Takes no memory.

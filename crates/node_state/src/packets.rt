@@ -28,6 +28,8 @@ impl<J: Plan, N: Naming> Model for Packet<J, N> {
 }
 
 impl<J: Plan, N: Naming> Packet<J, N> {
+    ghost use Rattle.node_state.specs.Packets.{IsPacket};
+
     /// To which node it goes.
     pub fn to(&self) -> u8
         ensures { result ≡ self.now.to }
@@ -47,5 +49,14 @@ impl<J: Plan, N: Naming> Packet<J, N> {
         ensures { result.now ≡ self.now.entries }
     {
         self.entries.as_slice()
+    }
+
+    /// What it tells, and the note of who told it: who knows what the note knows knows that the message was told.
+    pub fn open(self) -> (Message, Note<Cluster<J>, N>)
+        ensures message { result.0 ≡ self.message }
+        ensures told { IsPacket J.setting self.message self.entries result.1 }
+    {
+        let Packet { message, note, .. } = self;
+        (message, note)
     }
 }

@@ -1,17 +1,15 @@
 //! A node goes down, and comes up with what its store holds.
-ghost use Rattle.std.specs.Prelude.{List, ◌≡◌, ◌+◌, ◌<◌, ◌≤◌, ◌++◌, ◌∷◌, [], true, false, IfOk, OnErr};
+ghost use Rattle.std.specs.Prelude.{List, ◌≡◌, ◌+◌, ◌<◌, ◌≤◌, ◌++◌, ◌∷◌, [], true, false, IfOk, IfErr, OnOk, OnErr};
 ghost use Rattle.actor_trace.specs.Steps.{Adds};
-ghost use Rattle.cluster_events.specs.Operator.{IsStartOrdered};
 ghost use Rattle.cluster_events.specs.Parts.{field};
-ghost use Rattle.cluster_events.specs.Settings.{lines_to_do};
-ghost use Rattle.cluster_steps.specs.Named.{steps, world};
+ghost use Rattle.cluster_steps.specs.Named.{steps};
 ghost use Rattle.cluster_steps.specs.declared.events.Event.TheVariants as event;
-ghost use Rattle.cluster_steps.specs.declared.events.Woken.TheVariants as woken;
-ghost use Rattle.kept_log.specs.Kept.{HoldsAny, Kept, kept_by};
+ghost use Rattle.kept_log.specs.Kept.{HoldsAny, Kept, StandsStill, kept_by};
+ghost use Rattle.node_reading.specs.Reading.{IsWhyUnread, WasFound, WasRead};
 ghost use Rattle.node_state.specs.Nodes.{IsOwn, held};
-ghost use Rattle.node_state.specs.Restarts.{Falls, IsStarted, IsStartTold, IsStopTold, MayWake, Wakes, woken_vote as vote_woken};
-ghost use Rattle.node_state.specs.Stores.{IsFirst, IsKeptBy, IsStored, IsTried, IsUnopened, MayBeFirst, MayReturn, OpensStore};
-ghost use Rattle.node_state.specs.Stores.{StaysShut, how_of, stored};
+ghost use Rattle.node_state.specs.Restarts.{Falls, IsStartTold, IsStopTold, MayWake, Wakes, woken_vote as vote_woken};
+ghost use Rattle.node_state.specs.Stores.{IsCalm, IsKeptBy, IsRead, IsStartedSo, IsStored, IsTried, IsUnopened, MayReturn, MayStart};
+ghost use Rattle.node_state.specs.Stores.{OpensStore, StaysShut, how_by, how_of, stored};
 ghost use Rattle.phys_log.specs.declared.entries.Entry.{Entry};
 
 use crate::bodies::Body;
@@ -23,6 +21,7 @@ use cluster_core::{Cluster, Plan};
 use cluster_steps::{Event, Woken};
 use election_core::NodeVote;
 use kept_log::{KeptLog, OpenFault};
+use node_reading::{Found, WhyUnread, read_store};
 use std::alloc::{AllocError, Global};
 use std::snapshot::Snapshot;
 use table_state::State;
@@ -64,7 +63,7 @@ fn open<D: LogStore + Drop>(alloc: Global, log: &mut KeptLog<D>) -> Result<Start
     requires holds { (ks : List Kept) × HoldsAny log.old ks }
     ensures tried { IfOk result (λ s. IsTried s log.old log.new) }
     ensures shut { OnErr result (StaysShut log.old log.new) }
-    ensures calm { OnErr result (log.new.faults ≡ log.old.faults) }
+    ensures calm { OnErr result (IsCalm log.old log.new) }
 {
     match log.open(alloc) {
         Ok(()) => Ok(Started::Up),
@@ -90,7 +89,7 @@ impl<D: LogStore + Drop, J: Plan, N: Naming> Body<D, J, N> {
         ensures returns { MayReturn J.setting (held self.new.vote self.new.log.entries self.new.actor) self.new.log
             self.new.under_way }
         ensures holds { HoldsAny self.new.log (kept_by self.old.log ∷ []) }
-        ensures calm { self.new.log.faults ≡ self.old.log.faults }
+        ensures calm { IsCalm self.old.log self.new.log }
         ensures ticket { self.new.actor.made ≡ self.old.actor.made ++ (result, event.Down false) ∷ [] }
     {
         self.log.stop();
@@ -117,59 +116,88 @@ impl<D: LogStore + Drop, J: Plan, N: Naming> Body<D, J, N> {
         self.happens(trace, vote, Event::Down { fault: true });
     }
 
-    /// Opens its store, and comes up with what that holds. All memory is taken first, with room for a stop. Where the store fails
-    /// there it is down still, by a fault of its own.
-    pub(crate) fn start(
-        &mut self,
-        alloc: Global,
-        trace: &Trace<Cluster<J>, N>,
-    ) -> Result<Started, AllocError>
+    /// Goes down once more by a fault of its store, which holds what it held.
+    pub(crate) fn fall_again(&mut self, trace: &Trace<Cluster<J>, N>)
+        requires room { 0 < self.old.actor.room }
         requires down { self.old.vote.up ≡ false }
-        requires was_up { ((world J.setting self.old.actor.seen).nodes self.old.vote.node).was_up ≡ true }
-        requires told { IsStartOrdered (lines_to_do J.setting) (steps J.setting self.old.actor.seen) self.old.vote.node }
         requires node { IsStored J.setting (held self.old.vote self.old.log.entries self.old.actor) self.old.log
             self.old.under_way }
         ensures node { IsStored J.setting (held self.new.vote self.new.log.entries self.new.actor) self.new.log
             self.new.under_way }
-        ensures started { IfOk result (λ s. IsStarted s (held self.old.vote self.old.log.entries self.old.actor)
-            (held self.new.vote self.new.log.entries self.new.actor)) }
-        ensures store { IfOk result (λ s. OpensStore s self.old.log self.new.log) }
-        ensures unchanged { OnErr result (IsUnopened (held self.old.vote self.old.log.entries self.old.actor)
-            (held self.new.vote self.new.log.entries self.new.actor) self.old.log self.new.log) }
+        ensures falls { Falls true (held self.old.vote self.old.log.entries self.old.actor)
+            (held self.new.vote self.new.log.entries self.new.actor) }
+        ensures log { self.new.log ≡ self.old.log }
     {
-        self.actor.reserve(2)?;
-        match open(alloc, &mut self.log)? {
-            Started::Up => {
-                let length = self.log.entries().len() as u64;
-                let how = how_found(&self.vote, self.under_way, self.log.accepted(), length);
-                self.rise(trace, how);
-                Ok(Started::Up)
+        let under_way = self.under_way;
+        self.fall(trace, under_way);
+    }
+
+    /// Reads its store. Where a call of that fails there it is down still, by a fault of its own.
+    pub(crate) fn read_store(
+        &mut self,
+        alloc: Global,
+        trace: &Trace<Cluster<J>, N>,
+    ) -> Result<Found, WhyUnread>
+        requires room { 0 < self.old.actor.room }
+        requires down { self.old.vote.up ≡ false }
+        requires node { IsStored J.setting (held self.old.vote self.old.log.entries self.old.actor) self.old.log
+            self.old.under_way }
+        ensures node { IsStored J.setting (held self.new.vote self.new.log.entries self.new.actor) self.new.log
+            self.new.under_way }
+        ensures read { IsRead result (held self.old.vote self.old.log.entries self.old.actor)
+            (held self.new.vote self.new.log.entries self.new.actor) }
+        ensures found { IfOk result (λ f. WasRead self.old.log self.new.log f.promised f.accepted f.state) }
+        ensures log { IfOk result (λ f.
+            WasFound self.old.log self.new.log f.promised f.accepted f.length f.tables f.state) }
+        ensures shut { StaysShut self.old.log self.new.log }
+        ensures still { StandsStill self.old.log.node self.old.log.cluster self.old.log.synced self.new.log.synced }
+        ensures calm { OnOk result (self.new.log.faults ≡ self.old.log.faults) }
+        ensures why { IfErr result (λ w. IsWhyUnread w self.old.log.node self.old.log.cluster self.old.log.synced
+            self.old.log.faults self.new.log.faults) }
+    {
+        match read_store(alloc, &mut self.log) {
+            Ok(found) => Ok(found),
+            Err(WhyUnread::StoreFault) => {
+                self.fall_again(trace);
+                Err(WhyUnread::StoreFault)
             }
-            Started::Fault => {
-                let under_way = self.under_way;
-                self.fall(trace, under_way);
-                Ok(Started::Fault)
+            Err(WhyUnread::Corrupt { at }) => Err(WhyUnread::Corrupt { at }),
+            Err(WhyUnread::Unsound) => Err(WhyUnread::Unsound),
+            Err(WhyUnread::NoMemory) => Err(WhyUnread::NoMemory),
+        }
+    }
+
+    /// How it comes up with what its log has: for the first time with these rows; else as it was, or by what was under way.
+    fn how(&self, first: Option<Snapshot<State>>) -> Woken
+        ensures { result ≡ how_by first self.now.vote self.now.under_way (kept_by self.now.log) }
+    {
+        match first {
+            Some(rows) => Woken::First { rows },
+            None => {
+                let length = self.log.entries().len() as u64;
+                how_found(&self.vote, self.under_way, self.log.accepted(), length)
             }
         }
     }
 
-    /// So for the first time, with these rows.
-    pub(crate) fn start_first(
+    /// Opens its store, and comes up with what that holds, for the first time where there are rows. All memory is taken first,
+    /// with room for a stop. Where the store fails there it is down still, by a fault of its own.
+    pub(crate) fn start(
         &mut self,
         alloc: Global,
         trace: &Trace<Cluster<J>, N>,
-        rows: Snapshot<State>,
+        first: Option<Snapshot<State>>,
     ) -> Result<Started, AllocError>
         requires down { self.old.vote.up ≡ false }
-        requires first { MayBeFirst J.setting (held self.old.vote self.old.log.entries self.old.actor) self.old.log
-            (woken.First rows) }
-        requires told { IsStartTold J.setting self.old.actor.seen self.old.vote.node (woken.First rows) }
+        requires may { MayStart J.setting (held self.old.vote self.old.log.entries self.old.actor) self.old.log
+            self.old.under_way first }
         requires node { IsStored J.setting (held self.old.vote self.old.log.entries self.old.actor) self.old.log
             self.old.under_way }
         ensures node { IsStored J.setting (held self.new.vote self.new.log.entries self.new.actor) self.new.log
             self.new.under_way }
-        ensures first { IfOk result (λ s. IsFirst s (woken.First rows) (stored self.old.vote self.old.actor self.old.log)
-            (stored self.new.vote self.new.actor self.new.log)) }
+        ensures started { IfOk result (λ s. IsStartedSo s
+            (how_by first self.old.vote self.old.under_way (kept_by self.new.log))
+            (stored self.old.vote self.old.actor self.old.log) (stored self.new.vote self.new.actor self.new.log)) }
         ensures store { IfOk result (λ s. OpensStore s self.old.log self.new.log) }
         ensures unchanged { OnErr result (IsUnopened (held self.old.vote self.old.log.entries self.old.actor)
             (held self.new.vote self.new.log.entries self.new.actor) self.old.log self.new.log) }
@@ -177,12 +205,12 @@ impl<D: LogStore + Drop, J: Plan, N: Naming> Body<D, J, N> {
         self.actor.reserve(2)?;
         match open(alloc, &mut self.log)? {
             Started::Up => {
-                self.rise(trace, Woken::First { rows });
+                let how = self.how(first);
+                self.rise(trace, how);
                 Ok(Started::Up)
             }
             Started::Fault => {
-                let under_way = self.under_way;
-                self.fall(trace, under_way);
+                self.fall_again(trace);
                 Ok(Started::Fault)
             }
         }

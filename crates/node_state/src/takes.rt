@@ -9,7 +9,7 @@ ghost use Rattle.election_core.specs.declared.messages.Action.TheVariants as dee
 ghost use Rattle.election_core.specs.declared.messages.Message.TheVariants.{Ack};
 ghost use Rattle.node_state.specs.Calls.{Acts, Continues, Joins, TakesOne, through};
 ghost use Rattle.node_state.specs.Nodes.{IsOwn, held};
-ghost use Rattle.node_state.specs.Stores.{FallsAfter, FallsOver, IsKeptBy, StopsShort};
+ghost use Rattle.node_state.specs.Stores.{FallsAfter, FallsOver, IsCalm, IsKeptBy, StopsShort};
 ghost use Rattle.node_state.specs.Packets.{AreSent, IsPacket, packets_of, shipped_in, shipped_length};
 
 use crate::bodies::Body;
@@ -94,7 +94,7 @@ impl<D: LogStore + Drop, J: Plan, N: Naming> Body<D, J, N> {
             (held self.old.vote self.old.log.entries self.old.actor) (held self.new.vote self.new.log.entries self.new.actor)) }
         ensures sends { OnOk result (AreSent J.setting self.new.actor.seen
             (packets_of self.new.vote (through message.now action) self.new.log.entries (sender_of message.now))) }
-        ensures calm { OnOk result (self.new.log.faults ≡ self.old.log.faults) }
+        ensures calm { OnOk result (IsCalm self.old.log self.new.log) }
         ensures short { IsErrOf result Unkept.NoMemory → StopsShort message.now entries.now
             (held self.old.vote self.old.log.entries self.old.actor) (held self.new.vote self.new.log.entries self.new.actor)
             self.old.log self.new.log }
@@ -138,7 +138,7 @@ impl<D: LogStore + Drop, J: Plan, N: Naming> Body<D, J, N> {
             (held self.old.vote self.old.log.entries self.old.actor) (held self.new.vote self.new.log.entries self.new.actor)) }
         ensures sends { OnOk result (AreSent J.setting self.new.actor.seen (packets_of self.new.vote
             (through message.now (deed.Take generation taken)) self.new.log.entries (sender_of message.now))) }
-        ensures calm { OnOk result (self.new.log.faults ≡ self.old.log.faults) }
+        ensures calm { OnOk result (IsCalm self.old.log self.new.log) }
         ensures unchanged { IsErrOf result Unkept.NoMemory → self.new ≡ self.old }
         ensures falls { IsErrOf result Unkept.Fault → FallsOver J.setting
             (held self.old.vote self.old.log.entries self.old.actor) (held self.new.vote self.new.log.entries self.new.actor)
@@ -209,7 +209,7 @@ impl<D: LogStore + Drop, J: Plan, N: Naming> Body<D, J, N> {
             (held self.old.vote self.old.log.entries self.old.actor) (held self.new.vote self.new.log.entries self.new.actor)) }
         ensures sends { OnOk result (AreSent J.setting self.new.actor.seen (packets_of self.new.vote
             (through message.now (deed.Take generation taken)) self.new.log.entries (sender_of message.now))) }
-        ensures calm { OnOk result (self.new.log.faults ≡ self.old.log.faults) }
+        ensures calm { OnOk result (IsCalm self.old.log self.new.log) }
         ensures short { IsErrOf result Unkept.NoMemory → StopsShort message.now entries.now
             (held self.old.vote self.old.log.entries self.old.actor) (held self.new.vote self.new.log.entries self.new.actor)
             self.old.log self.new.log }
@@ -242,7 +242,7 @@ impl<D: LogStore + Drop, J: Plan, N: Naming> Body<D, J, N> {
         ensures kept { IsKeptBy self.new.vote self.new.log }
         ensures takes { OnOk result (TakesOne J.setting message.now entries.now
             (held self.old.vote self.old.log.entries self.old.actor) (held self.new.vote self.new.log.entries self.new.actor)) }
-        ensures calm { OnOk result (self.new.log.faults ≡ self.old.log.faults) }
+        ensures calm { OnOk result (IsCalm self.old.log self.new.log) }
         ensures unchanged { IsErrOf result Unkept.NoMemory → self.new ≡ self.old }
         ensures falls { IsErrOf result Unkept.Fault → FallsOver J.setting
             (held self.old.vote self.old.log.entries self.old.actor) (held self.new.vote self.new.log.entries self.new.actor)

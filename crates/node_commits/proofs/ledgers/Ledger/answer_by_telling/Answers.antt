@@ -2,7 +2,7 @@ use Rattle.std.proofs.Common.{◌≡◌, ◌++◌, ◌∷◌, [], refl, sym, ap,
 use Rattle.phys_log.specs.declared.entries.CommitId.{CommitId}
 use Rattle.phys_log.specs.declared.requests.Decision.{Decision}
 use Rattle.kept_log.specs.Kept.{OverStore}
-use Rattle.node_state.specs.Stores.{held_of}
+use Rattle.node_state.specs.Stores.{IsCalm, held_of}
 use Rattle.node_commits.specs.Ledgers.{IsUntold, settlement}
 use Rattle.node_commits.proofs.BookLaws.{book_settled}
 use Rattle.node_commits.proofs.GivenLaws.{done_by_telling}
@@ -28,4 +28,4 @@ returns-clause-book g c =
     book_settled c.args.self.now c.keep.new.self (held_of c.args.node.now) (held_of c.settle.new.self) c.args.id c.args.decision c.requires.book c.settle.ensures.settles kept c.keep.ensures.known
 
 pub returns-clause-store : goal.returns-clause-store
-returns-clause-store g c = ap (λ (o : OverStore). o.faults) c.settle.ensures.over
+returns-clause-store g c = subst (λ (o : OverStore). IsCalm c.args.node.now.over o) (sym c.settle.ensures.over) (refl, refl)

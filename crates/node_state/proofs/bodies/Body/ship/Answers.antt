@@ -1,11 +1,11 @@
-use Rattle.std.proofs.Common.{rules, ◌≡◌, [], refl, sym, subst, ap, ◌∙◌}
+use Rattle.std.proofs.Common.{◌≡◌, refl, sym, subst, ap, ◌∙◌}
 use Rattle.phys_log.specs.declared.entries.Entry.{Entry}
-use Rattle.std.specs.Prelude.{List, Bool}
+use Rattle.std.specs.Prelude.{List}
 use Rattle.node_state.specs.Nodes.{events_of, held}
 use Rattle.node_state.specs.Packets.{AreSent}
 use Rattle.node_state.specs.Ships.{again_packets, learned_by}
 use Rattle.election_core.specs.declared.votes.NodeVote.{NodeVote}
-use Rattle.node_state.proofs.AgainLaws.{again_sent, ships_again}
+use Rattle.node_state.proofs.AgainLaws.{again_sent}
 use Rattle.node_state.proofs.NumberLaws.{kept_same}
 use Rattle.node_state.proofs.StartLaws.{stored_up}
 use Rattle.node_state.proofs.bodies.Body.ship.Goals as goal

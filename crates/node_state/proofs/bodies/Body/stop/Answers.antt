@@ -1,4 +1,4 @@
-use Rattle.std.proofs.Common.{refl, ap, sym, ◌∙◌, subst}
+use Rattle.std.proofs.Common.{refl, ap}
 use Rattle.std.specs.Prelude.{false}
 use Rattle.cluster_steps.specs.declared.events.Event.TheVariants.{Down}
 use Rattle.kept_log.specs.Kept.{OverStore}

@@ -1,6 +1,5 @@
 use Rattle.std.proofs.Common.{rules, ◌<◌, ◌∙◌}
 use Rattle.std.specs.Prelude.{IsErrOf}
-use Rattle.election_core.specs.Senders.{sender_of}
 use Rattle.node_state.specs.declared.faults.Unkept.TheVariants.{Fault}
 use Rattle.node_state.specs.Nodes.{held}
 use Rattle.node_state.specs.Packets.{shipped_length}
@@ -23,7 +22,7 @@ taking-preserved g c = (
   more_taken g.J.Plan.setting c.args.message.now c.args.entries.now (held c.args.self.now.vote c.args.self.now.log.entries c.args.self.now.actor) (held c.taking.self.vote c.taking.self.log.entries c.taking.self.actor) (held c.take_one-in-taking.new.self.vote c.take_one-in-taking.new.self.log.entries c.take_one-in-taking.new.self.actor) c.taking.invariant.0
       (let lt : c.taking.self.vote.length < shipped_length c.args.message.now = search rules in lt) c.take_one-in-taking.ensures.own c.in_ok-take_one-2.ensures.takes,
   c.take_one-in-taking.ensures.kept,
-  c.in_ok-take_one-2.ensures.calm ∙ c.taking.invariant.2,
+  (c.in_ok-take_one-2.ensures.calm.0 ∙ c.taking.invariant.2.0, c.in_ok-take_one-2.ensures.calm.1 ∙ c.taking.invariant.2.1),
 )
 
 pub returns-clause-acts : goal.returns-clause-acts

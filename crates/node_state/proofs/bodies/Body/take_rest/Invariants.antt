@@ -1,7 +1,7 @@
-use Rattle.std.proofs.Common.{◌≡◌, ◌-◌}
+use Rattle.std.proofs.Common.{◌-◌}
 use Rattle.node_state.specs.Nodes.{held}
 use Rattle.node_state.specs.Packets.{shipped_length}
-use Rattle.node_state.specs.Stores.{IsKeptBy}
+use Rattle.node_state.specs.Stores.{IsCalm, IsKeptBy}
 use Rattle.node_state.proofs.TakeLaws.{HasTaken}
 use Rattle.node_state.proofs.bodies.Body.take_rest.Given as goal
 
@@ -9,7 +9,7 @@ abbrev pub invariant-taking : goal.invariant-taking
 invariant-taking g l =
     HasTaken g.J.Plan.setting l.message l.entries (held l.fn.self.vote l.fn.self.log.entries l.fn.self.actor) (held l.self.vote l.self.log.entries l.self.actor)
     × IsKeptBy l.self.vote l.self.log
-    × (l.self.log.faults ≡ l.fn.self.log.faults)
+    × IsCalm l.fn.self.log l.self.log
 
 abbrev pub decreases-taking : goal.decreases-taking
 decreases-taking g l = shipped_length l.message - l.self.vote.length

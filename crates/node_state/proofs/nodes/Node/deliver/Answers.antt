@@ -9,7 +9,7 @@ use Rattle.node_state.specs.Stores.{Stored, StopsShort, held_of}
 use Rattle.node_state.proofs.BehindLaws.{answers_behind}
 use Rattle.node_state.proofs.CallLaws.{answers_before, falls_before}
 use Rattle.node_state.proofs.NumberLaws.{kept_same}
-use Rattle.node_state.proofs.OverLaws.{rose_before, short_before}
+use Rattle.node_state.proofs.OverLaws.{calm_before, failed_before, short_before}
 use Rattle.node_state.proofs.SentLaws.{packet_heard}
 use Rattle.node_state.proofs.StartLaws.{stored_rests}
 use Rattle.node_state.proofs.nodes.Node.deliver.Goals as goal
@@ -40,7 +40,7 @@ returns-in-Err-Fault-clause-delivered g c =
     )
 
 pub returns-in-Err-Fault-clause-store : goal.returns-in-Err-Fault-clause-store
-returns-in-Err-Fault-clause-store g c = rose_before c.args.self.now.over c.hear.new.self.log c.deliver.new.self.log (c.hear.ensures.log ∙ ap (λ (n : Stored). n.over) c.self.view_is) (c.in-Err-Fault.ensures.falls (ap Err c.in-Err-Fault.field-0-is)).rose
+returns-in-Err-Fault-clause-store g c = failed_before c.args.self.now.over c.hear.new.self.log c.deliver.new.self.log (c.hear.ensures.log ∙ ap (λ (n : Stored). n.over) c.self.view_is) (c.in-Err-Fault.ensures.falls (ap Err c.in-Err-Fault.field-0-is)).failed
 
 pub returns-in-Ok-clause-delivered : goal.returns-in-Ok-clause-delivered
 returns-in-Ok-clause-delivered g c =
@@ -58,7 +58,7 @@ returns-in-Ok-clause-behind g c =
     (answers_behind c.packet.inside.message c.as_slice.result.now c.in-Ok.packets.items (held c.hear.new.self.vote c.hear.new.self.log.entries c.hear.new.self.actor) (held c.deliver.new.self.vote c.deliver.new.self.log.entries c.deliver.new.self.actor) c.in-Ok.ensures.delivers)
 
 pub returns-in-Ok-clause-store : goal.returns-in-Ok-clause-store
-returns-in-Ok-clause-store g c = c.in-Ok.ensures.calm ∙ ap (λ (x : OverStore). x.faults) (c.hear.ensures.log ∙ ap (λ (n : Stored). n.over) c.self.view_is)
+returns-in-Ok-clause-store g c = calm_before c.args.self.now.over c.hear.new.self.log c.deliver.new.self.log (c.hear.ensures.log ∙ ap (λ (n : Stored). n.over) c.self.view_is) c.in-Ok.ensures.calm
 
 pub invariant_of-self : goal.invariant_of-self
 invariant_of-self g c =

@@ -1,6 +1,3 @@
-use Rattle.std.proofs.Common.{sym, subst}
-use Rattle.node_state.specs.Nodes.{IsOwn, blank_vote, held}
-use Rattle.node_state.specs.Stores.{IsStored}
 use Rattle.node_state.proofs.NewLaws.{new_own, new_stored}
 use Rattle.node_state.proofs.nodes.Node.new.Goals as goal
 
