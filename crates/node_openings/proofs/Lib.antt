@@ -1,0 +1,10 @@
+pub mod ReadLemmas
+pub mod JudgeLemmas
+pub mod SeenLemmas
+pub mod FitLemmas
+pub mod ToldLemmas
+pub mod FoundLemmas
+pub mod OneLemmas
+pub mod ReportLemmas
+pub mod FactLemmas
+pub mod ApartLemmas
