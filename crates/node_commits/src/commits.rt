@@ -146,12 +146,14 @@ impl Ledger {
                 packets,
             }),
             Ok(Step::Fault) => {
+                drop(told);
                 self.known.drop_above(last);
                 Ok(CommitStep::Fault)
             }
             // it leads, so it was up
             Ok(Step::Down) => unreachable!(),
             Err(AllocError) => {
+                drop(told);
                 self.known.drop_above(last);
                 Err(AllocError)
             }
