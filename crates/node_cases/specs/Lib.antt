@@ -1,0 +1,4 @@
+pub mod Plans
+pub mod Seats
+pub mod Offices
+pub mod Asking
