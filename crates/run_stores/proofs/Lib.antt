@@ -1,0 +1,4 @@
+pub mod BestLaws
+pub mod FallLaws
+pub mod FirstLaws
+pub mod ReportedLaws
