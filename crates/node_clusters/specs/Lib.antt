@@ -1,0 +1,15 @@
+pub mod Places
+pub mod Numbers
+pub mod Events
+pub mod Passes
+pub mod Looks
+pub mod Reigns
+pub mod Turns
+pub mod Runs
+pub mod Deliveries
+pub mod UnderWay
+pub mod Best
+pub mod Clusters
+pub mod Elections
+pub mod Choosing
+pub mod Changes
