@@ -1,0 +1,5 @@
+pub mod News
+pub mod Admits
+pub mod Starts
+pub mod Order
+pub mod Turns
